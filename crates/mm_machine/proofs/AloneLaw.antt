@@ -15,7 +15,7 @@ use Rattle.mm_spec.specs.Frame.{is_variable_number, formula_at, frame_at}
 use Rattle.mm_spec.specs.Citation.{context_at}
 use Rattle.mm_spec.specs.Laws.Stack.{substitution_from, are_equal, unless_failed, unless_too_long}
 use Rattle.mm_spec.specs.Laws.Stack.{apply, step}
-use Rattle.mm_rule.specs.declared.rule.RuleSymbol.TheVariants.{Constant, Variable}
+use Rattle.mm_rule.specs.declared.rule.RulePart.TheVariants.{Constant, Variable}
 use Rattle.mm_rule.specs.Rule.{floating_index, parts_of, IsVariableBelow, CompiledRule, IsCompiled}
 use Rattle.mm_machine.specs.State.{applied}
 use Rattle.mm_machine.proofs.RuleTestLaw.{length_all_parts}
@@ -92,7 +92,8 @@ module _ (db : List Statement) (t : ℕ) (c : CompiledRule) (rule : IsCompiled d
   pairs_are =
       let length_pairs_is_0 =
       no_pairs c.pairs
-      (subst (λ n. All (λ (p : ℕ × ℕ). (p.0 < n) × (p.1 < n)) c.pairs) length_is_0 rule.pairs_in) in
+      (subst (λ n. All (λ (p : ℕ × ℕ). (p.0 < n) × (p.1 < n)) c.pairs) length_is_0
+      rule.pairs_in_range) in
       let pair_counts_equal : length c.pairs ≡ length frame.pairs =
       ap length rule.pairs_are
       ∙ length-map {B = ℕ × ℕ} frame.pairs
@@ -106,7 +107,7 @@ module _ (db : List Statement) (t : ℕ) (c : CompiledRule) (rule : IsCompiled d
   symbols_are_constants =
       recursion_from_All (IsVariableBelow 0) (parts_of db frame.hypotheses f)
       (subst (All (IsVariableBelow 0)) rule.formula_is
-      (subst (λ n. All (IsVariableBelow n) c.formula) length_is_0 rule.formula_in))
+      (subst (λ n. All (IsVariableBelow n) c.formula) length_is_0 rule.formula_in_range))
 
   applied_pushes_formula : (es : List Formula) → applied db t c.assertion es
       ≡ unless_too_long (nat_le (length f) formula_limit) (es ++ f ∷ [])

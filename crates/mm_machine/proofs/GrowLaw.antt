@@ -3,14 +3,14 @@ use Rattle.std.proofs.Common.{◌≡◌, ℕ, zero, suc, ◌-◌, ◌<◌, ◌�
 use Rattle.std.proofs.Common.{drop, get_or, slice_range, refl, sym, ap, ap₂, ◌∙◌, subst, arith, All}
 use Rattle.std.proofs.Common.{length-append}
 use Rattle.std.specs.List.{AllByRecursion}
-use Rattle.std.proofs.lemmas.List.{drop_at, take_all, take_at}
+use Rattle.std.proofs.lemmas.List.{drop_at, take_all}
 use Rattle.std.proofs.lemmas.List.Elements.{All-from_recursion, recursion_from_All, All-weaker}
 use Rattle.std.proofs.lemmas.List.Elements.{All-take, All-append, All-drop, All-nil, All-get_or}
 use Rattle.mm_machine.specs.declared.arena.Span.{Span}
 use Rattle.mm_machine.specs.declared.arena.Store.{Store}
 use Rattle.mm_machine.specs.declared.arena.Store.TheVariants.{Unmarked, Marked}
-use Rattle.mm_rule.specs.declared.rule.RuleSymbol.{RuleSymbol}
-use Rattle.mm_rule.specs.declared.rule.RuleSymbol.TheVariants.{Constant, Variable}
+use Rattle.mm_rule.specs.declared.rule.RulePart.{RulePart}
+use Rattle.mm_rule.specs.declared.rule.RulePart.TheVariants.{Constant, Variable}
 use Rattle.mm_machine.specs.Arena.{Arena, arena, symbols_of, span, no_symbols, without_first}
 use Rattle.mm_machine.specs.Arena.{span_formula}
 use Rattle.mm_machine.specs.Arena.{IsIn}
@@ -199,31 +199,25 @@ formula_in_range n a e unmarked_in_range marked_in_range =
     list_in_range Marked = marked_in_range
 
 -- what parts say is of symbols of the database
-pub replaced_in_range : (n : ℕ) (a : Arena) (es : List Span) (f : List RuleSymbol)
+pub replaced_in_range : (n : ℕ) (a : Arena) (es : List Span) (f : List RulePart)
     → All (λ s. s < n) a.unmarked
     → All (λ s. s < n) a.marked → All (IsConstantBelow n) f → All (λ s. s < n) (replaced a es f)
 replaced_in_range n a es f unmarked_in_range marked_in_range parts_in_range = symbol_by_symbol f
     (recursion_from_All (IsConstantBelow n) f parts_in_range)
   where
-    part_in_range : (p : RuleSymbol) → IsConstantBelow n p → All (λ s. s < n) (replaced_part a es p)
+    part_in_range : (p : RulePart) → IsConstantBelow n p → All (λ s. s < n) (replaced_part a es p)
     part_in_range (Variable j) part_is_below = formula_in_range n a (without_first (get_or es j
         no_symbols))
         unmarked_in_range marked_in_range
     part_in_range (Constant s) part_is_below = All-from_recursion (λ s. s < n) (s ∷ [])
         (part_is_below, tt)
 
-    symbol_by_symbol : (f : List RuleSymbol) → AllByRecursion (IsConstantBelow n) f
+    symbol_by_symbol : (f : List RulePart) → AllByRecursion (IsConstantBelow n) f
         → All (λ s. s < n) (replaced a es f)
     symbol_by_symbol [] parts_are_below = All-nil (λ s. s < n)
     symbol_by_symbol (p ∷ f) parts_are_below = All-append (λ s. s < n) _ _ (part_in_range p
         parts_are_below.0) (symbol_by_symbol
         f parts_are_below.1)
-
--- a table written back
-pub take_written_back : {X : Type 0} (new_table old_table : List X) (n : ℕ) → length new_table ≡ n
-    → take n (new_table ++ drop (length new_table) old_table) ≡ new_table
-take_written_back new_table old_table n length_is_n = take_at new_table (drop (length new_table)
-    old_table) n length_is_n
 
 -- a stretch of entries that are in the arena
 pub slice_entries_are_in : (a : Arena) (es : List Span) (start end : ℕ) → All (IsIn a) es
@@ -244,8 +238,8 @@ replacement_is_in a es j e entries_in j_lt_length e_is_without_first =
           entry_is_in.end_le_length;
     })
 
-pub variable_replacement_is_in : (a : Arena) (es : List Span) (parts : List RuleSymbol) (i : ℕ) (p :
-    RuleSymbol)
+pub variable_replacement_is_in : (a : Arena) (es : List Span) (parts : List RulePart) (i : ℕ) (p :
+    RulePart)
     (j : ℕ)
     → (e : Span) → All (IsIn a) es → All (IsVariableBelow (length es)) parts → i < length parts
     → p ≡ get_or parts i p → p ≡ Variable j → e ≡ without_first (get_or es j no_symbols) → IsIn a e

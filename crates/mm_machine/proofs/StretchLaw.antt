@@ -6,7 +6,7 @@ use Rattle.std.proofs.Common.{length-drop, eqb-true, eq-eqb, min, ◌⊎◌, inl
 use Rattle.std.specs.List.{starts_with}
 use Rattle.std.proofs.lemmas.List.{drop-drop, drop_more, length-take-le}
 use Rattle.mm_machine.specs.declared.arena.Span.{Span}
-use Rattle.mm_rule.specs.declared.rule.RuleSymbol.{RuleSymbol}
+use Rattle.mm_rule.specs.declared.rule.RulePart.{RulePart}
 use Rattle.mm_machine.specs.Arena.{Arena, symbols_of, span_formula, IsIn}
 use Rattle.mm_machine.specs.Replaced.{replaced_part, replaced}
 use Rattle.mm_spec.specs.Laws.Stack.{tail}
@@ -69,13 +69,13 @@ length_formula a p is_in =
           p.store),
     ))
 
-module _ (symbols : Arena) (es : List Span) (xs : List ℕ) (w : List RuleSymbol) (i a e : ℕ)
+module _ (symbols : Arena) (es : List Span) (xs : List ℕ) (w : List RulePart) (i a e : ℕ)
     (i_lt_length : i < length w) where
   abbrev pub rest_is_wanted : ℕ → Bool
   rest_is_wanted n = bytes_eq (slice_range xs (a + n) e) (replaced symbols es (drop (i + 1) w))
 
   -- one part more
-  pub fit_splits : (p : RuleSymbol) (u : List ℕ) → get_or w i p ≡ p → replaced_part symbols es p ≡ u
+  pub fit_splits : (p : RulePart) (u : List ℕ) → get_or w i p ≡ p → replaced_part symbols es p ≡ u
       → bytes_eq (slice_range xs a e) (replaced symbols es (drop i w))
       ≡ (starts_with nat_eq (slice_range xs a e) u && rest_is_wanted (length u))
   fit_splits p u p_is_part u_replaces_p =

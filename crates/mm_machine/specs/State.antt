@@ -14,7 +14,7 @@ use Rattle.mm_machine.specs.declared.reason.Reason.TheVariants.{TooFew, Unmatche
 use Rattle.mm_machine.specs.declared.reason.Reason.TheVariants.{TooLong}
 use Rattle.mm_machine.specs.declared.arena.Store.TheVariants.{Unmarked, Marked}
 use Rattle.mm_machine.specs.Arena.{Arena, arena, span, span_formula, IsIn, IsArena}
-use Rattle.mm_rule.specs.declared.rule.RuleSymbol.{RuleSymbol}
+use Rattle.mm_rule.specs.declared.rule.RulePart.{RulePart}
 use Rattle.mm_rule.specs.Rule.{CompiledRule}
 use Rattle.mm_machine.specs.Replaced.{replaced}
 
@@ -114,7 +114,7 @@ applied db t a es = step (context_at db t) (Some (assertion (frame_at db a))) es
 
 -- The entries after a step that takes those from index `below` on as its premises, and pushes the
 -- parts with each variable replaced. It fails if that formula is too long.
-abbrev pub entries_after : Arena → List Span → ℕ → List RuleSymbol
+abbrev pub entries_after : Arena → List Span → ℕ → List RulePart
     → Result (List Formula) SpecReason
 entries_after a es below parts =
     unless_too_long (nat_le (length (replaced a (drop below es) parts)) formula_limit)

@@ -7,7 +7,7 @@ ghost use Rattle.mm_rule.specs.Rule.{IsVariableBelow};
 ghost use Rattle.mm_machine.specs.Replaced.{replaced};
 
 use mm_database::Sym;
-use mm_rule::{PackedSymbol, RuleSymbol};
+use mm_rule::{PackedPart, RulePart};
 use mm_spec::FORMULA_LIMIT;
 use std::alloc::{AllocError, Allocator};
 use std::marker::Model;
@@ -107,7 +107,7 @@ fn append_symbols<A: Allocator>(symbols: &[Sym], list: &mut Vec<Sym, A>) -> Resu
 pub fn build<A: Allocator>(
     symbols: &Symbols,
     premises: &[Span],
-    formula: &[PackedSymbol],
+    formula: &[PackedPart],
     list: &mut Vec<Sym, A>,
 ) -> Result<bool, AllocError>
     requires premises_in_arena { All (IsIn symbols.now) premises.now }
@@ -119,8 +119,8 @@ pub fn build<A: Allocator>(
 {
     list.clear();
     for part in formula {
-        match part.symbol() {
-            RuleSymbol::Variable(floating_index) => {
+        match part.unpack() {
+            RulePart::Variable(floating_index) => {
                 append_symbols(
                     symbols.formula(replacement_of(premises, floating_index)),
                     list,
@@ -129,7 +129,7 @@ pub fn build<A: Allocator>(
                     return Ok(false);
                 }
             }
-            RuleSymbol::Constant(symbol) => list.push(symbol)?,
+            RulePart::Constant(symbol) => list.push(symbol)?,
         }
     }
     Ok(list.len() <= FORMULA_LIMIT)

@@ -9,7 +9,7 @@ ghost use Rattle.mm_machine.specs.Replaced.{replaced};
 
 use crate::arena::{Span, Symbols, replacement_of};
 use mm_database::Sym;
-use mm_rule::{PackedSymbol, RuleSymbol};
+use mm_rule::{PackedPart, RulePart};
 use mm_spec::FORMULA_LIMIT;
 
 /// Writes a symbol at an index of a list.
@@ -130,7 +130,7 @@ pub fn put_symbols(symbols: &[Sym], list: &mut [Sym], index: usize)
 pub fn fill(
     symbols: &Symbols,
     premises: &[Span],
-    formula: &[PackedSymbol],
+    formula: &[PackedPart],
     list: &mut [Sym],
 ) -> Option<usize>
     requires premises_in_arena { All (IsIn symbols.now) premises.now }
@@ -144,8 +144,8 @@ pub fn fill(
     // How many elements of the list are left over, if each part that is to come takes one.
     let mut spare = list.len().checked_sub(formula.len())?;
     for part in formula {
-        match part.symbol() {
-            RuleSymbol::Variable(floating_index) => {
+        match part.unpack() {
+            RulePart::Variable(floating_index) => {
                 let replacement = symbols.formula(replacement_of(premises, floating_index));
                 if replacement.len() > spare + 1 {
                     return None;
@@ -154,7 +154,7 @@ pub fn fill(
                 spare = spare + 1 - replacement.len();
                 written_count += replacement.len();
             }
-            RuleSymbol::Constant(symbol) => {
+            RulePart::Constant(symbol) => {
                 put_symbol(symbol, list, written_count);
                 written_count += 1;
             }

@@ -22,7 +22,7 @@ use crate::reason::Reason;
 use crate::rule_test::test_rule;
 use crate::symbol_list::SymbolList;
 use mm_database::{Database, Sym};
-use mm_rule::{PackedSymbol, Rule, empty, formula, put_number};
+use mm_rule::{PackedPart, Rule, empty, formula, put_number};
 use mm_spec::FORMULA_LIMIT;
 use std::alloc::{AllocError, Allocator};
 use std::marker::Model;
@@ -392,7 +392,7 @@ fn move_to_marked<A: Allocator>(
 #[inline(always)]
 fn replace_by_formula<A: Allocator>(
     below: usize,
-    formula: &[PackedSymbol],
+    formula: &[PackedPart],
     unmarked: &mut SymbolList<A>,
     marked: &[Sym],
     stack: &mut Vec<Span, A>,
@@ -430,7 +430,7 @@ fn replace_by_formula<A: Allocator>(
 #[inline(never)]
 fn replace_by_long_formula<A: Allocator>(
     below: usize,
-    formula: &[PackedSymbol],
+    formula: &[PackedPart],
     unmarked: &mut SymbolList<A>,
     marked: &[Sym],
     stack: &mut Vec<Span, A>,

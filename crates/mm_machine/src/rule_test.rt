@@ -18,7 +18,8 @@ ghost use Rattle.mm_machine.specs.Arena.{
   AreEntries,
 };
 ghost use Rattle.mm_machine.specs.DisjointCache.{AreDisjointAt};
-ghost use Rattle.mm_rule.specs.Rule.{IsVariableBelow, IsCompiled, all_parts, total_part_count};
+ghost use Rattle.mm_rule.specs.Rule.{IsVariableBelow, IsCompiled, all_parts};
+ghost use Rattle.mm_rule.specs.Rule.{total_stored_part_count};
 ghost use Rattle.mm_machine.specs.Replaced.{replacement, replaced};
 ghost use Rattle.mm_machine.specs.State.{TestsRule};
 
@@ -26,7 +27,7 @@ use crate::arena::{Span, Store, Symbols, replacement_of};
 use crate::disjoint_cache::DisjointCache;
 use crate::reason::Reason;
 use mm_database::{Database, Sym};
-use mm_rule::{Hypothesis, PackedSymbol, Rule, RuleSymbol};
+use mm_rule::{Hypothesis, PackedPart, Rule, RulePart};
 use std::alloc::Allocator;
 
 /// Whether the stretch of list `store` from index `from` to index `to` begins with the formula of
@@ -47,7 +48,7 @@ fn begins_with(symbols: &Symbols, store: Store, from: usize, to: usize, span: Sp
 fn is_wanted_formula(
     symbols: &Symbols,
     premises: &[Span],
-    wanted: &[PackedSymbol],
+    wanted: &[PackedPart],
     premise: Span,
 ) -> bool
     requires premises_in_arena { All (IsIn symbols.now) premises.now }
@@ -60,15 +61,15 @@ fn is_wanted_formula(
     let list = symbols.list(premise.store);
     let mut index = premise.start;
     for part in wanted {
-        match part.symbol() {
-            RuleSymbol::Variable(floating_index) => {
+        match part.unpack() {
+            RulePart::Variable(floating_index) => {
                 let span = replacement_of(premises, floating_index);
                 if !begins_with(symbols, premise.store, index, premise.end, span) {
                     return false;
                 }
                 index += span.end - span.start;
             }
-            RuleSymbol::Constant(symbol) => {
+            RulePart::Constant(symbol) => {
                 if index >= premise.end || list[index] != symbol {
                     return false;
                 }
@@ -94,7 +95,7 @@ fn is_typed(symbols: &Symbols, typecode: Sym, premise: Span) -> bool
 fn premises_match(symbols: &Symbols, rule: &Rule, premises: &[Span]) -> bool
     requires premises_in_arena { All (IsIn symbols.now) premises.now }
     requires premise_count_is { length premises.now ≡ length rule.now.hypotheses }
-    requires part_count_is { total_part_count rule.now.hypotheses ≡ length rule.now.parts }
+    requires part_count_is { total_stored_part_count rule.now.hypotheses ≡ length rule.now.parts }
     requires variables_in_range { All (IsVariableBelow (length premises.now)) rule.now.parts }
     ensures { result
         ≡ are_equal (map (span_formula symbols.now) premises.now)

@@ -13,4 +13,4 @@ mod rule;
 
 pub use frames::{formula, is_assertion, is_essential_hypothesis, mandatory_hypotheses, pairs};
 pub use lists::{empty, put_number};
-pub use rule::{Hypothesis, PackedSymbol, Rule, RuleSymbol};
+pub use rule::{Hypothesis, PackedPart, Rule, RulePart};

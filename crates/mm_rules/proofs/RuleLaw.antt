@@ -13,13 +13,13 @@ use Rattle.mm_spec.specs.Laws.Complete.{IsBound, AreBound, IsComplete}
 use Rattle.mm_spec.specs.Citation.{context_at}
 use Rattle.mm_spec.specs.Frame.{symbol_names, is_variable_number, formula_at, frame_at}
 use Rattle.mm_spec.specs.Frame.{mandatory_hypotheses, mandatory_pairs}
-use Rattle.mm_rule.specs.declared.rule.RuleSymbol.{RuleSymbol}
-use Rattle.mm_rule.specs.declared.rule.RuleSymbol.TheVariants.{Constant, Variable}
+use Rattle.mm_rule.specs.declared.rule.RulePart.{RulePart}
+use Rattle.mm_rule.specs.declared.rule.RulePart.TheVariants.{Constant, Variable}
 use Rattle.mm_rule.specs.declared.rule.Hypothesis.{Hypothesis}
 use Rattle.mm_rule.specs.declared.rule.Hypothesis.TheVariants.{Floating, Essential}
-use Rattle.mm_rule.specs.Rule.{floating_index, parts_of, part_count, hypothesis_parts, all_parts}
-use Rattle.mm_rule.specs.Rule.{total_part_count, IsVariableBelow, IsConstantBelow}
-use Rattle.mm_rule.specs.Rule.{compiled_rule, IsCompiled}
+use Rattle.mm_rule.specs.Rule.{floating_index, parts_of, stored_part_count, hypothesis_parts}
+use Rattle.mm_rule.specs.Rule.{all_parts, total_stored_part_count, IsVariableBelow}
+use Rattle.mm_rule.specs.Rule.{IsConstantBelow, compiled_rule, IsCompiled}
 use Rattle.mm_rules.specs.Rules.{AreCovered, AreFloatingIndices, AreCompiled, indexed_parts}
 use Rattle.mm_rules.specs.Rules.{indexed_pairs, AreShortIndices}
 use Rattle.mm_rule.specs.Assertions.{as_pairs}
@@ -51,16 +51,16 @@ empty_if_zero [] length_is_zero = refl
 empty_if_zero (x ∷ xs) length_is_zero = absurd (omega (arith, length_is_zero))
 
 -- parts that are added at the end don't change those of a hypothesis
-hypothesis_parts_append : (parts added : List RuleSymbol) (n : ℕ) (a : Hypothesis)
-    → part_count a ≤ length parts
+hypothesis_parts_append : (parts added : List RulePart) (n : ℕ) (a : Hypothesis)
+    → stored_part_count a ≤ length parts
     → hypothesis_parts (parts ++ added) n a ≡ hypothesis_parts parts n a
 hypothesis_parts_append parts added n (Floating t) count_le_length = refl
 hypothesis_parts_append parts added n (Essential k) count_le_length =
     take-append-le k parts added count_le_length
 
 -- with one hypothesis more, whose parts are added at the end, the others keep their parts
-all_parts_push : (parts added : List RuleSymbol) (n : ℕ) (xs : List Hypothesis) (a : Hypothesis)
-    → total_part_count xs ≡ length parts
+all_parts_push : (parts added : List RulePart) (n : ℕ) (xs : List Hypothesis) (a : Hypothesis)
+    → total_stored_part_count xs ≡ length parts
     → all_parts (parts ++ added) n (xs ++ a ∷ [])
     ≡ all_parts parts n xs ++ hypothesis_parts added (n + length xs) a ∷ []
 all_parts_push parts added n [] a part_count_is =
@@ -69,26 +69,26 @@ all_parts_push parts added n [] a part_count_is =
     ∙ ap (λ m. hypothesis_parts added m a ∷ []) index_is
 all_parts_push parts added n (x ∷ xs) a part_count_is =
     let index_is : suc n + length xs ≡ n + suc (length xs) = omega arith in
-    let count_le_length : part_count x ≤ length parts = omega (arith, part_count_is) in
-    let later_parts = drop (part_count x) parts in
-    let later_count_is : total_part_count xs ≡ length later_parts =
-    omega (arith, part_count_is, length-drop (part_count x) parts) in
+    let count_le_length : stored_part_count x ≤ length parts = omega (arith, part_count_is) in
+    let later_parts = drop (stored_part_count x) parts in
+    let later_count_is : total_stored_part_count xs ≡ length later_parts =
+    omega (arith, part_count_is, length-drop (stored_part_count x) parts) in
     ap₂ (λ u us. u ∷ us) (hypothesis_parts_append parts added n x count_le_length)
     (ap (λ z. all_parts z (suc n) (xs ++ a ∷ []))
-    (drop-append-le (part_count x) parts added count_le_length)
+    (drop-append-le (stored_part_count x) parts added count_le_length)
     ∙ all_parts_push later_parts added (suc n) xs a later_count_is
     ∙ ap (λ m. all_parts later_parts (suc n) xs ++ hypothesis_parts added m a ∷ []) index_is)
 
 total_part_count_push : (xs : List Hypothesis) (a : Hypothesis)
-    → total_part_count (xs ++ a ∷ []) ≡ total_part_count xs + part_count a
+    → total_stored_part_count (xs ++ a ∷ []) ≡ total_stored_part_count xs + stored_part_count a
 total_part_count_push [] a = omega arith
 total_part_count_push (x ∷ xs) a =
     let rest_count = total_part_count_push xs a in omega (arith, rest_count)
 
 -- if the hypothesis is the first `$f` of its variable, it requires its typecode and the variable
-pub all_parts_push_floating : (parts : List RuleSymbol) (xs : List Hypothesis) (j t : ℕ)
-    → (us : List (List RuleSymbol))
-    → length xs ≡ j → total_part_count xs ≡ length parts → all_parts parts 0 xs ≡ us
+pub all_parts_push_floating : (parts : List RulePart) (xs : List Hypothesis) (j t : ℕ)
+    → (us : List (List RulePart))
+    → length xs ≡ j → total_stored_part_count xs ≡ length parts → all_parts parts 0 xs ≡ us
     → all_parts parts 0 (xs ++ Floating t ∷ []) ≡ us ++ (Constant t ∷ Variable j ∷ []) ∷ []
 all_parts_push_floating parts xs j t us length_is part_count_is parts_are =
     let index_is : 0 + length xs ≡ j = omega (arith, length_is) in
@@ -96,26 +96,28 @@ all_parts_push_floating parts xs j t us length_is part_count_is parts_are =
     ∙ all_parts_push parts [] 0 xs (Floating t) part_count_is
     ∙ ap₂ (λ u m. u ++ hypothesis_parts [] m (Floating t) ∷ []) parts_are index_is
 
-pub part_count_push_floating : (parts : List RuleSymbol) (xs : List Hypothesis) (t : ℕ)
-    → total_part_count xs ≡ length parts → total_part_count (xs ++ Floating t ∷ []) ≡ length parts
+pub part_count_push_floating : (parts : List RulePart) (xs : List Hypothesis) (t : ℕ)
+    → total_stored_part_count xs ≡ length parts → total_stored_part_count (xs ++ Floating t ∷ []) ≡
+    length parts
 part_count_push_floating parts xs t part_count_is =
     let pushed_count = total_part_count_push xs (Floating t) in
     omega (arith, pushed_count, part_count_is)
 
 -- otherwise it requires the parts of its formula
-module _ (parts added : List RuleSymbol) (xs : List Hypothesis) (n : ℕ)
-    (n_is_length : n ≡ length added) (part_count_is : total_part_count xs ≡ length parts) where
-  pub all_parts_push_essential : (us : List (List RuleSymbol)) → all_parts parts 0 xs ≡ us
-      → all_parts (parts ++ added) 0 (xs ++ Essential n ∷ []) ≡ us ++ added ∷ []
-  all_parts_push_essential us parts_are =
-      all_parts_push parts added 0 xs (Essential n) part_count_is
-      ∙ ap₂ (λ u z. u ++ z ∷ []) parts_are (take_all n added (omega (arith, n_is_length)))
+module _ (parts added : List RulePart) (xs : List Hypothesis) (n : ℕ)
+    (n_is_length : n ≡ length added) (part_count_is : total_stored_part_count xs ≡ length parts)
+  where
+    pub all_parts_push_essential : (us : List (List RulePart)) → all_parts parts 0 xs ≡ us
+        → all_parts (parts ++ added) 0 (xs ++ Essential n ∷ []) ≡ us ++ added ∷ []
+    all_parts_push_essential us parts_are =
+        all_parts_push parts added 0 xs (Essential n) part_count_is
+        ∙ ap₂ (λ u z. u ++ z ∷ []) parts_are (take_all n added (omega (arith, n_is_length)))
 
-  pub part_count_push_essential : total_part_count (xs ++ Essential n ∷ [])
-      ≡ length (parts ++ added)
-  part_count_push_essential =
-      let pushed_count = total_part_count_push xs (Essential n) in
-      omega (arith, pushed_count, part_count_is, n_is_length, length-append parts added)
+    pub part_count_push_essential : total_stored_part_count (xs ++ Essential n ∷ [])
+        ≡ length (parts ++ added)
+    part_count_push_essential =
+        let pushed_count = total_part_count_push xs (Essential n) in
+        omega (arith, pushed_count, part_count_is, n_is_length, length-append parts added)
 
 module _ (db : List Statement) (hs : List Formula) where
   pub parts_below : (f : Formula) → AreCovered db hs f
@@ -197,7 +199,7 @@ module _ (db : List Statement) (hs : List Formula) where
           → indexed_parts db indices f ≡ parts_of db hs f
       symbol_by_symbol [] h = refl
       symbol_by_symbol (s ∷ f) h =
-          ap₂ (λ (p : RuleSymbol) (ps : List RuleSymbol). p ∷ ps)
+          ap₂ (λ (p : RulePart) (ps : List RulePart). p ∷ ps)
           (by_is_variable s (is_variable_number db s) h.0) (symbol_by_symbol f h.1)
 
   indexed_pairs_are_floating_indices : (indices : List ℕ) → AreFloatingIndices db hs indices
@@ -245,7 +247,7 @@ module _ (db : List Statement) (a : ℕ) (is_assertion : is_assertion_at db a �
   made_rule_is_compiled : (symbol_pairs : List (ℕ × ℕ)) (f : Formula) (indices : List ℕ)
       (hypotheses : List Hypothesis)
       (pairs : List (ℕ × ℕ))
-      → (parts formula : List RuleSymbol)
+      → (parts formula : List RulePart)
       → as_pairs symbol_pairs ≡ mandatory_pairs db a → f ≡ formula_at db a
       → All (λ s. s < length (symbol_names db)) f
       → AreCompiled db (mandatory_hypotheses db a) hypotheses parts
@@ -256,7 +258,7 @@ module _ (db : List Statement) (a : ℕ) (is_assertion : is_assertion_at db a �
       symbols_known compiled_parts are_floating_indices
       pairs_made formula_made =
       let lengths_equal : length hypotheses ≡ length frame_formulas =
-      compiled_parts.count ∙ sym (length-map (mandatory_hypotheses db a) (formula_at db)) in
+      compiled_parts.count_is ∙ sym (length-map (mandatory_hypotheses db a) (formula_at db)) in
       let are_bound = subst (λ (ps : List Pair). AllByRecursion (AreBothBound db frame_formulas) ps)
       (sym pairs_is)
       complete.pairs in
@@ -280,18 +282,18 @@ module _ (db : List Statement) (a : ℕ) (is_assertion : is_assertion_at db a �
       formula_made ∙ ap (parts_of db frame_formulas) f_is in
       record {
         is_assertion = is_assertion;
-        complete = complete;
-        count = compiled_parts.part_count_is;
-        parts_in = subst (λ n. All (IsVariableBelow n) parts) (sym compiled_parts.count)
-            compiled_parts.below;
-        pairs_in =
+        is_complete = complete;
+        part_count_is = compiled_parts.part_count_is;
+        parts_in_range = subst (λ n. All (IsVariableBelow n) parts) (sym compiled_parts.count_is)
+            compiled_parts.parts_in_range;
+        pairs_in_range =
             rw (pairs_are, lengths_equal) (pairs_below db frame_formulas
             (mandatory_pairs db a) complete.pairs);
-        formula_in =
+        formula_in_range =
             rw (formula_is, lengths_equal)
             (parts_below db frame_formulas (formula_at db a)
             (covered db frame_formulas (formula_at db a) complete.formula));
-        formula_known =
+        constants_in_range =
             rw formula_made (constants_below db frame_formulas
             (length (symbol_names db)) f symbols_known);
         hypotheses_are = compiled_parts.parts_are;
@@ -301,7 +303,7 @@ module _ (db : List Statement) (a : ℕ) (is_assertion : is_assertion_at db a �
 
   pub is_compiled_rule : (mandatory : List ℕ) (symbol_pairs : List (ℕ × ℕ)) (f : Formula)
       (indices : List ℕ)
-      → (hypotheses : List Hypothesis) (pairs : List (ℕ × ℕ)) (parts formula : List RuleSymbol)
+      → (hypotheses : List Hypothesis) (pairs : List (ℕ × ℕ)) (parts formula : List RulePart)
       → mandatory ≡ mandatory_hypotheses db a → as_pairs symbol_pairs ≡ mandatory_pairs db a → f
       ≡ formula_at db a
       → All (λ s. s < length (symbol_names db)) f

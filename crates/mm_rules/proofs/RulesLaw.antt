@@ -4,7 +4,7 @@ use Rattle.std.proofs.Common.{ap₂, ◌∙◌, arith, All, length-append, get_o
 use Rattle.std.proofs.lemmas.List.{take_all, drop_at}
 use Rattle.std.proofs.lemmas.List.Elements.{All-push}
 use Rattle.mm_spec.specs.Statement.{Statement}
-use Rattle.mm_rule.specs.declared.rule.RuleSymbol.{RuleSymbol}
+use Rattle.mm_rule.specs.declared.rule.RulePart.{RulePart}
 use Rattle.mm_rule.specs.declared.rule.Hypothesis.{Hypothesis}
 use Rattle.mm_rules.specs.declared.rules.RuleRanges.{RuleRanges}
 use Rattle.mm_rules.specs.declared.rules.IndexRange.{IndexRange}
@@ -44,7 +44,7 @@ module _ {X : Type 0} (xs added : List X) (s : IndexRange) where
 
 module _ (db : List Statement) (ranges : List RuleRanges) (hypotheses a : List Hypothesis)
     (pairs p : List (ℕ × ℕ))
-    (parts q f : List RuleSymbol) where
+    (parts q f : List RulePart) where
   -- the rules that were there
   has_rule_still : (new : List RuleRanges) (s : RuleRanges) → HasRule db
       (rule_lists ranges hypotheses pairs parts) s
@@ -121,7 +121,7 @@ module _ (db : List Statement) (ranges : List RuleRanges) (hypotheses a : List H
 -- the same by the values that the code has
 pub are_rules_with_one_more_at : (db : List Statement) (ranges ranges' : List RuleRanges)
     (hypotheses a hypotheses' : List Hypothesis)
-    → (pairs p pairs' : List (ℕ × ℕ)) (parts q f parts_and_q parts' : List RuleSymbol)
+    → (pairs p pairs' : List (ℕ × ℕ)) (parts q f parts_and_q parts' : List RulePart)
     (s : RuleRanges)
     → ranges' ≡ ranges ++ s ∷ [] → hypotheses' ≡ hypotheses ++ a → pairs' ≡ pairs ++ p → parts_and_q
     ≡ parts ++ q

@@ -6,14 +6,14 @@ use Rattle.mm_spec.specs.Derivation.{Formula}
 use Rattle.mm_spec.specs.Laws.Complete.{IsBound}
 use Rattle.mm_spec.specs.Citation.{context_at}
 use Rattle.mm_spec.specs.Frame.{is_variable_number, formula_at}
-use Rattle.mm_rule.specs.declared.rule.RuleSymbol.{RuleSymbol}
-use Rattle.mm_rule.specs.declared.rule.RuleSymbol.TheVariants.{Constant, Variable}
+use Rattle.mm_rule.specs.declared.rule.RulePart.{RulePart}
+use Rattle.mm_rule.specs.declared.rule.RulePart.TheVariants.{Constant, Variable}
 use Rattle.mm_rule.specs.declared.rule.Hypothesis.{Hypothesis}
 use Rattle.mm_rules.specs.declared.rules.RuleRanges.{RuleRanges}
 use Rattle.mm_rules.specs.declared.rules.IndexRange.{IndexRange}
 use Rattle.mm_rule.specs.Rule.{CompiledRule, compiled_rule, IsCompiled, floating_index, parts_of}
 use Rattle.mm_rule.specs.Rule.{all_parts}
-use Rattle.mm_rule.specs.Rule.{total_part_count, IsVariableBelow}
+use Rattle.mm_rule.specs.Rule.{total_stored_part_count, IsVariableBelow}
 
 -- for each variable that has a `$f`, the list has the index of the first one among the hypotheses
 abbrev pub AreFloatingIndices : List Statement → List Formula → List ℕ → Type 0
@@ -30,11 +30,11 @@ abbrev pub AreCovered : List Statement → List Formula → Formula → Type 0
 AreCovered db hs f = All (λ x. is_variable_number db x ≡ true → IsBound (context_at db 0) hs x) f
 
 -- a symbol as a part: a constant, or a variable given by the index that the list has for it
-abbrev pub indexed_part : List Statement → List ℕ → ℕ → RuleSymbol
+abbrev pub indexed_part : List Statement → List ℕ → ℕ → RulePart
 indexed_part db indices s =
     if is_variable_number db s then Variable (get_or indices s 0) else Constant s
 
-abbrev pub indexed_parts : List Statement → List ℕ → Formula → List RuleSymbol
+abbrev pub indexed_parts : List Statement → List ℕ → Formula → List RulePart
 indexed_parts db indices f = map (indexed_part db indices) f
 
 -- the pairs of symbols as pairs of the indices that the list has for them
@@ -44,12 +44,12 @@ indexed_pairs indices ps = map (λ (p : ℕ × ℕ). (get_or indices p.0 0, get_
 -- The lists have what the mandatory hypotheses require: for each of them the parts of its formula,
 -- in which a variable is given by the index of its `$f`.
 pub record AreCompiled (db : List Statement) (mandatory : List ℕ) (hypotheses : List Hypothesis)
-    (parts : List RuleSymbol) : Type 0 where
+    (parts : List RulePart) : Type 0 where
   pub parts_are : all_parts parts 0 hypotheses
       ≡ map (parts_of db (map (formula_at db) mandatory)) (map (formula_at db) mandatory)
-  pub count : length hypotheses ≡ length mandatory
-  pub part_count_is : total_part_count hypotheses ≡ length parts
-  pub below : All (IsVariableBelow (length mandatory)) parts
+  pub count_is : length hypotheses ≡ length mandatory
+  pub part_count_is : total_stored_part_count hypotheses ≡ length parts
+  pub parts_in_range : All (IsVariableBelow (length mandatory)) parts
 
 -- a compiler of rules: how many symbols it knows, and the rule that it compiled last
 pub record CompilerState : Type 0 where
@@ -64,9 +64,9 @@ pub record RuleLists : Type 0 where
   pub ranges : List RuleRanges
   pub hypotheses : List Hypothesis
   pub pairs : List (ℕ × ℕ)
-  pub parts : List RuleSymbol
+  pub parts : List RulePart
 
-abbrev pub rule_lists : List RuleRanges → List Hypothesis → List (ℕ × ℕ) → List RuleSymbol
+abbrev pub rule_lists : List RuleRanges → List Hypothesis → List (ℕ × ℕ) → List RulePart
     → RuleLists
 rule_lists ranges hypotheses pairs parts =
     record { ranges = ranges; hypotheses = hypotheses; pairs = pairs; parts = parts }
@@ -89,7 +89,7 @@ module _ {X : Type 0} where
   abbrev pub elements_in : List X → IndexRange → List X
   elements_in xs s = slice_range xs s.start s.end
 
--- how many hypotheses, pairs and symbols a rule has together
+-- how many hypotheses, pairs and parts a rule has together
 abbrev pub rule_size : CompiledRule → ℕ
 rule_size c = length c.hypotheses + length c.pairs + length c.parts + length c.formula
 

@@ -8,12 +8,12 @@ ghost use Rattle.mm_spec.specs.Citation.{context_at};
 ghost use Rattle.mm_spec.specs.Laws.Complete.{binds, IsComplete};
 ghost use Rattle.mm_rule.specs.Assertions.{is_assertion_at};
 ghost use Rattle.mm_rule.specs.Rule.{IsCompiled};
-ghost use Rattle.mm_rule.specs.declared.rule.RuleSymbol.TheVariants.{Constant, Variable};
+ghost use Rattle.mm_rule.specs.declared.rule.RulePart.TheVariants.{Constant, Variable};
 ghost use Rattle.mm_rules.specs.Rules.{AreCovered, AreFloatingIndices, AreCompiled, indexed_part};
 ghost use Rattle.mm_rules.specs.Rules.{indexed_parts, indexed_pairs, AreShortIndices};
 
 use mm_database::{Database, Sym};
-use mm_rule::{Hypothesis, PackedSymbol, Rule, empty, mandatory_hypotheses, pairs};
+use mm_rule::{Hypothesis, PackedPart, Rule, empty, mandatory_hypotheses, pairs};
 use std::alloc::{AllocError, Allocator};
 use std::marker::Model;
 
@@ -78,20 +78,16 @@ fn index_variables<A: Allocator>(database: &Database<A>, mandatory: &[u32], indi
 }
 
 /// A symbol as a part of a rule: a variable is given by the index of its `$f`.
-fn compile_symbol<A: Allocator>(
-    database: &Database<A>,
-    indices: &[u32],
-    symbol: Sym,
-) -> PackedSymbol
+fn compile_symbol<A: Allocator>(database: &Database<A>, indices: &[u32], symbol: Sym) -> PackedPart
     requires symbol_count_is { length indices.now ≡ length (symbol_names database.now.statements) }
     requires indices_fit { AreShortIndices indices.now }
     requires is_symbol { symbol < length (symbol_names database.now.statements) }
     ensures { result ≡ indexed_part database.now.statements indices.now symbol }
 {
     if database.is_variable(symbol) {
-        PackedSymbol::variable(index_of(indices, symbol))
+        PackedPart::variable(index_of(indices, symbol))
     } else {
-        PackedSymbol::constant(symbol)
+        PackedPart::constant(symbol)
     }
 }
 
@@ -100,7 +96,7 @@ fn compile_formula<A: Allocator>(
     database: &Database<A>,
     indices: &[u32],
     formula: &[Sym],
-    parts: &mut Vec<PackedSymbol, A>,
+    parts: &mut Vec<PackedPart, A>,
 ) -> Result<(), AllocError>
     requires symbol_count_is { length indices.now ≡ length (symbol_names database.now.statements) }
     requires indices_fit { AreShortIndices indices.now }
@@ -144,7 +140,7 @@ fn compile_hypotheses<A: Allocator>(
     mandatory: &[u32],
     indices: &[u32],
     hypotheses: &mut Vec<Hypothesis, A>,
-    parts: &mut Vec<PackedSymbol, A>,
+    parts: &mut Vec<PackedPart, A>,
 ) -> Result<(), AllocError>
     requires symbol_count_is { length indices.now ≡ length (symbol_names database.now.statements) }
     requires indices_fit { AreShortIndices indices.now }
@@ -200,8 +196,8 @@ pub struct RuleCompiler<A: Allocator> {
     assertion: u32,
     hypotheses: Vec<Hypothesis, A>,
     pairs: Vec<(u32, u32), A>,
-    parts: Vec<PackedSymbol, A>,
-    formula: Vec<PackedSymbol, A>,
+    parts: Vec<PackedPart, A>,
+    formula: Vec<PackedPart, A>,
     /// For each variable of the rule the index of its first `$f` among the mandatory hypotheses.
     /// What other symbols have here means nothing.
     indices: Vec<u32, A>,

@@ -13,7 +13,7 @@ ghost use Rattle.mm_rules.specs.Rules.{elements_in, rule_size, lists_size};
 use crate::compile::RuleCompiler;
 use mm_database::Database;
 use mm_rule::{
-    Hypothesis, PackedSymbol, Rule, is_assertion, is_essential_hypothesis, mandatory_hypotheses,
+    Hypothesis, PackedPart, Rule, is_assertion, is_essential_hypothesis, mandatory_hypotheses,
     pairs, put_number,
 };
 use std::alloc::{AllocError, Allocator};
@@ -56,7 +56,7 @@ pub struct Rules<A: Allocator> {
     hypotheses: Vec<Hypothesis, A>,
     pairs: Vec<(u32, u32), A>,
     /// The symbols of hypotheses and of formulas.
-    parts: Vec<PackedSymbol, A>,
+    parts: Vec<PackedPart, A>,
     /// For each statement an index in `ranges` at which its rule may be; `find` verifies it.
     rule_indices: Vec<u32, A>,
 }

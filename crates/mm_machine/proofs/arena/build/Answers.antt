@@ -22,7 +22,7 @@ returns-then-len-gt-FORMULA_LIMIT-clause-tells_length_le_limit g c =
     let u = c.formula.result.now in
     let i_lt_length_f : i < length f = c.loop-part-test.true in
     let replaced_part_is_u : replaced_part xs es c.part-item.result ≡ u =
-    ap (replaced_part xs es) (sym c.symbol.ensures ∙ c.in-Variable.is)
+    ap (replaced_part xs es) (sym c.unpack.ensures ∙ c.in-Variable.is)
     ∙ sym (c.formula.ensures ∙ ap (span_formula xs) c.replacement_of.ensures) in
     let front_and_u_le : length (replaced xs es (take i f)) + length u ≤ length (replaced xs es f) =
     front_and_part_le_replaced xs es f i c.part-item.result u i_lt_length_f (sym c.part-item.is)
@@ -40,7 +40,7 @@ formula-requires g c =
     c.loop-part.part-index
     c.part-item.result c.in-Variable.floating_index c.replacement_of.result
     c.requires.premises_in_arena c.requires.variables_in_range
-    c.loop-part-test.true c.part-item.is (sym c.symbol.ensures ∙ c.in-Variable.is)
+    c.loop-part-test.true c.part-item.is (sym c.unpack.ensures ∙ c.in-Variable.is)
     c.replacement_of.ensures
 
 pub returns-then-len-gt-FORMULA_LIMIT-clause-list_is_formula :
@@ -62,13 +62,13 @@ loop-part-preserved g c =
       | in-Variable+in_ok-append_symbols-in-Variable+else-len-gt-FORMULA_LIMIT w ↦
           let formula_is_replaced_part : w.formula.result.now ≡ replaced_part xs es p =
           w.formula.ensures ∙ ap (span_formula xs) w.replacement_of.ensures
-          ∙ sym (ap (replaced_part xs es) (sym c.symbol.ensures ∙ w.in-Variable.is)) in
+          ∙ sym (ap (replaced_part xs es) (sym c.unpack.ensures ∙ w.in-Variable.is)) in
           rw (w.list-is, w.in_ok-append_symbols-in-Variable.ensures)
           (ap₂ (λ u v. u ++ v) c.loop-part.invariant formula_is_replaced_part ∙ sym replaced_next)
       | in-Constant+in_ok-push-in-Constant w ↦
           rw (w.list-is, w.in_ok-push-in-Constant.ensures.items)
           (ap₂ (λ u v. u ++ v) c.loop-part.invariant
-          (sym (ap (replaced_part xs es) (sym c.symbol.ensures ∙ w.in-Constant.is)))
+          (sym (ap (replaced_part xs es) (sym c.unpack.ensures ∙ w.in-Constant.is)))
           ∙ sym replaced_next)
     ]
 

@@ -9,7 +9,7 @@ formula-replacement-requires c =
     c.loop-part.part-index
     c.part-item.result c.in-Variable.floating_index c.replacement_of.result
     c.requires.premises_in_arena c.requires.variables_in_range
-    c.loop-part-test.true c.part-item.is (sym c.symbol.ensures ∙ c.in-Variable.is)
+    c.loop-part-test.true c.part-item.is (sym c.unpack.ensures ∙ c.in-Variable.is)
     c.replacement_of.ensures
 
 pub loop-part-preserved : goal.loop-part-preserved

@@ -25,7 +25,7 @@ returns-then-not-begins_with c =
     let p = c.replacement_of-span.result in
     let i_lt_length_w : i < length w = c.loop-part-test.true in
     let replaced_part_is : replaced_part arena es c.part-item.result ≡ span_formula arena p =
-    ap (replaced_part arena es) (sym c.symbol.ensures ∙ c.in-Variable.is)
+    ap (replaced_part arena es) (sym c.unpack.ensures ∙ c.in-Variable.is)
     ∙ sym (ap (span_formula arena) c.replacement_of-span.ensures) in
     let begins_is_false : starts_with nat_eq (slice_range xs a e) (span_formula arena p) ≡ false =
     sym c.begins_with.ensures ∙ c.if-not-begins_with.true in
@@ -49,7 +49,7 @@ loop-part-preserved c =
       | in-Variable+else-not-begins_with b ↦
           let p = b.replacement_of-span.result in
           let replaced_part_is : replaced_part arena es c.part-item.result ≡ span_formula arena p =
-          ap (replaced_part arena es) (sym c.symbol.ensures ∙ b.in-Variable.is)
+          ap (replaced_part arena es) (sym c.unpack.ensures ∙ b.in-Variable.is)
           ∙ sym (ap (span_formula arena) b.replacement_of-span.ensures) in
           let begins_is_true : starts_with nat_eq (slice_range xs a e) (span_formula arena p)
           ≡ true =
@@ -61,7 +61,7 @@ loop-part-preserved c =
           length_formula arena p
           (variable_replacement_is_in arena es w i c.part-item.result b.in-Variable.floating_index p
           c.requires.premises_in_arena
-          c.requires.variables_in_range i_lt_length_w c.part-item.is (sym c.symbol.ensures ∙
+          c.requires.variables_in_range i_lt_length_w c.part-item.is (sym c.unpack.ensures ∙
           b.in-Variable.is)
           b.replacement_of-span.ensures) in
           rw b.index-is (record {
@@ -96,7 +96,7 @@ loop-part-preserved c =
                 c.loop-part.invariant.test_is_rest_test
                 ∙ fit_splits arena es xs w i a e i_lt_length_w c.part-item.result (s ∷ [])
                 (sym c.part-item.is) (ap (replaced_part arena es)
-                (sym c.symbol.ensures ∙ b.in-Constant.is))
+                (sym c.unpack.ensures ∙ b.in-Constant.is))
                 ∙ ap (λ z. z && rest_is_wanted arena es xs w i a e i_lt_length_w 1) begins_is_true;
           })
     ]
@@ -107,7 +107,7 @@ begins_with-requires-clause-span_in_arena c =
     c.loop-part.part-index
     c.part-item.result c.in-Variable.floating_index c.replacement_of-span.result
     c.requires.premises_in_arena c.requires.variables_in_range
-    c.loop-part-test.true c.part-item.is (sym c.symbol.ensures ∙ c.in-Variable.is)
+    c.loop-part-test.true c.part-item.is (sym c.unpack.ensures ∙ c.in-Variable.is)
     c.replacement_of-span.ensures
 
 pub overflow_sub-index : goal.overflow_sub-index

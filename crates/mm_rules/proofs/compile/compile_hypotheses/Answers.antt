@@ -3,7 +3,7 @@ use Rattle.std.proofs.Common.{◌∙◌, subst, arith, length-append}
 use Rattle.std.proofs.lemmas.List.{take_all, get_or_default, length-map}
 use Rattle.std.proofs.lemmas.List.Elements.{All-append}
 use Rattle.mm_spec.specs.Frame.{formula_at}
-use Rattle.mm_rule.specs.declared.rule.RuleSymbol.TheVariants.{Constant, Variable}
+use Rattle.mm_rule.specs.declared.rule.RulePart.TheVariants.{Constant, Variable}
 use Rattle.mm_rule.specs.declared.rule.Hypothesis.TheVariants.{Floating, Essential}
 use Rattle.mm_rule.specs.Rule.{part_of, parts_of, IsVariableBelow}
 use Rattle.mm_rules.specs.Rules.{AreCovered, indexed_parts}
@@ -49,11 +49,12 @@ loop-index-preserved g c =
           sym parts_equal ∙ is_first.1 ∙ ap (λ z. Constant z ∷ Variable j ∷ []) typecode in
           rw (w.hypotheses-is, w.parts-is, w.in_ok-push.ensures.items) (record {
             parts_are =
-                all_parts_push_floating parts hypotheses j t us v.count v.part_count_is v.parts_are
+                all_parts_push_floating parts hypotheses j t us v.count_is v.part_count_is
+                v.parts_are
                 ∙ ap (λ z. us ++ z ∷ []) (sym parts_are_two) ∙ sym parts_with_this_are;
-            count = omega (arith, v.count, length-append hypotheses (Floating t ∷ []));
+            count_is = omega (arith, v.count_is, length-append hypotheses (Floating t ∷ []));
             part_count_is = part_count_push_floating parts hypotheses t v.part_count_is;
-            below = v.below;
+            parts_in_range = v.parts_in_range;
           })
       | else-is_first_floating+in_ok-compile_formula+in_ok-push-2 w ↦
           let added = parts_of db hs f in
@@ -71,11 +72,11 @@ loop-index-preserved g c =
                 v.part_count_is us
                 v.parts_are
                 ∙ sym parts_with_this_are;
-            count = omega (arith, v.count, length-append hypotheses (Essential n ∷ []));
+            count_is = omega (arith, v.count_is, length-append hypotheses (Essential n ∷ []));
             part_count_is = part_count_push_essential parts added hypotheses n n_is_length
                 v.part_count_is;
-            below =
-                All-append (IsVariableBelow (length mandatory)) parts added v.below
+            parts_in_range =
+                All-append (IsVariableBelow (length mandatory)) parts added v.parts_in_range
                 (subst (λ n. All (IsVariableBelow n) added) (length-map mandatory (formula_at db))
                 (parts_below db hs f covered));
           })
@@ -92,9 +93,9 @@ returns g c = let db = c.args.database.now.statements in
           c.loop-index.invariant.parts_are
           ∙ ap (λ z. map (parts_of db hs) (map (formula_at db) z))
           (take_all c.loop-index.index c.args.mandatory.now c.loop-index-test.false);
-      count =
-          let n = c.loop-index.invariant.count in let l = c.loop-index-test.false in
+      count_is =
+          let n = c.loop-index.invariant.count_is in let l = c.loop-index-test.false in
           omega (arith, n, l);
       part_count_is = c.loop-index.invariant.part_count_is;
-      below = c.loop-index.invariant.below;
+      parts_in_range = c.loop-index.invariant.parts_in_range;
     }
