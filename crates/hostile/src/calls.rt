@@ -6,7 +6,6 @@ ghost use Rattle.mm_spec.specs.Output.{is_theorem_at};
 ghost use Rattle.mm_steps.specs.TheoremSteps.{theorem_steps};
 ghost use Rattle.mm_check.specs.Checker.{IsMadeFor};
 
-use crate::flags::BY_ALL_NODES;
 use mm_check::{CheckRefused, Checked, Checker, check};
 use mm_plan::{Cutting, Plan};
 use mm_proof::Steps;
@@ -18,6 +17,9 @@ use std::alloc::{AllocError, Allocator};
 use std::io::{Read, Write};
 use std::sync::Wait;
 use std::thread::Threads;
+
+/// A theorem cites by all nodes of its proof.
+const BY_ALL_NODES: bool = false;
 
 /// A plan that cuts the text in this way, checks proofs with `workers` workers, and writes these
 /// sections.

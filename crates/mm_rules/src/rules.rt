@@ -194,8 +194,8 @@ impl<A: Allocator> Rules<A> {
         }
     }
 
-    /// No rules, in lists with room for those of a database.
-    fn with_room(alloc: A, database: &Database<A>) -> Result<Self, AllocError>
+    /// No rules, in lists with capacity for those of a database.
+    fn with_capacity(alloc: A, database: &Database<A>) -> Result<Self, AllocError>
     where
         A: Copy,
         ensures { IfOk result (λ r. r ≡ rule_lists [] [] [] []) }
@@ -216,7 +216,7 @@ impl<A: Allocator> Rules<A> {
         A: Copy,
         ensures { IfOk result (λ r. AreRules database.now.statements r) }
     {
-        let mut rules = Self::with_room(alloc, database)?;
+        let mut rules = Self::with_capacity(alloc, database)?;
         let mut compiler = RuleCompiler::new(alloc, database)?;
         for statement in 0..database.len() {
             rules.hold_rule(database, statement, &mut compiler)?;

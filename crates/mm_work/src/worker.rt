@@ -49,9 +49,9 @@ impl<A: Allocator> Drop for Findings<A> {
 }
 
 impl<A: Allocator> Findings<A> {
-    /// Nothing found yet. There is room for the lists of `theorems` theorems, with `room` citations
-    /// in all.
-    fn new(alloc: A, theorems: usize, room: usize) -> Findings<A>
+    /// Nothing found yet. Memory is reserved for the lists of `theorems` theorems, with
+    /// `citation_capacity` citations in all.
+    fn new(alloc: A, theorems: usize, citation_capacity: usize) -> Findings<A>
     where
         A: Copy,
         ensures none_valid { result.valid.items ≡ [] }
@@ -60,7 +60,7 @@ impl<A: Allocator> Findings<A> {
     {
         Findings {
             valid: Vec::new(alloc),
-            cites: Lists::with_room(alloc, theorems, room),
+            cites: Lists::with_room(alloc, theorems, citation_capacity),
             faulty: None,
             short_of_memory: false,
         }
@@ -162,7 +162,7 @@ pub(crate) fn work<A: Allocator + Copy, G: Gate>(
 {
     let mut state = WorkerState {
         seat,
-        findings: Findings::new(alloc, job.database.theorems().len(), job.room),
+        findings: Findings::new(alloc, job.database.theorems().len(), job.citation_capacity),
     };
     let Ok(mut checker) = Checker::new(alloc, job.database, job.rules) else {
         state.findings.short_of_memory = true;

@@ -48,12 +48,12 @@ fn a_list_that_is_refused_is_not_appended(rt: HostRuntime) {
 /// The statement number of a theorem.
 const THEOREM: u32 = 13;
 
-/// Refuses a growth of appending a step to none, with room for `room` steps. Asserts that after a
+/// Refuses a growth of appending a step to none, with capacity for `capacity` steps. Asserts that after a
 /// refusal there is no step, and that the next one is the first. Returns whether there was such a
 /// growth.
-fn step_refused<R: Abort>(rt: &R, heap: &Refusing<Global>, room: usize, number: u64) -> bool {
+fn step_refused<R: Abort>(rt: &R, heap: &Refusing<Global>, capacity: usize, number: u64) -> bool {
     heap.refuse(number);
-    let mut steps = Steps::none(heap, THEOREM, room);
+    let mut steps = Steps::none(heap, THEOREM, capacity);
     match steps.push(20, Step::Label(2)) {
         Ok(()) => was_refused(rt, heap, Some(steps.step(0) == Step::Label(2))),
         Err(_) => {
@@ -71,9 +71,9 @@ fn step_refused<R: Abort>(rt: &R, heap: &Refusing<Global>, room: usize, number: 
 #[test]
 fn a_step_that_is_refused_is_not_appended(rt: HostRuntime) {
     let heap = Refusing::new(rt.alloc());
-    for room in [0, 4] {
-        assert!(&rt; step_refused(&rt, &heap, room, 1));
-        assert!(&rt; !step_refused(&rt, &heap, room, 2));
+    for capacity in [0, 4] {
+        assert!(&rt; step_refused(&rt, &heap, capacity, 1));
+        assert!(&rt; !step_refused(&rt, &heap, capacity, 2));
     }
 }
 

@@ -13,6 +13,9 @@ use crate::heap::Refusing;
 use std::alloc::Allocator;
 use std::process::Abort;
 
+/// Open theorems don't count as axioms.
+const WITHOUT_OPEN: bool = false;
+
 /// More growths of memory than any of the calls has.
 const MOST_GROWTHS: u64 = 10_000;
 

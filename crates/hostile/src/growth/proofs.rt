@@ -5,9 +5,8 @@ ghost use Rattle.mm_spec.specs.Citation.{steps_at, reading_faults_at};
 ghost use Rattle.mm_spec.specs.Output.{is_theorem_at};
 ghost use Rattle.mm_steps.specs.TheoremSteps.{theorem_steps};
 
-use super::{MOST_GROWTHS, was_refused};
+use super::{MOST_GROWTHS, WITHOUT_OPEN, was_refused};
 use crate::calls::{all_checked, checked, checked_by};
-use crate::flags::WITHOUT_OPEN;
 use crate::heap::Refusing;
 use crate::texts::THROUGH;
 use mm_board::{Board, BoardFault, Seat};

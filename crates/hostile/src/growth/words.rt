@@ -1,12 +1,14 @@
 //! The calls that turn a text into statements.
 
-use super::{MOST_GROWTHS, was_refused};
-use crate::flags::{OUTSIDE_COMMENT, WITHOUT_OPEN};
+use super::{MOST_GROWTHS, WITHOUT_OPEN, was_refused};
 use crate::heap::Refusing;
 use crate::texts::{FIRST_TEXT, THROUGH};
 use mm_lex::{Cuts, Lexed, Piece, Word, join, lex, lex_piece};
 use mm_stmt::{Database, read};
 use std::alloc::{AllocError, Allocator, Global};
+
+/// No comment is open after the head of a piece.
+const OUTSIDE_COMMENT: bool = false;
 
 /// How many tokens the first text has.
 const TOKENS: usize = 62;

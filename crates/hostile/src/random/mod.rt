@@ -13,7 +13,7 @@ mod words;
 use crate::calls::{ended, plan_of};
 use chance::Chance;
 use changes::change_some;
-use database::database_by;
+use database::random_database;
 use mm_plan::Cutting;
 use mm_run::RunEnd;
 use mm_spec::Choice;
@@ -39,7 +39,7 @@ const CODES: [u8; 37] = [
 ];
 
 /// Random cuts: into equal pieces, or at some places, of which the last may be past the end.
-fn cuts_by(alloc: Global, len: usize, chance: &mut Chance) -> Cutting<Global> {
+fn random_cuts(alloc: Global, len: usize, chance: &mut Chance) -> Cutting<Global> {
     if chance.once_in(2) {
         return Cutting::Count(WORKERS_OR_PIECES[chance.below(WORKERS_OR_PIECES.len())]);
     }
@@ -55,14 +55,14 @@ fn cuts_by(alloc: Global, len: usize, chance: &mut Chance) -> Cutting<Global> {
 }
 
 /// How a run ends and what it writes, with random cuts and a random number of workers.
-fn run_by<R: Threads + Wait + Sync>(
+fn run_randomly<R: Threads + Wait + Sync>(
     rt: &R,
     alloc: Global,
     mut text: &[u8],
     choice: Choice,
     chance: &mut Chance,
 ) -> (Option<RunEnd>, Vec<u8>) {
-    let cuts = cuts_by(alloc, text.len(), chance);
+    let cuts = random_cuts(alloc, text.len(), chance);
     let workers = WORKERS_OR_PIECES[chance.below(WORKERS_OR_PIECES.len())];
     let plan = plan_of(cuts, workers, choice);
     let mut written = Vec::new(alloc);
@@ -126,9 +126,9 @@ fn assert_sections<R: Abort + Threads + Wait + Sync>(
     report: &[u8],
     chance: &mut Chance,
 ) {
-    let (_, matrix_report) = run_by(rt, alloc, text, Choice::Matrix, chance);
-    let (_, counts_report) = run_by(rt, alloc, text, Choice::Counts, chance);
-    let (_, usage_report) = run_by(rt, alloc, text, Choice::Usage, chance);
+    let (_, matrix_report) = run_randomly(rt, alloc, text, Choice::Matrix, chance);
+    let (_, counts_report) = run_randomly(rt, alloc, text, Choice::Counts, chance);
+    let (_, usage_report) = run_randomly(rt, alloc, text, Choice::Usage, chance);
     let sections = [
         section_of(&matrix_report),
         section_of(&counts_report),
@@ -148,20 +148,20 @@ fn end_of_all_runs<R: Abort + Threads + Wait + Sync>(
     chance: &mut Chance,
 ) -> Option<RunEnd> {
     let (end, written) = run_plainly(rt, alloc, text);
-    let (other_end, other_written) = run_by(rt, alloc, text, Choice::All, chance);
+    let (other_end, other_written) = run_randomly(rt, alloc, text, Choice::All, chance);
     assert!(rt; other_end == end && other_written.as_slice() == written.as_slice());
     if end == Some(RunEnd::Accepted) {
         assert_sections(rt, alloc, text, &written, chance);
     } else {
-        let (_, refusal) = run_by(rt, alloc, text, Choice::Counts, chance);
+        let (_, refusal) = run_randomly(rt, alloc, text, Choice::Counts, chance);
         assert!(rt; refusal.as_slice() == written.as_slice());
     }
     end
 }
 
 /// A random text, and whether it is an unchanged database.
-fn text_by(alloc: Global, chance: &mut Chance) -> (Vec<u8>, bool) {
-    let mut words = database_by(alloc, chance);
+fn random_text(alloc: Global, chance: &mut Chance) -> (Vec<u8>, bool) {
+    let mut words = random_database(alloc, chance);
     let is_unchanged = chance.once_in(4);
     if !is_unchanged {
         change_some(&mut words, chance);
@@ -205,7 +205,7 @@ fn texts_by_chance_have_one_answer(rt: HostRuntime) {
     };
     for seed in 0..TEXTS {
         let mut chance = Chance::new(seed as u64);
-        let (text, is_unchanged) = text_by(rt.alloc(), &mut chance);
+        let (text, is_unchanged) = random_text(rt.alloc(), &mut chance);
         let end = end_of_all_runs(&rt, rt.alloc(), &text, &mut chance);
         assert!(&rt;
             !is_unchanged || end == Some(RunEnd::Accepted),
