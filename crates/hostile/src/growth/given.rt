@@ -61,10 +61,10 @@ fn tokens_are_given_back_and_the_text_is_as_it_was(rt: HostRuntime) -> Result<()
     let heap = Refusing::new(&local);
     let text = DISJOINT.to_vec(rt.alloc())?;
     let unused = local.used();
-    for number in 1..MOST_GROWTHS {
+    for growth in 1..MOST_GROWTHS {
         let lexed = lexed_in(&rt, rt.alloc(), &heap, &text)?;
         assert!(&rt; local.used() > unused);
-        heap.refuse(number);
+        heap.refuse(growth);
         let refused = was_refused(
             &rt,
             &heap,
@@ -73,7 +73,7 @@ fn tokens_are_given_back_and_the_text_is_as_it_was(rt: HostRuntime) -> Result<()
         assert_eq!(rt; local.used(), unused);
         assert_eq!(rt; text.as_slice(), DISJOINT);
         if !refused {
-            assert!(&rt; number > 10);
+            assert!(&rt; growth > 10);
             return Ok(());
         }
     }
@@ -85,11 +85,11 @@ fn pieces_are_given_back(rt: HostRuntime) -> Result<(), AllocError> {
     let local = LocalHeap::new(rt.alloc(), HEAP_SIZE)?;
     let heap = Refusing::new(&local);
     let unused = local.used();
-    for number in 1..MOST_GROWTHS {
+    for growth in 1..MOST_GROWTHS {
         let first = lex_piece(&heap, FIRST_TEXT, 0, CUT_AT)?;
         let second = lex_piece(&heap, FIRST_TEXT, CUT_AT, FIRST_TEXT.len())?;
         assert!(&rt; local.used() > unused);
-        heap.refuse(number);
+        heap.refuse(growth);
         let refused = was_refused(
             &rt,
             &heap,
@@ -97,7 +97,7 @@ fn pieces_are_given_back(rt: HostRuntime) -> Result<(), AllocError> {
         );
         assert_eq!(rt; local.used(), unused);
         if !refused {
-            assert!(&rt; number > 1);
+            assert!(&rt; growth > 1);
             return Ok(());
         }
     }

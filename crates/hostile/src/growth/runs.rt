@@ -16,9 +16,10 @@ use std::process::Abort;
 use std::sync::Wait;
 use std::thread::Threads;
 
-/// How many pieces the text is cut into, and how many workers a run has.
+/// How many pieces the text is cut into.
 const PIECES: u32 = 3;
 
+/// How many workers a run has.
 const WORKERS: u32 = 2;
 
 /// Whether a run wrote exactly this output, and allocated nothing while it wrote. `None` if it ran
@@ -47,7 +48,7 @@ fn has_output(end: Option<RunEnd>) -> bool {
     }
 }
 
-/// Asserts that a run whose growth of that number is refused runs out of memory or writes this
+/// Asserts that a run with that growth refused runs out of memory or writes this
 /// output, and that the run after it writes the output. Returns whether the growth came.
 fn assert_right_with_refusal<R: Abort + Threads + Wait + Sync>(
     rt: &R,
@@ -55,9 +56,9 @@ fn assert_right_with_refusal<R: Abort + Threads + Wait + Sync>(
     alloc: Global,
     text: &[u8],
     output: &[u8],
-    number: u64,
+    growth: u64,
 ) -> bool {
-    heap.refuse(number);
+    heap.refuse(growth);
     let is_right = is_right_run(rt, alloc, heap, text, output);
     let refused = was_refused(rt, heap, is_right);
     let is_right_again = is_right_run(rt, alloc, heap, text, output);
@@ -114,10 +115,10 @@ fn a_run_without_memory_writes_nothing(rt: HostRuntime) {
 /// compute its rows.
 fn many_theorems(alloc: Global, count: u32) -> Result<Vec<u8>, AllocError> {
     let mut text = BASE.to_vec(alloc)?;
-    for number in 0..count {
+    for theorem in 0..count {
         text.push(b't')?;
         for unit in [1000, 100, 10, 1] {
-            text.push(b'0' + (number / unit % 10) as u8)?;
+            text.push(b'0' + (theorem / unit % 10) as u8)?;
         }
         text.extend_from_slice(b" $p wff ( p -> ( q -> p ) ) $= wp wq wp wi wi $.\n")?;
     }

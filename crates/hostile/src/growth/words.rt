@@ -33,8 +33,8 @@ fn are_cuts<A: Allocator + Copy>(answer: Result<Cuts<A>, AllocError>) -> Option<
 #[test]
 fn equal_cuts_without_memory(rt: HostRuntime) {
     let heap = Refusing::new(rt.alloc());
-    for number in 1..MOST_GROWTHS {
-        heap.refuse(number);
+    for growth in 1..MOST_GROWTHS {
+        heap.refuse(growth);
         let refused = was_refused(
             &rt,
             &heap,
@@ -42,7 +42,7 @@ fn equal_cuts_without_memory(rt: HostRuntime) {
         );
         assert!(&rt; are_cuts(Cuts::equal(&heap, FIRST_TEXT.len(), 3)) == Some(true));
         if !refused {
-            assert!(&rt; number > 1);
+            assert!(&rt; growth > 1);
             return;
         }
     }
@@ -67,8 +67,8 @@ fn is_beginning<A: Allocator>(answer: Result<Piece<A>, AllocError>) -> Option<bo
 #[test]
 fn a_piece_without_memory(rt: HostRuntime) {
     let heap = Refusing::new(rt.alloc());
-    for number in 1..MOST_GROWTHS {
-        heap.refuse(number);
+    for growth in 1..MOST_GROWTHS {
+        heap.refuse(growth);
         let refused = was_refused(
             &rt,
             &heap,
@@ -76,7 +76,7 @@ fn a_piece_without_memory(rt: HostRuntime) {
         );
         assert!(&rt; is_beginning(lex_piece(&heap, FIRST_TEXT, 0, CUT_AT)) == Some(true));
         if !refused {
-            assert!(&rt; number > 1);
+            assert!(&rt; growth > 1);
             return;
         }
     }
@@ -102,12 +102,12 @@ pub(crate) fn is_summary<A: Allocator>(answer: Result<Piece<A>, AllocError>) -> 
 /// join fails, both parts are dropped.
 fn join_pieces(
     heap: &Refusing<Global>,
-    number: Option<u64>,
+    growth: Option<u64>,
 ) -> Result<Result<Piece<&Refusing<Global>>, AllocError>, AllocError> {
     let first = lex_piece(heap, FIRST_TEXT, 0, CUT_AT)?;
     let second = lex_piece(heap, FIRST_TEXT, CUT_AT, FIRST_TEXT.len())?;
-    if let Some(number) = number {
-        heap.refuse(number);
+    if let Some(growth) = growth {
+        heap.refuse(growth);
     }
     Ok(join(heap, FIRST_TEXT, first, second))
 }
@@ -115,11 +115,11 @@ fn join_pieces(
 #[test]
 fn pieces_joined_without_memory(rt: HostRuntime) -> Result<(), AllocError> {
     let heap = Refusing::new(rt.alloc());
-    for number in 1..MOST_GROWTHS {
-        let refused = was_refused(&rt, &heap, is_summary(join_pieces(&heap, Some(number))?));
+    for growth in 1..MOST_GROWTHS {
+        let refused = was_refused(&rt, &heap, is_summary(join_pieces(&heap, Some(growth))?));
         assert!(&rt; is_summary(join_pieces(&heap, None)?) == Some(true));
         if !refused {
-            assert!(&rt; number > 1);
+            assert!(&rt; growth > 1);
             return Ok(());
         }
     }
@@ -143,12 +143,12 @@ fn is_lexed<A: Allocator>(answer: Result<Lexed<A>, AllocError>) -> Option<bool> 
 fn lexing_without_memory(rt: HostRuntime) -> Result<(), AllocError> {
     let heap = Refusing::new(rt.alloc());
     let cuts = Cuts::equal(&heap, FIRST_TEXT.len(), 3)?;
-    for number in 1..MOST_GROWTHS {
-        heap.refuse(number);
+    for growth in 1..MOST_GROWTHS {
+        heap.refuse(growth);
         let refused = was_refused(&rt, &heap, is_lexed(lex(&rt, &heap, FIRST_TEXT, &cuts)));
         assert!(&rt; is_lexed(lex(&rt, &heap, FIRST_TEXT, &cuts)) == Some(true));
         if !refused {
-            assert!(&rt; number > 1);
+            assert!(&rt; growth > 1);
             return Ok(());
         }
     }
@@ -175,8 +175,8 @@ fn statements_without_memory(rt: HostRuntime) -> Result<(), AllocError> {
     let cuts = Cuts::equal(&heap, THROUGH.len(), 1)?;
     let lexed = lex(&rt, &heap, THROUGH, &cuts)?;
     let tokens = lexed.tokens.to_vec(&heap)?;
-    for number in 1..MOST_GROWTHS {
-        heap.refuse(number);
+    for growth in 1..MOST_GROWTHS {
+        heap.refuse(growth);
         let refused = was_refused(
             &rt,
             &heap,
@@ -186,7 +186,7 @@ fn statements_without_memory(rt: HostRuntime) -> Result<(), AllocError> {
         assert!(&rt; lexed.fault.is_none());
         assert!(&rt; is_read(read(&heap, THROUGH, &lexed, WITHOUT_OPEN)) == Some(true));
         if !refused {
-            assert!(&rt; number > 10);
+            assert!(&rt; growth > 10);
             return Ok(());
         }
     }
