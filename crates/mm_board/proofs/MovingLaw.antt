@@ -65,13 +65,13 @@ module _ (n a b c a' b' c' : ℕ) (v w : View) (views : List View) (id : ℕ)
       reported_at_most_total x in omega arith
 
   new_floor_is_count_or_reported : IsCountOrReported n after b'
-  new_floor_is_count_or_reported = valid_by_floor moves.floor_kept_or_reported
+  new_floor_is_count_or_reported = count_or_reported moves.floor_kept_or_reported
     where
-      valid_by_floor : (b' ≡ b) ⊎ (0 < times_in b' w.reported) → IsCountOrReported n after b'
-      valid_by_floor (inl floor_is_kept) =
+      count_or_reported : (b' ≡ b) ⊎ (0 < times_in b' w.reported) → IsCountOrReported n after b'
+      count_or_reported (inl floor_is_kept) =
           subst (IsCountOrReported n after) (sym floor_is_kept)
           (stays_count_or_reported b rule.floor_is_least_reported.is_count_or_reported)
-      valid_by_floor (inr is_reported) = inr (reported_by_moved_seat b' is_reported)
+      count_or_reported (inr is_reported) = inr (reported_by_moved_seat b' is_reported)
 
   floor_is_least_reported : IsLeastReported n after b'
   floor_is_least_reported = record {
@@ -115,7 +115,7 @@ module _ (n a b c a' b' c' : ℕ) (v w : View) (views : List View) (id : ℕ)
     floor_le_seen = λ _. moves.floor_le_seen;
     seen_is_count_or_reported = λ _. seen_is_valid moves.seen_kept_or_floor;
     over_only_past_count =
-        λ is_over_after. over_by_claim_word (moves.over_kept_or_past_count is_over_after);
+        λ is_over_after. count_lt_claim_word (moves.over_kept_or_past_count is_over_after);
     spent_has_empty_record =
         λ share_is_zero. let shares_equal = moves.share_kept in absurd (omega arith);
   }
@@ -128,12 +128,12 @@ module _ (n a b c a' b' c' : ℕ) (v w : View) (views : List View) (id : ℕ)
       seen_is_valid (inr seen_is) =
           subst (IsCountOrReported n after) (sym seen_is) new_floor_is_count_or_reported
 
-      over_by_claim_word : (v.over ≡ true) ⊎ (n < a') → n < a'
-      over_by_claim_word (inl was_over) =
+      count_lt_claim_word : (v.over ≡ true) ⊎ (n < a') → n < a'
+      count_lt_claim_word (inl was_over) =
           let old_word_gt_n =
           (rule.seats_obey_rule id v has_view).over_only_past_count was_over in let word_rises =
           moves.claim_word_rises in omega arith
-      over_by_claim_word (inr n_lt_claim_word) = n_lt_claim_word
+      count_lt_claim_word (inr n_lt_claim_word) = n_lt_claim_word
 
   rule_of_other_seat : (u : View) → SeatRule n views a b u → SeatRule n after a' b' u
   rule_of_other_seat u seat_rule = record {

@@ -359,7 +359,7 @@ module _ (n b c : ℕ) (v : View) (floor_le_seen : b ≤ v.seen) where
         λ y is_reported_more_often. let parts_add_up = times_in_append y v.reported (i ∷ []) in
         let one_of_single : times_in y (i ∷ []) ≡ cond (i == y) 1 0 + 0 = refl in
         let i_is_y = counted_is_equal y i (omega arith) in omega arith;
-    floor_kept_or_reported = floor_by_order (cases_lt i b);
+    floor_kept_or_reported = min_is_floor_or_reported (cases_lt i b);
     settled_word_follows_view = refl;
     new_skips_gt_floor = λ y is_skipped_more_often. omega arith;
     floor_le_seen = omega arith;
@@ -380,8 +380,8 @@ module _ (n b c : ℕ) (v : View) (floor_le_seen : b ≤ v.seen) where
           equal_is_counted i in
           omega arith
 
-      floor_by_order : (i < b) ⊎ (b ≤ i) → (min b i ≡ b)
+      min_is_floor_or_reported : (i < b) ⊎ (b ≤ i) → (min b i ≡ b)
           ⊎ (0 < times_in (min b i) (v.reported ++ i ∷ []))
-      floor_by_order (inl i_lt_b) =
+      min_is_floor_or_reported (inl i_lt_b) =
           let lesser_is_i : min b i ≡ i = omega arith in inr (rw lesser_is_i i_is_reported)
-      floor_by_order (inr b_le_i) = inl (omega arith)
+      min_is_floor_or_reported (inr b_le_i) = inl (omega arith)

@@ -22,17 +22,17 @@ module _ (db : List Statement) (t j : ℕ) where
     pub rule_is : rule_at db t j ≡ rule_of db j statement
 
   good_label_has_statement : IsCompleteRule (context_at db t) (rule_at db t j) → HasStatement
-  good_label_has_statement is_complete = by_activity (is_active db j t) refl (slice_get db j) refl
+  good_label_has_statement is_complete = is_statement (is_active db j t) refl (slice_get db j) refl
       is_complete
     where
       out : Bool → Option Statement → Option Rule
       out b o = elim b [ false ↦ None | true ↦ elim o [ None ↦ None | Some s ↦ rule_of db j s ] ]
 
-      by_activity : (b : Bool) → is_active db j t ≡ b → (o : Option Statement) → slice_get db j ≡ o
+      is_statement : (b : Bool) → is_active db j t ≡ b → (o : Option Statement) → slice_get db j ≡ o
           → IsCompleteRule (context_at db t) (out b o) → HasStatement
-      by_activity false not_active o statement_is is_good = absurd is_good
-      by_activity true active_at_t None statement_is is_complete = absurd is_complete
-      by_activity true active_at_t (Some s) statement_is is_complete =
+      is_statement false not_active o statement_is is_good = absurd is_good
+      is_statement true active_at_t None statement_is is_complete = absurd is_complete
+      is_statement true active_at_t (Some s) statement_is is_complete =
           record {
             statement = s;
             statement_is = statement_is;
@@ -57,35 +57,35 @@ module _ (db : List Statement) (t j : ℕ) where
       → rule_at db t j ≡ Some (assertion (frame_at db j))
   assertion_rule labels_assertion is_complete =
       let labelled = good_label_has_statement is_complete in labelled.rule_is
-      ∙ by_statement labelled.statement (assertion_flag_is labelled.statement true
+      ∙ rule_is labelled.statement (assertion_flag_is labelled.statement true
       labelled.statement_is
       labels_assertion)
     where
-      by_statement : (s : Statement) → list_any is_assertion (s ∷ []) ≡ true
+      rule_is : (s : Statement) → list_any is_assertion (s ∷ []) ≡ true
           → rule_of db j s ≡ Some (assertion (frame_at db j))
-      by_statement (axiomatic l p xs d) is_assertion = refl
-      by_statement (provable l p xs e ps d) is_assertion = refl
-      by_statement _ is_assertion = absurd (true≢false (sym is_assertion))
+      rule_is (axiomatic l p xs d) is_assertion = refl
+      rule_is (provable l p xs e ps d) is_assertion = refl
+      rule_is _ is_assertion = absurd (true≢false (sym is_assertion))
 
   pub hypothesis_rule : is_assertion_at db j ≡ false
       → IsCompleteRule (context_at db t) (rule_at db t j)
       → rule_at db t j ≡ Some (hypothesis (formula_at db j))
   hypothesis_rule not_assertion is_complete =
       let labelled = good_label_has_statement is_complete in
-      labelled.rule_is ∙ by_statement labelled.statement (assertion_flag_is labelled.statement false
+      labelled.rule_is ∙ rule_is labelled.statement (assertion_flag_is labelled.statement false
       labelled.statement_is not_assertion)
       (subst (IsCompleteRule (context_at db t)) labelled.rule_is is_complete)
     where
-      by_statement : (s : Statement) → list_any is_assertion (s ∷ []) ≡ false
+      rule_is : (s : Statement) → list_any is_assertion (s ∷ []) ≡ false
           → IsCompleteRule (context_at db t) (rule_of db j s)
           → rule_of db j s ≡ Some (hypothesis (formula_at db j))
-      by_statement (floating l p xs d) not_assertion is_complete = refl
-      by_statement (essential l p xs d) not_assertion is_complete = refl
-      by_statement (axiomatic l p xs d) not_assertion is_complete = absurd (true≢false
+      rule_is (floating l p xs d) not_assertion is_complete = refl
+      rule_is (essential l p xs d) not_assertion is_complete = refl
+      rule_is (axiomatic l p xs d) not_assertion is_complete = absurd (true≢false
           not_assertion)
-      by_statement (provable l p xs e ps d) not_assertion is_complete = absurd (true≢false
+      rule_is (provable l p xs e ps d) not_assertion is_complete = absurd (true≢false
           not_assertion)
-      by_statement _ not_assertion is_complete = absurd is_complete
+      rule_is _ not_assertion is_complete = absurd is_complete
 
 -- the label of a good step is that of a statement
 pub good_step_label_is_below : (db : List Statement) (t n : ℕ) (s : Step)

@@ -189,7 +189,7 @@ module _ (db : List Statement) (t : ℕ) (steps : List PlacedStep) (stack ends :
 
   pub end_derives : (f : Formula) → stack ≡ f ∷ []
       → Derives (context_at db t) (steps_of steps) f is_reached.forest
-  end_derives f stack_is = by_forest is_reached.forest is_reached.are_derivations
+  end_derives f stack_is = forest_derives is_reached.forest is_reached.are_derivations
       (is_reached.entries_are ∙ stack_is) plain_all
     where
       two_entries_not_one : (xs : List Formula) (h g : Formula) → ¬ ((xs ++ h ∷ []) ++ g ∷ []
@@ -204,12 +204,12 @@ module _ (db : List Statement) (t : ℕ) (steps : List PlacedStep) (stack ends :
                 []),
           )
 
-      by_forest : (forest : Trees) → AreDerivations (context_at db t) forest → formulas forest
+      forest_derives : (forest : Trees) → AreDerivations (context_at db t) forest → formulas forest
           ≡ f ∷ []
           → Plain (context_at db t) [] [] (steps_of steps) (postfix forest)
           → Derives (context_at db t) (steps_of steps) f forest
-      by_forest none derives stack_is is_plain = cc
-      by_forest (more none l g cs) derives stack_is is_plain = (
+      forest_derives none derives stack_is is_plain = cc
+      forest_derives (more none l g cs) derives stack_is is_plain = (
         l,
         cs,
         ap (λ z. tree l z cs) (ap top
@@ -217,7 +217,7 @@ module _ (db : List Statement) (t : ℕ) (steps : List PlacedStep) (stack ends :
         derives,
         is_plain,
       )
-      by_forest (more (more ts m h bs) l g cs) derives stack_is is_plain = absurd
+      forest_derives (more (more ts m h bs) l g cs) derives stack_is is_plain = absurd
           (two_entries_not_one (formulas ts) h g stack_is)
 
   pub end_code_is_fault : (end : ℕ) (code : Code) (formula : Formula)
@@ -278,11 +278,11 @@ no_step_reached db t stack ends noted stack_is_nil ends_is_nil noted_is_nil =
 -- the place of the end of a theorem's proof
 pub proof_end_is_end_at : (db : List Statement) (t end : ℕ) → is_theorem_at db t ≡ true
     → option_map end_at (slice_get db t) ≡ Some end → proof_end (slice_get db t) ≡ end
-proof_end_is_end_at db t end is_theorem_t end_is = by_statement (slice_get db t) is_theorem_t end_is
+proof_end_is_end_at db t end is_theorem_t end_is = is_proof_end (slice_get db t) is_theorem_t end_is
   where
-    by_statement : (o : Option Statement)
+    is_proof_end : (o : Option Statement)
         → list_any is_theorem (elim o [ None ↦ [] | Some s ↦ s ∷ [] ]) ≡ true
         → option_map end_at o ≡ Some end → proof_end o ≡ end
-    by_statement None is_theorem_o end_is = absurd (true≢false (sym is_theorem_o))
-    by_statement (Some (provable l p xs q ps d)) is_theorem_o end_is = cc
-    by_statement (Some s) is_theorem_o end_is = absurd (true≢false (sym is_theorem_o))
+    is_proof_end None is_theorem_o end_is = absurd (true≢false (sym is_theorem_o))
+    is_proof_end (Some (provable l p xs q ps d)) is_theorem_o end_is = cc
+    is_proof_end (Some s) is_theorem_o end_is = absurd (true≢false (sym is_theorem_o))

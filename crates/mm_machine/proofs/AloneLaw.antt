@@ -58,14 +58,14 @@ module _ (db : List Statement) (t : ℕ) (hs : List Formula) (σ : Substitution)
       → substitute (context_at db t) σ f ≡ f
   no_variables [] variables_below_0 = refl
   no_variables (s ∷ f) variables_below_0 =
-      ap₂ (λ u v. u ++ v) (by_is_variable (is_variable_number db s) variables_below_0.0)
+      ap₂ (λ u v. u ++ v) (symbol_stays (is_variable_number db s) variables_below_0.0)
       (no_variables f variables_below_0.1)
     where
-      by_is_variable : (v : Bool) → IsVariableBelow 0 (cond v (Variable (floating_index db hs s))
+      symbol_stays : (v : Bool) → IsVariableBelow 0 (cond v (Variable (floating_index db hs s))
           (Constant s))
           → cond v (σ s) (s ∷ []) ≡ s ∷ []
-      by_is_variable true variable_below_0 = absurd (omega (arith, variable_below_0))
-      by_is_variable false variable_below_0 = refl
+      symbol_stays true variable_below_0 = absurd (omega (arith, variable_below_0))
+      symbol_stays false variable_below_0 = refl
 
 module _ (db : List Statement) (t : ℕ) (c : CompiledRule) (rule : IsCompiled db c)
     (length_is_0 : length c.hypotheses ≡ 0) where

@@ -60,13 +60,13 @@ formulas_equal_if_stay a b (e ∷ es) all_stay_by_recursion = ap₂ (λ u us. u 
 pub stays_with_more_unmarked : (unmarked marked added : List ℕ) (e : Span)
     → IsIn (arena unmarked marked) e
     → Stays (arena unmarked marked) (arena (unmarked ++ added) marked) e
-stays_with_more_unmarked unmarked marked added e is_in = by_store e.store e.start e.end
+stays_with_more_unmarked unmarked marked added e is_in = stays e.store e.start e.end
     is_in.start_le_end
     is_in.end_le_length
   where
-    by_store : (p : Store) (s t : ℕ) → s ≤ t → t ≤ length (symbols_of (arena unmarked marked) p)
+    stays : (p : Store) (s t : ℕ) → s ≤ t → t ≤ length (symbols_of (arena unmarked marked) p)
         → Stays (arena unmarked marked) (arena (unmarked ++ added) marked) (span p s t)
-    by_store Unmarked s t start_le_end end_le_length =
+    stays Unmarked s t start_le_end end_le_length =
         record {
           is_in = record {
             start_le_end = start_le_end;
@@ -78,7 +78,7 @@ stays_with_more_unmarked unmarked marked added e is_in = by_store e.store e.star
           };
           formulas_equal = stretch_of_longer_list unmarked added s t start_le_end end_le_length;
         }
-    by_store Marked s t start_le_end end_le_length = record {
+    stays Marked s t start_le_end end_le_length = record {
       is_in = record {
         start_le_end =
             start_le_end;
@@ -91,12 +91,12 @@ stays_with_more_unmarked unmarked marked added e is_in = by_store e.store e.star
 pub stays_with_more_marked : (unmarked marked added : List ℕ) (e : Span)
     → IsIn (arena unmarked marked) e
     → Stays (arena unmarked marked) (arena unmarked (marked ++ added)) e
-stays_with_more_marked unmarked marked added e is_in = by_store e.store e.start e.end
+stays_with_more_marked unmarked marked added e is_in = stays e.store e.start e.end
     is_in.start_le_end is_in.end_le_length
   where
-    by_store : (p : Store) (s t : ℕ) → s ≤ t → t ≤ length (symbols_of (arena unmarked marked) p)
+    stays : (p : Store) (s t : ℕ) → s ≤ t → t ≤ length (symbols_of (arena unmarked marked) p)
         → Stays (arena unmarked marked) (arena unmarked (marked ++ added)) (span p s t)
-    by_store Unmarked s t start_le_end end_le_length = record {
+    stays Unmarked s t start_le_end end_le_length = record {
       is_in = record {
         start_le_end =
             start_le_end;
@@ -104,7 +104,7 @@ stays_with_more_marked unmarked marked added e is_in = by_store e.store e.start 
       };
       formulas_equal = refl;
     }
-    by_store Marked s t start_le_end end_le_length =
+    stays Marked s t start_le_end end_le_length =
         record {
           is_in = record {
             start_le_end = start_le_end;
@@ -120,11 +120,11 @@ stays_with_more_marked unmarked marked added e is_in = by_store e.store e.start 
 -- an entry of a marked formula, whatever the unmarked ones are
 pub marked_entry_is_in : (unmarked marked : List ℕ) (e : Span) → IsMarkedEntry marked e
     → IsIn (arena unmarked marked) e
-marked_entry_is_in unmarked marked e is_marked_entry = by_store e.store is_marked_entry.is_in_marked
+marked_entry_is_in unmarked marked e is_marked_entry = lies_in e.store is_marked_entry.is_in_marked
   where
-    by_store : (p : Store) → p ≡ Marked → IsIn (arena unmarked marked) (span p e.start e.end)
-    by_store Unmarked p_is_marked = absurd (cc)
-    by_store Marked p_is_marked = record {
+    lies_in : (p : Store) → p ≡ Marked → IsIn (arena unmarked marked) (span p e.start e.end)
+    lies_in Unmarked p_is_marked = absurd (cc)
+    lies_in Marked p_is_marked = record {
       start_le_end = is_marked_entry.start_le_end;
       end_le_length = is_marked_entry.end_le_length;
     }
@@ -132,14 +132,14 @@ marked_entry_is_in unmarked marked e is_marked_entry = by_store e.store is_marke
 pub marked_entry_formulas_equal : (unmarked unmarked' marked : List ℕ) (e : Span)
     → IsMarkedEntry marked e
     → span_formula (arena unmarked marked) e ≡ span_formula (arena unmarked' marked) e
-marked_entry_formulas_equal unmarked unmarked' marked e is_marked_entry = by_store e.store
+marked_entry_formulas_equal unmarked unmarked' marked e is_marked_entry = formulas_equal e.store
     is_marked_entry.is_in_marked
   where
-    by_store : (p : Store) → p ≡ Marked
+    formulas_equal : (p : Store) → p ≡ Marked
         → span_formula (arena unmarked marked) (span p e.start e.end)
         ≡ span_formula (arena unmarked' marked) (span p e.start e.end)
-    by_store Unmarked p_is_marked = absurd (cc)
-    by_store Marked p_is_marked = refl
+    formulas_equal Unmarked p_is_marked = absurd (cc)
+    formulas_equal Marked p_is_marked = refl
 
 pub marked_entries_are_in : (unmarked marked : List ℕ) (es : List Span)
     → All (IsMarkedEntry marked) es
@@ -202,7 +202,7 @@ formula_in_range n a e unmarked_in_range marked_in_range =
 pub replaced_in_range : (n : ℕ) (a : Arena) (es : List Span) (f : List RulePart)
     → All (λ s. s < n) a.unmarked
     → All (λ s. s < n) a.marked → All (IsConstantBelow n) f → All (λ s. s < n) (replaced a es f)
-replaced_in_range n a es f unmarked_in_range marked_in_range parts_in_range = symbol_by_symbol f
+replaced_in_range n a es f unmarked_in_range marked_in_range parts_in_range = all_in_range f
     (recursion_from_All (IsConstantBelow n) f parts_in_range)
   where
     part_in_range : (p : RulePart) → IsConstantBelow n p → All (λ s. s < n) (replaced_part a es p)
@@ -212,11 +212,11 @@ replaced_in_range n a es f unmarked_in_range marked_in_range parts_in_range = sy
     part_in_range (Constant s) part_is_below = All-from_recursion (λ s. s < n) (s ∷ [])
         (part_is_below, tt)
 
-    symbol_by_symbol : (f : List RulePart) → AllByRecursion (IsConstantBelow n) f
+    all_in_range : (f : List RulePart) → AllByRecursion (IsConstantBelow n) f
         → All (λ s. s < n) (replaced a es f)
-    symbol_by_symbol [] parts_are_below = All-nil (λ s. s < n)
-    symbol_by_symbol (p ∷ f) parts_are_below = All-append (λ s. s < n) _ _ (part_in_range p
-        parts_are_below.0) (symbol_by_symbol
+    all_in_range [] parts_are_below = All-nil (λ s. s < n)
+    all_in_range (p ∷ f) parts_are_below = All-append (λ s. s < n) _ _ (part_in_range p
+        parts_are_below.0) (all_in_range
         f parts_are_below.1)
 
 -- a stretch of entries that are in the arena

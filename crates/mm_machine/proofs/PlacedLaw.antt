@@ -80,7 +80,7 @@ pub has_entry_after : (a : Arena) (es : List Span) (below : ℕ) (parts : List R
     (out : List Formula)
     → entries_after a es below parts ≡ Ok out → 0 < length out
 has_entry_after a es below parts out entries_are =
-    by_length_test (nat_le (length (replaced a (drop below es) parts)) formula_limit) entries_are
+    out_has_entry (nat_le (length (replaced a (drop below es) parts)) formula_limit) entries_are
   where
     entries_below : List Formula
     entries_below = take below (span_formulas a es)
@@ -88,10 +88,10 @@ has_entry_after a es below parts out entries_are =
     formula : Formula
     formula = replaced a (drop below es) parts
 
-    by_length_test : (b : Bool) → unless_too_long b (entries_below ++ formula ∷ []) ≡ Ok out → 0
+    out_has_entry : (b : Bool) → unless_too_long b (entries_below ++ formula ∷ []) ≡ Ok out → 0
         < length out
-    by_length_test false ends_ok = absurd (cc)
-    by_length_test true ends_ok =
+    out_has_entry false ends_ok = absurd (cc)
+    out_has_entry true ends_ok =
         let out_is : entries_below ++ formula ∷ [] ≡ out = cc in
         let length_out = ap length out_is in omega (
           arith,

@@ -59,14 +59,14 @@ module _ (db : List Statement) (t : ℕ) (hs : List Formula) (xs : Arena) (es : 
       → replaced xs es (parts_of db hs f) ≡ substitute (context_at db t) σ f
   replaced_is_substituted [] are_bound = refl
   replaced_is_substituted (s ∷ f) are_bound = ap₂ (λ u v. u ++ v)
-      (by_is_variable (is_variable_number db s) are_bound.0)
+      (symbol_is_substituted (is_variable_number db s) are_bound.0)
       (replaced_is_substituted f are_bound.1)
     where
-      by_is_variable : (v : Bool) → (IsTrue v → IsBound (context_at db t) hs s)
+      symbol_is_substituted : (v : Bool) → (IsTrue v → IsBound (context_at db t) hs s)
           → replaced_part xs es (cond v (Variable (floating_index db hs s)) (Constant s))
           ≡ cond v (σ s) (s ∷ [])
-      by_is_variable true bound_if_variable = replacement_is s (bound_if_variable refl)
-      by_is_variable false bound_if_variable = refl
+      symbol_is_substituted true bound_if_variable = replacement_is s (bound_if_variable refl)
+      symbol_is_substituted false bound_if_variable = refl
 
   pub all_replaced_are_substituted : (fs : List Formula)
       → AllByRecursion (AreBound (context_at db t) hs) fs

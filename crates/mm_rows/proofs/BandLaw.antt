@@ -95,14 +95,14 @@ row_or_marks_columns across rows bits old new first n n_lt_rows bits_have_size m
     (marks_have_width ∙ sym (row_has_width_words bits across n rows n_lt_rows bits_have_size))
     words_are_ored
     j
-    ∙ either_makes_or _ _ (marked_by_row (cases_eq i n))
+    ∙ either_makes_or _ _ (is_old_or_in_row (cases_eq i n))
   where
-    marked_by_row : (i ≡ n) ⊎ (i ≡ n → ⊥) → (is_bit old j ≡ true)
+    is_old_or_in_row : (i ≡ n) ⊎ (i ≡ n → ⊥) → (is_bit old j ≡ true)
         ⊎ (is_bit (row_at bits across n) j ≡ true)
-    marked_by_row (inl i_is_n) =
+    is_old_or_in_row (inl i_is_n) =
         inr (row_bit_is_table_bit bits across n j j_in_row
         ∙ subst (λ x. is_bit bits (bit_index across x j) ≡ true) i_is_n bit_is_set)
-    marked_by_row (inr i_is_not_n) =
+    is_old_or_in_row (inr i_is_not_n) =
         inl (are_marked i j first_le_i (omega arith) j_in_row bit_is_set)
 
 pub band_bits_are_marked : (across rows : ℕ) (bits has_mark : List ℕ) (w end : ℕ)
@@ -111,13 +111,13 @@ pub band_bits_are_marked : (across rows : ℕ) (bits has_mark : List ℕ) (w end
     → bit_in_rows rows across bits (64 * w + k) j ≡ true → is_bit has_mark j ≡ true
 band_bits_are_marked across rows bits has_mark w end rows_le_end are_marked k j k_lt_64 j_in_row
     bit_is_set =
-    marked_by_row_count (cases_lt (64 * w + k) rows)
+    bit_is_marked (cases_lt (64 * w + k) rows)
   where
-    marked_by_row_count : (64 * w + k < rows) ⊎ (rows ≤ 64 * w + k) → is_bit has_mark j ≡ true
-    marked_by_row_count (inl row_lt_rows) =
+    bit_is_marked : (64 * w + k < rows) ⊎ (rows ≤ 64 * w + k) → is_bit has_mark j ≡ true
+    bit_is_marked (inl row_lt_rows) =
         are_marked (64 * w + k) j (omega arith) (omega arith) j_in_row
         (sym (bit_in_rows_is_bit rows across bits (64 * w + k) j row_lt_rows) ∙ bit_is_set)
-    marked_by_row_count (inr rows_le_row) =
+    bit_is_marked (inr rows_le_row) =
         let no_bit_there = no_bit_past_rows rows across bits (64 * w + k) j rows_le_row in
         absurd (let true_is_false : true ≡ false = sym bit_is_set ∙ no_bit_there in cc)
 

@@ -142,13 +142,13 @@ pub next_cells_are_written : (words into lanes : List ℕ) (w : ℕ) → w < len
     → AreCells words into w → AreCells words (put_chunk (64 * w) into lanes) (w + 1)
 next_cells_are_written words into lanes w w_lt_length into_has_size lanes_are_64 lanes_are_digits
     cells_before i
-    i_lt_end = cell_by_word (cases_lt i (64 * w))
+    i_lt_end = cell_is_written (cases_lt i (64 * w))
   where
-    cell_by_word : (i < 64 * w) ⊎ (64 * w ≤ i)
+    cell_is_written : (i < 64 * w) ⊎ (64 * w ≤ i)
         → get_or (put_chunk (64 * w) into lanes) i 0 ≡ digit_of (is_bit words i)
-    cell_by_word (inl i_lt_block) =
+    cell_is_written (inl i_lt_block) =
         get_or-put_chunk_below (64 * w) into lanes i 0 i_lt_block ∙ cells_before i i_lt_block
-    cell_by_word (inr block_le_i) =
+    cell_is_written (inr block_le_i) =
         let place_is_i : 64 * w + (i - 64 * w) ≡ i = omega arith in
         let word_is : w ≡ i / 64 = omega arith in
         let bit_is : i - 64 * w ≡ i % 64 = omega arith in

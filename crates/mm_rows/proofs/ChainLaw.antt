@@ -22,13 +22,13 @@ use Rattle.mm_rows.specs.BitRows.{IsBitRow, HasCitedRows, row_at}
 pub index_is_unique : (xs : List ℕ) (i j : ℕ) → IsStatementList xs → i < length xs → j < length xs
     → get_or xs i 0 ≡ get_or xs j 0 → i ≡ j
 index_is_unique xs i j is_statement_list i_lt_length j_lt_length elements_equal =
-    equal_by_order (cases_order i j)
+    indices_equal (cases_order i j)
   where
-    equal_by_order : (i ≡ j) ⊎ ((i < j) ⊎ (j < i)) → i ≡ j
-    equal_by_order (inl i_eq_j) = i_eq_j
-    equal_by_order (inr (inl i_lt_j)) =
+    indices_equal : (i ≡ j) ⊎ ((i < j) ⊎ (j < i)) → i ≡ j
+    indices_equal (inl i_eq_j) = i_eq_j
+    indices_equal (inr (inl i_lt_j)) =
         let elements_rise = is_statement_list.rises i j i_lt_j j_lt_length in absurd (omega arith)
-    equal_by_order (inr (inr j_lt_i)) =
+    indices_equal (inr (inr j_lt_i)) =
         let elements_rise = is_statement_list.rises j i j_lt_i i_lt_length in absurd (omega arith)
 
 -- a place of a list below n whose statement is a, or rests on it
@@ -278,16 +278,16 @@ pub found_column_is_marked : (axioms row marked : List ℕ) (j s : ℕ) → IsSt
     → Decides (is_bit marked k) ((is_bit row k ≡ true) ⊎ (s ≡ get_or axioms k 0))
 found_column_is_marked axioms row marked j s is_statement_list column_is_found bits_are_set k
     k_lt_columns =
-    decided_by_column (cases_eq k j)
+    mark_is_decided (cases_eq k j)
   where
-    decided_by_column : (k ≡ j) ⊎ (k ≢ j)
+    mark_is_decided : (k ≡ j) ⊎ (k ≢ j)
         → Decides (is_bit marked k) ((is_bit row k ≡ true) ⊎ (s ≡ get_or axioms k 0))
-    decided_by_column (inl k_is_j) = (
+    mark_is_decided (inl k_is_j) = (
       λ is_set. inr (sym column_is_found.1 ∙ ap (λ i. get_or axioms i 0) (sym k_is_j)),
       λ set_or_statement. bits_are_set k
           ∙ ap (λ was_set. was_set || is_bit row k) (eq-eqb k j k_is_j),
     )
-    decided_by_column (inr k_is_not_j) =
+    mark_is_decided (inr k_is_not_j) =
         let bits_equal : is_bit marked k ≡ is_bit row k =
         bits_are_set k ∙ ap (λ was_set. was_set || is_bit row k) (ne_eqb k j k_is_not_j) in (
           λ is_set. inl (sym bits_equal ∙ is_set),

@@ -179,14 +179,14 @@ pub next_digits_are_written : (words into lanes : List ℕ) (w : ℕ) → w < le
     → AreDigits words into w → AreDigits words (put_chunk (16 * w) into lanes) (w + 1)
 next_digits_are_written words into lanes w w_lt_length into_has_size lanes_are_16 lanes_are_digits
     digits_before
-    i i_lt_end = digit_by_word (cases_lt i (16 * w))
+    i i_lt_end = digit_is_written (cases_lt i (16 * w))
   where
-    digit_by_word : (i < 16 * w) ⊎ (16 * w ≤ i)
+    digit_is_written : (i < 16 * w) ⊎ (16 * w ≤ i)
         → get_or (put_chunk (16 * w) into lanes) i 0
         ≡ hex_digit (four_at (get_or words (i / 16) 0) (i % 16))
-    digit_by_word (inl i_lt_block) =
+    digit_is_written (inl i_lt_block) =
         get_or-put_chunk_below (16 * w) into lanes i 0 i_lt_block ∙ digits_before i i_lt_block
-    digit_by_word (inr block_le_i) =
+    digit_is_written (inr block_le_i) =
         let place_is_i : 16 * w + (i - 16 * w) ≡ i = omega arith in
         let word_is : w ≡ i / 16 = omega arith in
         let digit_is : i - 16 * w ≡ i % 16 = omega arith in
@@ -203,11 +203,11 @@ mark_is_element zero (b ∷ bs) = refl
 mark_is_element (suc n) (b ∷ bs) = mark_is_element n bs
 
 bit_value_is : (x : ℕ) → x < 2 → x ≡ bit_of (eqb x 1)
-bit_value_is x x_lt_2 = value_by_bit (cases_eq x 0)
+bit_value_is x x_lt_2 = value_is_bit (cases_eq x 0)
   where
-    value_by_bit : (x ≡ 0) ⊎ (x ≡ 0 → ⊥) → x ≡ bit_of (eqb x 1)
-    value_by_bit (inl x_is) = x_is ∙ sym (ap (λ y. bit_of (eqb y 1)) x_is)
-    value_by_bit (inr x_is_not_zero) = let x_is : x ≡ 1 = omega (arith, x_is_not_zero, x_lt_2) in
+    value_is_bit : (x ≡ 0) ⊎ (x ≡ 0 → ⊥) → x ≡ bit_of (eqb x 1)
+    value_is_bit (inl x_is) = x_is ∙ sym (ap (λ y. bit_of (eqb y 1)) x_is)
+    value_is_bit (inr x_is_not_zero) = let x_is : x ≡ 1 = omega (arith, x_is_not_zero, x_lt_2) in
         x_is ∙ sym (ap (λ y. bit_of (eqb y 1)) x_is)
 
 module _ (m : Marks) (rows columns : ℕ) (words : List ℕ)
@@ -218,18 +218,18 @@ module _ (m : Marks) (rows columns : ℕ) (words : List ℕ)
       ≡ mark_at j (row_marks (marks rows columns words) i)
   row_bit_is_mark i j i_lt_rows j_in_row =
       row_bit_is_table_bit words (words_for columns) i j j_in_row
-      ∙ mark_by_column (cases_lt j columns)
+      ∙ bit_is_mark (cases_lt j columns)
       ∙ sym (mark_is_element j (row_marks (marks rows columns words) i))
     where
-      mark_by_column : (j < columns) ⊎ (columns ≤ j)
+      bit_is_mark : (j < columns) ⊎ (columns ≤ j)
           → is_bit words (bit_index (words_for columns) i j)
           ≡ get_or (row_marks (marks rows columns words) i) j false
-      mark_by_column (inl j_lt_columns) =
+      bit_is_mark (inl j_lt_columns) =
           sym (get_or-map-range_with_len (mark (marks rows columns words) i) 0 columns j j false
           j_lt_columns
           (omega arith)
           ∙ mark_is_bit rows columns words i j i_lt_rows j_lt_columns)
-      mark_by_column (inr columns_le_j) =
+      bit_is_mark (inr columns_le_j) =
           let marks_length =
           length-map (range_with_len 0 columns) (mark (marks rows columns words) i)
           ∙ length-range_with_len 0 columns in

@@ -35,14 +35,14 @@ filled_below_next c axioms bits_before bits_after i has_row lengths_equal others
     filled_before =
     record {
       size_is = lengths_equal ∙ filled_before.size_is;
-      filled = λ r r_lt_next. filled_by_row r
+      filled = λ r r_lt_next. row_is_filled r
           r_lt_next (cases_eq r i);
     }
   where
-    filled_by_row : (r : ℕ) → r < i + 1 → (r ≡ i) ⊎ (r ≡ i → ⊥) → HasRow c axioms bits_after r
-    filled_by_row r r_lt_next (inl r_is_i) =
+    row_is_filled : (r : ℕ) → r < i + 1 → (r ≡ i) ⊎ (r ≡ i → ⊥) → HasRow c axioms bits_after r
+    row_is_filled r r_lt_next (inl r_is_i) =
         subst (HasRow c axioms bits_after) (sym r_is_i) has_row
-    filled_by_row r r_lt_next (inr r_is_not_i) =
+    row_is_filled r r_lt_next (inr r_is_not_i) =
         subst (IsBitRow c axioms (theorem_at c r)) (sym (others_are_kept r r_is_not_i))
         (filled_before.filled r (below_if_other r i r_lt_next r_is_not_i))
       where

@@ -30,17 +30,17 @@ pub earlier_row : (c : Citing) (i r k : ℕ) → IsFileOrder c → i < length c.
     → k < length (list_at c i) → r < length c.theorems → theorem_at c r ≡ get_or (list_at c i) k 0
     → r < i
 earlier_row c i r k is_file_order i_lt_theorems is_listed r_lt_theorems theorem_is_cited =
-    earlier_by_order (cases_order r i)
+    row_is_earlier (cases_order r i)
   where
     cited_is_earlier : get_or (list_at c i) k 0 < theorem_at c i
     cited_is_earlier = is_file_order.cited_are_earlier i k i_lt_theorems is_listed
 
-    earlier_by_order : (r ≡ i) ⊎ ((r < i) ⊎ (i < r)) → r < i
-    earlier_by_order (inl r_is_i) =
+    row_is_earlier : (r ≡ i) ⊎ ((r < i) ⊎ (i < r)) → r < i
+    row_is_earlier (inl r_is_i) =
         let theorems_equal = ap (theorem_at c) r_is_i in let cited_lt_theorem = cited_is_earlier in
         absurd (omega (arith, theorems_equal, cited_lt_theorem))
-    earlier_by_order (inr (inl r_lt_i)) = r_lt_i
-    earlier_by_order (inr (inr i_lt_r)) =
+    row_is_earlier (inr (inl r_lt_i)) = r_lt_i
+    row_is_earlier (inr (inr i_lt_r)) =
         let theorems_rise = is_file_order.theorems_rise.rises i r i_lt_r r_lt_theorems in
         let cited_lt_theorem = cited_is_earlier in
         absurd (omega (arith, cited_lt_theorem, theorems_rise))
@@ -55,7 +55,7 @@ wave_with_citation c waves i cited n wave r is_file_order i_lt_theorems are_wave
     r_is_cited wave_before = (
       let size_is = are_waves.size_is in let r_lt_i = r_is_earlier in
           omega (arith, size_is, r_lt_i),
-      wave_by_longer (cases_lt wave (get_or waves r 0 + 1)),
+      wave_with_one_more (cases_lt wave (get_or waves r 0 + 1)),
     )
   where
     n_lt_list : n < length (list_at c i)
@@ -85,23 +85,23 @@ wave_with_citation c waves i cited n wave r is_file_order i_lt_theorems are_wave
         → s < length c.theorems → theorem_at c s ≡ get_or cited m 0 → get_or waves
         s 0 + 1 ≤ x
     next_is_above x wave_le_x x_above_r m s m_lt_next s_lt_theorems theorem_is_cited =
-        above_by_place (cases_eq m n)
+        cited_wave_lt (cases_eq m n)
       where
-        above_by_place : (m ≡ n) ⊎ (m ≡ n → ⊥) → get_or waves s 0 + 1 ≤ x
-        above_by_place (inl m_is_n) =
+        cited_wave_lt : (m ≡ n) ⊎ (m ≡ n → ⊥) → get_or waves s 0 + 1 ≤ x
+        cited_wave_lt (inl m_is_n) =
             let s_is_r : s ≡ r =
             index_is_unique c.theorems s r is_file_order.theorems_rise s_lt_theorems r_lt_theorems
             (theorem_is_cited ∙ ap (λ k. get_or cited k 0) m_is_n
             ∙ sym r_is_cited) in
             subst (λ k. get_or waves k 0 + 1 ≤ x) (sym s_is_r) x_above_r
-        above_by_place (inr m_is_not_n) =
+        cited_wave_lt (inr m_is_not_n) =
             let wave_is_above_cited =
             wave_before.wave_is_above m s (omega arith) s_lt_theorems theorem_is_cited in
             omega (arith, wave_is_above_cited, wave_le_x)
 
-    wave_by_longer : (wave < get_or waves r 0 + 1) ⊎ (get_or waves r 0 + 1 ≤ wave)
+    wave_with_one_more : (wave < get_or waves r 0 + 1) ⊎ (get_or waves r 0 + 1 ≤ wave)
         → WaveTo c waves i cited (n + 1) (max wave (get_or waves r 0 + 1))
-    wave_by_longer (inl wave_lt_next) =
+    wave_with_one_more (inl wave_lt_next) =
         let greater_is : max wave (get_or waves r 0 + 1) ≡ get_or waves r 0 + 1 = omega arith in
         let suc_is_greater : suc (get_or waves r 0) ≡ max wave (get_or waves r 0 + 1) =
         omega arith in
@@ -115,7 +115,7 @@ wave_with_citation c waves i cited n wave r is_file_order i_lt_theorems are_wave
               next_is_above (max wave (get_or waves r 0 + 1)) (omega arith) (omega arith);
           wave_le_i = omega (arith, greater_is, wave_of_r_le, r_is_earlier_here);
         }
-    wave_by_longer (inr next_le_wave) =
+    wave_with_one_more (inr next_le_wave) =
         let greater_is : wave ≡ max wave (get_or waves r 0 + 1) = omega arith in
         let wave_le_i_before = wave_before.wave_le_i in
         record {
@@ -136,19 +136,19 @@ wave_without_citation c waves i cited n wave cites_no_theorem wave_before =
       cited_are_list = wave_before.cited_are_list;
       has_chain = wave_before.has_chain;
       wave_is_above =
-          λ m r m_lt_next r_lt_theorems theorem_is_cited. above_by_place m r m_lt_next r_lt_theorems
+          λ m r m_lt_next r_lt_theorems theorem_is_cited. cited_wave_lt m r m_lt_next r_lt_theorems
           theorem_is_cited (cases_eq m n);
       wave_le_i = wave_before.wave_le_i;
     }
   where
-    above_by_place : (m r : ℕ) → m < n + 1 → r < length c.theorems
+    cited_wave_lt : (m r : ℕ) → m < n + 1 → r < length c.theorems
         → theorem_at c r ≡ get_or cited m 0
         → (m ≡ n) ⊎ (m ≡ n → ⊥) → get_or waves r 0 + 1 ≤ wave
-    above_by_place m r m_lt_next r_lt_theorems theorem_is_cited (inl m_is_n) =
+    cited_wave_lt m r m_lt_next r_lt_theorems theorem_is_cited (inl m_is_n) =
         absurd
         (cites_no_theorem r r_lt_theorems
         (theorem_is_cited ∙ ap (λ k. get_or cited k 0) m_is_n))
-    above_by_place m r m_lt_next r_lt_theorems theorem_is_cited (inr m_is_not_n) =
+    cited_wave_lt m r m_lt_next r_lt_theorems theorem_is_cited (inr m_is_not_n) =
         wave_before.wave_is_above m r (omega arith) r_lt_theorems theorem_is_cited
 
 -- the wave from all citations of theorem i is its wave
@@ -210,24 +210,24 @@ waves_with_one_more c n wave waves are_waves is_wave wave_le_n = record {
       let appended_length = length-append waves (wave ∷ []) in let size_is = are_waves.size_is in
       omega (arith, appended_length, size_is);
   each_is_wave =
-      λ r r_lt_next. holds_by_row (IsWave (HasCitation c) (IsCitingTheorem c) (theorem_at c r)) r
+      λ r r_lt_next. holds_at_row (IsWave (HasCitation c) (IsCitingTheorem c) (theorem_at c r)) r
       r_lt_next (λ r_lt_n. are_waves.each_is_wave r r_lt_n)
       (λ r_is_n. subst (λ k. IsWave (HasCitation c) (IsCitingTheorem c) (theorem_at c k) wave)
       (sym r_is_n) is_wave)
       (cases_eq r n);
   wave_le_row =
-      λ r r_lt_next. holds_by_row (λ x. x ≤ r) r r_lt_next
+      λ r r_lt_next. holds_at_row (λ x. x ≤ r) r r_lt_next
       (λ r_lt_n. are_waves.wave_le_row r r_lt_n)
       (λ r_is_n. omega arith) (cases_eq r n);
 }
   where
-    holds_by_row : (P : ℕ → Type 0) (r : ℕ) → r < n + 1 → (r < n → P (get_or waves r 0))
+    holds_at_row : (P : ℕ → Type 0) (r : ℕ) → r < n + 1 → (r < n → P (get_or waves r 0))
         → (r ≡ n → P wave)
         → (r ≡ n) ⊎ (r ≡ n → ⊥) → P (get_or (waves ++ wave ∷ []) r 0)
-    holds_by_row P r r_lt_next holds_below holds_at_n (inl r_is_n) =
+    holds_at_row P r r_lt_next holds_below holds_at_n (inl r_is_n) =
         subst P (sym (get_or_push waves wave 0 r (are_waves.size_is ∙ sym r_is_n))) (holds_at_n
         r_is_n)
-    holds_by_row P r r_lt_next holds_below holds_at_n (inr r_is_not_n) =
+    holds_at_row P r r_lt_next holds_below holds_at_n (inr r_is_not_n) =
         subst P (sym (get_or_append_left waves (wave ∷ []) 0 r (let size_is = are_waves.size_is in
         omega arith)))
         (holds_below (omega arith))
@@ -362,7 +362,7 @@ one_more_is_filled c axioms rows k first bits_before bits_after row i i_is is_bi
       none_lost =
           λ r has_row_before. filled_row_stays r (filled_before.none_lost r has_row_before)
           (cases_eq r i);
-      filled = λ m m_lt_next. filled_by_place m m_lt_next (cases_eq m k);
+      filled = λ m m_lt_next. row_is_filled m m_lt_next (cases_eq m k);
     }
   where
     filled_at_place : (r : ℕ) → r ≡ i → HasRow c axioms bits_after r
@@ -377,11 +377,11 @@ one_more_is_filled c axioms rows k first bits_before bits_after row i i_is is_bi
         subst (IsBitRow c axioms (theorem_at c r)) (sym (others_are_kept r r_is_not_i))
         has_row_before
 
-    filled_by_place : (m : ℕ) → m < k + 1 → (m ≡ k) ⊎ (m ≡ k → ⊥)
+    row_is_filled : (m : ℕ) → m < k + 1 → (m ≡ k) ⊎ (m ≡ k → ⊥)
         → HasRow c axioms bits_after (get_or rows m 0)
-    filled_by_place m m_lt_next (inl m_is_k) =
+    row_is_filled m m_lt_next (inl m_is_k) =
         filled_at_place (get_or rows m 0) (ap (λ x. get_or rows x 0) m_is_k ∙ sym i_is)
-    filled_by_place m m_lt_next (inr m_is_not_k) =
+    row_is_filled m m_lt_next (inr m_is_not_k) =
         filled_row_stays (get_or rows m 0) (filled_before.filled m (omega arith))
         (cases_eq (get_or rows m 0) i)
 
@@ -475,14 +475,14 @@ filled_with_wave c axioms rows part from to bits_before bits_after filled_before
       size_is = part_is_filled.size_is ∙ filled_before.size_is;
       from_le_rows = to_le_rows;
       filled =
-          λ p p_lt_to. filled_by_place p p_lt_to (cases_lt p from);
+          λ p p_lt_to. row_is_filled p p_lt_to (cases_lt p from);
     }
   where
-    filled_by_place : (p : ℕ) → p < to → (p < from) ⊎ (from ≤ p)
+    row_is_filled : (p : ℕ) → p < to → (p < from) ⊎ (from ≤ p)
         → HasRow c axioms bits_after (get_or rows p 0)
-    filled_by_place p p_lt_to (inl p_lt_from) =
+    row_is_filled p p_lt_to (inl p_lt_from) =
         part_is_filled.none_lost (get_or rows p 0) (filled_before.filled p p_lt_from)
-    filled_by_place p p_lt_to (inr from_le_p) =
+    row_is_filled p p_lt_to (inr from_le_p) =
         let part_has_length : length part ≡ to - from =
         ap (λ xs. length xs) part_is_range ∙ range_has_length rows from to to_le_rows in
         let place_is_p : from + (p - from) ≡ p = omega (arith, from_le_p) in
@@ -522,16 +522,16 @@ pairs_with_next_row waves ps appended i i_lt_waves pairs_before appended_is = (
   omega (arith, i_lt_waves),
   ap length appended_is ∙ length-append ps ((get_or waves i 0, i) ∷ [])
       ∙ ap (λ n. n + 1) pairs_before.1,
-  λ p p_lt_next. ap (λ qs. get_or qs p (0, 0)) appended_is ∙ pair_by_row p p_lt_next (cases_lt p i),
+  λ p p_lt_next. ap (λ qs. get_or qs p (0, 0)) appended_is ∙ pair_is p p_lt_next (cases_lt p i),
 )
   where
-    pair_by_row : (p : ℕ) → p < i + 1 → (p < i) ⊎ (i ≤ p)
+    pair_is : (p : ℕ) → p < i + 1 → (p < i) ⊎ (i ≤ p)
         → get_or (ps ++ (get_or waves i 0, i) ∷ []) p (0, 0) ≡ (get_or waves p 0, p)
-    pair_by_row p p_lt_next (inl p_lt_i) =
+    pair_is p p_lt_next (inl p_lt_i) =
         let pairs_length = pairs_before.1 in
         get_or_append_left ps ((get_or waves i 0, i) ∷ []) (0, 0) p
         (omega (arith, p_lt_i, pairs_length)) ∙ pairs_before.2 p p_lt_i
-    pair_by_row p p_lt_next (inr i_le_p) =
+    pair_is p p_lt_next (inr i_le_p) =
         let i_is_p : i ≡ p = omega (arith, p_lt_next, i_le_p) in
         ap (λ j. get_or (ps ++ (get_or waves i 0, i) ∷ []) j (0, 0)) (sym (pairs_before.1 ∙ i_is_p))
         ∙ get_or-append_seam ps (get_or waves i 0, i) [] (0, 0)

@@ -18,13 +18,13 @@ module _ (db : List Statement) where
       → floating_index db hs x < length hs
   floating_index_lt_length [] x x_is_bound = absurd (true≢false (sym x_is_bound))
   floating_index_lt_length (h ∷ hs) x x_is_bound =
-      by_binding (binds (context_at db 0) x h) x_is_bound (floating_index_lt_length hs x)
+      first_lt_length (binds (context_at db 0) x h) x_is_bound (floating_index_lt_length hs x)
     where
-      by_binding : (v : Bool) → (v || list_any (binds (context_at db 0) x) hs) ≡ true
+      first_lt_length : (v : Bool) → (v || list_any (binds (context_at db 0) x) hs) ≡ true
           → (IsBound (context_at db 0) hs x → floating_index db hs x < length hs)
           → cond v 0 (suc (floating_index db hs x)) < suc (length hs)
-      by_binding true bound_here_or_in_rest rest_lt_length = omega arith
-      by_binding false bound_here_or_in_rest rest_lt_length = let index_lt_length =
+      first_lt_length true bound_here_or_in_rest rest_lt_length = omega arith
+      first_lt_length false bound_here_or_in_rest rest_lt_length = let index_lt_length =
           rest_lt_length bound_here_or_in_rest in omega (arith, index_lt_length)
 
   -- what is found for a variable is what the premise of its first `$f` has after the typecode
@@ -36,17 +36,17 @@ module _ (db : List Statement) where
   substitution_is_tail_at_index t (h ∷ hs) [] x lengths_equal x_is_bound =
       absurd (omega (arith, lengths_equal))
   substitution_is_tail_at_index t (h ∷ hs) (p ∷ ps) x lengths_equal x_is_bound =
-      by_binding (binds (context_at db 0) x h) x_is_bound
+      tail_is_found (binds (context_at db 0) x h) x_is_bound
       (substitution_is_tail_at_index t hs ps x (omega (arith, lengths_equal)))
     where
-      by_binding : (v : Bool) → (v || list_any (binds (context_at db 0) x) hs) ≡ true
+      tail_is_found : (v : Bool) → (v || list_any (binds (context_at db 0) x) hs) ≡ true
           → (IsBound (context_at db 0) hs x
           → substitution_from (context_at db t) hs ps x
           ≡ tail (get_or ps (floating_index db hs x) []))
           → elim v [ true ↦ tail p | false ↦ substitution_from (context_at db t) hs ps x ]
           ≡ tail (get_or (p ∷ ps) (cond v 0 (suc (floating_index db hs x))) [])
-      by_binding true bound_here_or_in_rest rest_is_tail = refl
-      by_binding false bound_here_or_in_rest rest_is_tail = rest_is_tail bound_here_or_in_rest
+      tail_is_found true bound_here_or_in_rest rest_is_tail = refl
+      tail_is_found false bound_here_or_in_rest rest_is_tail = rest_is_tail bound_here_or_in_rest
 
   -- the same for the hypotheses from a number on
   abbrev pub PlacedFrom : ℕ → List Formula → List ℕ → Type 0
@@ -58,12 +58,12 @@ module _ (db : List Statement) where
       → ((x : ℕ) → binds (context_at db 0) x h ≡ false) → PlacedFrom (suc n) hs t
       → PlacedFrom n (h ∷ hs) t
   placed_without_floating n t h hs h_binds_none placed_rest x x_is_bound =
-      by_binding (binds (context_at db 0) x h) (h_binds_none x) x_is_bound
+      placed_at_x (binds (context_at db 0) x h) (h_binds_none x) x_is_bound
     where
-      by_binding : (v : Bool) → v ≡ false → (v || list_any (binds (context_at db 0) x) hs) ≡ true
+      placed_at_x : (v : Bool) → v ≡ false → (v || list_any (binds (context_at db 0) x) hs) ≡ true
           → get_or t x 0 ≡ n + cond v 0 (suc (floating_index db hs x))
-      by_binding true binds_is_false x_is_bound = cc
-      by_binding false binds_is_false x_is_bound = let x_is_placed = placed_rest x x_is_bound in
+      placed_at_x true binds_is_false x_is_bound = cc
+      placed_at_x false binds_is_false x_is_bound = let x_is_placed = placed_rest x x_is_bound in
           omega (arith, x_is_placed)
 
   -- before the `$f` of a variable, the variable gets its place
@@ -72,16 +72,16 @@ module _ (db : List Statement) where
       → ((x : ℕ) → binds (context_at db 0) x h ≡ nat_eq x y) → PlacedFrom (suc n) hs t
       → PlacedFrom n (h ∷ hs) (slice_set t y n)
   placed_with_floating n t h hs y y_lt_length h_binds_y placed_rest x x_is_bound =
-      by_binding (binds (context_at db 0) x h) (h_binds_y x) x_is_bound
+      placed_at_x (binds (context_at db 0) x h) (h_binds_y x) x_is_bound
     where
-      by_binding : (v : Bool) → v ≡ nat_eq x y → (v || list_any (binds (context_at db 0) x) hs)
+      placed_at_x : (v : Bool) → v ≡ nat_eq x y → (v || list_any (binds (context_at db 0) x) hs)
           ≡ true
           → get_or (slice_set t y n) x 0 ≡ n + cond v 0 (suc (floating_index db hs x))
-      by_binding true binds_is_equality x_is_bound =
+      placed_at_x true binds_is_equality x_is_bound =
           let n_is_n_plus_0 : n ≡ n + 0 = omega arith in
           ap (λ z. get_or (slice_set t y n) z 0) (eqb-true x y (sym binds_is_equality))
           ∙ get_or-set_same t y n 0 y_lt_length ∙ n_is_n_plus_0
-      by_binding false binds_is_equality x_is_bound =
+      placed_at_x false binds_is_equality x_is_bound =
           let x_not_y : x ≢ y =
           λ x_is_y. true≢false (sym (eq-eqb x y x_is_y) ∙ sym binds_is_equality) in
           let x_is_placed = placed_rest x x_is_bound in

@@ -29,24 +29,24 @@ module _ (db : List Statement) (complete : AreComplete db) (j : ℕ) where
   frame_complete h = record { hypotheses = h.hypotheses; formula = h.formula; pairs = h.pairs }
 
   pub complete_at : is_assertion_at db j ≡ true → IsComplete (context_at db 0) (frame_at db j)
-  complete_at is = by_presence (slice_get db j) refl is
+  complete_at is = frame_is_complete (slice_get db j) refl is
     where
-      by_statement : (s : Statement) → slice_get db j ≡ Some s → list_any is_assertion (s ∷ [])
-          ≡ true
+      statement_is_complete : (s : Statement) → slice_get db j ≡ Some s → list_any is_assertion (s ∷
+          []) ≡ true
           → IsComplete (context_at db 0) (frame_at db j)
-      by_statement (axiomatic l p xs d) e h =
+      statement_is_complete (axiomatic l p xs d) e h =
           frame_complete
           (subst (HasCompleteFrame (context_at db (length db))) (at_end (axiomatic l p xs d) e refl)
           (complete (length db) j))
-      by_statement (provable l p xs w ps d) e h =
+      statement_is_complete (provable l p xs w ps d) e h =
           frame_complete
           (subst (HasCompleteFrame (context_at db (length db)))
           (at_end (provable l p xs w ps d) e refl)
           (complete (length db) j))
-      by_statement _ e h = absurd (true≢false (sym h))
+      statement_is_complete _ e h = absurd (true≢false (sym h))
 
-      by_presence : (o : Option Statement) → slice_get db j ≡ o
+      frame_is_complete : (o : Option Statement) → slice_get db j ≡ o
           → list_any is_assertion (elim o [ None ↦ [] | Some s ↦ s ∷ [] ]) ≡ true
           → IsComplete (context_at db 0) (frame_at db j)
-      by_presence None e h = absurd (true≢false (sym h))
-      by_presence (Some s) e h = by_statement s e h
+      frame_is_complete None e h = absurd (true≢false (sym h))
+      frame_is_complete (Some s) e h = statement_is_complete s e h

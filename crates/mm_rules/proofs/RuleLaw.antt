@@ -127,17 +127,17 @@ module _ (db : List Statement) (hs : List Formula) where
       (each_is_below f (recursion_from_All
       (λ x. is_variable_number db x ≡ true → IsBound (context_at db 0) hs x) f h))
     where
-      by_is_variable : (s : ℕ) (v : Bool) → (v ≡ true → IsBound (context_at db 0) hs s)
+      part_is_below : (s : ℕ) (v : Bool) → (v ≡ true → IsBound (context_at db 0) hs s)
           → IsVariableBelow (length hs) (cond v (Variable (floating_index db hs s)) (Constant s))
-      by_is_variable s true b = floating_index_lt_length db hs s (b refl)
-      by_is_variable s false b = tt
+      part_is_below s true b = floating_index_lt_length db hs s (b refl)
+      part_is_below s false b = tt
 
       each_is_below : (f : Formula)
           → AllByRecursion (λ x. is_variable_number db x ≡ true → IsBound (context_at db 0) hs x) f
           → AllByRecursion (IsVariableBelow (length hs)) (parts_of db hs f)
       each_is_below [] h = tt
       each_is_below (s ∷ f) h = (
-        by_is_variable s (is_variable_number db s) h.0,
+        part_is_below s (is_variable_number db s) h.0,
         each_is_below f
             h.1,
       )
@@ -148,16 +148,16 @@ module _ (db : List Statement) (hs : List Formula) where
       All-from_recursion (IsConstantBelow n) (parts_of db hs f)
       (each_is_known f (recursion_from_All (λ s. s < n) f h))
     where
-      by_is_variable : (s : ℕ) (v : Bool) → s < n
+      constant_is_below : (s : ℕ) (v : Bool) → s < n
           → IsConstantBelow n (cond v (Variable (floating_index db hs s)) (Constant s))
-      by_is_variable s true l = tt
-      by_is_variable s false l = l
+      constant_is_below s true l = tt
+      constant_is_below s false l = l
 
       each_is_known : (f : Formula) → AllByRecursion (λ s. s < n) f
           → AllByRecursion (IsConstantBelow n) (parts_of db hs f)
       each_is_known [] h = tt
       each_is_known (s ∷ f) h = (
-        by_is_variable s (is_variable_number db s) h.0,
+        constant_is_below s (is_variable_number db s) h.0,
         each_is_known f
             h.1,
       )
@@ -185,22 +185,22 @@ module _ (db : List Statement) (hs : List Formula) where
   pub indexed_parts_are_parts : (indices : List ℕ) → AreFloatingIndices db hs indices
       → (f : Formula) → AreCovered db hs f → indexed_parts db indices f ≡ parts_of db hs f
   indexed_parts_are_parts indices are_floating_indices f h =
-      symbol_by_symbol f (recursion_from_All
+      formula_parts_are f (recursion_from_All
       (λ x. is_variable_number db x ≡ true → IsBound (context_at db 0) hs x) f h)
     where
-      by_is_variable : (s : ℕ) (v : Bool) → (v ≡ true → IsBound (context_at db 0) hs s)
+      symbol_part_is : (s : ℕ) (v : Bool) → (v ≡ true → IsBound (context_at db 0) hs s)
           → cond v (Variable (get_or indices s 0)) (Constant s)
           ≡ cond v (Variable (floating_index db hs s)) (Constant s)
-      by_is_variable s true b = ap Variable (are_floating_indices s (b refl))
-      by_is_variable s false b = refl
+      symbol_part_is s true b = ap Variable (are_floating_indices s (b refl))
+      symbol_part_is s false b = refl
 
-      symbol_by_symbol : (f : Formula)
+      formula_parts_are : (f : Formula)
           → AllByRecursion (λ x. is_variable_number db x ≡ true → IsBound (context_at db 0) hs x) f
           → indexed_parts db indices f ≡ parts_of db hs f
-      symbol_by_symbol [] h = refl
-      symbol_by_symbol (s ∷ f) h =
+      formula_parts_are [] h = refl
+      formula_parts_are (s ∷ f) h =
           ap₂ (λ (p : RulePart) (ps : List RulePart). p ∷ ps)
-          (by_is_variable s (is_variable_number db s) h.0) (symbol_by_symbol f h.1)
+          (symbol_part_is s (is_variable_number db s) h.0) (formula_parts_are f h.1)
 
   indexed_pairs_are_floating_indices : (indices : List ℕ) → AreFloatingIndices db hs indices
       → (ps : List (ℕ × ℕ))

@@ -38,12 +38,12 @@ module _ {A : Type 0} (job : Job A) (seat : SeatValue) (fs : List (Findings A))
   pub floor_is_found_faulty : (floor : ℕ) → IsLeastReported job.board.now.count (seat.view ∷ [])
       floor
       → floor < job.board.now.count → IsFoundFaulty fs floor
-  floor_is_found_faulty floor is_least floor_lt_count = by_floor is_least.is_count_or_reported
+  floor_is_found_faulty floor is_least floor_lt_count = is_faulty is_least.is_count_or_reported
     where
-      by_floor : (floor ≡ job.board.now.count) ⊎ (0 < times_reported (seat.view ∷ []) floor)
+      is_faulty : (floor ≡ job.board.now.count) ⊎ (0 < times_reported (seat.view ∷ []) floor)
           → IsFoundFaulty fs floor
-      by_floor (inl floor_is_count) = absurd (omega (arith, floor_is_count, floor_lt_count))
-      by_floor (inr is_reported) =
+      is_faulty (inl floor_is_count) = absurd (omega (arith, floor_is_count, floor_lt_count))
+      is_faulty (inr is_reported) =
           let count_splits : times_reported (seat.view ∷ []) floor
           ≡ times_in floor seat.view.reported + 0 = refl in
           are_gathered.reported_are_faulty floor (omega (arith, is_reported, count_splits))

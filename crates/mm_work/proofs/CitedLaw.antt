@@ -22,14 +22,14 @@ use Rattle.mm_work.specs.Judged.{HasCitations, HaveCitationsUpTo, CitesAsDatabas
 index_of_member : (xs : List ℕ) (x : ℕ) → is_member xs x ≡ true
     → (i : ℕ) × (i < length xs) × (get_or xs i 0 ≡ x)
 index_of_member [] x x_is_member = absurd (true≢false (sym x_is_member))
-index_of_member (y ∷ xs) x x_is_member = by_head (or_cases (x == y) (is_member xs x) x_is_member)
+index_of_member (y ∷ xs) x x_is_member = index_of_x (or_cases (x == y) (is_member xs x) x_is_member)
     (index_of_member xs x)
   where
-    by_head : ((x == y) ≡ true) ⊎ (is_member xs x ≡ true)
+    index_of_x : ((x == y) ≡ true) ⊎ (is_member xs x ≡ true)
         → (is_member xs x ≡ true → (i : ℕ) × (i < length xs) × (get_or xs i 0 ≡ x))
         → (i : ℕ) × (i < suc (length xs)) × (get_or (y ∷ xs) i 0 ≡ x)
-    by_head (inl x_is_y) index_in_tail = (0, omega arith, sym (eqb-true x y x_is_y))
-    by_head (inr x_in_tail) index_in_tail = let in_tail = index_in_tail x_in_tail in (
+    index_of_x (inl x_is_y) index_in_tail = (0, omega arith, sym (eqb-true x y x_is_y))
+    index_of_x (inr x_in_tail) index_in_tail = let in_tail = index_in_tail x_in_tail in (
       suc in_tail.0,
       (let index_lt_length = in_tail.1 in omega (arith, index_lt_length)),
       in_tail.2,
@@ -38,14 +38,14 @@ index_of_member (y ∷ xs) x x_is_member = by_head (or_cases (x == y) (is_member
 member_of_range : (n a x : ℕ) → a ≤ x → x < a + n → is_member (range_with_len a n) x ≡ true
 member_of_range zero a x a_le_x x_lt_end = absurd (omega arith)
 member_of_range (suc n) a x a_le_x x_lt_end =
-    by_start (cases_lt a x) (λ a_lt_x. member_of_range n (a + 1) x (omega (arith, a_lt_x)) (omega
+    x_is_member (cases_lt a x) (λ a_lt_x. member_of_range n (a + 1) x (omega (arith, a_lt_x)) (omega
     arith))
   where
-    by_start : (a < x) ⊎ (x ≤ a) → (a < x → is_member (range_with_len (a + 1) n) x ≡ true)
+    x_is_member : (a < x) ⊎ (x ≤ a) → (a < x → is_member (range_with_len (a + 1) n) x ≡ true)
         → is_member (range_with_len a (suc n)) x ≡ true
-    by_start (inl a_lt_x) in_rest = or_right (x == a) (is_member (range_with_len (a + 1) n) x)
+    x_is_member (inl a_lt_x) in_rest = or_right (x == a) (is_member (range_with_len (a + 1) n) x)
         (in_rest a_lt_x)
-    by_start (inr x_le_a) in_rest =
+    x_is_member (inr x_le_a) in_rest =
         or_left (x == a) (is_member (range_with_len (a + 1) n) x) (eq-eqb x a (omega arith))
 
 -- a theorem has an index in the list of theorems
@@ -80,14 +80,14 @@ module _ (db : List Statement) (length_lt_limit : length db < 2 ^ 31) (are_compl
       → i < length (theorems db) → AreValid db (get_or (theorems db) i 0)
   valid_before i valid_before_i i_lt_count j j_lt_theorem_i j_is_theorem =
       let indexed = index_of_theorem db j j_is_theorem in
-      by_index indexed.0 indexed.1 indexed.2 (cases_lt indexed.0 i)
+      theorem_is_valid indexed.0 indexed.1 indexed.2 (cases_lt indexed.0 i)
     where
-      by_index : (n : ℕ) → n < length (theorems db) → get_or (theorems db) n 0 ≡ j
+      theorem_is_valid : (n : ℕ) → n < length (theorems db) → get_or (theorems db) n 0 ≡ j
           → (n < i) ⊎ (i ≤ n)
           → IsValid db j
-      by_index n n_lt_count n_is_index_of_j (inl n_lt_i) = subst (λ t. IsValid db t) n_is_index_of_j
-          (valid_before_i n n_lt_i)
-      by_index n n_lt_count n_is_index_of_j (inr i_le_n) = absurd (not_later (cases_lt i n))
+      theorem_is_valid n n_lt_count n_is_index_of_j (inl n_lt_i) = subst (λ t. IsValid db t)
+          n_is_index_of_j (valid_before_i n n_lt_i)
+      theorem_is_valid n n_lt_count n_is_index_of_j (inr i_le_n) = absurd (not_later (cases_lt i n))
         where
           not_later : (i < n) ⊎ (n ≤ i) → ⊥
           not_later (inl i_lt_n) = let theorem_rises = theorems_rise.rises i n i_lt_n n_lt_count in

@@ -32,26 +32,26 @@ use Rattle.mm_work.specs.declared.worker.WorkerState.{WorkerState}
 -- a number of two lists is one of either
 times_in_either : (x : ℕ) (l m : List ℕ) → 0 < times_in x (l ++ m)
     → (0 < times_in x l) ⊎ (0 < times_in x m)
-times_in_either x l m x_is_counted = by_first_list (cases_lt 0 (times_in x l))
+times_in_either x l m x_is_counted = counted_in_either (cases_lt 0 (times_in x l))
   where
-    by_first_list : (0 < times_in x l) ⊎ (times_in x l ≤ 0) → (0 < times_in x l)
+    counted_in_either : (0 < times_in x l) ⊎ (times_in x l ≤ 0) → (0 < times_in x l)
         ⊎ (0 < times_in x m)
-    by_first_list (inl x_in_part) = inl x_in_part
-    by_first_list (inr x_in_part) = let counts_add = times_in_append x l m in inr (omega arith)
+    counted_in_either (inl x_in_part) = inl x_in_part
+    counted_in_either (inr x_in_part) = let counts_add = times_in_append x l m in inr (omega arith)
 
 -- a number that stands in a list is an element of it
 times_contains : (x : ℕ) (l : List ℕ) → 0 < times_in x l → Contains l x
 times_contains x [] x_is_counted = absurd (omega arith)
-times_contains x (y ∷ l) x_is_counted = by_tail (cases_lt 0 (times_in x l)) (times_contains x l)
+times_contains x (y ∷ l) x_is_counted = contains_x (cases_lt 0 (times_in x l)) (times_contains x l)
   where
-    by_tail : (0 < times_in x l) ⊎ (times_in x l ≤ 0) → (0 < times_in x l → Contains l x)
+    contains_x : (0 < times_in x l) ⊎ (times_in x l ≤ 0) → (0 < times_in x l → Contains l x)
         → Contains (y ∷ l) x
-    by_tail (inl x_in_tail) tail_contains = let in_tail = tail_contains x_in_tail in (
+    contains_x (inl x_in_tail) tail_contains = let in_tail = tail_contains x_in_tail in (
       suc in_tail.0,
       (let index_lt_length = in_tail.1 in omega (arith, index_lt_length)),
       in_tail.2,
     )
-    by_tail (inr x_not_in_tail) tail_contains = (
+    contains_x (inr x_not_in_tail) tail_contains = (
       0,
       omega arith,
       counted_is_equal x y
@@ -77,7 +77,7 @@ module _ {A : Type 0} (db : List Statement) (by_essential : Bool) where
             i_lt_count);
         each_has_citations =
             λ k k_lt_length. rw (valid_is, cites_is)
-            (by_index k (subst (λ n. k < n) (ap length valid_is
+            (has_citations_at k (subst (λ n. k < n) (ap length valid_is
             ∙ length-append f.valid.items (i ∷ []))
             k_lt_length)
             (cases_lt k (length f.valid.items)));
@@ -85,11 +85,11 @@ module _ {A : Type 0} (db : List Statement) (by_essential : Bool) where
             (sym faulty_is) are_findings.fault_is_found;
       }
     where
-      by_index : (k : ℕ) → k < length f.valid.items + 1
+      has_citations_at : (k : ℕ) → k < length f.valid.items + 1
           → (k < length f.valid.items) ⊎ (length f.valid.items ≤ k)
           → HasCitations db by_essential (theorem_of db (get_or (f.valid.items ++ i ∷ []) k 0))
           (get_or (f.cites ++ cites ∷ []) k [])
-      by_index k k_lt_length (inl k_is_before) =
+      has_citations_at k k_lt_length (inl k_is_before) =
           rw (
             get_or_append_left f.valid.items (i ∷ []) 0 k k_is_before,
             get_or_append_left f.cites
@@ -99,7 +99,7 @@ module _ {A : Type 0} (db : List Statement) (by_essential : Bool) where
                   k_is_before,
                 )),
           ) (are_findings.each_has_citations k k_is_before)
-      by_index k k_lt_suc (inr k_is_at_end) =
+      has_citations_at k k_lt_suc (inr k_is_at_end) =
           let list_count_is = are_findings.list_count_is in
           let index_is_0 : k - length f.valid.items ≡ 0 = omega (arith, k_lt_suc, k_is_at_end) in
           let list_index_is_0 : k - length f.cites ≡ 0 = omega (
@@ -260,13 +260,13 @@ module _ {A : Type 0} (job : Job A) where
     pub number_stays_open : is_some s.view.open_number ≡ true → s.view.open_number ≡ Some i
     number_stays_open is_open =
         open_number_is
-        ∙ open_by_floor (nat_lt f i) (sym (ap (λ (o : Option ℕ). is_some o) open_number_is)
+        ∙ stays_open (nat_lt f i) (sym (ap (λ (o : Option ℕ). is_some o) open_number_is)
         ∙ is_open)
       where
-        open_by_floor : (b : Bool) → is_some (cond b None (Some i)) ≡ true
+        stays_open : (b : Bool) → is_some (cond b None (Some i)) ≡ true
             → cond b None (Some i) ≡ Some i
-        open_by_floor true is_open = absurd (true≢false (sym is_open))
-        open_by_floor false is_open = refl
+        stays_open true is_open = absurd (true≢false (sym is_open))
+        stays_open false is_open = refl
 
     module _ (u : SeatValue) (x : ℕ) (g : Findings A) (is_open : is_some s.view.open_number ≡ true)
         (is_seat : IsSeatOf job.board.now u)
@@ -368,16 +368,16 @@ pub unrecorded_drops : (n i : ℕ) (v w : View) → ((x : ℕ) → times_recorde
 unrecorded_drops zero i v w recorded_rises i_lt_0 i_unrecorded_before i_recorded_after = absurd
     (omega arith)
 unrecorded_drops (suc n) i v w recorded_rises i_below_n i_unrecorded_before i_recorded_after =
-    by_number (cases_lt i n) (λ i_lt_n. unrecorded_drops n i v w recorded_rises i_lt_n
+    unrecorded_lt (cases_lt i n) (λ i_lt_n. unrecorded_drops n i v w recorded_rises i_lt_n
     i_unrecorded_before i_recorded_after)
   where
-    by_number : (i < n) ⊎ (n ≤ i) → (i < n → unrecorded n w < unrecorded n v)
+    unrecorded_lt : (i < n) ⊎ (n ≤ i) → (i < n → unrecorded n w < unrecorded n v)
         → unrecorded (suc n) w < unrecorded (suc n) v
-    by_number (inl i_lt_n) drops_if_lt =
+    unrecorded_lt (inl i_lt_n) drops_if_lt =
         let rest_drops = drops_if_lt i_lt_n in let test_falls = zero_test_falls (times_recorded n v)
         (times_recorded n w) (recorded_rises n) in
         omega (arith, rest_drops, test_falls)
-    by_number (inr n_le_i) drops_if_lt =
+    unrecorded_lt (inr n_le_i) drops_if_lt =
         let i_is_n : i ≡ n = omega (arith, i_below_n, n_le_i) in
         let rest_falls = unrecorded_falls n v w recorded_rises in
         let test_drops =
@@ -501,12 +501,12 @@ unrecorded_drops_after_draw n i v w u no_number_open w_is i_lt_n i_above_recorde
         record_when_closed x in omega (arith, stays, with_open, without_open)
 
     unrecorded_before : times_recorded i v ≡ 0
-    unrecorded_before = by_record (cases_lt 0 (times_recorded i v))
+    unrecorded_before = is_unrecorded (cases_lt 0 (times_recorded i v))
       where
-        by_record : (0 < times_recorded i v) ⊎ (times_recorded i v ≤ 0) → times_recorded i v ≡ 0
-        by_record (inl is_recorded) = absurd (let i_lt_i = i_above_recorded i is_recorded in omega
-            (arith, i_lt_i))
-        by_record (inr not_recorded) = omega (arith, not_recorded)
+        is_unrecorded : (0 < times_recorded i v) ⊎ (times_recorded i v ≤ 0) → times_recorded i v ≡ 0
+        is_unrecorded (inl is_recorded) = absurd (let i_lt_i = i_above_recorded i is_recorded in
+            omega (arith, i_lt_i))
+        is_unrecorded (inr not_recorded) = omega (arith, not_recorded)
 
     recorded_after : 0 < times_recorded i u
     recorded_after = let stays = record_stays i in let with_open = record_when_open i in let

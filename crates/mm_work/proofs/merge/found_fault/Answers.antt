@@ -30,11 +30,11 @@ no_index_up_to_next : {A : Type 0} (fs : List (Findings A)) (n index : ℕ) (f :
     → (k : ℕ) (d : Findings A) → 0 ≤ k → k < n + 1
     → faulty_index (get_or fs k d).faulty ≡ Some index → ⊥
 no_index_up_to_next fs n index f f_is n_lt_length f_has_other_index no_index_before k d zero_le_k
-    k_lt_suc_n = by_index (cases_lt k n)
+    k_lt_suc_n = index_is_other (cases_lt k n)
   where
-    by_index : (k < n) ⊎ (n ≤ k) → faulty_index (get_or fs k d).faulty ≡ Some index → ⊥
-    by_index (inl k_lt_n) = no_index_before k d zero_le_k k_lt_n
-    by_index (inr n_le_k) =
+    index_is_other : (k < n) ⊎ (n ≤ k) → faulty_index (get_or fs k d).faulty ≡ Some index → ⊥
+    index_is_other (inl k_lt_n) = no_index_before k d zero_le_k k_lt_n
+    index_is_other (inr n_le_k) =
         let k_is_n : k ≡ n = omega (arith, n_le_k, k_lt_suc_n) in
         let element_is_f : get_or fs k d ≡ f =
         ap (λ i. get_or fs i d) k_is_n ∙ get_or_default fs n d f n_lt_length ∙ sym f_is in
