@@ -30,19 +30,19 @@ fn mark_columns(has_mark: &mut [u64], bits: &[u64], rows: usize, w: usize)
     }
 }
 
-/// Returns byte `at` of each row of band w, and zeros past the last row.
-fn row_bytes(bits: &[u64], across: usize, rows: usize, w: usize, at: usize) -> [u8; 64]
+/// Returns byte `byte_index` of each row of band w, and zeros past the last row.
+fn row_bytes(bits: &[u64], across: usize, rows: usize, w: usize, byte_index: usize) -> [u8; 64]
     requires size_is { length bits.now ≡ rows * across }
     requires rows_lt_2_31 { rows < 2 ^ 31 }
     requires words_le_2_26 { across ≤ 2 ^ 26 }
     requires band_has_row { 64 * w < rows }
-    requires byte_lt_row { at < 8 * across }
-    ensures { AreRowBytes rows across bits.now w at result }
+    requires byte_lt_row { byte_index < 8 * across }
+    ensures { AreRowBytes rows across bits.now w byte_index result }
 {
     let mut bytes = [0u8; 64];
     for k in 0..(rows - 64 * w).min(64) {
-        let word = bits[(64 * w + k) * across + at / 8];
-        bytes[k] = ((word >> (8 * (at % 8))) & 0xFF) as u8;
+        let word = bits[(64 * w + k) * across + byte_index / 8];
+        bytes[k] = ((word >> (8 * (byte_index % 8))) & 0xFF) as u8;
     }
     bytes
 }
@@ -57,24 +57,25 @@ fn lane_bits(bytes: u8x64, b: usize) -> u64
     (bytes & bit).simd_eq(bit).to_bitmask()
 }
 
-/// Writes the words that band w makes of the columns of byte `at`.
+/// Writes the words that band w makes of the columns of byte `byte_index`.
 fn write_columns(
     transposed: &mut [u64],
     bits: &[u64],
     rows: usize,
     columns: usize,
     w: usize,
-    at: usize,
+    byte_index: usize,
 )
     requires is_table { IsTable rows columns bits.now }
     requires band_has_row { 64 * w < rows }
-    requires byte_lt_row { at < 8 * words_for columns }
-    requires columns_written { ColumnsWritten rows columns bits.now transposed.old w (8 * at) }
-    ensures { ColumnsWritten rows columns bits.now transposed.new w (8 * at + 8) }
+    requires byte_lt_row { byte_index < 8 * words_for columns }
+    requires columns_written { ColumnsWritten rows columns bits.now transposed.old w (8 *
+        byte_index) }
+    ensures { ColumnsWritten rows columns bits.now transposed.new w (8 * byte_index + 8) }
 {
     let down = rows.div_ceil(64);
-    let bytes = u8x64::from_array(row_bytes(bits, columns.div_ceil(64), rows, w, at));
-    for j in 8 * at..(8 * at + 8).min(columns) {
+    let bytes = u8x64::from_array(row_bytes(bits, columns.div_ceil(64), rows, w, byte_index));
+    for j in 8 * byte_index..(8 * byte_index + 8).min(columns) {
         let word = lane_bits(bytes, j % 8);
         // If the band has no mark in a column, the word is zero already and isn't fetched.
         if word != 0 {
@@ -100,10 +101,10 @@ fn transpose_band(
     ensures { ColumnsWritten rows columns bits.now transposed.new (w + 1) 0 }
 {
     mark_columns(has_mark, bits, rows, w);
-    let mut at = 0usize;
-    while let Some(j) = next_set(has_mark, 8 * at) {
+    let mut byte_index = 0usize;
+    while let Some(j) = next_set(has_mark, 8 * byte_index) {
         write_columns(transposed, bits, rows, columns, w, j / 8);
-        at = j / 8 + 1;
+        byte_index = j / 8 + 1;
     }
 }
 

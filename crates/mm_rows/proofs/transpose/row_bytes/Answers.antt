@@ -7,20 +7,20 @@ pub loop-k-init : goal.loop-k-init
 loop-k-init c =
     record {
       last_le_rows = omega arith;
-      bytes = no_bytes_written c.args.across c.args.bits.now c.args.at (64 * c.args.w);
+      bytes = no_bytes_written c.args.across c.args.bits.now c.args.byte_index (64 * c.args.w);
     }
 
 pub loop-k-preserved : goal.loop-k-preserved
 loop-k-preserved c =
     record {
       last_le_rows = omega arith;
-      bytes = next_byte_is_written c.args.across c.args.bits.now c.args.at c.loop-k.bytes
+      bytes = next_byte_is_written c.args.across c.args.bits.now c.args.byte_index c.loop-k.bytes
           (64 * c.args.w) c.loop-k.k (omega arith) c.loop-k.invariant.bytes;
     }
 
 pub returns : goal.returns
 returns c =
-    written_bytes_are_row_bytes c.args.rows c.args.across c.args.bits.now c.args.w c.args.at
+    written_bytes_are_row_bytes c.args.rows c.args.across c.args.bits.now c.args.w c.args.byte_index
     c.loop-k.bytes c.loop-k.k
     (omega arith) c.loop-k.invariant.last_le_rows c.loop-k.invariant.bytes
 
@@ -32,7 +32,8 @@ bounds-bits-w c =
     omega (arith, k_is_before_end, end_is) in
     let column_in_row = c.requires.byte_lt_row in
     let word_lt_length =
-    row_word_lt_length c.args.rows c.args.across (64 * c.args.w + c.loop-k.k) (c.args.at / 8)
+    row_word_lt_length c.args.rows c.args.across (64 * c.args.w + c.loop-k.k) (c.args.byte_index /
+    8)
     (length c.args.bits.now) c.requires.size_is row_lt_rows (omega (arith, column_in_row)) in
     omega (arith, word_lt_length)
 
@@ -44,7 +45,8 @@ offset_bounds-bits-w c =
     omega (arith, k_is_before_end, end_is) in
     let column_in_row = c.requires.byte_lt_row in
     let word_lt_length =
-    row_word_lt_length c.args.rows c.args.across (64 * c.args.w + c.loop-k.k) (c.args.at / 8)
+    row_word_lt_length c.args.rows c.args.across (64 * c.args.w + c.loop-k.k) (c.args.byte_index /
+    8)
     (length c.args.bits.now) c.requires.size_is row_lt_rows (omega (arith, column_in_row)) in
     omega (arith, word_lt_length)
 
@@ -56,7 +58,8 @@ overflow_add-word-in-loop-k c =
     omega (arith, k_is_before_end, end_is) in
     let column_in_row = c.requires.byte_lt_row in
     let word_lt_length =
-    row_word_lt_length c.args.rows c.args.across (64 * c.args.w + c.loop-k.k) (c.args.at / 8)
+    row_word_lt_length c.args.rows c.args.across (64 * c.args.w + c.loop-k.k) (c.args.byte_index /
+    8)
     (length c.args.bits.now) c.requires.size_is row_lt_rows (omega (arith, column_in_row)) in
     omega (arith, word_lt_length)
 
@@ -68,6 +71,7 @@ overflow_mul-word-in-loop-k c =
     omega (arith, k_is_before_end, end_is) in
     let column_in_row = c.requires.byte_lt_row in
     let word_lt_length =
-    row_word_lt_length c.args.rows c.args.across (64 * c.args.w + c.loop-k.k) (c.args.at / 8)
+    row_word_lt_length c.args.rows c.args.across (64 * c.args.w + c.loop-k.k) (c.args.byte_index /
+    8)
     (length c.args.bits.now) c.requires.size_is row_lt_rows (omega (arith, column_in_row)) in
     omega (arith, word_lt_length)

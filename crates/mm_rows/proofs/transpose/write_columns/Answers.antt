@@ -17,17 +17,17 @@ loop-j-preserved c =
     let invariant_before = c.loop-j.invariant in
     let j_lt_end = c.loop-j-test.true in
     let end_is = c.min-j-end.ensures in
-    let first_le_j : 8 * c.args.at ≤ j = invariant_before.from in
+    let first_le_j : 8 * c.args.byte_index ≤ j = invariant_before.from in
     let j_lt_columns : j < columns = omega (arith, j_lt_end, end_is) in
-    let j_lt_last : j < 8 * c.args.at + 8 = omega (arith, j_lt_end, end_is) in
+    let j_lt_last : j < 8 * c.args.byte_index + 8 = omega (arith, j_lt_end, end_is) in
     let w_lt_words : w < words_for rows = let band_lt_words = c.requires.band_has_row in
     omega (arith, band_lt_words) in
     let are_row_bytes =
-    subst (λ (x : ℕ). AreRowBytes rows x bits w c.args.at c.row_bytes-bytes.result)
+    subst (λ (x : ℕ). AreRowBytes rows x bits w c.args.byte_index c.row_bytes-bytes.result)
     c.div_ceil.ensures c.row_bytes-bytes.ensures in
     let is_column_word =
     lane_is_column_word rows
-    (words_for columns) bits w c.args.at c.row_bytes-bytes.result j
+    (words_for columns) bits w c.args.byte_index c.row_bytes-bytes.result j
     c.lane_bits-word.result are_row_bytes
     first_le_j j_lt_last c.lane_bits-word.ensures in
     let word_is_written =
@@ -57,7 +57,7 @@ returns c =
     let w_lt_words : c.args.w < words_for c.args.rows = omega (arith, band_lt_words) in
     zero_words_are_written c.args.rows c.args.columns c.args.bits.now c.loop-j.transposed c.args.w
     c.loop-j.j
-    (8 * c.args.at + 8) w_lt_words
+    (8 * c.args.byte_index + 8) w_lt_words
     (λ i j_le_i i_lt_last i_lt_columns. absurd (omega (arith, end_is, end_le_j)))
     c.loop-j.invariant.within
     c.loop-j.invariant.written
