@@ -242,13 +242,13 @@ unmarked_word_is_zero rows across bits w j none_is_set k k_lt_64 =
     ap (λ x. eqb x 1) (bit_at-zero k) ∙ sym (false_from_ne_true _ (none_is_set k k_lt_64))
 
 -- a word of a column lies within the words
-pub word_place_lt_length : (columns down j w len : ℕ) → j < columns → w < down
+pub word_index_lt_length : (columns down j w len : ℕ) → j < columns → w < down
     → len ≡ columns * down
     → j * down + w < len
-word_place_lt_length columns down j w len j_lt_columns w_lt_down length_is =
-    let place_lt_product = mul-add-lt j down w columns j_lt_columns w_lt_down in
+word_index_lt_length columns down j w len j_lt_columns w_lt_down length_is =
+    let index_lt_product = mul-add-lt j down w columns j_lt_columns w_lt_down in
     let products_equal = mul_comm down columns in
-    omega (arith, place_lt_product, products_equal, length_is)
+    omega (arith, index_lt_product, products_equal, length_is)
 
 -- after word w of column j was written, band w is written in the columns up to j
 pub next_word_is_written : (rows columns : ℕ) (bits transposed : List ℕ) (w j word : ℕ)
@@ -260,7 +260,7 @@ next_word_is_written rows columns bits transposed w j word w_lt_words j_lt_colum
     word_is_column_word
     written_before =
     record {
-      size_is = length-set transposed place_of_word word ∙ written_before.size_is;
+      size_is = length-set transposed index_of_word word ∙ written_before.size_is;
       earlier_bands =
           λ l v l_lt_columns v_lt_w v_lt_words. subst
           (IsColumnWord rows (words_for columns) bits v l)
@@ -278,26 +278,26 @@ next_word_is_written rows columns bits transposed w j word w_lt_words j_lt_colum
           ∙ written_before.later_bands l v l_lt_columns v_lt_w v_lt_words;
     }
   where
-    place_of_word : ℕ
-    place_of_word = j * words_for rows + w
+    index_of_word : ℕ
+    index_of_word = j * words_for rows + w
 
     other_words_are_kept : (l v : ℕ) → v < words_for rows → (l ≡ j → v ≡ w → ⊥)
-        → get_or (set transposed place_of_word word) (l * words_for rows + v) 0
+        → get_or (set transposed index_of_word word) (l * words_for rows + v) 0
         ≡ get_or transposed (l * words_for rows + v) 0
     other_words_are_kept l v v_lt_words not_that_word =
-        get_or-set_other transposed place_of_word (l * words_for rows + v) word 0
+        get_or-set_other transposed index_of_word (l * words_for rows + v) word 0
         (λ places_equal. let indices_equal = same_from_place l v j w (words_for rows) v_lt_words
         w_lt_words places_equal in not_that_word indices_equal.0 indices_equal.1)
 
     word_of_column : (l : ℕ) → l < columns → l < j + 1 → (l ≡ j) ⊎ (l ≡ j → ⊥)
         → IsColumnWord rows (words_for columns) bits w l
-        (get_or (set transposed place_of_word word) (l * words_for rows + w) 0)
+        (get_or (set transposed index_of_word word) (l * words_for rows + w) 0)
     word_of_column l l_lt_columns l_lt_next (inl l_is_j) =
         subst (λ x. IsColumnWord rows (words_for columns) bits w x
-        (get_or (set transposed place_of_word word) (x * words_for rows + w) 0)) (sym l_is_j)
+        (get_or (set transposed index_of_word word) (x * words_for rows + w) 0)) (sym l_is_j)
         (subst (IsColumnWord rows (words_for columns) bits w j)
-        (sym (get_or-set_same transposed place_of_word word 0
-        (word_place_lt_length columns (words_for rows) j w (length transposed) j_lt_columns
+        (sym (get_or-set_same transposed index_of_word word 0
+        (word_index_lt_length columns (words_for rows) j w (length transposed) j_lt_columns
         w_lt_words
         written_before.size_is))) word_is_column_word)
     word_of_column l l_lt_columns l_lt_next (inr l_is_not_j) =
@@ -420,17 +420,17 @@ all_bands_are_transposed rows columns bits transposed w words_le_w all_written =
         → is_bit transposed (bit_index (words_for rows) j i)
         ≡ bit_in_rows rows (words_for columns) bits i j
     bit_is_of_row i j word_lt_words j_lt_columns =
-        let place_is_i : 64 * (i / 64) + i % 64 ≡ i = omega arith in
+        let index_is_i : 64 * (i / 64) + i % 64 ≡ i = omega arith in
         ap₂ (λ x y. eqb (bit_at (get_or transposed x 0) y) 1) (bit_index_word (words_for rows) j i)
         (bit_index_bit (words_for rows) j i)
         ∙ all_written.earlier_bands j (i / 64) j_lt_columns (omega arith) word_lt_words (i % 64)
         (omega arith)
-        ∙ ap (λ x. bit_in_rows rows (words_for columns) bits x j) place_is_i
+        ∙ ap (λ x. bit_in_rows rows (words_for columns) bits x j) index_is_i
 
 -- a word of a row is among the words of all rows
 pub row_word_lt_length : (rows across i x n : ℕ) → n ≡ rows * across → i < rows → x < across
     → i * across + x < n
 row_word_lt_length rows across i x n length_is i_lt_rows x_lt_across =
-    let place_lt_product = mul-add-lt i across x rows i_lt_rows x_lt_across in
+    let index_lt_product = mul-add-lt i across x rows i_lt_rows x_lt_across in
     let products_equal = mul_comm across rows in
-    omega (arith, place_lt_product, length_is, products_equal)
+    omega (arith, index_lt_product, length_is, products_equal)

@@ -70,7 +70,7 @@ filled_with_one_more c axioms cited n row marked filled filled_before lengths_eq
   where
     via_one_more : (j : ℕ) → IsVia c cited n (get_or axioms j 0)
         → IsVia c cited (n + 1) (get_or axioms j 0)
-    via_one_more j is_via = let place_lt_n = is_via.1 in (is_via.0, omega arith, is_via.2)
+    via_one_more j is_via = let index_lt_n = is_via.1 in (is_via.0, omega arith, is_via.2)
 
     marked_to_via : (j : ℕ) → j < length axioms
         → (is_bit marked j ≡ true) ⊎ RestsOn (HasCitation c) (get_or cited n 0) (get_or axioms j 0)
@@ -204,8 +204,8 @@ filled_from_nothing c axioms cited row row_has_words no_bit_is_set = record {
   marks_decide =
       λ j j_lt_columns. (
         λ is_set. absurd (let true_is_false : true ≡ false = sym is_set ∙ no_bit_is_set j in cc),
-        λ is_via. let place_lt_zero = is_via.1 in
-            absurd (omega (arith, place_lt_zero)),
+        λ is_via. let index_lt_zero = is_via.1 in
+            absurd (omega (arith, index_lt_zero)),
       );
   none_past_columns = λ j columns_le_j. no_bit_is_set j;
 }

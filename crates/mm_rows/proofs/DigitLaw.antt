@@ -88,8 +88,8 @@ byte word j = get_or (digits_l 256 16 (number_l (2 ^ 64) (word ∷ word ∷ []))
 
 byte_of_word : (word j : ℕ) → word < 2 ^ 64 → j < 8 → byte word j ≡ word / 256 ^ j % 256
 byte_of_word word j word_lt_2_64 j_lt_8 =
-    let place_is_j : 8 * 0 + j ≡ j = omega arith in
-    sym (ap (byte word) place_is_j)
+    let index_is_j : 8 * 0 + j ≡ j = omega arith in
+    sym (ap (byte word) index_is_j)
     ∙ get_or_narrower (2 ^ 64) 8 256 16 (word ∷ word ∷ []) 0 j refl
     (word_lt_2_64, (word_lt_2_64, tt)) j_lt_8
     (omega arith)
@@ -187,10 +187,10 @@ next_digits_are_written words into lanes w w_lt_length into_has_size lanes_are_1
     digit_is_written (inl i_lt_block) =
         get_or-put_chunk_below (16 * w) into lanes i 0 i_lt_block ∙ digits_before i i_lt_block
     digit_is_written (inr block_le_i) =
-        let place_is_i : 16 * w + (i - 16 * w) ≡ i = omega arith in
+        let index_is_i : 16 * w + (i - 16 * w) ≡ i = omega arith in
         let word_is : w ≡ i / 16 = omega arith in
         let digit_is : i - 16 * w ≡ i % 16 = omega arith in
-        ap (λ n. get_or (put_chunk (16 * w) into lanes) n 0) (sym place_is_i)
+        ap (λ n. get_or (put_chunk (16 * w) into lanes) n 0) (sym index_is_i)
         ∙ get_or-put_chunk_at (16 * w) into lanes (i - 16 * w) 0 (omega (arith, lanes_are_16))
         (omega (arith, lanes_are_16, into_has_size, w_lt_length))
         ∙ lanes_are_digits (i - 16 * w) (omega arith)
@@ -306,20 +306,20 @@ module _ (m : Marks) (rows columns : ℕ) (words : List ℕ)
       (lengths_equal ∙ sym
       (length-map (range_with_len (16 * word) (length into_before)) digit
       ∙ length-range_with_len (16 * word) (length into_before)))
-      (λ k k_lt_length. digit_at_place k (omega (arith, lengths_equal, k_lt_length)))
+      (λ k k_lt_length. digit_at_index k (omega (arith, lengths_equal, k_lt_length)))
     where
       digit : ℕ → ℕ
       digit k = hex_digit (digit_at k (row_marks m i))
 
-      digit_at_place : (k : ℕ) → k < length into_before
+      digit_at_index : (k : ℕ) → k < length into_before
           → get_or into k 0 ≡ get_or (map digit (range_with_len (16 * word) (length into_before))) k
           0
-      digit_at_place k k_lt_length =
+      digit_at_index k k_lt_length =
           let digits_fit_row : 16 * word + length into_before ≤ 16 * words_for columns =
           subst (λ (x : Marks). 16 * word + length into_before ≤ 16 * words_for x.columns) marks_are
           digits_fit_marks in
           let word_is : word + k / 16 ≡ (16 * word + k) / 16 = omega arith in
-          let digit_place_is : k % 16 ≡ (16 * word + k) % 16 = omega arith in
+          let digit_index_is : k % 16 ≡ (16 * word + k) % 16 = omega arith in
           let word_in_part : k / 16 < word + length into_before / 16 - word =
           omega (arith, k_lt_length, whole_words) in
           digits_written k k_lt_length
@@ -327,7 +327,7 @@ module _ (m : Marks) (rows columns : ℕ) (words : List ℕ)
           (get_or-take (word + length into_before / 16 - word) (drop word part) (k / 16) 0
           word_in_part
           ∙ get_or-drop word part (k / 16) 0)
-          ∙ ap₂ (λ a b. hex_digit (four_at (get_or part a 0) b)) word_is digit_place_is
+          ∙ ap₂ (λ a b. hex_digit (four_at (get_or part a 0) b)) word_is digit_index_is
           ∙ ap hex_digit (row_four_is_digit i (16 * word + k) part i_lt_marks
           (omega (arith, digits_fit_row, k_lt_length)) part_is_row)
           ∙ sym (get_or-map-range_with_len digit (16 * word) (length into_before) k

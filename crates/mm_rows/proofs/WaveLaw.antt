@@ -268,14 +268,14 @@ sorted_rows_are_by_wave waves ps qs pairs_have_waves each_row_has_pair is_permut
           (sym (get_or-map (λ (p : ℕ × ℕ). p.1) qs k (0, 0) d (pair_exists k row_lt_count)))
           entry_is.0;
       each_row_is_there =
-          λ r row_lt_count. let pair_place =
+          λ r row_lt_count. let pair_index =
           Contains-permutation ps qs (get_or waves r 0, r) is_permutation
           (each_row_has_pair r row_lt_count) in (
-            pair_place.0,
-            subst (λ n. pair_place.0 < n) (sym (length-map qs (λ (p : ℕ × ℕ). p.1))) pair_place.1,
+            pair_index.0,
+            subst (λ n. pair_index.0 < n) (sym (length-map qs (λ (p : ℕ × ℕ). p.1))) pair_index.1,
             get_or-map
-                (λ (p : ℕ × ℕ). p.1) qs pair_place.0 (get_or waves r 0, r) r pair_place.1
-                ∙ ap (λ (p : ℕ × ℕ). p.1) pair_place.2,
+                (λ (p : ℕ × ℕ). p.1) qs pair_index.0 (get_or waves r 0, r) r pair_index.1
+                ∙ ap (λ (p : ℕ × ℕ). p.1) pair_index.2,
           );
       waves_rise = λ i j row_lt_count j_lt_rows.
           let j_lt_pairs = pair_exists j j_lt_rows in
@@ -365,14 +365,14 @@ one_more_is_filled c axioms rows k first bits_before bits_after row i i_is is_bi
       filled = λ m m_lt_next. row_is_filled m m_lt_next (cases_eq m k);
     }
   where
-    filled_at_place : (r : ℕ) → r ≡ i → HasRow c axioms bits_after r
-    filled_at_place r r_is_i =
+    filled_at_index : (r : ℕ) → r ≡ i → HasRow c axioms bits_after r
+    filled_at_index r r_is_i =
         subst (HasRow c axioms bits_after) (sym r_is_i)
         (subst (IsBitRow c axioms (theorem_at c i)) (sym row_is) is_bit_row)
 
     filled_row_stays : (r : ℕ) → HasRow c axioms bits_before r → (r ≡ i) ⊎ (r ≡ i → ⊥)
         → HasRow c axioms bits_after r
-    filled_row_stays r has_row_before (inl r_is_i) = filled_at_place r r_is_i
+    filled_row_stays r has_row_before (inl r_is_i) = filled_at_index r r_is_i
     filled_row_stays r has_row_before (inr r_is_not_i) =
         subst (IsBitRow c axioms (theorem_at c r)) (sym (others_are_kept r r_is_not_i))
         has_row_before
@@ -380,7 +380,7 @@ one_more_is_filled c axioms rows k first bits_before bits_after row i i_is is_bi
     row_is_filled : (m : ℕ) → m < k + 1 → (m ≡ k) ⊎ (m ≡ k → ⊥)
         → HasRow c axioms bits_after (get_or rows m 0)
     row_is_filled m m_lt_next (inl m_is_k) =
-        filled_at_place (get_or rows m 0) (ap (λ x. get_or rows x 0) m_is_k ∙ sym i_is)
+        filled_at_index (get_or rows m 0) (ap (λ x. get_or rows x 0) m_is_k ∙ sym i_is)
     row_is_filled m m_lt_next (inr m_is_not_k) =
         filled_row_stays (get_or rows m 0) (filled_before.filled m (omega arith))
         (cases_eq (get_or rows m 0) i)
@@ -431,23 +431,23 @@ wave_rows_can_be_filled c axioms waves rows from to bits are_waves is_by_wave fi
         → r < length c.theorems
         → HasRow c axioms bits r
     lower_rows_are_filled r wave_is_lower r_lt_theorems =
-        let place_of_r =
+        let index_of_r =
         is_by_wave.each_row_is_there r (let size_is = are_waves.size_is in
         omega (arith, size_is, r_lt_theorems)) in
-        let row_is_r : get_or rows place_of_r.0 0 ≡ r =
-        get_or_default rows place_of_r.0 0 r place_of_r.1 ∙ place_of_r.2 in
+        let row_is_r : get_or rows index_of_r.0 0 ≡ r =
+        get_or_default rows index_of_r.0 0 r index_of_r.1 ∙ index_of_r.2 in
         subst (HasRow c axioms bits) row_is_r
-        (filled_up_to.filled place_of_r.0
-        (before_the_wave place_of_r.0 place_of_r.1 (ap (λ x. get_or waves x 0) row_is_r)
-        (cases_lt place_of_r.0 from)))
+        (filled_up_to.filled index_of_r.0
+        (before_the_wave index_of_r.0 index_of_r.1 (ap (λ x. get_or waves x 0) row_is_r)
+        (cases_lt index_of_r.0 from)))
       where
-        before_the_wave : (place_of_r : ℕ) → place_of_r < length rows
-            → get_or waves (get_or rows place_of_r 0) 0 ≡ get_or waves r 0
-            → (place_of_r < from) ⊎ (from ≤ place_of_r) → place_of_r < from
-        before_the_wave place_of_r place_lt_rows waves_equal (inl place_lt_from) = place_lt_from
-        before_the_wave place_of_r place_lt_rows waves_equal (inr from_le_place) =
-            absurd (let waves_ordered = is_by_wave.waves_rise from place_of_r from_le_place
-            place_lt_rows in
+        before_the_wave : (index_of_r : ℕ) → index_of_r < length rows
+            → get_or waves (get_or rows index_of_r 0) 0 ≡ get_or waves r 0
+            → (index_of_r < from) ⊎ (from ≤ index_of_r) → index_of_r < from
+        before_the_wave index_of_r index_lt_rows waves_equal (inl index_lt_from) = index_lt_from
+        before_the_wave index_of_r index_lt_rows waves_equal (inr from_le_index) =
+            absurd (let waves_ordered = is_by_wave.waves_rise from index_of_r from_le_index
+            index_lt_rows in
             let waves_are_equal = one_wave p from_le_p p_lt_to in
             omega (arith, waves_ordered, waves_are_equal, waves_equal, wave_is_lower))
 
@@ -485,11 +485,11 @@ filled_with_wave c axioms rows part from to bits_before bits_after filled_before
     row_is_filled p p_lt_to (inr from_le_p) =
         let part_has_length : length part ≡ to - from =
         ap (λ xs. length xs) part_is_range ∙ range_has_length rows from to to_le_rows in
-        let place_is_p : from + (p - from) ≡ p = omega (arith, from_le_p) in
+        let index_is_p : from + (p - from) ≡ p = omega (arith, from_le_p) in
         let part_row_is : get_or part (p - from) 0 ≡ get_or rows p 0 =
         ap (λ xs. get_or xs (p - from) 0) part_is_range
         ∙ range_element_is rows from to (p - from) 0 (omega (arith, p_lt_to, from_le_p))
-        ∙ ap (λ x. get_or rows x 0) place_is_p in
+        ∙ ap (λ x. get_or rows x 0) index_is_p in
         subst (HasRow c axioms bits_after) part_row_is
         (part_is_filled.filled (p - from) (omega (arith, part_has_length, p_lt_to, from_le_p)))
 
@@ -501,14 +501,14 @@ all_rows_are_filled c axioms waves rows bits from are_waves is_by_wave filled_ro
     record {
       size_is = filled_rows.size_is;
       each_is_bit_row = λ r r_lt_theorems.
-          let place_of_r =
+          let index_of_r =
           is_by_wave.each_row_is_there r (let size_is = are_waves.size_is in
           omega (arith, size_is, r_lt_theorems)) in
-          let row_is_r : get_or rows place_of_r.0 0 ≡ r =
-          get_or_default rows place_of_r.0 0 r place_of_r.1 ∙ place_of_r.2 in
+          let row_is_r : get_or rows index_of_r.0 0 ≡ r =
+          get_or_default rows index_of_r.0 0 r index_of_r.1 ∙ index_of_r.2 in
           subst (HasRow c axioms bits) row_is_r
-          (filled_rows.filled place_of_r.0 (let place_lt_rows = place_of_r.1 in
-          omega (arith, place_lt_rows, rows_le_from)));
+          (filled_rows.filled index_of_r.0 (let index_lt_rows = index_of_r.1 in
+          omega (arith, index_lt_rows, rows_le_from)));
     }
 
 -- row i and its wave are appended to the pairs of the first i rows

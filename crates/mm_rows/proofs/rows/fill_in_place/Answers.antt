@@ -2,7 +2,7 @@ use Rattle.std.proofs.Common.{ℕ, List, ◌∙◌, ◌++◌, ◌*◌, length, d
 use Rattle.mm_rows.specs.Bits.{words_for}
 use Rattle.mm_rows.specs.BitRows.{IsBitRow, row_at}
 use Rattle.mm_cites.specs.Citing.{theorem_at}
-use Rattle.mm_rows.proofs.RowPlaceLaw.{cited_rows_stand_before, written_row_is, other_rows_are_kept}
+use Rattle.mm_rows.proofs.WrittenRowLaw.{cited_rows_stand_before, written_row_is, other_rows_are_kept}
 use Rattle.std.proofs.lemmas.List.{length-take-le}
 use Rattle.mm_rows.proofs.rows.fill_in_place.Goals as goal
 
