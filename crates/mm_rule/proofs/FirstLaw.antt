@@ -1,4 +1,4 @@
--- The places of the first `$f` of variables.
+-- The indices of the first `$f` of variables.
 use Rattle.std.proofs.Common.{◌≡◌, ◌≢◌, ℕ, suc, ◌+◌, ◌-◌, ◌<◌, ◌≤◌, Bool, true, false, ◌||◌, List}
 use Rattle.std.proofs.Common.{[], ◌∷◌, length, drop, get_or, slice_set, nat_eq, cond, refl, sym, ap}
 use Rattle.std.proofs.Common.{◌∙◌, arith, eqb-true, eq-eqb, true≢false, subst, map}
@@ -48,49 +48,50 @@ module _ (db : List Statement) where
       tail_is_found true bound_here_or_in_rest rest_is_tail = refl
       tail_is_found false bound_here_or_in_rest rest_is_tail = rest_is_tail bound_here_or_in_rest
 
-  -- the same for the hypotheses from a number on
-  abbrev pub PlacedFrom : ℕ → List Formula → List ℕ → Type 0
-  PlacedFrom n hs t =
-      (x : ℕ) → IsBound (context_at db 0) hs x → get_or t x 0 ≡ n + floating_index db hs x
+  -- the list has the index of the first `$f` of each variable, where `hs` are the hypotheses from
+  -- index n on
+  abbrev pub AreIndicesFrom : ℕ → List Formula → List ℕ → Type 0
+  AreIndicesFrom n hs indices =
+      (x : ℕ) → IsBound (context_at db 0) hs x → get_or indices x 0 ≡ n + floating_index db hs x
 
-  -- before a hypothesis that binds no variable, the places stay as they are
-  placed_without_floating : (n : ℕ) (t : List ℕ) (h : Formula) (hs : List Formula)
-      → ((x : ℕ) → binds (context_at db 0) x h ≡ false) → PlacedFrom (suc n) hs t
-      → PlacedFrom n (h ∷ hs) t
-  placed_without_floating n t h hs h_binds_none placed_rest x x_is_bound =
-      placed_at_x (binds (context_at db 0) x h) (h_binds_none x) x_is_bound
+  -- before a hypothesis that binds no variable, the indices stay as they are
+  indices_without_floating : (n : ℕ) (indices : List ℕ) (h : Formula) (hs : List Formula)
+      → ((x : ℕ) → binds (context_at db 0) x h ≡ false) → AreIndicesFrom (suc n) hs indices
+      → AreIndicesFrom n (h ∷ hs) indices
+  indices_without_floating n indices h hs h_binds_none rest_indices_are x x_is_bound =
+      index_at_x (binds (context_at db 0) x h) (h_binds_none x) x_is_bound
     where
-      placed_at_x : (v : Bool) → v ≡ false → (v || list_any (binds (context_at db 0) x) hs) ≡ true
-          → get_or t x 0 ≡ n + cond v 0 (suc (floating_index db hs x))
-      placed_at_x true binds_is_false x_is_bound = cc
-      placed_at_x false binds_is_false x_is_bound = let x_is_placed = placed_rest x x_is_bound in
-          omega (arith, x_is_placed)
+      index_at_x : (v : Bool) → v ≡ false → (v || list_any (binds (context_at db 0) x) hs) ≡ true
+          → get_or indices x 0 ≡ n + cond v 0 (suc (floating_index db hs x))
+      index_at_x true binds_is_false x_is_bound = cc
+      index_at_x false binds_is_false x_is_bound = let x_has_index = rest_indices_are x x_is_bound
+          in omega (arith, x_has_index)
 
-  -- before the `$f` of a variable, the variable gets its place
-  placed_with_floating : (n : ℕ) (t : List ℕ) (h : Formula) (hs : List Formula) (y : ℕ)
-      → y < length t
-      → ((x : ℕ) → binds (context_at db 0) x h ≡ nat_eq x y) → PlacedFrom (suc n) hs t
-      → PlacedFrom n (h ∷ hs) (slice_set t y n)
-  placed_with_floating n t h hs y y_lt_length h_binds_y placed_rest x x_is_bound =
-      placed_at_x (binds (context_at db 0) x h) (h_binds_y x) x_is_bound
+  -- before the `$f` of a variable, the variable gets its index
+  indices_with_floating : (n : ℕ) (indices : List ℕ) (h : Formula) (hs : List Formula) (y : ℕ)
+      → y < length indices
+      → ((x : ℕ) → binds (context_at db 0) x h ≡ nat_eq x y) → AreIndicesFrom (suc n) hs indices
+      → AreIndicesFrom n (h ∷ hs) (slice_set indices y n)
+  indices_with_floating n indices h hs y y_lt_length h_binds_y rest_indices_are x x_is_bound =
+      index_at_x (binds (context_at db 0) x h) (h_binds_y x) x_is_bound
     where
-      placed_at_x : (v : Bool) → v ≡ nat_eq x y → (v || list_any (binds (context_at db 0) x) hs)
+      index_at_x : (v : Bool) → v ≡ nat_eq x y → (v || list_any (binds (context_at db 0) x) hs)
           ≡ true
-          → get_or (slice_set t y n) x 0 ≡ n + cond v 0 (suc (floating_index db hs x))
-      placed_at_x true binds_is_equality x_is_bound =
+          → get_or (slice_set indices y n) x 0 ≡ n + cond v 0 (suc (floating_index db hs x))
+      index_at_x true binds_is_equality x_is_bound =
           let n_is_n_plus_0 : n ≡ n + 0 = omega arith in
-          ap (λ z. get_or (slice_set t y n) z 0) (eqb-true x y (sym binds_is_equality))
-          ∙ get_or-set_same t y n 0 y_lt_length ∙ n_is_n_plus_0
-      placed_at_x false binds_is_equality x_is_bound =
+          ap (λ z. get_or (slice_set indices y n) z 0) (eqb-true x y (sym binds_is_equality))
+          ∙ get_or-set_same indices y n 0 y_lt_length ∙ n_is_n_plus_0
+      index_at_x false binds_is_equality x_is_bound =
           let x_not_y : x ≢ y =
           λ x_is_y. true≢false (sym (eq-eqb x y x_is_y) ∙ sym binds_is_equality) in
-          let x_is_placed = placed_rest x x_is_bound in
-          let x_is_after_n : get_or t x 0 ≡ n + suc (floating_index db hs x) =
-          omega (arith, x_is_placed) in
-          get_or-set_other t y x n 0 x_not_y ∙ x_is_after_n
+          let x_has_index = rest_indices_are x x_is_bound in
+          let x_is_after_n : get_or indices x 0 ≡ n + suc (floating_index db hs x) =
+          omega (arith, x_has_index) in
+          get_or-set_other indices y x n 0 x_not_y ∙ x_is_after_n
 
   module _ (mandatory : List ℕ) where
-    -- the formulas of the hypotheses from number `j` on
+    -- the formulas of the hypotheses from index `j` on
     abbrev pub hs : ℕ → List Formula
     hs j = map (formula_at db) (drop j mandatory)
 
@@ -98,14 +99,15 @@ module _ (db : List Statement) where
     drop_length_is_nil [] = refl
     drop_length_is_nil (x ∷ xs) = drop_length_is_nil xs
 
-    -- past the last hypothesis no variable needs a place
-    pub placed_at_end : (t : List ℕ) → PlacedFrom (length mandatory) (hs (length mandatory)) t
-    placed_at_end t =
-        subst (λ d. PlacedFrom (length mandatory) (map (formula_at db) d) t)
+    -- past the last hypothesis no variable needs an index
+    pub indices_at_end : (indices : List ℕ) → AreIndicesFrom (length mandatory) (hs (length
+        mandatory)) indices
+    indices_at_end indices =
+        subst (λ d. AreIndicesFrom (length mandatory) (map (formula_at db) d) indices)
         (sym (drop_length_is_nil mandatory))
         (λ x x_is_bound. absurd (true≢false (sym x_is_bound)))
 
-    module _ (j : ℕ) (t : List ℕ) (j_gt_0 : 0 < j) (j_le_length : j ≤ length mandatory) where
+    module _ (j : ℕ) (indices : List ℕ) (j_gt_0 : 0 < j) (j_le_length : j ≤ length mandatory) where
       hypotheses_from_previous : hs (j - 1) ≡ formula_at db (get_or mandatory (j - 1) 0) ∷ hs j
       hypotheses_from_previous =
           let previous_plus_1_is_j : j - 1 + 1 ≡ j = omega arith in
@@ -113,25 +115,27 @@ module _ (db : List Statement) where
           (drop_more mandatory (j - 1) 0 (omega arith)
           ∙ ap (λ m. get_or mandatory (j - 1) 0 ∷ drop m mandatory) previous_plus_1_is_j)
 
-      placed_from_next : PlacedFrom j (hs j) t → PlacedFrom (suc (j - 1)) (hs j) t
-      placed_from_next placed_from_j = let next_is_j : suc (j - 1) ≡ j = omega arith in
-          rw next_is_j placed_from_j
+      indices_from_next : AreIndicesFrom j (hs j) indices → AreIndicesFrom (suc (j - 1)) (hs j)
+          indices
+      indices_from_next are_indices_from_j = let next_is_j : suc (j - 1) ≡ j = omega arith in
+          rw next_is_j are_indices_from_j
 
-      pub placed_back_without_floating : ((x : ℕ)
+      pub indices_back_without_floating : ((x : ℕ)
           → binds (context_at db 0) x (formula_at db (get_or mandatory (j - 1) 0)) ≡ false)
-          → PlacedFrom j (hs j) t → PlacedFrom (j - 1) (hs (j - 1)) t
-      placed_back_without_floating hypothesis_binds_none placed_from_j =
+          → AreIndicesFrom j (hs j) indices → AreIndicesFrom (j - 1) (hs (j - 1)) indices
+      indices_back_without_floating hypothesis_binds_none are_indices_from_j =
           rw hypotheses_from_previous
-          (placed_without_floating (j - 1) t (formula_at db (get_or mandatory (j - 1) 0))
+          (indices_without_floating (j - 1) indices (formula_at db (get_or mandatory (j - 1) 0))
           (hs j) hypothesis_binds_none
-          (placed_from_next placed_from_j))
+          (indices_from_next are_indices_from_j))
 
-      pub placed_back_with_floating : (y : ℕ) → y < length t
+      pub indices_back_with_floating : (y : ℕ) → y < length indices
           → ((x : ℕ)
           → binds (context_at db 0) x (formula_at db (get_or mandatory (j - 1) 0)) ≡ nat_eq x y)
-          → PlacedFrom j (hs j) t → PlacedFrom (j - 1) (hs (j - 1)) (slice_set t y (j - 1))
-      placed_back_with_floating y y_lt_length hypothesis_binds_y placed_from_j =
+          → AreIndicesFrom j (hs j) indices → AreIndicesFrom (j - 1) (hs (j - 1)) (slice_set indices
+          y (j - 1))
+      indices_back_with_floating y y_lt_length hypothesis_binds_y are_indices_from_j =
           rw hypotheses_from_previous
-          (placed_with_floating (j - 1) t (formula_at db (get_or mandatory (j - 1) 0))
+          (indices_with_floating (j - 1) indices (formula_at db (get_or mandatory (j - 1) 0))
           (hs j) y y_lt_length hypothesis_binds_y
-          (placed_from_next placed_from_j))
+          (indices_from_next are_indices_from_j))
