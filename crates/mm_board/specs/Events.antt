@@ -70,7 +70,8 @@ after_report v f = record v {
 
 -- a settle, whatever it found: the open number becomes settled
 abbrev pub after_settle : View → ℕ → View
-after_settle v found = record v { open_number = None; settled = v.settled ++ open_list v.open_number }
+after_settle v found =
+    record v { open_number = None; settled = v.settled ++ open_list v.open_number }
 
 -- a split: the seat gives one share away
 abbrev pub after_split : View → View

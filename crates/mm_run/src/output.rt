@@ -57,10 +57,10 @@ pub(crate) fn report_citations<'a, A: Allocator + Copy, W: Write>(
     ensures { Answers result database.now.text request.now (W.contents to.old)
         (W.contents to.new) }
 {
-    let Ok(columns) = Columns::new(alloc, database, request.only) else {
+    let Ok(chosen) = Columns::new(alloc, database, request.only) else {
         return RunEnd::NoMemory;
     };
-    match write_requested_citations(to, request, database, &columns, citations) {
+    match write_requested_citations(to, request, database, &chosen, citations) {
         Ok(()) => RunEnd::Accepted,
         Err(_) => RunEnd::WriteFailed,
     }

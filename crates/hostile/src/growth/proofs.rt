@@ -8,7 +8,7 @@ ghost use Rattle.mm_steps.specs.TheoremSteps.{theorem_steps};
 use super::{MOST_GROWTHS, WITHOUT_OPEN, was_refused};
 use crate::calls::{all_checked, checked, checked_by};
 use crate::heap::Refusing;
-use crate::texts::THROUGH;
+use crate::texts::CITED_TWICE;
 use mm_board::{Board, BoardFault, Seat};
 use mm_check::{CheckRefused, Checked, Checker, Rules};
 use mm_lex::{Cuts, lex};
@@ -25,9 +25,9 @@ pub(crate) fn database_of<R: Threads + Sync, A: Allocator + Copy + Send + Sync>(
     rt: &R,
     alloc: A,
 ) -> Result<Database<'static, A>, AllocError> {
-    let cuts = Cuts::equal(alloc, THROUGH.len(), 1)?;
-    let lexed = lex(rt, alloc, THROUGH, &cuts)?;
-    read_statements(alloc, THROUGH, &lexed, WITHOUT_OPEN)
+    let cuts = Cuts::equal(alloc, CITED_TWICE.len(), 1)?;
+    let lexed = lex(rt, alloc, CITED_TWICE, &cuts)?;
+    read_statements(alloc, CITED_TWICE, &lexed, WITHOUT_OPEN)
 }
 
 /// The first theorem, if there is one.

@@ -5,8 +5,9 @@ use crate::calls::{ended, plan_of};
 use crate::ends::GrowthWatching;
 use crate::heap::Refusing;
 use crate::texts::{
-    BASE, COMPRESSED, COMPRESSED_REPORT, DISJOINT, DISJOINT_REPORT, FIRST_REPORT, FIRST_TEXT,
-    NOT_DISJOINT, NOT_DISJOINT_REFUSAL, THROUGH, THROUGH_REPORT, TWO_FAULTS, TWO_FAULTS_REFUSAL,
+    BEGINNING, CITED_TWICE, CITED_TWICE_REPORT, COMPRESSED, COMPRESSED_REPORT, DISJOINT,
+    DISJOINT_REPORT, FIRST_REPORT, FIRST_TEXT, NOT_DISJOINT, NOT_DISJOINT_REFUSAL, TWO_FAULTS,
+    TWO_FAULTS_REFUSAL,
 };
 use mm_plan::Cutting;
 use mm_run::RunEnd;
@@ -100,7 +101,7 @@ fn assert_right_with_each_refusal<R: Abort + Threads + Wait + Sync>(
 fn a_run_without_memory_writes_nothing(rt: HostRuntime) {
     let rows = [
         (FIRST_TEXT, FIRST_REPORT),
-        (THROUGH, THROUGH_REPORT),
+        (CITED_TWICE, CITED_TWICE_REPORT),
         (COMPRESSED, COMPRESSED_REPORT),
         (NOT_DISJOINT, NOT_DISJOINT_REFUSAL),
         (DISJOINT, DISJOINT_REPORT),
@@ -114,7 +115,7 @@ fn a_run_without_memory_writes_nothing(rt: HostRuntime) {
 /// A database of `count` theorems. Its report is written in several pieces, and several threads
 /// compute its rows.
 fn many_theorems(alloc: Global, count: u32) -> Result<Vec<u8>, AllocError> {
-    let mut text = BASE.to_vec(alloc)?;
+    let mut text = BEGINNING.to_vec(alloc)?;
     for theorem in 0..count {
         text.push(b't')?;
         for unit in [1000, 100, 10, 1] {

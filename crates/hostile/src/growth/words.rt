@@ -2,7 +2,7 @@
 
 use super::{MOST_GROWTHS, WITHOUT_OPEN, was_refused};
 use crate::heap::Refusing;
-use crate::texts::{FIRST_TEXT, THROUGH};
+use crate::texts::{CITED_TWICE, FIRST_TEXT};
 use mm_lex::{Cuts, Lexed, Piece, Word, join, lex, lex_piece};
 use mm_stmt::{Database, read};
 use std::alloc::{AllocError, Allocator, Global};
@@ -159,7 +159,7 @@ fn lexing_without_memory(rt: HostRuntime) -> Result<(), AllocError> {
 fn is_read<A: Allocator>(answer: Result<Database<'_, A>, AllocError>) -> Option<bool> {
     match answer {
         Ok(database) => Some(
-            database.text() == THROUGH
+            database.text() == CITED_TWICE
                 && database.len() == 19
                 && database.fault().is_none()
                 && database.theorems() == [13u32, 17].as_slice()
@@ -172,19 +172,19 @@ fn is_read<A: Allocator>(answer: Result<Database<'_, A>, AllocError>) -> Option<
 #[test]
 fn statements_without_memory(rt: HostRuntime) -> Result<(), AllocError> {
     let heap = Refusing::new(rt.alloc());
-    let cuts = Cuts::equal(&heap, THROUGH.len(), 1)?;
-    let lexed = lex(&rt, &heap, THROUGH, &cuts)?;
+    let cuts = Cuts::equal(&heap, CITED_TWICE.len(), 1)?;
+    let lexed = lex(&rt, &heap, CITED_TWICE, &cuts)?;
     let tokens = lexed.tokens.to_vec(&heap)?;
     for growth in 1..MOST_GROWTHS {
         heap.refuse(growth);
         let refused = was_refused(
             &rt,
             &heap,
-            is_read(read(&heap, THROUGH, &lexed, WITHOUT_OPEN)),
+            is_read(read(&heap, CITED_TWICE, &lexed, WITHOUT_OPEN)),
         );
         assert!(&rt; lexed.tokens.as_slice() == tokens.as_slice());
         assert!(&rt; lexed.fault.is_none());
-        assert!(&rt; is_read(read(&heap, THROUGH, &lexed, WITHOUT_OPEN)) == Some(true));
+        assert!(&rt; is_read(read(&heap, CITED_TWICE, &lexed, WITHOUT_OPEN)) == Some(true));
         if !refused {
             assert!(&rt; growth > 10);
             return Ok(());

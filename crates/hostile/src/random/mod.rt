@@ -174,11 +174,14 @@ fn random_text(alloc: Global, chance: &mut Chance) -> (Vec<u8>, bool) {
     (text, is_unchanged)
 }
 
+/// One more than the greatest number of a code.
+const CODE_LIMIT: usize = 46;
+
 /// How many texts were accepted, and how many had the fault of each code, by its number.
 #[derive(Drop)]
 struct Tally {
     accepted: usize,
-    faults: [usize; 46],
+    faults: [usize; CODE_LIMIT],
 }
 
 impl Tally {
@@ -187,7 +190,7 @@ impl Tally {
         match end {
             Some(RunEnd::Accepted) => self.accepted = self.accepted.saturating_add(1),
             Some(RunEnd::Refused(fault)) => {
-                let number = fault.code.number() as usize % 46;
+                let number = fault.code.number() as usize % CODE_LIMIT;
                 self.faults[number] = self.faults[number].saturating_add(1);
             }
             _ => {}
@@ -201,7 +204,7 @@ impl Tally {
 fn texts_by_chance_have_one_answer(rt: HostRuntime) {
     let mut tally = Tally {
         accepted: 0,
-        faults: [0; 46],
+        faults: [0; CODE_LIMIT],
     };
     for seed in 0..TEXTS {
         let mut chance = Chance::new(seed as u64);
@@ -216,7 +219,7 @@ fn texts_by_chance_have_one_answer(rt: HostRuntime) {
     assert!(&rt; tally.accepted > TEXTS / 4);
     for code in CODES {
         assert!(&rt;
-            tally.faults[code as usize % 46] > 0,
+            tally.faults[code as usize % CODE_LIMIT] > 0,
             "no text has fault {code}"
         );
     }
