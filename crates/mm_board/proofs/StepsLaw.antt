@@ -15,13 +15,13 @@ use Rattle.mm_board.specs.Events.{IsClaimWord, IsFloorWord, IsSettledWord}
 use Rattle.mm_board.specs.Table.{MeetsRule}
 use Rattle.mm_board.proofs.SumsLaw.{once_below_moves_by_one, times_in_append, counted_is_equal}
 use Rattle.mm_board.proofs.SumsLaw.{equal_is_counted}
-use Rattle.mm_board.proofs.MovingLaw.{Moves, moves_keep_rule}
+use Rattle.mm_board.proofs.MovingLaw.{MovesWords, moves_keep_rule}
 
 -- the three steps that change a word, and the rule of the new words
 module _ (n : ℕ) (s : State (Unit {0}) View) (meets_rule : MeetsRule n s) (id : ℕ) (v w : View)
     (has_view : get_elem? s.views id ≡ some v) (share_is_positive : 0 < v.share) where
   pub claim_word_step_keeps_rule : (z : ℕ)
-      → Moves n (get_or s.words 0 0) (get_or s.words 1 0) (get_or s.words 2 0) z
+      → MovesWords n (get_or s.words 0 0) (get_or s.words 1 0) (get_or s.words 2 0) z
       (get_or s.words 1 0) (get_or s.words 2 0) v w
       → (carried : List (ℕ × Unit {0})) → MeetsRule n (stepped s 0 z id carried w keeps)
   claim_word_step_keeps_rule z moves carried =
@@ -40,7 +40,7 @@ module _ (n : ℕ) (s : State (Unit {0}) View) (meets_rule : MeetsRule n s) (id 
       )
 
   pub floor_word_step_keeps_rule : (z : ℕ)
-      → Moves n (get_or s.words 0 0) (get_or s.words 1 0) (get_or s.words 2 0)
+      → MovesWords n (get_or s.words 0 0) (get_or s.words 1 0) (get_or s.words 2 0)
       (get_or s.words 0 0) z (get_or s.words 2 0) v w
       → (carried : List (ℕ × Unit {0})) → MeetsRule n (stepped s 1 z id carried w keeps)
   floor_word_step_keeps_rule z moves carried =
@@ -59,8 +59,8 @@ module _ (n : ℕ) (s : State (Unit {0}) View) (meets_rule : MeetsRule n s) (id 
       )
 
   pub settled_word_step_keeps_rule : (z : ℕ)
-      → Moves n (get_or s.words 0 0) (get_or s.words 1 0) (get_or s.words 2 0) (get_or s.words 0 0)
-      (get_or s.words 1 0) z v w
+      → MovesWords n (get_or s.words 0 0) (get_or s.words 1 0) (get_or s.words 2 0) (get_or s.words
+      0 0) (get_or s.words 1 0) z v w
       → (carried : List (ℕ × Unit {0})) → MeetsRule n (stepped s 2 z id carried w keeps)
   settled_word_step_keeps_rule z moves carried =
       let has_three_words = meets_rule.0 in
@@ -131,7 +131,7 @@ module _ (n b c : ℕ) (v : View) (floor_le_seen : b ≤ v.seen) where
   not_over_no_share : v.over ≡ false → over_share v ≡ 0
   not_over_no_share is_not_over = ap (λ (o : Bool). cond o v.share 0) is_not_over
 
-  pub reads_only : (a : ℕ) → Moves n a b c a b c v v
+  pub reads_only : (a : ℕ) → MovesWords n a b c a b c v v
   reads_only a = record {
     count_kept = refl;
     share_kept = refl;
@@ -151,7 +151,7 @@ module _ (n b c : ℕ) (v : View) (floor_le_seen : b ≤ v.seen) where
   }
 
   pub claims_number : (x : ℕ) → x < n → v.open_number ≡ None → v.over ≡ false
-      → Moves n x b c (x + 1) b c v (record v { open_number = Some x })
+      → MovesWords n x b c (x + 1) b c v (record v { open_number = Some x })
   claims_number x x_lt_n nothing_open is_not_over = record {
     count_kept = refl;
     share_kept = refl;
@@ -189,7 +189,7 @@ module _ (n b c : ℕ) (v : View) (floor_le_seen : b ≤ v.seen) where
   }
 
   pub claims_none : (x : ℕ) → n ≤ x → v.over ≡ false → 0 < v.share
-      → Moves n x b c (x + 1) b c v (record v { over = true })
+      → MovesWords n x b c (x + 1) b c v (record v { over = true })
   claims_none x n_le_x is_not_over share_is_positive = record {
     count_kept = refl;
     share_kept = refl;
@@ -217,7 +217,7 @@ module _ (n b c : ℕ) (v : View) (floor_le_seen : b ≤ v.seen) where
   }
 
   pub look_skips : (a i : ℕ) → b < i → v.open_number ≡ Some i
-      → Moves n a b c a b c v
+      → MovesWords n a b c a b c v
       (record v { open_number = None; skipped = v.skipped ++ i ∷ []; seen = b })
   look_skips a i b_lt_i open_is = record {
     count_kept = refl;
@@ -262,7 +262,7 @@ module _ (n b c : ℕ) (v : View) (floor_le_seen : b ≤ v.seen) where
         omega arith;
   }
 
-  pub look_sees : (a : ℕ) → Moves n a b c a b c v (record v { seen = b })
+  pub look_sees : (a : ℕ) → MovesWords n a b c a b c v (record v { seen = b })
   look_sees a = record {
     count_kept = refl;
     share_kept = refl;
@@ -285,7 +285,11 @@ module _ (n b c : ℕ) (v : View) (floor_le_seen : b ≤ v.seen) where
   }
 
   pub settles_number : (a i : ℕ) → v.open_number ≡ Some i
-      → Moves n a b c a b (c + 1) v (record v { open_number = None; settled = v.settled ++ i ∷ [] })
+      → MovesWords n a b c a b (c + 1) v (record v {
+        open_number = None;
+        settled = v.settled ++ i ∷
+            [];
+      })
   settles_number a i open_is = record {
     count_kept = refl;
     share_kept = refl;
@@ -327,7 +331,7 @@ module _ (n b c : ℕ) (v : View) (floor_le_seen : b ≤ v.seen) where
   }
 
   pub reports_number : (a i : ℕ) → v.open_number ≡ Some i
-      → Moves n a b c a (min b i) c v
+      → MovesWords n a b c a (min b i) c v
       (record v { open_number = None; reported = v.reported ++ i ∷ []; seen = min b i })
   reports_number a i open_is = record {
     count_kept = refl;

@@ -18,7 +18,7 @@ use Rattle.mm_machine.specs.Arena.{arena, symbols_of, span, no_symbols, span_for
 use Rattle.mm_machine.specs.State.{span_formulas, appended_span, Follow, first_unmarked, IsStack}
 use Rattle.mm_machine.specs.State.{IsStackOf}
 use Rattle.mm_machine.specs.State.{IsMarkedEntry}
-use Rattle.mm_machine.specs.State.{Moves}
+use Rattle.mm_machine.specs.State.{MovesFormulas}
 use Rattle.mm_machine.proofs.GrowLaw.{Stays, all_stay, all_in_if_stay, formulas_equal_if_stay}
 use Rattle.mm_machine.proofs.GrowLaw.{stays_with_more_unmarked}
 use Rattle.mm_machine.proofs.GrowLaw.{stays_with_more_marked}
@@ -358,7 +358,7 @@ pub record IsMoved (unmarked marked : List ℕ) (es : List Span) (unmarked' mark
   pub is_stack : IsStack unmarked' marked' es'
   pub formulas_stay : span_formulas (arena unmarked' marked') es'
       ≡ span_formulas (arena unmarked marked) es
-  pub moves_symbols : Moves unmarked marked unmarked' marked'
+  pub moves_symbols : MovesFormulas unmarked marked unmarked' marked'
   pub is_marked : IsMarkedEntry marked' m
   pub is_top_formula : span_formula (arena [] marked') m ≡ top (span_formulas (arena unmarked
       marked) es)
@@ -494,7 +494,7 @@ module _ (unmarked marked : List ℕ) (es : List Span) (last_index : ℕ) (e : S
         (new_entry_formula ∙ moved_symbols_are)
         ∙ sym formulas_split_before_last
 
-    top_moves : Moves unmarked marked cut_unmarked (marked ++ moved_symbols)
+    top_moves : MovesFormulas unmarked marked cut_unmarked (marked ++ moved_symbols)
     top_moves = record {
       moved_symbols = moved_symbols;
       marked_is = refl;
@@ -521,7 +521,7 @@ module _ (unmarked marked : List ℕ) (es : List Span) (last_index : ℕ) (e : S
         })
 
 -- nothing moves
-pub nothing_moves : (unmarked marked : List ℕ) → Moves unmarked marked unmarked marked
+pub nothing_moves : (unmarked marked : List ℕ) → MovesFormulas unmarked marked unmarked marked
 nothing_moves unmarked marked =
     record {
       moved_symbols = [];

@@ -78,7 +78,7 @@ abbrev pub appended_span : List ℕ → Formula → Span
 appended_span unmarked f = span Unmarked (length unmarked) (length (unmarked ++ f))
 
 -- unmarked formulas were moved to the marked ones, and some were removed
-pub record Moves (unmarked marked unmarked' marked' : List ℕ) : Type 0 where
+pub record MovesFormulas (unmarked marked unmarked' marked' : List ℕ) : Type 0 where
   pub moved_symbols : List ℕ
   pub marked_is : marked' ≡ marked ++ moved_symbols
   pub symbols_in_range : (w : ℕ) → All (λ s. s < w) unmarked → All (λ s. s < w) moved_symbols

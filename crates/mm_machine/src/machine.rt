@@ -12,7 +12,8 @@ ghost use Rattle.mm_machine.specs.DisjointCache.{AreDisjointAt};
 ghost use Rattle.mm_machine.specs.State.{machine_state, with_mark, Repeats, span_formulas};
 ghost use Rattle.mm_machine.specs.State.{first_unmarked as first_unmarked_of, appended_span};
 ghost use Rattle.mm_machine.specs.State.{entries_after};
-ghost use Rattle.mm_machine.specs.State.{IsStack, IsStackOf, IsRising, IsMarkedEntry, Moves};
+ghost use Rattle.mm_machine.specs.State.{IsStack, IsStackOf, IsRising, IsMarkedEntry};
+ghost use Rattle.mm_machine.specs.State.{MovesFormulas};
 ghost use Rattle.mm_machine.specs.Applied.{IsRefusalOf, IsApplied};
 
 use crate::arena::{Span, Store, Symbols, build};
@@ -362,7 +363,7 @@ fn move_to_marked<A: Allocator>(
     ensures is_stack { IsStack unmarked.new marked.new stack.new.items }
     ensures formulas_stay { span_formulas (arena unmarked.new marked.new) stack.new.items
         ≡ span_formulas (arena unmarked.old marked.old) stack.old.items }
-    ensures moves_symbols { Moves unmarked.old marked.old unmarked.new marked.new }
+    ensures moves_symbols { MovesFormulas unmarked.old marked.old unmarked.new marked.new }
     ensures returns_top_formula { IfOk result
         (λ e. IsMarkedEntry marked.new e
         × (span_formula (arena [] marked.new) e

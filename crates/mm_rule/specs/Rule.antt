@@ -75,8 +75,7 @@ compiled_rule k hypotheses pairs parts formula =
       hypotheses = hypotheses;
       pairs = pairs;
       parts = parts;
-      formula =
-          formula;
+      formula = formula;
     }
 
 -- the rule is the frame of its assertion, with each variable given by the index of its `$f`

@@ -78,8 +78,7 @@ rule_ranges k hypotheses pairs parts formula =
       hypotheses = hypotheses;
       pairs = pairs;
       parts = parts;
-      formula =
-          formula;
+      formula = formula;
     }
 
 abbrev pub index_range : ℕ → ℕ → IndexRange
@@ -88,6 +87,10 @@ index_range start end = record { start = start; end = end }
 module _ {X : Type 0} where
   abbrev pub elements_in : List X → IndexRange → List X
   elements_in xs s = slice_range xs s.start s.end
+
+-- the greatest number of 64 bits
+abbrev pub most_usize : ℕ
+most_usize = 18446744073709551615
 
 -- how many hypotheses, pairs and parts a rule has together
 abbrev pub rule_size : CompiledRule → ℕ

@@ -8,7 +8,7 @@ ghost use Rattle.mm_spec.specs.Laws.Complete.{AreComplete};
 ghost use Rattle.mm_rule.specs.Rule.{IsCompiled};
 ghost use Rattle.mm_rule.specs.Assertions.{is_assertion_at};
 ghost use Rattle.mm_rules.specs.Rules.{AreRules, IsRuleIndex, IsIndexRange, rule_lists, no_ranges};
-ghost use Rattle.mm_rules.specs.Rules.{elements_in, rule_size, lists_size};
+ghost use Rattle.mm_rules.specs.Rules.{elements_in, rule_size, lists_size, most_usize};
 
 use crate::compile::RuleCompiler;
 use mm_database::Database;
@@ -143,7 +143,7 @@ impl Lengths {
 
 /// How many elements a rule has.
 fn elements_of(rule: &Rule) -> usize
-    ensures { result ≡ min (rule_size rule.now) 18446744073709551615 }
+    ensures { result ≡ min (rule_size rule.now) most_usize }
 {
     let hypotheses_and_pairs = rule.hypotheses.len().saturating_add(rule.pairs.len());
     hypotheses_and_pairs
@@ -256,7 +256,7 @@ impl<A: Allocator> Rules<A> {
 
     /// How many elements are held.
     fn element_count(&self) -> usize
-        ensures { result ≡ min (lists_size self.now) 18446744073709551615 }
+        ensures { result ≡ min (lists_size self.now) most_usize }
     {
         let hypotheses_and_pairs = self.hypotheses.len().saturating_add(self.pairs.len());
         hypotheses_and_pairs.saturating_add(self.parts.len())
