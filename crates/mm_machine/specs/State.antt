@@ -90,13 +90,13 @@ pub record IsMarkedEntry (marked : List ℕ) (e : Span) : Type 0 where
   pub start_le_end : e.start ≤ e.end
   pub end_le_length : e.end ≤ length marked
 
+-- no number is less than one before it
 abbrev pub IsRising : List ℕ → Type 0
-IsRising ns = (a b : ℕ) → a ≤ b → b < length ns → get_or ns a 0 ≤ get_or ns b 0
+IsRising ns = (i j : ℕ) → i ≤ j → j < length ns → get_or ns i 0 ≤ get_or ns j 0
 
 -- the entries are those of a machine for `symbol_count` symbols, and the lists fit together
 pub record IsMachine (unmarked marked : List ℕ) (es : List Span) (marks : List ℕ)
-    (marked_spans : List Span)
-    (symbol_count : ℕ) : Type 0 where
+    (marked_spans : List Span) (symbol_count : ℕ) : Type 0 where
   pub stack : IsStackOf symbol_count unmarked marked es
   pub spans_are_marked : All (IsMarkedEntry marked) marked_spans
   pub marks_rise : IsRising marks

@@ -34,7 +34,8 @@ map_push f (y ∷ xs) x = ap (λ z. f y ∷ z) (map_push f xs x)
 -- the map of the first i + 1 elements is that of the first i, followed by the value of the next one
 pub map_take_more : {X Y : Type 0} (f : X → Y) (xs : List X) (i : ℕ) (d : X) → i < length xs
     → map f (take (i + 1) xs) ≡ map f (take i xs) ++ f (get_or xs i d) ∷ []
-map_take_more f xs i d h = ap (map f) (take_more xs i d h) ∙ map_push f (take i xs) (get_or xs i d)
+map_take_more f xs i d i_lt_length =
+    ap (map f) (take_more xs i d i_lt_length) ∙ map_push f (take i xs) (get_or xs i d)
 
 -- the same for a list that is what it was at the start, and what came of the elements so far
 pub map_more_after : {X Y : Type 0} (f : X → Y) (xs : List X) (i : ℕ) (d : X)
@@ -122,61 +123,57 @@ module _ (parts added : List RulePart) (xs : List Hypothesis) (n : ℕ)
 module _ (db : List Statement) (hs : List Formula) where
   pub parts_below : (f : Formula) → AreCovered db hs f
       → All (IsVariableBelow (length hs)) (parts_of db hs f)
-  parts_below f h =
+  parts_below f is_covered =
       All-from_recursion (IsVariableBelow (length hs)) (parts_of db hs f)
       (each_is_below f (recursion_from_All
-      (λ x. is_variable_number db x ≡ true → IsBound (context_at db 0) hs x) f h))
+      (λ x. is_variable_number db x ≡ true → IsBound (context_at db 0) hs x) f is_covered))
     where
       part_is_below : (s : ℕ) (v : Bool) → (v ≡ true → IsBound (context_at db 0) hs s)
           → IsVariableBelow (length hs) (cond v (Variable (floating_index db hs s)) (Constant s))
-      part_is_below s true b = floating_index_lt_length db hs s (b refl)
-      part_is_below s false b = tt
+      part_is_below s true bound_if = floating_index_lt_length db hs s (bound_if refl)
+      part_is_below s false bound_if = tt
 
       each_is_below : (f : Formula)
           → AllByRecursion (λ x. is_variable_number db x ≡ true → IsBound (context_at db 0) hs x) f
           → AllByRecursion (IsVariableBelow (length hs)) (parts_of db hs f)
-      each_is_below [] h = tt
-      each_is_below (s ∷ f) h = (
-        part_is_below s (is_variable_number db s) h.0,
-        each_is_below f
-            h.1,
-      )
+      each_is_below [] covered = tt
+      each_is_below (s ∷ f) covered =
+          (part_is_below s (is_variable_number db s) covered.0, each_is_below f covered.1)
 
   pub constants_below : (n : ℕ) (f : Formula) → All (λ s. s < n) f
       → All (IsConstantBelow n) (parts_of db hs f)
-  constants_below n f h =
+  constants_below n f f_in_range =
       All-from_recursion (IsConstantBelow n) (parts_of db hs f)
-      (each_is_known f (recursion_from_All (λ s. s < n) f h))
+      (each_is_known f (recursion_from_All (λ s. s < n) f f_in_range))
     where
       constant_is_below : (s : ℕ) (v : Bool) → s < n
           → IsConstantBelow n (cond v (Variable (floating_index db hs s)) (Constant s))
-      constant_is_below s true l = tt
-      constant_is_below s false l = l
+      constant_is_below s true s_lt_n = tt
+      constant_is_below s false s_lt_n = s_lt_n
 
       each_is_known : (f : Formula) → AllByRecursion (λ s. s < n) f
           → AllByRecursion (IsConstantBelow n) (parts_of db hs f)
-      each_is_known [] h = tt
-      each_is_known (s ∷ f) h = (
-        constant_is_below s (is_variable_number db s) h.0,
-        each_is_known f
-            h.1,
-      )
+      each_is_known [] in_range = tt
+      each_is_known (s ∷ f) in_range =
+          (constant_is_below s (is_variable_number db s) in_range.0, each_is_known f in_range.1)
 
   pub covered : (f : Formula) → AreBound (context_at db 0) hs f → AreCovered db hs f
-  covered f h =
-      All-from_recursion (λ x. is_variable_number db x ≡ true → IsBound (context_at db 0) hs x) f h
+  covered f are_bound = All-from_recursion
+      (λ x. is_variable_number db x ≡ true → IsBound (context_at db 0) hs x) f are_bound
 
   pub covered_all : (mandatory : List ℕ)
       → AllByRecursion (AreBound (context_at db 0) hs) (map (formula_at db) mandatory)
       → All (λ h. AreCovered db hs (formula_at db h)) mandatory
-  covered_all mandatory h = All-from_recursion (λ h. AreCovered db hs (formula_at db h)) mandatory
-      (each_is_covered mandatory h)
+  covered_all mandatory are_bound =
+      All-from_recursion (λ h. AreCovered db hs (formula_at db h)) mandatory
+      (each_is_covered mandatory are_bound)
     where
       each_is_covered : (mandatory : List ℕ)
           → AllByRecursion (AreBound (context_at db 0) hs) (map (formula_at db) mandatory)
           → AllByRecursion (λ h. AreCovered db hs (formula_at db h)) mandatory
-      each_is_covered [] h = tt
-      each_is_covered (x ∷ xs) h = (covered (formula_at db x) h.0, each_is_covered xs h.1)
+      each_is_covered [] are_bound = tt
+      each_is_covered (x ∷ xs) are_bound =
+          (covered (formula_at db x) are_bound.0, each_is_covered xs are_bound.1)
 
   abbrev AreBothBound : Pair → Type 0
   AreBothBound p = IsBound (context_at db 0) hs p.low × IsBound (context_at db 0) hs p.high
@@ -184,50 +181,54 @@ module _ (db : List Statement) (hs : List Formula) where
   -- parts by the indices of the variables' `$f` are those of the formula
   pub indexed_parts_are_parts : (indices : List ℕ) → AreFloatingIndices db hs indices
       → (f : Formula) → AreCovered db hs f → indexed_parts db indices f ≡ parts_of db hs f
-  indexed_parts_are_parts indices are_floating_indices f h =
+  indexed_parts_are_parts indices are_floating_indices f is_covered =
       formula_parts_are f (recursion_from_All
-      (λ x. is_variable_number db x ≡ true → IsBound (context_at db 0) hs x) f h)
+      (λ x. is_variable_number db x ≡ true → IsBound (context_at db 0) hs x) f is_covered)
     where
       symbol_part_is : (s : ℕ) (v : Bool) → (v ≡ true → IsBound (context_at db 0) hs s)
           → cond v (Variable (get_or indices s 0)) (Constant s)
           ≡ cond v (Variable (floating_index db hs s)) (Constant s)
-      symbol_part_is s true b = ap Variable (are_floating_indices s (b refl))
-      symbol_part_is s false b = refl
+      symbol_part_is s true bound_if = ap Variable (are_floating_indices s (bound_if refl))
+      symbol_part_is s false bound_if = refl
 
       formula_parts_are : (f : Formula)
           → AllByRecursion (λ x. is_variable_number db x ≡ true → IsBound (context_at db 0) hs x) f
           → indexed_parts db indices f ≡ parts_of db hs f
-      formula_parts_are [] h = refl
-      formula_parts_are (s ∷ f) h =
+      formula_parts_are [] covered = refl
+      formula_parts_are (s ∷ f) covered =
           ap₂ (λ (p : RulePart) (ps : List RulePart). p ∷ ps)
-          (symbol_part_is s (is_variable_number db s) h.0) (formula_parts_are f h.1)
+          (symbol_part_is s (is_variable_number db s) covered.0) (formula_parts_are f covered.1)
 
   indexed_pairs_are_floating_indices : (indices : List ℕ) → AreFloatingIndices db hs indices
       → (ps : List (ℕ × ℕ))
       → AllByRecursion AreBothBound (as_pairs ps)
       → indexed_pairs indices ps
       ≡ map {B = ℕ × ℕ} (λ (p : ℕ × ℕ). (floating_index db hs p.0, floating_index db hs p.1)) ps
-  indexed_pairs_are_floating_indices indices are_floating_indices [] h = refl
-  indexed_pairs_are_floating_indices indices are_floating_indices (p ∷ ps) h =
+  indexed_pairs_are_floating_indices indices are_floating_indices [] are_bound = refl
+  indexed_pairs_are_floating_indices indices are_floating_indices (p ∷ ps) are_bound =
       ap₂ (λ (u : ℕ × ℕ) (us : List (ℕ × ℕ)). u ∷ us)
-      (ap₂ (λ (a b : ℕ). (a, b)) (are_floating_indices p.0 h.0.0) (are_floating_indices p.1 h.0.1))
-      (indexed_pairs_are_floating_indices indices are_floating_indices ps h.1)
+      (ap₂ (λ (a b : ℕ). (a, b)) (are_floating_indices p.0 are_bound.0.0)
+      (are_floating_indices p.1 are_bound.0.1))
+      (indexed_pairs_are_floating_indices indices are_floating_indices ps are_bound.1)
 
   pairs_below : (ps : List Pair) → AllByRecursion AreBothBound ps
       → All (λ (p : ℕ × ℕ). (p.0 < length hs) × (p.1 < length hs))
       (map {B = ℕ × ℕ} (λ (p : Pair). (floating_index db hs p.low, floating_index db hs p.high)) ps)
-  pairs_below ps h =
+  pairs_below ps are_bound =
       All-from_recursion (λ (p : ℕ × ℕ). (p.0 < length hs) × (p.1 < length hs)) _
-      (each_is_below ps h)
+      (each_is_below ps are_bound)
     where
       each_is_below : (ps : List Pair) → AllByRecursion AreBothBound ps
           → AllByRecursion (λ (p : ℕ × ℕ). (p.0 < length hs) × (p.1 < length hs))
           (map {B = ℕ × ℕ}
           (λ (p : Pair). (floating_index db hs p.low, floating_index db hs p.high)) ps)
-      each_is_below [] h = tt
-      each_is_below (p ∷ ps) h = (
-        (floating_index_lt_length db hs p.low h.0.0, floating_index_lt_length db hs p.high h.0.1),
-        each_is_below ps h.1,
+      each_is_below [] bound = tt
+      each_is_below (p ∷ ps) bound = (
+        (
+          floating_index_lt_length db hs p.low bound.0.0,
+          floating_index_lt_length db hs p.high bound.0.1,
+        ),
+        each_is_below ps bound.1,
       )
 
   symbol_pairs_as_pairs : (ps : List (ℕ × ℕ))

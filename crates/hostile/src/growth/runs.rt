@@ -49,8 +49,8 @@ fn has_output(end: Option<RunEnd>) -> bool {
     }
 }
 
-/// Asserts that a run with that growth refused runs out of memory or writes this
-/// output, and that the run after it writes the output. Returns whether the growth came.
+/// Asserts that a run with that growth refused runs out of memory or writes this output, and that
+/// the run after it writes the output. Returns whether the growth came.
 fn assert_right_with_refusal<R: Abort + Threads + Wait + Sync>(
     rt: &R,
     heap: &Refusing<Global>,
