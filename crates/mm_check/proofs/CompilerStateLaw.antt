@@ -42,8 +42,7 @@ module _ (db : List Statement) (t j : ℕ) where
 
   pub good_label_is_below : IsCompleteRule (context_at db t) (rule_at db t j) → j < length db
   good_label_is_below is_complete = let labelled = good_label_has_statement is_complete in
-      got_lt_length
-      db j labelled.statement labelled.statement_is
+      got_lt_length db j labelled.statement labelled.statement_is
 
   assertion_flag_is : (s : Statement) (b : Bool) → slice_get db j ≡ Some s → is_assertion_at db j
       ≡ b

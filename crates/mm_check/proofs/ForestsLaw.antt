@@ -237,8 +237,7 @@ module _ (c : Context) where
         let at_j = list_is_postfix lists forests j adds.0 are_lists adds.2 in
         let repeated = adds.3 in
         let forests_equal = same_labels_same_forest c are_complete
-        (get_or forests j none) repeated.0 at_j.1
-        repeated.1 (at_j.2 ∙ sym repeated.2)
+        (get_or forests j none) repeated.0 at_j.1 repeated.1 (at_j.2 ∙ sym repeated.2)
         in
         copy repeated.0 repeated.1 repeated.3 forests_equal at_j.0
       where

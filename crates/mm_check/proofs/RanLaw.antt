@@ -81,9 +81,7 @@ module _ (db : List Statement) (t : ℕ) (steps : List PlacedStep) (i : ℕ) (c 
   good_step : IsGoodStep (context_at db t) (length has_performed.has_run.ends) a
   good_step =
       step_at_is_good (context_at db t) steps i (length has_performed.has_run.ends) a i_lt_length
-      has_performed.are_steps.are_good
-      has_performed.has_run.end_count_is
-      a_is
+      has_performed.are_steps.are_good has_performed.has_run.end_count_is a_is
 
   -- the step can be made
   pub step_is_ready : IsReady (context_at db t) c.machine.marks a
@@ -106,8 +104,7 @@ module _ (db : List Statement) (t : ℕ) (steps : List PlacedStep) (i : ℕ) (c 
   refused_step_refuses at (Fault reason) place_is is_step_refusal =
       rw place_is
       (failing_step_refuses db t steps i c.machine.stack has_performed.has_run.ends c.noted
-      (reason_of reason)
-      i_lt_length has_performed.has_run.is_reached
+      (reason_of reason) i_lt_length has_performed.has_run.is_reached
       (subst (IsGoodStep (context_at db t) (length has_performed.has_run.ends)) a_is good_step)
       (subst (λ z. step_entries (context_at db t) z has_performed.has_run.ends c.machine.stack
       ≡ Err (reason_of reason)) a_is (is_step_refusal has_performed.has_run.ends
@@ -135,8 +132,7 @@ module _ (db : List Statement) (t : ℕ) (steps : List PlacedStep) (i : ℕ) (c 
       is_reached =
           rw (take_step steps i i_lt_length, ← a_is)
           (reached_after_step db t (steps_of (take i steps)) c.machine.stack
-          has_performed.has_run.ends c.noted a
-          d.machine.stack
+          has_performed.has_run.ends c.noted a d.machine.stack
           d.noted has_performed.has_run.is_reached good_step (performs.entries_are
           has_performed.has_run.ends has_performed.has_run.marks_agree)
           performs.noted_are)

@@ -119,8 +119,7 @@ reached_after_step db t steps_so_far stack ends noted s out noted' is_reached is
       entries_are = grown.3;
       lists = is_reached.lists ++ postfix grown.0 ∷ [];
       lists_end_in_formulas = ends_after_one_more c is_reached.lists ends (postfix grown.0)
-          (top out)
-          is_reached.lists_end_in_formulas
+          (top out) is_reached.lists_end_in_formulas
           (grown.0, grown.1, refl, grown.4);
       plain_from_start =
           λ later_steps labels is_plain. subst (λ z. Plain c [] [] z labels)
@@ -158,8 +157,7 @@ failing_step_refuses db t steps i stack ends noted reason i_lt_length_steps is_r
     let grown =
     subst (GrownForest c is_reached.lists is_reached.forest s.step) entries_fail
     (good_step_grows_forest c is_reached.lists ends is_reached.forest s.step
-    is_reached.are_derivations
-    is_reached.lists_end_in_formulas
+    is_reached.are_derivations is_reached.lists_end_in_formulas
     is_good) in
     record {
       before = take i steps;

@@ -139,8 +139,7 @@ module _ (db : List Statement) (t : ℕ) (steps : List PlacedStep) (i : ℕ) (ws
         are_found.forests i)
     pub nodes_iff : (a : ℕ)
         → IsToBeFound (child_counts db true) (forest_at are_found.forests) (suc i) (ws ++ flag ∷ [])
-        step_flags a
-        ↔ (((b ≡ true) × (is_labelled_step s a ≡ true)) ⊎ IsFoundBefore s a)
+        step_flags a ↔ (((b ≡ true) × (is_labelled_step s a ≡ true)) ⊎ IsFoundBefore s a)
 
   step_is_undone : (s : Step) → IsMove (context_at db t) are_found.forests i s
       → IsGoodStep (context_at db t) i s
@@ -178,8 +177,7 @@ module _ (db : List Statement) (t : ℕ) (steps : List PlacedStep) (i : ℕ) (ws
       found_iff : (a : ℕ)
           → IsToBeFound (child_counts db true) (forest_at are_found.forests) (suc i) (ws ++ flag ∷
           [])
-          step_flags a
-          ↔ (((b ≡ true) × (a ≡ l)) ⊎ IsFoundBefore (label l) a)
+          step_flags a ↔ (((b ≡ true) × (a ≡ l)) ⊎ IsFoundBefore (label l) a)
       found_iff a =
           label_back (child_counts db true)
           (forest_at are_found.forests) i ws step_flags flag b b_is a l ts f cs forest_is
@@ -215,8 +213,7 @@ module _ (db : List Statement) (t : ℕ) (steps : List PlacedStep) (i : ℕ) (ws
       found_iff : (a : ℕ)
           → IsToBeFound (child_counts db true) (forest_at are_found.forests) (suc i) (ws ++ flag ∷
           [])
-          step_flags a
-          ↔ IsFoundBefore (marked j) a
+          step_flags a ↔ IsFoundBefore (marked j) a
       found_iff a =
           marked_back (child_counts db true)
           (forest_at are_found.forests) i ws step_flags flag b b_is a j l f cs j_lt_i forest_is

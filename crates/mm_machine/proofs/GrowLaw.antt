@@ -53,16 +53,14 @@ pub formulas_equal_if_stay : (a b : Arena) (es : List Span) → AllByRecursion (
     → span_formulas b es ≡ span_formulas a es
 formulas_equal_if_stay a b [] all_stay_by_recursion = refl
 formulas_equal_if_stay a b (e ∷ es) all_stay_by_recursion = ap₂ (λ u us. u ∷ us)
-    all_stay_by_recursion.0.formulas_equal
-    (formulas_equal_if_stay a b es all_stay_by_recursion.1)
+    all_stay_by_recursion.0.formulas_equal (formulas_equal_if_stay a b es all_stay_by_recursion.1)
 
 -- added symbols of unmarked formulas
 pub stays_with_more_unmarked : (unmarked marked added : List ℕ) (e : Span)
     → IsIn (arena unmarked marked) e
     → Stays (arena unmarked marked) (arena (unmarked ++ added) marked) e
 stays_with_more_unmarked unmarked marked added e is_in = stays e.store e.start e.end
-    is_in.start_le_end
-    is_in.end_le_length
+    is_in.start_le_end is_in.end_le_length
   where
     stays : (p : Store) (s t : ℕ) → s ≤ t → t ≤ length (symbols_of (arena unmarked marked) p)
         → Stays (arena unmarked marked) (arena (unmarked ++ added) marked) (span p s t)

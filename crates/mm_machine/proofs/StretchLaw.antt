@@ -90,8 +90,7 @@ module _ (symbols : Arena) (es : List Span) (xs : List ℕ) (w : List RulePart) 
 pub begins_with_first : (xs : List ℕ) (a e s : ℕ) → a < e → e ≤ length xs
     → starts_with nat_eq (slice_range xs a e) (s ∷ []) ≡ nat_eq s (get_or xs a 0)
 begins_with_first xs a e s a_lt_e e_le_length_xs = begins_with_symbol (e - a) (drop a xs)
-    (drop_more xs a 0 (omega arith))
-    (omega arith)
+    (drop_more xs a 0 (omega arith)) (omega arith)
   where
     begins_with_symbol : (n : ℕ) (ys : List ℕ) → ys ≡ get_or xs a 0 ∷ drop (a + 1) xs → 0 < n
         → starts_with nat_eq (take n ys) (s ∷ []) ≡ nat_eq s (get_or xs a 0)

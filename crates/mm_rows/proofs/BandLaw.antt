@@ -88,13 +88,11 @@ pub row_or_marks_columns : (across rows : ℕ) (bits old new : List ℕ) (first 
     → get_or new k 0 ≡ bit_or (get_or old k 0) (get_or (row_at bits across n) k 0))
     → AreMarked across bits old first n → AreMarked across bits new first (n + 1)
 row_or_marks_columns across rows bits old new first n n_lt_rows bits_have_size marks_have_width
-    lengths_equal
-    words_are_ored are_marked
+    lengths_equal words_are_ored are_marked
     i j first_le_i i_lt_next j_in_row bit_is_set =
     or_bits new old (row_at bits across n) lengths_equal
     (marks_have_width ∙ sym (row_has_width_words bits across n rows n_lt_rows bits_have_size))
-    words_are_ored
-    j
+    words_are_ored j
     ∙ either_makes_or _ _ (is_old_or_in_row (cases_eq i n))
   where
     is_old_or_in_row : (i ≡ n) ⊎ (i ≡ n → ⊥) → (is_bit old j ≡ true)
@@ -358,8 +356,7 @@ pub skipped_columns_are_written : (rows columns : ℕ) (bits has_mark transposed
     → ColumnsWritten rows columns bits transposed w from
     → ColumnsWritten rows columns bits transposed w to
 skipped_columns_are_written rows columns bits has_mark transposed across w from to across_is
-    w_lt_words
-    set_bits_are_marked
+    w_lt_words set_bits_are_marked
     from_le_to none_is_marked =
     zero_words_are_written rows columns bits transposed w from to w_lt_words
     (λ j from_le_j j_lt_to j_lt_columns. unmarked_word_is_zero rows (words_for columns) bits w j

@@ -74,8 +74,7 @@ low_byte_bit n b b_lt_8 =
 
 power_of_256 : (j : ℕ) → j < 8 → 256 ^ j ≡ 2 ^ (8 * j)
 power_of_256 j j_lt_8 =
-    eqb-true _ _
-    (agree_below_at (λ x. eqb (256 ^ x) (2 ^ (8 * x))) (λ x. true) 8 j refl j_lt_8)
+    eqb-true _ _ (agree_below_at (λ x. eqb (256 ^ x) (2 ^ (8 * x))) (λ x. true) 8 j refl j_lt_8)
 
 byte_bit_is_word_bit : (word k : ℕ) → k < 64
     → bit_at (word / 256 ^ (k / 8) % 256) (k % 8) ≡ bit_at word k
@@ -122,8 +121,7 @@ lane_is_digit word k word_lt_2_64 k_lt_64 =
     ∙ get_or-sel_l (zip2 eqb (masked word) BITS) (replicate 64 49) (replicate 64 48) k 0 k_lt_64
     k_lt_64 k_lt_64
     ∙ ap₂ (cond (get_or (zip2 eqb (masked word) BITS) k false))
-    (get_or-replicate 64 k 49 0 k_lt_64)
-    (get_or-replicate 64 k 48 0 k_lt_64)
+    (get_or-replicate 64 k 49 0 k_lt_64) (get_or-replicate 64 k 48 0 k_lt_64)
     ∙ digit_is_shown (get_or (zip2 eqb (masked word) BITS) k false)
     ∙ ap digit_of
     (get_or-zip2 eqb (masked word) BITS k 0 0 false k_lt_64 k_lt_64
@@ -171,8 +169,7 @@ module _ (m : Marks) (rows columns : ℕ) (words : List ℕ)
       → into ≡ map (λ j. digit_of (mark_at j (row_marks m i)))
       (range_with_len (64 * word) (length into_before))
   written_are_row_cells i word part into into_before row_lt_marks part_is_row cells_fit_marks
-      whole_words
-      lengths_equal
+      whole_words lengths_equal
       digits_are =
       ext_get_or 0 into (map cell (range_with_len (64 * word) (length into_before)))
       (lengths_equal ∙ sym

@@ -226,8 +226,7 @@ module _ (m : Marks) (rows columns : ℕ) (words : List ℕ)
           ≡ get_or (row_marks (marks rows columns words) i) j false
       bit_is_mark (inl j_lt_columns) =
           sym (get_or-map-range_with_len (mark (marks rows columns words) i) 0 columns j j false
-          j_lt_columns
-          (omega arith)
+          j_lt_columns (omega arith)
           ∙ mark_is_bit rows columns words i j i_lt_rows j_lt_columns)
       bit_is_mark (inr columns_le_j) =
           let marks_length =

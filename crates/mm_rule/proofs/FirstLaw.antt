@@ -104,8 +104,7 @@ module _ (db : List Statement) where
         mandatory)) indices
     indices_at_end indices =
         subst (λ d. AreIndicesFrom (length mandatory) (map (formula_at db) d) indices)
-        (sym (drop_length_is_nil mandatory))
-        (λ x x_is_bound. absurd (true≢false (sym x_is_bound)))
+        (sym (drop_length_is_nil mandatory)) (λ x x_is_bound. absurd (true≢false (sym x_is_bound)))
 
     module _ (j : ℕ) (indices : List ℕ) (j_gt_0 : 0 < j) (j_le_length : j ≤ length mandatory) where
       hypotheses_from_previous : hs (j - 1) ≡ formula_at db (get_or mandatory (j - 1) 0) ∷ hs j

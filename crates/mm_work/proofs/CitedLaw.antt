@@ -72,8 +72,7 @@ module _ (db : List Statement) (length_lt_limit : length db < 2 ^ 31) (are_compl
     db) where
   pub theorems_rise : IsStatementList (theorems db)
   theorems_rise = filtered_range_is_statement_list (λ j. list_any is_theorem (statement_at db j))
-      (length db)
-      length_lt_limit
+      (length db) length_lt_limit
 
   -- the theorems before theorem i are valid
   pub valid_before : (i : ℕ) → ((n : ℕ) → n < i → IsValid db (get_or (theorems db) n 0))

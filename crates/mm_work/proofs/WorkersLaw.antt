@@ -140,8 +140,7 @@ module _ {A : Type 0} (job : Job A) where
       → i < length (theorems db) → FindsValid job i f g → AreFindings db job.essential g
   findings_after_valid f g i are_findings i_lt_count finds_valid =
       findings_with_valid db job.essential f g i finds_valid.cites are_findings i_lt_count
-      finds_valid.has_citations finds_valid.valid_are
-      finds_valid.cites_are finds_valid.faulty_is
+      finds_valid.has_citations finds_valid.valid_are finds_valid.cites_are finds_valid.faulty_is
 
   findings_after_fault : (f g : Findings A) (i : ℕ) → AreFindings db job.essential f
       → i < length (theorems db) → FindsFault job i f g → AreFindings db job.essential g

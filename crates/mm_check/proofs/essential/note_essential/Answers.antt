@@ -94,8 +94,7 @@ loop-i-preserved g c =
     ∙ length_is) in
     walked_by_value db c.args.theorem steps c.loop-i.i i c.loop-i.entry_flags.items step_flags
     c.loop-i.noted c.loop-i.invariant i_lt_length_steps i_is_suc
-    c.pop_flag-flag.new.entry_flags.items
-    c.pop_flag-flag.result c.if-flag.is_essential
+    c.pop_flag-flag.new.entry_flags.items c.pop_flag-flag.result c.if-flag.is_essential
     (as_step c.step.result) c.undo_step.new.entry_flags.items _ c.undo_step.new.noted
     c.pop_flag-flag.ensures is_essential_is c.requires.are_steps.are_good c.step.ensures
     c.in_ok-undo_step.ensures.pushes_taken_flags

@@ -37,8 +37,7 @@ returns-then-len-gt-FORMULA_LIMIT-clause-tells_length_le_limit g c =
 pub formula-requires : goal.formula-requires
 formula-requires g c =
     variable_replacement_is_in c.args.symbols.now c.args.premises.now c.args.formula.now
-    c.loop-part.part-index
-    c.part-item.result c.in-Variable.floating_index c.replacement_of.result
+    c.loop-part.part-index c.part-item.result c.in-Variable.floating_index c.replacement_of.result
     c.requires.premises_in_arena c.requires.variables_in_range
     c.loop-part-test.true c.part-item.is (sym c.unpack.ensures ∙ c.in-Variable.is)
     c.replacement_of.ensures
@@ -78,8 +77,7 @@ returns-clause-tells_length_le_limit g c =
     ≡ replaced c.args.symbols.now c.args.premises.now c.args.formula.now =
     c.loop-part.invariant ∙ ap (replaced c.args.symbols.now c.args.premises.now)
     (take_all c.loop-part.part-index c.args.formula.now c.loop-part-test.false) in
-    ap (λ n. nat_le n formula_limit)
-    (c.len-2.ensures ∙ c.loop-part.list.ok.0 ∙ ap length list_is)
+    ap (λ n. nat_le n formula_limit) (c.len-2.ensures ∙ c.loop-part.list.ok.0 ∙ ap length list_is)
 
 pub returns-clause-list_is_formula : goal.returns-clause-list_is_formula
 returns-clause-list_is_formula g c = λ short.

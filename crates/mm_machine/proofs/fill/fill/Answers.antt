@@ -6,8 +6,7 @@ use Rattle.mm_machine.proofs.fill.fill.Goals as goal
 pub formula-replacement-requires : goal.formula-replacement-requires
 formula-replacement-requires c =
     variable_replacement_is_in c.args.symbols.now c.args.premises.now c.args.formula.now
-    c.loop-part.part-index
-    c.part-item.result c.in-Variable.floating_index c.replacement_of.result
+    c.loop-part.part-index c.part-item.result c.in-Variable.floating_index c.replacement_of.result
     c.requires.premises_in_arena c.requires.variables_in_range
     c.loop-part-test.true c.part-item.is (sym c.unpack.ensures ∙ c.in-Variable.is)
     c.replacement_of.ensures

@@ -63,8 +63,7 @@ top_is_moved g c =
     ≡ span Marked (length marked) (length (marked ++ moved_symbols)) = ap₂ (span Marked) start_is
     (end_is ∙ ap length marked_grown) in
     is_moved unmarked marked es last_index e is_last e_is_last c.requires.is_stack c.in-Unmarked.is
-    c.truncate.new.self
-    c.append.new.self
+    c.truncate.new.self c.append.new.self
     (span Marked c.len-start.result c.len.result) c.truncate.ensures marked_grown new_span_is
 
 pub returns-in_ok-append-in-Unmarked-clause-is_stack :

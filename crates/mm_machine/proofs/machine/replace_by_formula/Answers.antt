@@ -13,8 +13,7 @@ use Rattle.mm_machine.proofs.machine.replace_by_formula.Goals as goal
 formula_is : (g : Over) (c : In-Some g)
     → take c.in-Some.count c.fill.new.list
     ≡ replaced (arena c.args.unmarked.now c.args.marked.now)
-    (drop c.args.below c.args.stack.now.items)
-    c.args.formula.now
+    (drop c.args.below c.args.stack.now.items) c.args.formula.now
 formula_is g c =
     c.in-Some.ensures.formula_is_written
     ∙ replaced_by_value c.args.unmarked.now c.args.marked.now c.args.stack.now.items c.args.below
@@ -40,8 +39,7 @@ returns-in-Ok-clause-stays_stack g c = λ w parts_in_range is_stack_of.
 pub returns-in-Ok-clause-entries_are : goal.returns-in-Ok-clause-entries_are
 returns-in-Ok-clause-entries_are g c =
     entries_if_short c.args.unmarked.now c.args.marked.now c.args.stack.now.items c.args.below
-    c.args.formula.now
-    (take c.in-Some.count c.fill.new.list)
+    c.args.formula.now (take c.in-Some.count c.fill.new.list)
     (formula_is g (goal.at.returns-in-Ok-clause-entries_are g c).In-Some)
     (taken_length_le_limit c.in-Some.count c.fill.new.list c.in-Some.ensures.count_le_limit)
     ∙ ap Ok (sym (c.in-Ok.ensures.formulas_are c.args.marked.now c.requires.is_stack))

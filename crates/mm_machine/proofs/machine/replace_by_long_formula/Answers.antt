@@ -13,8 +13,7 @@ use Rattle.mm_machine.proofs.machine.replace_by_long_formula.Goals as goal
 formula_is : (g : Over) (c : After-replace_from g)
     → c.deref-in-Ok-true.result.now
     ≡ replaced (arena c.args.unmarked.now c.args.marked.now)
-    (drop c.args.below c.args.stack.now.items)
-    c.args.formula.now
+    (drop c.args.below c.args.stack.now.items) c.args.formula.now
 formula_is g c =
     c.deref-in-Ok-true.ensures.value ∙ c.in-Ok-true.ensures.list_is_formula
     c.in-Ok-true.field-0-test
@@ -46,8 +45,7 @@ returns-in-Ok-clause-entries_are g c =
     c.deref-in-Ok-true.ensures.value ∙ c.in-Ok-true.ensures.list_is_formula
     c.in-Ok-true.field-0-test in
     entries_if_short c.args.unmarked.now c.args.marked.now c.args.stack.now.items c.args.below
-    c.args.formula.now
-    c.deref-in-Ok-true.result.now
+    c.args.formula.now c.deref-in-Ok-true.result.now
     (formula_is g (goal.at.returns-in-Ok-clause-entries_are g c).After-replace_from)
     (ap (λ z. nat_le (length z) formula_limit) formula_is_built
     ∙ sym c.in-Ok-true.ensures.tells_length_le_limit

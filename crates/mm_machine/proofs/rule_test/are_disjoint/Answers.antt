@@ -16,7 +16,6 @@ returns-then-not-are_disjoint_in_database-clause-cached_are_disjoint g c =
 pub returns-clause-cached_are_disjoint : goal.returns-clause-cached_are_disjoint
 returns-clause-cached_are_disjoint g c =
     either_insert_keeps_disjoint c.args.database.now.statements c.args.theorem c.args.cache.now
-    c.requires.cached_are_disjoint
-    c.args.first c.args.second c.insert.new.self
+    c.requires.cached_are_disjoint c.args.first c.args.second c.insert.new.self
     (sym c.are_disjoint_in_database.ensures ∙ c.if-not-are_disjoint_in_database.false)
     c.insert.ensures

@@ -70,8 +70,7 @@ loop-part-preserved c =
             test_is_rest_test =
                 c.loop-part.invariant.test_is_rest_test
                 ∙ fit_splits arena es xs w i a e i_lt_length_w c.part-item.result
-                (span_formula arena p)
-                (sym c.part-item.is) replaced_part_is
+                (span_formula arena p) (sym c.part-item.is) replaced_part_is
                 ∙ ap (λ z. z
                 && rest_is_wanted arena es xs w i a e i_lt_length_w (length (span_formula arena p)))
                 begins_is_true

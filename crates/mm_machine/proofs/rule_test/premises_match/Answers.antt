@@ -100,13 +100,11 @@ loop-j-preserved c =
     ] in
     record {
       part_count_is = part_count_stays xs es parts hs j part_index h is_fitting next_part_index
-          tested j_lt_length_hs
-          j_lt_length_es h_is
+          tested j_lt_length_hs j_lt_length_es h_is
           c.loop-j.invariant.part_count_is;
       test_is_rest_test = c.loop-j.invariant.test_is_rest_test
           ∙ fit_from_splits xs es parts hs j part_index h is_fitting next_part_index tested
-          j_lt_length_hs j_lt_length_es
-          h_is
+          j_lt_length_hs j_lt_length_es h_is
           ∙ ap (λ b. b && fit_from xs es parts hs (j + 1) next_part_index)
           c.if-not-is_fitting.false;
     }
@@ -120,6 +118,5 @@ returns c =
     c.loop-j-test.false in
     sym (c.loop-j.invariant.test_is_rest_test
     ∙ fit_from_end_is_true c.args.symbols.now c.args.premises.now c.args.rule.now.parts hs j
-    c.loop-j.part_index
-    length_hs_le_j
+    c.loop-j.part_index length_hs_le_j
     (omega (arith, length_hs_le_j, c.requires.premise_count_is)))

@@ -8,8 +8,7 @@ pub returns-then-stack-hypotheses-clause-tests_rule :
     goal.returns-then-stack-hypotheses-clause-tests_rule
 returns-then-stack-hypotheses-clause-tests_rule g c =
     applied_is_too_few c.args.database.now.statements c.args.theorem c.args.rule.now
-    c.args.symbols.now
-    c.args.stack.now c.requires.is_compiled
+    c.args.symbols.now c.args.stack.now c.requires.is_compiled
     (let stack_lt_hypotheses = c.if-stack-hypotheses.true in let hypothesis_count_is = ap length
     c.hypotheses-hypotheses.ensures in
     omega (arith, stack_lt_hypotheses, hypothesis_count_is))
@@ -20,8 +19,7 @@ returns-then-not-premises_match-clause-tests_rule g c =
     let stack = c.args.stack.now in
     let n = length c.hypotheses-hypotheses.result.now in
     rule_test_by_stack c.args.database.now.statements c.args.theorem c.args.rule.now
-    c.args.symbols.now
-    stack
+    c.args.symbols.now stack
     (slice_range stack (length stack - n) (length stack)) n (length stack - n)
     c.requires.is_compiled
     (ap length c.hypotheses-hypotheses.ensures) (let hypotheses_le_stack =
@@ -36,8 +34,7 @@ returns-then-not-pairs_are_disjoint-clause-tests_rule g c =
     let stack = c.args.stack.now in
     let n = length c.hypotheses-hypotheses.result.now in
     rule_test_by_stack c.args.database.now.statements c.args.theorem c.args.rule.now
-    c.args.symbols.now
-    stack
+    c.args.symbols.now stack
     (slice_range stack (length stack - n) (length stack)) n (length stack - n)
     c.requires.is_compiled
     (ap length c.hypotheses-hypotheses.ensures) (let hypotheses_le_stack =
@@ -59,8 +56,7 @@ returns-clause-tests_rule g c =
         hypothesis_count_is,
       )),
       rule_test_by_stack c.args.database.now.statements c.args.theorem c.args.rule.now
-          c.args.symbols.now
-          stack
+          c.args.symbols.now stack
           (slice_range stack (length stack - n) (length stack)) n (length stack - n)
           c.requires.is_compiled
           (ap length c.hypotheses-hypotheses.ensures) (omega (arith, hypotheses_le_stack)) refl

@@ -50,8 +50,7 @@ returns-then-row-word_index-2-clause-none_is_there c = λ k from_le_k k_lt_end.
     let row_ends_at = c.if-row-word_index-2.true in
     is_not_sought c.args.set row k (omega (arith, k_lt_end)) (c.type_inv.row _).fits
     (no_bit_up_to_next_word (row_of_sought c.args.set row) c.args.from c.loop-word.word_index
-    c.loop-word.word
-    c.loop-word.invariant.is_seeking
+    c.loop-word.word c.loop-word.invariant.is_seeking
     (λ b b_lt_64. ap (λ x. bit_at x b) c.if-word-ne0.false ∙ bit_at-zero b) k from_le_k
     (omega (arith, k_lt_end, row_ends_at)))
 

@@ -5,8 +5,7 @@ use Rattle.mm_rows.proofs.digits.write_digits.Goals as goal
 pub loop-w-preserved : goal.loop-w-preserved
 loop-w-preserved c =
     next_digits_are_written c.args.words.now c.loop-w.into c.word_digits.result c.loop-w.w
-    c.loop-w-test.true
-    (c.loop-w.auto.into ∙ c.requires) c.word_digits.ensures.length_is
+    c.loop-w-test.true (c.loop-w.auto.into ∙ c.requires) c.word_digits.ensures.length_is
     c.word_digits.ensures.digits_are c.loop-w.invariant
 
 pub returns-clause-digits_are : goal.returns-clause-digits_are

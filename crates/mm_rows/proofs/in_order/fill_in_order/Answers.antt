@@ -23,5 +23,4 @@ loop-i-preserved g c =
 pub returns : goal.returns
 returns g c =
     all_filled_are_bit_rows c.args.citations.now c.args.axioms.now c.loop-i.bits c.loop-i.i
-    (omega arith)
-    c.loop-i.invariant
+    (omega arith) c.loop-i.invariant

@@ -38,8 +38,7 @@ returns-clause-others_stay g c = λ r r_is_not_i.
     ap (λ (w : ℕ). row_at (before ++ (c.fill_row.new.row ++ drop w rest)) width r)
     c.words-width.ensures
     ∙ other_rows_are_kept before c.fill_row.new.row rest width i r front_has_length
-    c.fill_row.ensures.has_words
-    r_is_not_i
+    c.fill_row.ensures.has_words r_is_not_i
     ∙ ap (λ (xs : List ℕ). row_at xs width r) (sym c.split_at_mut-before.ensures.value)
 
 pub overflow_mul-theorem_index : goal.overflow_mul-theorem_index

@@ -12,14 +12,12 @@ set-requires g c =
 pub returns-in-Some-clause-marks_column : goal.returns-in-Some-clause-marks_column
 returns-in-Some-clause-marks_column g c =
     found_column_is_marked c.args.axioms.now c.args.row.now c.set.new.row c.in-Some.j
-    c.args.statement
-    c.in-Some.ensures.statements_rise c.in-Some.ensures.is_index c.set.ensures
+    c.args.statement c.in-Some.ensures.statements_rise c.in-Some.ensures.is_index c.set.ensures
 
 pub returns-in-Some-clause-past_columns_stay : goal.returns-in-Some-clause-past_columns_stay
 returns-in-Some-clause-past_columns_stay g c =
     past_columns_are_kept c.args.axioms.now c.args.row.now c.set.new.row c.in-Some.j
-    c.args.statement
-    c.in-Some.ensures.is_index c.set.ensures
+    c.args.statement c.in-Some.ensures.is_index c.set.ensures
 
 pub returns-in_default-clause-marks_column : goal.returns-in_default-clause-marks_column
 returns-in_default-clause-marks_column g c =

@@ -15,5 +15,4 @@ loop-i-preserved c = record {
 pub returns : goal.returns
 returns c =
     band_bits_are_marked (length c.args.has_mark.now) c.args.rows c.args.bits.now
-    c.loop-i.has_mark c.args.w c.loop-i.i
-    (omega arith) c.loop-i.invariant.marked
+    c.loop-i.has_mark c.args.w c.loop-i.i (omega arith) c.loop-i.invariant.marked

@@ -21,8 +21,7 @@ loop-k-preserved c =
 pub returns : goal.returns
 returns c =
     written_bytes_are_row_bytes c.args.rows c.args.across c.args.bits.now c.args.w c.args.byte_index
-    c.loop-k.bytes c.loop-k.k
-    (omega arith) c.loop-k.invariant.last_le_rows c.loop-k.invariant.bytes
+    c.loop-k.bytes c.loop-k.k (omega arith) c.loop-k.invariant.last_le_rows c.loop-k.invariant.bytes
 
 pub bounds-bits-w : goal.bounds-bits-w
 bounds-bits-w c =

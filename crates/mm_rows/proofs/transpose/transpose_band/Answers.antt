@@ -12,8 +12,7 @@ write_columns-requires-clause-columns_written c =
     let first_le_j = c.in-Some.ensures.is_first.0 in
     let none_before_j = c.in-Some.ensures.is_first.3 in
     skipped_columns_are_written c.args.rows c.args.columns c.args.bits.now
-    c.mark_columns.new.has_mark
-    c.loop-j.transposed
+    c.mark_columns.new.has_mark c.loop-j.transposed
     (length c.args.has_mark.now) c.args.w (8 * c.loop-j.byte_index)
     (8 * (c.in-Some.j / 8)) c.requires.width_is w_lt_words c.mark_columns.ensures
     (omega (arith, first_le_j))
@@ -26,16 +25,12 @@ returns c =
     let past_columns = c.args.columns + 8 * c.loop-j.byte_index in
     let all_written =
     skipped_columns_are_written c.args.rows c.args.columns c.args.bits.now
-    c.mark_columns.new.has_mark
-    c.loop-j.transposed
-    (length c.args.has_mark.now) c.args.w
+    c.mark_columns.new.has_mark c.loop-j.transposed (length c.args.has_mark.now) c.args.w
     (8 * c.loop-j.byte_index) past_columns c.requires.width_is w_lt_words c.mark_columns.ensures
-    (omega arith)
-    (λ j first_le_i i_lt_end. c.in_default.ensures.none_is_there j first_le_i)
+    (omega arith) (λ j first_le_i i_lt_end. c.in_default.ensures.none_is_there j first_le_i)
     c.loop-j.invariant.written in
     next_band_is_begun c.args.rows c.args.columns c.args.bits.now c.loop-j.transposed c.args.w
-    past_columns
-    (omega arith) all_written
+    past_columns (omega arith) all_written
 
 pub loop-j-smaller : goal.loop-j-smaller
 loop-j-smaller c =

@@ -26,13 +26,11 @@ loop-j-preserved c =
     subst (λ (x : ℕ). AreRowBytes rows x bits w c.args.byte_index c.row_bytes-bytes.result)
     c.div_ceil.ensures c.row_bytes-bytes.ensures in
     let is_column_word =
-    lane_is_column_word rows
-    (words_for columns) bits w c.args.byte_index c.row_bytes-bytes.result j
+    lane_is_column_word rows (words_for columns) bits w c.args.byte_index c.row_bytes-bytes.result j
     c.lane_bits-word.result are_row_bytes
     first_le_j j_lt_last c.lane_bits-word.ensures in
     let word_is_written =
-    next_word_is_written rows columns bits c.loop-j.transposed w j
-    c.lane_bits-word.result
+    next_word_is_written rows columns bits c.loop-j.transposed w j c.lane_bits-word.result
     w_lt_words j_lt_columns is_column_word
     invariant_before.written in
     let zero_is_written =
@@ -56,11 +54,9 @@ returns c =
     let band_lt_words = c.requires.band_has_row in
     let w_lt_words : c.args.w < words_for c.args.rows = omega (arith, band_lt_words) in
     zero_words_are_written c.args.rows c.args.columns c.args.bits.now c.loop-j.transposed c.args.w
-    c.loop-j.j
-    (8 * c.args.byte_index + 8) w_lt_words
+    c.loop-j.j (8 * c.args.byte_index + 8) w_lt_words
     (λ i j_le_i i_lt_last i_lt_columns. absurd (omega (arith, end_is, end_le_j)))
-    c.loop-j.invariant.within
-    c.loop-j.invariant.written
+    c.loop-j.invariant.within c.loop-j.invariant.written
 
 pub bounds-transposed-j : goal.bounds-transposed-j
 bounds-transposed-j c =

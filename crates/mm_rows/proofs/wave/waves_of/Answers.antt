@@ -21,8 +21,7 @@ pub wave_of_theorem-wave-requires-clause-are_waves :
     goal.wave_of_theorem-wave-requires-clause-are_waves
 wave_of_theorem-wave-requires-clause-are_waves g c =
     subst (AreWaves c.args.citations.now c.loop-theorem_index.theorem_index)
-    (sym c.deref.ensures.value)
-    c.loop-theorem_index.invariant.waves
+    (sym c.deref.ensures.value) c.loop-theorem_index.invariant.waves
 
 pub loop-theorem_index-preserved : goal.loop-theorem_index-preserved
 loop-theorem_index-preserved g c = record {

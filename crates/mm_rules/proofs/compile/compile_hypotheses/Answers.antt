@@ -69,8 +69,7 @@ loop-index-preserved g c =
             parts_grow,
           ) (record {
             parts_are = all_parts_push_essential parts added hypotheses n n_is_length
-                v.part_count_is us
-                v.parts_are
+                v.part_count_is us v.parts_are
                 ∙ sym parts_with_this_are;
             count_is = omega (arith, v.count_is, length-append hypotheses (Essential n ∷ []));
             part_count_is = part_count_push_essential parts added hypotheses n n_is_length

@@ -50,8 +50,7 @@ returns-then-floor-count g c =
     let counts_equal = ap (λ (ts : List ℕ). length ts) c.theorems-count.ensures.theorems in
     let floor_lt = c.if-floor-count.true in
     is_first_fault db c.theorems-count.ensures.few c.theorems-count.ensures.complete
-    c.close-floor.result.0
-    c.found_fault.result
+    c.close-floor.result.0 c.found_fault.result
     (valid_below_floor _ c.in_ok-gathered.gathered.seat c.in_ok-gathered.gathered.all_findings.items
     are_gathered
     c.close-floor.result.0 (c.close-floor.ensures.all_are_settled has_whole_share

@@ -17,8 +17,7 @@ judged_valid-requires g c =
       counts_equal,
     ) in
     subst (λ (n : ℕ). HaveCitationsUpTo db c.args.essential (theorems db) n c.loop-theorem.lists)
-    index_is_count
-    c.loop-theorem.invariant.have_citations
+    index_is_count c.loop-theorem.invariant.have_citations
 
 pub verify-requires-clause-is_theorem : goal.verify-requires-clause-is_theorem
 verify-requires-clause-is_theorem g c =

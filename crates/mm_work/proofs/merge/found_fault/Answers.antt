@@ -52,8 +52,7 @@ no_index_if_other found_fault fault index found_is indices_differ has_index =
 pub loop-findings-preserved : goal.loop-findings-preserved
 loop-findings-preserved g c =
     no_index_up_to_next c.args.all_findings.now c.loop-findings.findings-index c.args.index
-    c.findings-item.result c.findings-item.is
-    c.loop-findings-test.true
+    c.findings-item.result c.findings-item.is c.loop-findings-test.true
     (elim c.in_default.branch [
       | in_default-via-in-None-1 w ↦ grind arith
       | in_default-via-in-Some+else-faulty-index w ↦

@@ -35,8 +35,7 @@ bounds-all_findings-position g c =
     let theorem_counts_equal = ap (λ (ts : List ℕ). length ts) c.theorems.ensures.theorems in
     omega (arith, k_lt_length, lengths_equal, position_count_is, theorem_counts_equal) in
     worker_lt_length db c.args.essential c.args.all_findings.now c.requires.are_findings
-    c.in_ok-positions.positions.items
-    c.deref-position-items.result.now k _ positions_are
+    c.in_ok-positions.positions.items c.deref-position-items.result.now k _ positions_are
     (c.in_ok-positions.ensures.have_positions k (c.requires.each_is_found_valid k k_lt_count))
 
 pub get-requires : goal.get-requires
@@ -102,8 +101,7 @@ returns g c =
     omega (arith, k_le_length, length_le_k, lengths_equal, position_count_is, theorem_counts_equal)
     in
     subst (λ n. HaveCitationsUpTo db c.args.essential (theorems db) n c.loop-position.lists)
-    k_is_count
-    c.loop-position.invariant
+    k_is_count c.loop-position.invariant
 
 pub positions_of-requires : goal.positions_of-requires
 positions_of-requires g c = λ k d k_lt_length.

@@ -32,10 +32,8 @@ pub loop-other-preserved : goal.loop-other-preserved
 loop-other-preserved g c = record {
   are_gathered =
       gathered_with_next c.args.job.now c.loop-other.seat c.join.new.seat
-      c.loop-other.all_findings.items
-      c.add_findings-in-Some.new.all_findings.items c.in-Some.other
-      c.in_ok-add_findings-2.ensures.adds_findings
-      c.loop-other.invariant.are_gathered
+      c.loop-other.all_findings.items c.add_findings-in-Some.new.all_findings.items c.in-Some.other
+      c.in_ok-add_findings-2.ensures.adds_findings c.loop-other.invariant.are_gathered
       (P_of_last (IsDone c.args.job.now) c.loop-other.others.items c.pop.new.self.items
       c.in-Some.other c.in-Some.ensures.items c.loop-other.invariant.others_are_done)
       c.in_ok-add_findings-2.ensures.has_memory c.join.ensures.is_of_board c.join.ensures.joins;

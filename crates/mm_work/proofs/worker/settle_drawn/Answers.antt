@@ -8,24 +8,21 @@ use Rattle.mm_work.proofs.worker.settle_drawn.Goals as goal
 pub settle-requires-clause-is_open : goal.settle-requires-clause-is_open
 settle-requires-clause-is_open g c =
     number_stays_open c.args.job.now c.args.index c.args.state.now c.requires.has_drawn
-    c.look.new.seat
-    c.look.result c.look.ensures.looks.1
+    c.look.new.seat c.look.result c.look.ensures.looks.1
     (ap (λ (o : Option ℕ). is_some o) (sym c.held.ensures) ∙ c.is_none.ensures
     ∙ ap (λ (b : Bool). not b) c.if-is_none.false)
 
 pub report-requires-clause-is_open : goal.report-requires-clause-is_open
 report-requires-clause-is_open g c =
     number_stays_open c.args.job.now c.args.index c.args.state.now c.requires.has_drawn
-    c.look.new.seat
-    c.look.result c.look.ensures.looks.1
+    c.look.new.seat c.look.result c.look.ensures.looks.1
     (ap (λ (o : Option ℕ). is_some o) (sym c.held.ensures) ∙ c.is_none.ensures
     ∙ ap (λ (b : Bool). not b) c.if-is_none.false)
 
 pub returns-then-is_none-clause-is_between : goal.returns-then-is_none-clause-is_between
 returns-then-is_none-clause-is_between g c =
     between_after_skip c.args.job.now c.args.index c.args.state.now c.requires.has_drawn
-    c.look.new.seat
-    c.look.result c.look.ensures.looks.1 c.look.ensures.is_of_board
+    c.look.new.seat c.look.result c.look.ensures.looks.1 c.look.ensures.is_of_board
     (ap (λ (o : Option ℕ). is_some o) (sym c.held.ensures) ∙ c.is_none.ensures
     ∙ ap (λ (b : Bool). not b) c.if-is_none.true)
 

@@ -21,8 +21,7 @@ loop-index-init g c = record {
 pub loop-index-smaller : goal.loop-index-smaller
 loop-index-smaller g c =
     unrecorded_drops_after_draw c.args.job.now.board.now.count c.in-Some.index
-    c.loop-index.state.seat.view
-    c.claim.new.seat.view c.settle_drawn.new.state.seat.view
+    c.loop-index.state.seat.view c.claim.new.seat.view c.settle_drawn.new.state.seat.view
     c.loop-index.invariant.is_between.no_number_open c.in-Some.ensures.opens_number
     c.in-Some.ensures.number_lt_count
     c.in-Some.ensures.number_gt_record c.settle_drawn.ensures.record_stays

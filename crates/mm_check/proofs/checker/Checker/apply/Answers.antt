@@ -35,8 +35,7 @@ returns-in_err-apply-clause-refusal_is_right g c =
     let refusal_is = err_from_is_err_and c.from_residual.result c.from_residual.ensures.1 in
     rw (refusal_is.1, refusal_is.2, ← c.self.view_is)
     (refusal_is_of_step db t (checker_state i.machine i.rules.now i.noted i.cache) c.args.assertion
-    c.requires.rule_is_complete
-    c.requires.is_assertion e
+    c.requires.rule_is_complete c.requires.is_assertion e
     (subst (λ a. IsRefusalOf e (applied db t a i.machine.stack))
     c.held_or_compiled-rule.ensures.assertion_is
     c.in_err-apply.ensures.is_applied.refusal_is_right))
@@ -60,8 +59,7 @@ returns-clause-performs g c =
     elim c.match-add.branch [
       | in-Ok-add w ↦ rw (w.result-is, ← c.self.view_is)
           (applied_step_performs db t _ c.args.assertion c.requires.rule_is_complete
-          c.requires.is_assertion c.apply.new.self
-          c.add.new.self c.apply.new.cache
+          c.requires.is_assertion c.apply.new.self c.add.new.self c.apply.new.cache
           (subst (λ a. applied db t a c.self.inside.machine.stack ≡ Ok c.apply.new.self.stack)
           c.held_or_compiled-rule.ensures.assertion_is applied_step.entries_are)
           applied_step.marks_stay applied_step.formulas_stay applied_step.has_entry

@@ -16,17 +16,14 @@ retain_cited-requires-clause-has_proof g c =
 pub retain_cited-requires-clause-noted_are_cited : goal.retain_cited-requires-clause-noted_are_cited
 retain_cited-requires-clause-noted_are_cited g c =
     noted_are_cited c.args.database.now.statements c.args.theorem c.args.steps.now.steps _ _
-    c.self.view_is
-    c.requires c.in_default.ensures.is_only_entry
+    c.self.view_is c.requires c.in_default.ensures.is_only_entry
 
 pub returns-clause-is_checked : goal.returns-clause-is_checked
 returns-clause-is_checked g c =
     let cites_are = c.in_ok-cites.ensures in (
       refl,
       is_checked c.args.database.now.statements c.args.theorem c.args.steps.now.steps _ _
-          c.self.view_is
-          c.requires c.in_default.ensures.is_only_entry c.args.essential _ _
-          c.in_ok-retain_cited.ensures
-          cites_are.cites_rise
+          c.self.view_is c.requires c.in_default.ensures.is_only_entry c.args.essential _ _
+          c.in_ok-retain_cited.ensures cites_are.cites_rise
           cites_are.members_stay,
     )

@@ -43,8 +43,7 @@ returns-in-Ok g c =
             (record {
               entries_are =
                   applied_alone_is_ok db c.args._theorem c.args.rule.now c.requires.is_compiled
-                  c.requires.no_hypotheses
-                  es
+                  c.requires.no_hypotheses es
                   (omega (arith, length_is, c.if-symbols-gt-FORMULA_LIMIT.false))
                   ∙ ap (λ f. Ok (es ++ f ∷ [])) (sym symbols_are);
               has_entry = omega (arith, length-append es (symbols ∷ []));

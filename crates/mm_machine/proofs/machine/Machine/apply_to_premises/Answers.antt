@@ -31,8 +31,7 @@ invariant_of-self g c =
     let symbol_count : i.symbol_count ≡ length (symbol_names db) =
     ap (λ s. s.symbol_count) c.self.view_is ∙ c.requires.symbol_count_is in
     machine_after_step i.unmarked i.marked i.stack.items i.marks.items i.marked_spans.items
-    i.symbol_count
-    c.self.invariant
+    i.symbol_count c.self.invariant
     c.formula.result.now c.replace_by_formula.new.unmarked c.as_slice-in-Ok.result.now
     c.replace_by_formula.new.stack.items c.as_slice-in-Ok.ensures
     (rule_parts_in_range db c.args.theorem c.args.rule.now i.unmarked i.marked
@@ -92,8 +91,7 @@ pub test_rule-requires-clause-are_entries : goal.test_rule-requires-clause-are_e
 test_rule-requires-clause-are_entries g c =
     let i = c.self.inside in
     entries_by_value i.unmarked i.marked i.stack.items i.marks.items i.marked_spans.items
-    i.symbol_count
-    c.self.invariant
+    i.symbol_count c.self.invariant
     (length (symbol_names c.args.database.now.statements)) c.as_slice.result.now
     c.as_slice-2.result.now c.deref.result.now
     (ap (λ s. s.symbol_count) c.self.view_is ∙ c.requires.symbol_count_is)
@@ -121,6 +119,4 @@ pub replace_by_formula-requires-clause-is_stack : goal.replace_by_formula-requir
 replace_by_formula-requires-clause-is_stack g c =
     let i = c.self.inside in
     stack_by_value i.unmarked i.marked i.stack.items i.marks.items i.marked_spans.items
-    i.symbol_count
-    c.self.invariant
-    c.as_slice-in-Ok.result.now c.as_slice-in-Ok.ensures
+    i.symbol_count c.self.invariant c.as_slice-in-Ok.result.now c.as_slice-in-Ok.ensures

@@ -12,10 +12,8 @@ invariant_of-self g c =
     let i = c.self.inside in
     let new_lists = c.move_to_marked.new in
     moved_machine i.unmarked i.marked i.stack.items i.marks.items i.marked_spans.items
-    i.symbol_count
-    new_lists.unmarked new_lists.marked new_lists.stack.items c.self.invariant
-    c.move_to_marked.ensures.moves_symbols
-    c.move_to_marked.ensures.is_stack
+    i.symbol_count new_lists.unmarked new_lists.marked new_lists.stack.items c.self.invariant
+    c.move_to_marked.ensures.moves_symbols c.move_to_marked.ensures.is_stack
 
 pub invariant_of-self-in_err-push : goal.invariant_of-self-in_err-push
 invariant_of-self-in_err-push g c =
@@ -23,8 +21,7 @@ invariant_of-self-in_err-push g c =
     let new_lists = c.move_to_marked.new in
     rw c.in_err-push.ensures.items
     (moved_machine i.unmarked i.marked i.stack.items i.marks.items i.marked_spans.items
-    i.symbol_count
-    new_lists.unmarked new_lists.marked new_lists.stack.items c.self.invariant
+    i.symbol_count new_lists.unmarked new_lists.marked new_lists.stack.items c.self.invariant
     c.move_to_marked.ensures.moves_symbols
     c.move_to_marked.ensures.is_stack)
 
@@ -34,11 +31,9 @@ invariant_of-self-in_err-push-2 g c =
     let new_lists = c.move_to_marked.new in
     rw (c.in_err-push-2.ensures.items, c.in_ok-push.ensures.items)
     (machine_with_span new_lists.unmarked new_lists.marked new_lists.stack.items i.marks.items
-    i.marked_spans.items
-    i.symbol_count c.in_ok-span.span
+    i.marked_spans.items i.symbol_count c.in_ok-span.span
     (moved_machine i.unmarked i.marked i.stack.items i.marks.items i.marked_spans.items
-    i.symbol_count
-    new_lists.unmarked new_lists.marked new_lists.stack.items c.self.invariant
+    i.symbol_count new_lists.unmarked new_lists.marked new_lists.stack.items c.self.invariant
     c.move_to_marked.ensures.moves_symbols
     c.move_to_marked.ensures.is_stack) c.in_ok-span.ensures.returns_top_formula.0)
 
@@ -51,12 +46,9 @@ invariant_of-self-2 g c =
     c.requires.marks_lt_step in
     rw (c.in_ok-push-2.ensures.items, c.in_ok-push.ensures.items)
     (machine_with_mark new_lists.unmarked new_lists.marked new_lists.stack.items i.marks.items
-    i.marked_spans.items
-    i.symbol_count
-    c.in_ok-span.span c.args.step
+    i.marked_spans.items i.symbol_count c.in_ok-span.span c.args.step
     (moved_machine i.unmarked i.marked i.stack.items i.marks.items i.marked_spans.items
-    i.symbol_count
-    new_lists.unmarked new_lists.marked new_lists.stack.items c.self.invariant
+    i.symbol_count new_lists.unmarked new_lists.marked new_lists.stack.items c.self.invariant
     c.move_to_marked.ensures.moves_symbols
     c.move_to_marked.ensures.is_stack) c.in_ok-span.ensures.returns_top_formula.0 marks_lt_step)
 
@@ -69,8 +61,7 @@ returns-clause-marks_step g c =
     ≡ span_formulas (arena [] i.marked) i.marked_spans.items ++ top old_entries ∷ [] =
     ap (span_formulas (arena [] new_lists.marked)) c.in_ok-push.ensures.items
     ∙ marked_spans_formulas i.unmarked i.marked new_lists.unmarked new_lists.marked
-    i.marked_spans.items
-    c.in_ok-span.span
+    i.marked_spans.items c.in_ok-span.span
     (top old_entries) c.move_to_marked.ensures.moves_symbols c.self.invariant.spans_are_marked
     c.in_ok-span.ensures.returns_top_formula.1 in
     ap (λ z. machine_state z c.push-2.new.self.items

@@ -17,8 +17,7 @@ invariant_of-self-2 g c =
     subst (IsMarkedEntry c.self.inside.marked) (sym c.index.ensures)
     (All-get_or
     (IsMarkedEntry c.self.inside.marked) c.self.inside.marked_spans.items
-    c.index_of_mark-index.result e
-    index_lt_length
+    c.index_of_mark-index.result e index_lt_length
     is_machine.spans_are_marked) in
     record {
       stack =

@@ -13,11 +13,9 @@ returns g c =
     let q = c.in_ok-parts in
     let f = c.in_ok-formula in
     λ db rules rule. are_rules_with_one_more_at db i.ranges.items c.push.new.self.items
-    i.hypotheses.items
-    r.hypotheses.now c.append_range.new.list.items
+    i.hypotheses.items r.hypotheses.now c.append_range.new.list.items
     i.pairs.items r.pairs.now c.append_range-2.new.list.items i.parts.items r.parts.now
-    r.formula.now
-    c.append_range-3.new.list.items c.append_range-4.new.list.items
+    r.formula.now c.append_range-3.new.list.items c.append_range-4.new.list.items
     (rule_ranges r.assertion a.hypotheses p.pairs q.parts f.formula)
     c.in_ok-push.ensures.items a.ensures.appends_elements p.ensures.appends_elements
     q.ensures.appends_elements f.ensures.appends_elements
