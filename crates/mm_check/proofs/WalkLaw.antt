@@ -410,8 +410,7 @@ module _ (db : List Statement) (t : ℕ) (steps : List PlacedStep) (is_complete 
             (sym steps_are) derives
 
         found_from_forests : ((forests : List Trees) × AreMoves (context_at db t) forests 0
-            (steps_of
-            steps)
+            (steps_of steps)
             × (forest_at forests (length (steps_of steps)) ≡ d))
             → AreFoundFrom db t steps (length steps) entry_flags step_flags noted
         found_from_forests (forests, are_moves, ends_in_d) = record {

@@ -166,8 +166,7 @@ formula_of_appended unmarked marked f =
     (omega (arith, length-append unmarked f))
 
 pub appended_is_in : (unmarked marked f : List ℕ) → IsIn (arena (unmarked ++ f) marked)
-    (appended_span
-    unmarked f)
+    (appended_span unmarked f)
 appended_is_in unmarked marked f = record {
   start_le_end = omega (arith, length-append unmarked f);
   end_le_length = omega

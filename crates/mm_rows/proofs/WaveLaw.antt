@@ -146,8 +146,7 @@ wave_without_citation c waves i cited n wave cites_no_theorem wave_before =
         → (m ≡ n) ⊎ (m ≡ n → ⊥) → get_or waves r 0 + 1 ≤ wave
     cited_wave_lt m r m_lt_next r_lt_theorems theorem_is_cited (inl m_is_n) =
         absurd
-        (cites_no_theorem r r_lt_theorems
-        (theorem_is_cited ∙ ap (λ k. get_or cited k 0) m_is_n))
+        (cites_no_theorem r r_lt_theorems (theorem_is_cited ∙ ap (λ k. get_or cited k 0) m_is_n))
     cited_wave_lt m r m_lt_next r_lt_theorems theorem_is_cited (inr m_is_not_n) =
         wave_before.wave_is_above m r (omega arith) r_lt_theorems theorem_is_cited
 

@@ -123,8 +123,7 @@ pub is_report : (request : Request) (db : List Statement) (opened : Option ℕ) 
     → IsMatrix c axioms m
     → (request.choice ≡ Citations → ⊥)
     → IsReportOf request.choice db opened request
-    (report request opened (map (label_at db) axioms)
-    (rows_of m (map (label_at db) (theorems db))))
+    (report request opened (map (label_at db) axioms) (rows_of m (map (label_at db) (theorems db))))
 is_report request db opened c axioms m have_citations axioms_are is_matrix not_citations =
     let is_matrix_of_columns = subst (λ (l : List ℕ). IsMatrix c l m) axioms_are is_matrix in
     let rows = rows_of m (map (label_at db) (theorems db)) in
