@@ -43,11 +43,11 @@ fn put_four(symbols: &[Sym], list: &mut [Sym], index: usize)
     ensures length_stays { length list.new ≡ length list.old }
     ensures are_written { take (index + 4) list.new ≡ take index list.old ++ symbols.now }
 {
-    let (first, second, third, last) = (symbols[0], symbols[1], symbols[2], symbols[3]);
+    let (first, second, third, fourth) = (symbols[0], symbols[1], symbols[2], symbols[3]);
     put_symbol(first, list, index);
     put_symbol(second, list, index + 1);
     put_symbol(third, list, index + 2);
-    put_symbol(last, list, index + 3);
+    put_symbol(fourth, list, index + 3);
 }
 
 /// Writes symbols from `index` on.

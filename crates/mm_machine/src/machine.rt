@@ -369,8 +369,8 @@ fn move_to_marked<A: Allocator>(
         × (span_formula (arena [] marked.new) e
         ≡ top (span_formulas (arena unmarked.old marked.old) stack.old.items))) }
 {
-    let last = stack.len() - 1;
-    let entry = stack[last];
+    let top_index = stack.len() - 1;
+    let entry = stack[top_index];
     match entry.store {
         Store::Marked => Ok(entry),
         Store::Unmarked => {
@@ -382,7 +382,7 @@ fn move_to_marked<A: Allocator>(
                 start,
                 end: marked.len(),
             };
-            stack[last] = moved;
+            stack[top_index] = moved;
             Ok(moved)
         }
     }
