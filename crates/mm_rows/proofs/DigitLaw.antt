@@ -109,58 +109,59 @@ halves word =
     ∷ bit_and (byte word 5) 15 ∷ byte word 5 / 2 ^ 4 ∷ bit_and (byte word 6) 15
     ∷ byte word 6 / 2 ^ 4 ∷ bit_and (byte word 7) 15 ∷ byte word 7 / 2 ^ 4 ∷ []
 
+-- `low0` and `high0` are of the halves of byte 0, and so on
 pub halves_are_fours : (word : ℕ) → word < 2 ^ 64 → halves word ≡ fours word
 halves_are_fours word word_lt_2_64 =
-    let l0 =
+    let low0 =
     ap (λ x. bit_and x 15) (byte_of_word word 0 word_lt_2_64 (omega arith))
     ∙ low_half_is_kept (word / 256 ^ 0) in
-    let h0 =
+    let high0 =
     ap (λ x. x / 2 ^ 4) (byte_of_word word 0 word_lt_2_64 (omega arith))
     ∙ high_half_is_quotient (word / 256 ^ 0) (word / 2 ^ 4) (omega arith) in
-    let l1 =
+    let low1 =
     ap (λ x. bit_and x 15) (byte_of_word word 1 word_lt_2_64 (omega arith))
     ∙ low_half_is_kept (word / 256 ^ 1) in
-    let h1 =
+    let high1 =
     ap (λ x. x / 2 ^ 4) (byte_of_word word 1 word_lt_2_64 (omega arith))
     ∙ high_half_is_quotient (word / 256 ^ 1) (word / 2 ^ 12) (omega arith) in
-    let l2 =
+    let low2 =
     ap (λ x. bit_and x 15) (byte_of_word word 2 word_lt_2_64 (omega arith))
     ∙ low_half_is_kept (word / 256 ^ 2) in
-    let h2 =
+    let high2 =
     ap (λ x. x / 2 ^ 4) (byte_of_word word 2 word_lt_2_64 (omega arith))
     ∙ high_half_is_quotient (word / 256 ^ 2) (word / 2 ^ 20) (omega arith) in
-    let l3 =
+    let low3 =
     ap (λ x. bit_and x 15) (byte_of_word word 3 word_lt_2_64 (omega arith))
     ∙ low_half_is_kept (word / 256 ^ 3) in
-    let h3 =
+    let high3 =
     ap (λ x. x / 2 ^ 4) (byte_of_word word 3 word_lt_2_64 (omega arith))
     ∙ high_half_is_quotient (word / 256 ^ 3) (word / 2 ^ 28) (omega arith) in
-    let l4 =
+    let low4 =
     ap (λ x. bit_and x 15) (byte_of_word word 4 word_lt_2_64 (omega arith))
     ∙ low_half_is_kept (word / 256 ^ 4) in
-    let h4 =
+    let high4 =
     ap (λ x. x / 2 ^ 4) (byte_of_word word 4 word_lt_2_64 (omega arith))
     ∙ high_half_is_quotient (word / 256 ^ 4) (word / 2 ^ 36) (omega arith) in
-    let l5 =
+    let low5 =
     ap (λ x. bit_and x 15) (byte_of_word word 5 word_lt_2_64 (omega arith))
     ∙ low_half_is_kept (word / 256 ^ 5) in
-    let h5 =
+    let high5 =
     ap (λ x. x / 2 ^ 4) (byte_of_word word 5 word_lt_2_64 (omega arith))
     ∙ high_half_is_quotient (word / 256 ^ 5) (word / 2 ^ 44) (omega arith) in
-    let l6 =
+    let low6 =
     ap (λ x. bit_and x 15) (byte_of_word word 6 word_lt_2_64 (omega arith))
     ∙ low_half_is_kept (word / 256 ^ 6) in
-    let h6 =
+    let high6 =
     ap (λ x. x / 2 ^ 4) (byte_of_word word 6 word_lt_2_64 (omega arith))
     ∙ high_half_is_quotient (word / 256 ^ 6) (word / 2 ^ 52) (omega arith) in
-    let l7 =
+    let low7 =
     ap (λ x. bit_and x 15) (byte_of_word word 7 word_lt_2_64 (omega arith))
     ∙ low_half_is_kept (word / 256 ^ 7) in
-    let h7 =
+    let high7 =
     ap (λ x. x / 2 ^ 4) (byte_of_word word 7 word_lt_2_64 (omega arith))
     ∙ high_half_is_quotient (word / 256 ^ 7) (word / 2 ^ 60) (omega arith) in
-    (λ i. l0 i ∷ h0 i ∷ l1 i ∷ h1 i ∷ l2 i ∷ h2 i ∷ l3 i ∷ h3 i ∷ l4 i ∷ h4 i ∷ l5 i ∷ h5 i ∷ l6 i
-    ∷ h6 i ∷ l7 i ∷ h7 i ∷ [])
+    (λ i. low0 i ∷ high0 i ∷ low1 i ∷ high1 i ∷ low2 i ∷ high2 i ∷ low3 i ∷ high3 i ∷ low4 i ∷ high4 i
+    ∷ low5 i ∷ high5 i ∷ low6 i ∷ high6 i ∷ low7 i ∷ high7 i ∷ [])
 
 pub half_is_hex_digit : (word k : ℕ) → word < 2 ^ 64 → k < 16
     → get_or (swz_l w8 16 DIGITS 0 (halves word)) k 0 ≡ hex_digit (four_at word k)
