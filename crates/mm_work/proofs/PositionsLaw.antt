@@ -169,9 +169,9 @@ module _ {A : Type 0} (fs : List (Findings A)) where
       → Contains f.valid.items i → HasPosition positions fs i)
       → (i : ℕ) → IsFoundValid fs i → HasPosition positions fs i
   every_valid_has_position positions has_position i is_found_valid =
-      has_position is_found_valid.1.0 is_found_valid.0 i is_found_valid.1.1 (slice_get-get_or fs
-      is_found_valid.1.0 is_found_valid.0 is_found_valid.1.1 ∙ ap Some is_found_valid.1.2)
-      is_found_valid.2
+      let findings = is_found_valid.findings in let listed = is_found_valid.are_listed in
+      has_position listed.0 findings i listed.1
+      (slice_get-get_or fs listed.0 findings listed.1 ∙ ap Some listed.2) is_found_valid.has_index
 
 -- a list written back whole
 pub written_back : {X : Type 0} (len : ℕ) (new_list old_list : List X) → length new_list ≡ len

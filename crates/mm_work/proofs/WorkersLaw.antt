@@ -447,32 +447,36 @@ module _ {A : Type 0} (job : Job A) where
           w.seat.view.settled)
           → IsFoundValid (fs ++ w.findings ∷ []) i
       settled_is_valid i (inl i_is_settled) =
-          let found_valid = are_gathered.settled_are_valid i i_is_settled in (
-            found_valid.0,
-            Contains-append_left fs (w.findings ∷ []) found_valid.0 found_valid.1,
-            found_valid.2,
-          )
+          let found = are_gathered.settled_are_valid i i_is_settled in record {
+            findings = found.findings;
+            are_listed = Contains-append_left fs (w.findings ∷ []) found.findings found.are_listed;
+            has_index = found.has_index;
+          }
       settled_is_valid i (inr i_is_settled) =
-          let seat_tells = is_done.is_between.seat_tells not_short in (
-            w.findings,
-            Contains-push fs w.findings,
-            times_contains i w.findings.valid.items
+          let seat_tells = is_done.is_between.seat_tells not_short in record {
+            findings = w.findings;
+            are_listed = Contains-push fs w.findings;
+            has_index =
+                times_contains i w.findings.valid.items
                 (subst (λ (l : List ℕ). 0 < times_in i l) seat_tells.settled_are_valid
-                i_is_settled),
-          )
+                i_is_settled);
+          }
 
       reported_is_faulty : (i : ℕ) → (0 < times_in i s.view.reported) ⊎ (0 < times_in i
           w.seat.view.reported)
           → IsFoundFaulty (fs ++ w.findings ∷ []) i
       reported_is_faulty i (inl i_is_reported) =
-          let found_faulty = are_gathered.reported_are_faulty i i_is_reported in (
-            found_faulty.0,
-            Contains-append_left fs (w.findings ∷ []) found_faulty.0 found_faulty.1,
-            found_faulty.2,
-          )
+          let found = are_gathered.reported_are_faulty i i_is_reported in record {
+            findings = found.findings;
+            are_listed = Contains-append_left fs (w.findings ∷ []) found.findings found.are_listed;
+            index_is = found.index_is;
+          }
       reported_is_faulty i (inr i_is_reported) =
-          let seat_tells = is_done.is_between.seat_tells not_short in
-          (w.findings, Contains-push fs w.findings, seat_tells.reported_is_faulty i i_is_reported)
+          let seat_tells = is_done.is_between.seat_tells not_short in record {
+            findings = w.findings;
+            are_listed = Contains-push fs w.findings;
+            index_is = seat_tells.reported_is_faulty i i_is_reported;
+          }
 
 -- a number drawn and judged
 pub unrecorded_drops_after_draw : (n i : ℕ) (v w u : View) → v.open_number ≡ None

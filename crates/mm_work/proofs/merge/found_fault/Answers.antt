@@ -63,12 +63,13 @@ loop-findings-preserved g c =
 pub unreachable-requires : goal.unreachable-requires
 unreachable-requires g c =
     let is_found_faulty = c.requires.is_found_faulty in
-    let index_lt_length = is_found_faulty.1.1 in
+    let listed = is_found_faulty.are_listed in
+    let index_lt_length = listed.1 in
     let length_le_index = c.loop-findings-test.false in
-    c.loop-findings.invariant is_found_faulty.1.0 is_found_faulty.0 (omega arith) (omega (
+    c.loop-findings.invariant listed.0 is_found_faulty.findings (omega arith) (omega (
       arith,
       index_lt_length,
       length_le_index,
     ))
-    (subst (λ (f : Findings _). faulty_index f.faulty ≡ Some c.args.index) (sym is_found_faulty.1.2)
-    is_found_faulty.2)
+    (subst (λ (f : Findings _). faulty_index f.faulty ≡ Some c.args.index) (sym listed.2)
+    is_found_faulty.index_is)
