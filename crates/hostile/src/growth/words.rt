@@ -16,6 +16,7 @@ const TOKENS: usize = 62;
 /// Where that text is cut, in the middle of a word.
 pub(crate) const CUT_AT: usize = 58;
 
+/// A word, by its first byte and the byte behind its last.
 fn word(start: u32, end: u32) -> Word {
     Word { start, end }
 }
