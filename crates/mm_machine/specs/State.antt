@@ -43,6 +43,7 @@ Repeats j s t =
     (n : ℕ) × (n < length s.formulas) × (n < length s.marks) × (get_or s.marks n 0 ≡ j)
     × (t ≡ machine_state (s.stack ++ get_or s.formulas n [] ∷ []) s.marks s.formulas s.symbol_count)
 
+-- the formulas of the entries
 abbrev pub span_formulas : Arena → List Span → List Formula
 span_formulas a es = map (span_formula a) es
 

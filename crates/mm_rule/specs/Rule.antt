@@ -36,7 +36,7 @@ abbrev pub hypothesis_parts : List RulePart → ℕ → Hypothesis → List Rule
 hypothesis_parts parts j (Floating t) = Constant t ∷ Variable j ∷ []
 hypothesis_parts parts j (Essential n) = take n parts
 
--- the parts of hypotheses whose indices are `j` and on
+-- the parts of hypotheses, the first of which has the index `j`
 abbrev pub all_parts : List RulePart → ℕ → List Hypothesis → List (List RulePart)
 all_parts parts j [] = []
 all_parts parts j (a ∷ more) =

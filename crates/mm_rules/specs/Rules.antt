@@ -34,6 +34,7 @@ abbrev pub indexed_part : List Statement → List ℕ → ℕ → RulePart
 indexed_part db indices s =
     if is_variable_number db s then Variable (get_or indices s 0) else Constant s
 
+-- the symbols of a formula as such parts
 abbrev pub indexed_parts : List Statement → List ℕ → Formula → List RulePart
 indexed_parts db indices f = map (indexed_part db indices) f
 
@@ -85,6 +86,7 @@ abbrev pub index_range : ℕ → ℕ → IndexRange
 index_range start end = record { start = start; end = end }
 
 module _ {X : Type 0} where
+  -- the elements of a range of a list
   abbrev pub elements_in : List X → IndexRange → List X
   elements_in xs s = slice_range xs s.start s.end
 
@@ -108,20 +110,22 @@ rule_in l s =
 
 -- a range of a list of `n` elements
 pub record IsIndexRange (n : ℕ) (s : IndexRange) : Type 0 where
-  pub rising : s.start ≤ s.end
-  pub within : s.end ≤ n
+  pub start_le_end : s.start ≤ s.end
+  pub end_le_length : s.end ≤ n
 
 -- the rule of an assertion of the database is in the ranges
 pub record HasRule (db : List Statement) (l : RuleLists) (s : RuleRanges) : Type 0 where
-  pub hypotheses : IsIndexRange (length l.hypotheses) s.hypotheses
-  pub pairs : IsIndexRange (length l.pairs) s.pairs
-  pub parts : IsIndexRange (length l.parts) s.parts
-  pub formula : IsIndexRange (length l.parts) s.formula
+  pub hypotheses_are_range : IsIndexRange (length l.hypotheses) s.hypotheses
+  pub pairs_are_range : IsIndexRange (length l.pairs) s.pairs
+  pub parts_are_range : IsIndexRange (length l.parts) s.parts
+  pub formula_is_range : IsIndexRange (length l.parts) s.formula
   pub is_compiled : IsCompiled db (rule_in l s)
 
+-- each of the rules is that of its assertion
 abbrev pub AreRules : List Statement → RuleLists → Type 0
 AreRules db l = All (HasRule db l) l.ranges
 
+-- what an index beyond the rules gives
 abbrev pub no_ranges : RuleRanges
 no_ranges =
     rule_ranges 0 (index_range 0 0) (index_range 0 0) (index_range 0 0) (index_range 0 0)
