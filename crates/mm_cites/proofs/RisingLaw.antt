@@ -50,8 +50,7 @@ filtered_range_is_statement_list p n n_lt_2_31 =
             → a + 1 ≤ get_or (filter p (range_with_len (a + 1) n)) i 0)
             → (i : ℕ)
             → i < length {A = ℕ}
-            (cond b (a ∷ filter p (range_with_len (a + 1) n))
-            (filter p (range_with_len (a + 1) n)))
+            (cond b (a ∷ filter p (range_with_len (a + 1) n)) (filter p (range_with_len (a + 1) n)))
             → a ≤ get_or {A = ℕ}
             (cond b (a ∷ filter p (range_with_len (a + 1) n))
             (filter p (range_with_len (a + 1) n))) i 0
@@ -77,8 +76,7 @@ filtered_range_is_statement_list p n n_lt_2_31 =
             → a + 1 ≤ get_or (filter p (range_with_len (a + 1) n)) i 0)
             → (i j : ℕ) → i < j
             → j < length {A = ℕ}
-            (cond b (a ∷ filter p (range_with_len (a + 1) n))
-            (filter p (range_with_len (a + 1) n)))
+            (cond b (a ∷ filter p (range_with_len (a + 1) n)) (filter p (range_with_len (a + 1) n)))
             → get_or {A = ℕ}
             (cond b (a ∷ filter p (range_with_len (a + 1) n))
             (filter p (range_with_len (a + 1) n))) i 0

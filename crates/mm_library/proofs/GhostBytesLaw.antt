@@ -13,8 +13,8 @@ no_field = record { name = []; args = []; types = []; fields = [] }
 abbrev pub GhostBytesFields : RattleType
 GhostBytesFields = Struct no_field
 
-pub ghost_bytes_make : {M : Type 1} {𝓤 : Ura M} (𝓛 : Logic 𝓤) → Makes 𝓛 GhostBytesFields (Is
-    GhostBytesFields)
+pub ghost_bytes_make : {M : Type 1} {𝓤 : Ura M} (𝓛 : Logic 𝓤)
+    → Makes 𝓛 GhostBytesFields (Is GhostBytesFields)
 ghost_bytes_make 𝓛 = Struct-Makes 𝓛 no_field tt
 
 pub is_ghost_bytes : Is GhostBytesFields tt (vstruct vnil ∷ [])

@@ -103,8 +103,8 @@ deallocate_spec 𝓤 𝓛 𝓜 𝓡 wired =
       ),
     ) $
     sets ! (agg ! (and_then ! (get ! refl) (no_more !))) refl (memory_typed 𝓛 p).0 $
-    move ! (2 ∷ []) $ owned ! MemoryFields (Is MemoryFields) (memory_makes 𝓛) (p, tt) (memory_val p
-    ∷ []) (is_memory p) $ fjoin ! $
+    move ! (2 ∷ []) $ owned ! MemoryFields (Is MemoryFields) (memory_makes 𝓛) (p, tt)
+    (memory_val p ∷ []) (is_memory p) $ fjoin ! $
     nothing ! $ move ! (1 ∷ 0 ∷ []) $ fjoin ! $ move ! (1 ∷ 0 ∷ []) $ fjoin ! $
     move ! (1 ∷ 0 ∷ []) $ join ! $
     use0 𝓛 (raw (fact 𝓤 (u ≡ u))) (fact_i 𝓤 (u ≡ u) (emp 𝓤) refl) $ move ! (1 ∷ 0 ∷ []) $ join ! $

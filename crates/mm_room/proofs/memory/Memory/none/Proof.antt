@@ -32,6 +32,5 @@ none_spec 𝓤 𝓛 𝓜 𝓡 wired =
           0;
     }) tt tt) $ says ! refl $
     nothing ! $ owned ! MemoryFields (Is MemoryFields) (memory_makes 𝓛) (null_ptr, tt) (memory_val
-    null_ptr
-    ∷ []) (is_memory null_ptr) $ fjoin ! $
+    null_ptr ∷ []) (is_memory null_ptr) $ fjoin ! $
     nothing ! $ nothing ! $ done !))

@@ -129,8 +129,8 @@ deallocate_spec 𝓤 𝓛 𝓜 𝓡 wired A L g d dd met md =
     sets ! (agg ! (no_more !)) refl (tt, tt) $
     sets ! (agg ! (and_then ! (get ! refl) (and_then ! (get ! refl) (no_more !)))) refl
     (block_typed 𝓛 p).0 $
-    move ! (2 ∷ []) $ owned ! BlockFields (Is BlockFields) (block_makes 𝓛) (p, (tt, tt)) (block_val
-    p ∷ []) (is_block p) $ fjoin ! $
+    move ! (2 ∷ []) $ owned ! BlockFields (Is BlockFields) (block_makes 𝓛) (p, (tt, tt))
+    (block_val p ∷ []) (is_block p) $ fjoin ! $
     nothing ! $ owned ! usize (Is usize) (uint_Makes 𝓛 w64) n (uint_vals w64 n)
     (refl, are.1.1.0.1) $ fjoin ! $
     move ! (1 ∷ 0 ∷ []) $ fjoin ! $ move ! (1 ∷ 0 ∷ []) $ fjoin ! $ move ! (1 ∷ 0 ∷ []) $
