@@ -231,8 +231,7 @@ replacement_is_in a es j e entries_in j_lt_length e_is_without_first =
     j_lt_length entries_in in
     subst (IsIn a) (sym e_is_without_first) (record {
       start_le_end = omega arith;
-      end_le_length =
-          entry_is_in.end_le_length;
+      end_le_length = entry_is_in.end_le_length;
     })
 
 pub variable_replacement_is_in : (a : Arena) (es : List Span) (parts : List RulePart) (i : ℕ) (p :

@@ -126,8 +126,7 @@ filled_row_is_bit_row c axioms i row is_file_order i_lt_theorems filled = record
           list_index = m;
           row_lt_count = i_lt_theorems;
           index_lt_length = m_lt_length;
-          theorem_is =
-              refl;
+          theorem_is = refl;
           cited_is = refl;
         }
 

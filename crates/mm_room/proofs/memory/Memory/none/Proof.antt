@@ -28,8 +28,7 @@ none_spec 𝓤 𝓛 𝓜 𝓡 wired =
     returns ! (look_at ! 0 refl) $ free_all ! refl $
     suffices ! _ (ends_at 𝓛 f.ended tt c y (memory_val null_ptr) (record {
       address = null_ptr;
-      units =
-          0;
+      units = 0;
     }) tt tt) $ says ! refl $
     nothing ! $ owned ! MemoryFields (Is MemoryFields) (memory_makes 𝓛) (null_ptr, tt) (memory_val
     null_ptr ∷ []) (is_memory null_ptr) $ fjoin ! $
