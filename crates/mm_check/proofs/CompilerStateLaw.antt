@@ -23,18 +23,18 @@ module _ (db : List Statement) (t j : ℕ) where
 
   good_label_has_statement : IsCompleteReferent (context_at db t) (referent_at db t j)
       → HasStatement
-  good_label_has_statement is_complete = by_activity (active_at db j t) refl (slice_get db j) refl
+  good_label_has_statement is_complete = is_statement (active_at db j t) refl (slice_get db j) refl
       is_complete
     where
       out : Bool → Option Statement → Option Referent
       out b o = elim b
           [ false ↦ None | true ↦ elim o [ None ↦ None | Some s ↦ referent_of db j s ] ]
 
-      by_activity : (b : Bool) → active_at db j t ≡ b → (o : Option Statement) → slice_get db j ≡ o
+      is_statement : (b : Bool) → active_at db j t ≡ b → (o : Option Statement) → slice_get db j ≡ o
           → IsCompleteReferent (context_at db t) (out b o) → HasStatement
-      by_activity false not_active o statement_is is_good = absurd is_good
-      by_activity true active_at_t None statement_is is_complete = absurd is_complete
-      by_activity true active_at_t (Some s) statement_is is_complete =
+      is_statement false not_active o statement_is is_good = absurd is_good
+      is_statement true active_at_t None statement_is is_complete = absurd is_complete
+      is_statement true active_at_t (Some s) statement_is is_complete =
           record {
             statement = s;
             statement_is = statement_is;
@@ -45,8 +45,7 @@ module _ (db : List Statement) (t j : ℕ) where
   pub good_label_is_below : IsCompleteReferent (context_at db t) (referent_at db t j)
       → j < length db
   good_label_is_below is_complete = let labelled = good_label_has_statement is_complete in
-      got_lt_length
-      db j labelled.statement labelled.statement_is
+      got_lt_length db j labelled.statement labelled.statement_is
 
   assertion_flag_is : (s : Statement) (b : Bool) → slice_get db j ≡ Some s → is_assertion_at db j
       ≡ b
@@ -60,35 +59,35 @@ module _ (db : List Statement) (t j : ℕ) where
       → referent_at db t j ≡ Some (assertion (frame_at db j))
   assertion_rule labels_assertion is_complete =
       let labelled = good_label_has_statement is_complete in labelled.rule_is
-      ∙ by_statement labelled.statement (assertion_flag_is labelled.statement true
+      ∙ rule_is labelled.statement (assertion_flag_is labelled.statement true
       labelled.statement_is
       labels_assertion)
     where
-      by_statement : (s : Statement) → list_any is_assertion (s ∷ []) ≡ true
+      rule_is : (s : Statement) → list_any is_assertion (s ∷ []) ≡ true
           → referent_of db j s ≡ Some (assertion (frame_at db j))
-      by_statement (axiomatic l p xs d) is_assertion = refl
-      by_statement (provable l p xs e ps d) is_assertion = refl
-      by_statement _ is_assertion = absurd (true≢false (sym is_assertion))
+      rule_is (axiomatic l p xs d) is_assertion = refl
+      rule_is (provable l p xs e ps d) is_assertion = refl
+      rule_is _ is_assertion = absurd (true≢false (sym is_assertion))
 
   pub hypothesis_rule : is_assertion_at db j ≡ false
       → IsCompleteReferent (context_at db t) (referent_at db t j)
       → referent_at db t j ≡ Some (hypothesis (formula_at db j))
   hypothesis_rule not_assertion is_complete =
       let labelled = good_label_has_statement is_complete in
-      labelled.rule_is ∙ by_statement labelled.statement (assertion_flag_is labelled.statement false
+      labelled.rule_is ∙ rule_is labelled.statement (assertion_flag_is labelled.statement false
       labelled.statement_is not_assertion)
       (subst (IsCompleteReferent (context_at db t)) labelled.rule_is is_complete)
     where
-      by_statement : (s : Statement) → list_any is_assertion (s ∷ []) ≡ false
+      rule_is : (s : Statement) → list_any is_assertion (s ∷ []) ≡ false
           → IsCompleteReferent (context_at db t) (referent_of db j s)
           → referent_of db j s ≡ Some (hypothesis (formula_at db j))
-      by_statement (floating l p xs d) not_assertion is_complete = refl
-      by_statement (essential l p xs d) not_assertion is_complete = refl
-      by_statement (axiomatic l p xs d) not_assertion is_complete = absurd (true≢false
+      rule_is (floating l p xs d) not_assertion is_complete = refl
+      rule_is (essential l p xs d) not_assertion is_complete = refl
+      rule_is (axiomatic l p xs d) not_assertion is_complete = absurd (true≢false
           not_assertion)
-      by_statement (provable l p xs e ps d) not_assertion is_complete = absurd (true≢false
+      rule_is (provable l p xs e ps d) not_assertion is_complete = absurd (true≢false
           not_assertion)
-      by_statement _ not_assertion is_complete = absurd is_complete
+      rule_is _ not_assertion is_complete = absurd is_complete
 
 -- the label of a good step is that of a statement
 pub good_step_label_is_below : (db : List Statement) (t n : ℕ) (s : Step)

@@ -31,14 +31,14 @@ cut_two_ways (x ∷ xs) ys [] vs lists_equal = inl (x ∷ xs, refl)
 cut_two_ways (x ∷ xs) ys (u ∷ us) vs lists_equal =
     let heads_equal : x ≡ u = cc in
     let tails_equal : xs ++ ys ≡ us ++ vs = cc in
-    by_cut heads_equal (cut_two_ways xs ys us vs tails_equal)
+    is_cut heads_equal (cut_two_ways xs ys us vs tails_equal)
   where
-    by_cut : x ≡ u → ((k : List ℕ) × (xs ≡ us ++ k))
+    is_cut : x ≡ u → ((k : List ℕ) × (xs ≡ us ++ k))
         ⊎ ((k : List ℕ) × (us ≡ xs ++ k) × (ys ≡ k ++ vs))
         → ((k : List ℕ) × (x ∷ xs ≡ (u ∷ us) ++ k))
         ⊎ ((k : List ℕ) × (u ∷ us ≡ (x ∷ xs) ++ k) × (ys ≡ k ++ vs))
-    by_cut heads_equal (inl cut) = let front_is = cut.1 in inl (cut.0, cc (heads_equal, front_is))
-    by_cut heads_equal (inr cut) = let front_is = cut.1 in inr (
+    is_cut heads_equal (inl cut) = let front_is = cut.1 in inl (cut.0, cc (heads_equal, front_is))
+    is_cut heads_equal (inr cut) = let front_is = cut.1 in inr (
       cut.0,
       cc (heads_equal, front_is),
       cut.2,
@@ -101,7 +101,7 @@ module _ (c : Context) where
   row_of_front none [] rest_labels derives postfix_is = (none, tt, refl)
   row_of_front none (x ∷ labels) rest_labels are_derivations postfix_is = absurd (cc)
   row_of_front (more ts l f cs) labels rest_labels derives postfix_is =
-      by_cut (cut_two_ways (postfix ts) (postfix cs ++ l ∷ []) labels rest_labels postfix_is)
+      row_is (cut_two_ways (postfix ts) (postfix cs ++ l ∷ []) labels rest_labels postfix_is)
       (λ k front_is. row_of_front ts labels k derives.0 front_is)
       (λ labels' k front_is. row_of_front cs labels' k derives.1 front_is)
     where
@@ -142,12 +142,12 @@ module _ (c : Context) where
       row_in_children k labels_are (inr cut) row_of_part = row_of_whole_tree k cut.0 labels_are
           cut.1 cut.2
 
-      by_cut : ((k : List ℕ) × (postfix ts ≡ labels ++ k))
+      row_is : ((k : List ℕ) × (postfix ts ≡ labels ++ k))
           ⊎ ((k : List ℕ) × (labels ≡ postfix ts ++ k) × (postfix cs ++ l ∷ [] ≡ k ++ rest_labels))
           → ((k : List ℕ) → postfix ts ≡ labels ++ k → RowOf labels)
           → ((labels' k : List ℕ) → postfix cs ≡ labels' ++ k → RowOf labels') → RowOf labels
-      by_cut (inl cut) row_of_part in_children = row_of_part cut.0 cut.1
-      by_cut (inr cut) row_of_part in_children =
+      row_is (inl cut) row_of_part in_children = row_of_part cut.0 cut.1
+      row_is (inr cut) row_of_part in_children =
           row_in_children cut.0 cut.1 (cut_two_ways (postfix cs) (l ∷ []) cut.0 rest_labels cut.2)
           in_children
 
@@ -220,8 +220,7 @@ module _ (c : Context) where
         let at_j = list_is_postfix lists forests j adds.0 are_lists adds.2 in
         let repeated = adds.3 in
         let forests_equal = same_labels_same_forest c are_complete
-        (get_or forests j none) repeated.0 at_j.1
-        repeated.1 (at_j.2 ∙ sym repeated.2)
+        (get_or forests j none) repeated.0 at_j.1 repeated.1 (at_j.2 ∙ sym repeated.2)
         in
         copy repeated.0 repeated.1 repeated.3 forests_equal at_j.0
       where

@@ -119,8 +119,7 @@ reached_after_step db t steps_so_far stack ends noted s out noted' is_reached is
       entries_are = grown.3;
       lists = is_reached.lists ++ postfix grown.0 ∷ [];
       lists_end_in_formulas = ends_after_one_more c is_reached.lists ends (postfix grown.0)
-          (top out)
-          is_reached.lists_end_in_formulas
+          (top out) is_reached.lists_end_in_formulas
           (grown.0, grown.1, refl, grown.4);
       expands_from_start =
           λ later_steps labels expansion. subst (λ z. Expands c [] [] z labels)
@@ -158,8 +157,7 @@ failing_step_refuses db t steps i stack ends noted reason i_lt_length_steps is_r
     let grown =
     subst (GrownForest c is_reached.lists is_reached.forest s.step) entries_fail
     (good_step_grows_forest c is_reached.lists ends is_reached.forest s.step
-    is_reached.are_derivations
-    is_reached.lists_end_in_formulas
+    is_reached.are_derivations is_reached.lists_end_in_formulas
     is_good) in
     record {
       before = take i steps;
@@ -189,7 +187,7 @@ module _ (db : List Statement) (t : ℕ) (steps : List PlacedStep) (stack ends :
 
   pub end_derives : (f : Formula) → stack ≡ f ∷ []
       → Derives (context_at db t) (steps_of steps) f is_reached.forest
-  end_derives f stack_is = by_forest is_reached.forest is_reached.are_derivations
+  end_derives f stack_is = forest_derives is_reached.forest is_reached.are_derivations
       (is_reached.entries_are ∙ stack_is) whole_expansion
     where
       two_entries_not_one : (xs : List Formula) (h g : Formula) → ¬ ((xs ++ h ∷ []) ++ g ∷ []
@@ -204,12 +202,12 @@ module _ (db : List Statement) (t : ℕ) (steps : List PlacedStep) (stack ends :
                 []),
           )
 
-      by_forest : (forest : Trees) → AreDerivations (context_at db t) forest → formulas forest
+      forest_derives : (forest : Trees) → AreDerivations (context_at db t) forest → formulas forest
           ≡ f ∷ []
           → Expands (context_at db t) [] [] (steps_of steps) (postfix forest)
           → Derives (context_at db t) (steps_of steps) f forest
-      by_forest none derives stack_is expansion = cc
-      by_forest (more none l g cs) derives stack_is expansion = (
+      forest_derives none derives stack_is expansion = cc
+      forest_derives (more none l g cs) derives stack_is expansion = (
         l,
         cs,
         ap (λ z. tree l z cs) (ap top
@@ -217,7 +215,7 @@ module _ (db : List Statement) (t : ℕ) (steps : List PlacedStep) (stack ends :
         derives,
         expansion,
       )
-      by_forest (more (more ts m h bs) l g cs) derives stack_is expansion = absurd
+      forest_derives (more (more ts m h bs) l g cs) derives stack_is expansion = absurd
           (two_entries_not_one (formulas ts) h g stack_is)
 
   pub end_code_is_fault : (end : ℕ) (code : Code) (formula : Formula)
@@ -278,11 +276,11 @@ no_step_reached db t stack ends noted stack_is_nil ends_is_nil noted_is_nil =
 -- the place of the end of a theorem's proof
 pub proof_end_is_end_at : (db : List Statement) (t end : ℕ) → is_theorem_at db t ≡ true
     → option_map end_at (slice_get db t) ≡ Some end → proof_end (slice_get db t) ≡ end
-proof_end_is_end_at db t end is_theorem_t end_is = by_statement (slice_get db t) is_theorem_t end_is
+proof_end_is_end_at db t end is_theorem_t end_is = is_proof_end (slice_get db t) is_theorem_t end_is
   where
-    by_statement : (o : Option Statement)
+    is_proof_end : (o : Option Statement)
         → list_any is_theorem (elim o [ None ↦ [] | Some s ↦ s ∷ [] ]) ≡ true
         → option_map end_at o ≡ Some end → proof_end o ≡ end
-    by_statement None is_theorem_o end_is = absurd (true≢false (sym is_theorem_o))
-    by_statement (Some (provable l p xs q ps d)) is_theorem_o end_is = cc
-    by_statement (Some s) is_theorem_o end_is = absurd (true≢false (sym is_theorem_o))
+    is_proof_end None is_theorem_o end_is = absurd (true≢false (sym is_theorem_o))
+    is_proof_end (Some (provable l p xs q ps d)) is_theorem_o end_is = cc
+    is_proof_end (Some s) is_theorem_o end_is = absurd (true≢false (sym is_theorem_o))

@@ -62,13 +62,13 @@ module _ (db : List Statement) (t : ℕ) where
           marks_stay = marks_stay;
           formulas_stay = formulas_stay;
           has_entry = has_entry;
-          noted_are = λ x. noted_are x ∙ ap (λ b. is_member c.noted x || b) (by_equality x (x == a)
+          noted_are = λ x. noted_are x ∙ ap (λ b. is_member c.noted x || b) (both_hold x (x == a)
               refl);
         }
       where
-        by_equality : (x : ℕ) (b : Bool) → (x == a) ≡ b → b ≡ (b && is_assertion_at db x)
-        by_equality x false equality = refl
-        by_equality x true equality = sym (ap (is_assertion_at db) (eqb-true x a equality)
+        both_hold : (x : ℕ) (b : Bool) → (x == a) ≡ b → b ≡ (b && is_assertion_at db x)
+        both_hold x false equality = refl
+        both_hold x true equality = sym (ap (is_assertion_at db) (eqb-true x a equality)
             ∙ is_assertion)
 
     pub refusal_is_of_step : (e : StepRefused) → IsRefusalOf e (applied db t a c.machine.stack)

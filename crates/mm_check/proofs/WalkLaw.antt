@@ -135,8 +135,7 @@ module _ (db : List Statement) (t : ℕ) (steps : List PlacedStep) (i : ℕ) (ws
         are_found.forests i)
     pub nodes_iff : (a : ℕ)
         → IsToBeFound (child_counts db true) (forest_at are_found.forests) (suc i) (ws ++ flag ∷ [])
-        step_flags a
-        ↔ (((b ≡ true) × (is_labelled_step s a ≡ true)) ⊎ IsFoundBefore s a)
+        step_flags a ↔ (((b ≡ true) × (is_labelled_step s a ≡ true)) ⊎ IsFoundBefore s a)
 
   step_is_undone : (s : Step) → IsMove (context_at db t) are_found.forests i s
       → IsGoodStep (context_at db t) i s
@@ -174,8 +173,7 @@ module _ (db : List Statement) (t : ℕ) (steps : List PlacedStep) (i : ℕ) (ws
       found_iff : (a : ℕ)
           → IsToBeFound (child_counts db true) (forest_at are_found.forests) (suc i) (ws ++ flag ∷
           [])
-          step_flags a
-          ↔ (((b ≡ true) × (a ≡ l)) ⊎ IsFoundBefore (label l) a)
+          step_flags a ↔ (((b ≡ true) × (a ≡ l)) ⊎ IsFoundBefore (label l) a)
       found_iff a =
           label_back (child_counts db true)
           (forest_at are_found.forests) i ws step_flags flag b b_is a l ts f cs forest_is
@@ -211,8 +209,7 @@ module _ (db : List Statement) (t : ℕ) (steps : List PlacedStep) (i : ℕ) (ws
       found_iff : (a : ℕ)
           → IsToBeFound (child_counts db true) (forest_at are_found.forests) (suc i) (ws ++ flag ∷
           [])
-          step_flags a
-          ↔ IsFoundBefore (marked j) a
+          step_flags a ↔ IsFoundBefore (marked j) a
       found_iff a =
           marked_back (child_counts db true)
           (forest_at are_found.forests) i ws step_flags flag b b_is a j l f cs j_lt_i forest_is
@@ -301,12 +298,12 @@ module _ (db : List Statement) (t : ℕ) (steps : List PlacedStep) (i : ℕ) (ws
           step_flags a
           → (is_member out a ≡ true) ⊎ IsFoundBefore s a
       left_to_right a a_is_assertion (inl found) = inl (noted_stays a found)
-      left_to_right a a_is_assertion (inr found) = by_step ((is_undone.nodes_iff a).0 found)
+      left_to_right a a_is_assertion (inr found) = noted_or_before ((is_undone.nodes_iff a).0 found)
         where
-          by_step : ((b ≡ true) × (is_labelled_step s a ≡ true)) ⊎ IsFoundBefore s a
+          noted_or_before : ((b ≡ true) × (is_labelled_step s a ≡ true)) ⊎ IsFoundBefore s a
               → (is_member out a ≡ true) ⊎ IsFoundBefore s a
-          by_step (inl found) = inl (label_is_noted a a_is_assertion found.0 found.1)
-          by_step (inr found) = inr found
+          noted_or_before (inl found) = inl (label_is_noted a a_is_assertion found.0 found.1)
+          noted_or_before (inr found) = inr found
 
       right_to_left : (a : ℕ) → is_assertion_at db a ≡ true → (is_member out a
           ≡ true) ⊎ IsFoundBefore s a
@@ -315,18 +312,18 @@ module _ (db : List Statement) (t : ℕ) (steps : List PlacedStep) (i : ℕ) (ws
           [])
           step_flags a
       right_to_left a a_is_assertion (inl found) =
-          by_membership (or_cases (is_member noted a)
+          noted_or_to_be_found (or_cases (is_member noted a)
           (b && (is_labelled_step s a && is_assertion_at db a))
           (sym (members_are a) ∙ found))
         where
-          by_membership : (is_member noted a ≡ true)
+          noted_or_to_be_found : (is_member noted a ≡ true)
               ⊎ ((b && (is_labelled_step s a && is_assertion_at db a)) ≡ true)
               → (is_member noted a ≡ true)
               ⊎ IsToBeFound (child_counts db true) (forest_at are_found.forests) (suc i) (ws ++ flag
               ∷ [])
               step_flags a
-          by_membership (inl found) = inl found
-          by_membership (inr found) =
+          noted_or_to_be_found (inl found) = inl found
+          noted_or_to_be_found (inr found) =
               let is_label = and_parts b (is_labelled_step s a && is_assertion_at db a) found in
               inr ((is_undone.nodes_iff a).1
               (inl (
@@ -409,8 +406,7 @@ module _ (db : List Statement) (t : ℕ) (steps : List PlacedStep) (is_complete 
             (sym steps_are) derives
 
         found_from_forests : ((forests : List Trees) × AreMoves (context_at db t) forests 0
-            (steps_of
-            steps)
+            (steps_of steps)
             × (forest_at forests (length (steps_of steps)) ≡ d))
             → AreFoundFrom db t steps (length steps) entry_flags step_flags noted
         found_from_forests (forests, are_moves, ends_in_d) = record {
@@ -440,18 +436,18 @@ module _ (db : List Statement) (t : ℕ) (steps : List PlacedStep) (is_complete 
             counts : ℕ → ℕ → Bool
             counts = child_counts db true
 
-            node_by_root_flag : (p q : ℕ → Bool) (a : ℕ) → q 0 ≡ true
+            node_if_root_flag : (p q : ℕ → Bool) (a : ℕ) → q 0 ≡ true
                 → HasNode counts p (tree derives_formula.0 (formula_at db t) derives_formula.1) a
                 → HasNode counts q (tree derives_formula.0 (formula_at db t) derives_formula.1) a
-            node_by_root_flag p q a q_0 (inl has_node) = absurd has_node
-            node_by_root_flag p q a q_0 (inr has_node) = inr (q_0, has_node.1)
+            node_if_root_flag p q a q_0 (inl has_node) = absurd has_node
+            node_if_root_flag p q a q_0 (inr has_node) = inr (q_0, has_node.1)
 
             left_to_right : (a : ℕ) → HasNode counts each_root d a
                 → HasNode counts (flag_at entry_flags) (forest_at forests (length steps)) a
             left_to_right a has_node =
                 subst (λ u. HasNode counts (flag_at entry_flags) u a) (sym (forest_is_d
                 ∙ derives_formula.2))
-                (node_by_root_flag each_root (flag_at entry_flags) a (ap (λ ws. flag_at ws 0)
+                (node_if_root_flag each_root (flag_at entry_flags) a (ap (λ ws. flag_at ws 0)
                 entry_flags_are)
                 (subst (λ u. HasNode counts each_root u a) derives_formula.2 has_node))
 
@@ -463,7 +459,7 @@ module _ (db : List Statement) (t : ℕ) (steps : List PlacedStep) (is_complete 
                 ∙ ap (λ l. is_member l a) noted_is_nil))
             right_to_left a (inr (inl found)) =
                 subst (λ u. HasNode counts each_root u a) (sym derives_formula.2)
-                (node_by_root_flag (flag_at entry_flags) each_root a refl
+                (node_if_root_flag (flag_at entry_flags) each_root a refl
                 (subst (λ u. HasNode counts (flag_at entry_flags) u a) (forest_is_d
                 ∙ derives_formula.2) found))
             right_to_left a (inr (inr found)) =
@@ -482,18 +478,18 @@ module _ (db : List Statement) (t : ℕ) (steps : List PlacedStep) (is_complete 
         (are_found.found_iff a is_assertion).1 (inl
             is_noted),
       ),
-      λ cites. by_membership ((are_found.found_iff a cites.0).0
+      λ cites. member_is_noted ((are_found.found_iff a cites.0).0
           (subst (λ d. HasNode (child_counts db true) each_root d a)
           (two_proofs_are_equal db is_complete t cites.1 are_found.derivation cites.2
           are_found.is_proof)
           cites.3)),
     )
       where
-        by_membership : (is_member noted a ≡ true)
+        member_is_noted : (is_member noted a ≡ true)
             ⊎ IsToBeFound (child_counts db true) (forest_at are_found.forests) 0 entry_flags
             step_flags a
             → is_member noted a ≡ true
-        by_membership (inl noted_or_found) = noted_or_found
-        by_membership (inr (inl noted_or_found)) = absurd noted_or_found
-        by_membership (inr (inr noted_or_found)) = let j_lt_0 = noted_or_found.1 in absurd (omega
+        member_is_noted (inl noted_or_found) = noted_or_found
+        member_is_noted (inr (inl noted_or_found)) = absurd noted_or_found
+        member_is_noted (inr (inr noted_or_found)) = let j_lt_0 = noted_or_found.1 in absurd (omega
             (arith, j_lt_0))

@@ -15,7 +15,7 @@ use Rattle.mm_spec.specs.Frame.{is_variable_number, formula_at, frame_at}
 use Rattle.mm_spec.specs.Citation.{context_at}
 use Rattle.mm_spec.specs.Laws.Stack.{substitution_from, are_equal, unless_failed, unless_too_long}
 use Rattle.mm_spec.specs.Laws.Stack.{apply, step}
-use Rattle.mm_rule.specs.declared.rule.RuleSymbol.TheVariants.{Constant, Variable}
+use Rattle.mm_rule.specs.declared.rule.RulePart.TheVariants.{Constant, Variable}
 use Rattle.mm_rule.specs.Rule.{floating_index, parts_of, IsVariableBelow, CompiledRule, IsCompiled}
 use Rattle.mm_machine.specs.State.{applied}
 use Rattle.mm_machine.proofs.RuleTestLaw.{length_all_parts}
@@ -27,9 +27,9 @@ empty_of_length_0 (x ∷ xs) length_is_0 = absurd (omega (arith, length_is_0))
 no_pairs : (ps : List (ℕ × ℕ)) → All (λ (p : ℕ × ℕ). (p.0 < 0) × (p.1 < 0)) ps → length ps ≡ 0
 no_pairs [] all_below_0 = refl
 no_pairs (p ∷ ps) all_below_0 =
-    absurd (let number_lt_0 = (recursion_from_All (λ (p : ℕ × ℕ). (p.0 < 0) × (p.1 < 0)) (p ∷ ps)
+    absurd (let index_lt_0 = (recursion_from_All (λ (p : ℕ × ℕ). (p.0 < 0) × (p.1 < 0)) (p ∷ ps)
     all_below_0).0.0 in
-    omega (arith, number_lt_0))
+    omega (arith, index_lt_0))
 
 -- a frame without hypotheses and pairs, whose formula has no variables
 module _ (c : Context) (a : Frame) (hypotheses_are_nil : a.hypotheses
@@ -58,14 +58,14 @@ module _ (db : List Statement) (t : ℕ) (hs : List Formula) (σ : Substitution)
       → substitute (context_at db t) σ f ≡ f
   no_variables [] variables_below_0 = refl
   no_variables (s ∷ f) variables_below_0 =
-      ap₂ (λ u v. u ++ v) (by_is_variable (is_variable_number db s) variables_below_0.0)
+      ap₂ (λ u v. u ++ v) (symbol_stays (is_variable_number db s) variables_below_0.0)
       (no_variables f variables_below_0.1)
     where
-      by_is_variable : (v : Bool) → IsVariableBelow 0 (cond v (Variable (floating_index db hs s))
+      symbol_stays : (v : Bool) → IsVariableBelow 0 (cond v (Variable (floating_index db hs s))
           (Constant s))
           → cond v (σ s) (s ∷ []) ≡ s ∷ []
-      by_is_variable true variable_below_0 = absurd (omega (arith, variable_below_0))
-      by_is_variable false variable_below_0 = refl
+      symbol_stays true variable_below_0 = absurd (omega (arith, variable_below_0))
+      symbol_stays false variable_below_0 = refl
 
 module _ (db : List Statement) (t : ℕ) (c : CompiledRule) (rule : IsCompiled db c)
     (length_is_0 : length c.hypotheses ≡ 0) where
@@ -92,7 +92,8 @@ module _ (db : List Statement) (t : ℕ) (c : CompiledRule) (rule : IsCompiled d
   pairs_are =
       let length_pairs_is_0 =
       no_pairs c.pairs
-      (subst (λ n. All (λ (p : ℕ × ℕ). (p.0 < n) × (p.1 < n)) c.pairs) length_is_0 rule.pairs_in) in
+      (subst (λ n. All (λ (p : ℕ × ℕ). (p.0 < n) × (p.1 < n)) c.pairs) length_is_0
+      rule.pairs_in_range) in
       let pair_counts_equal : length c.pairs ≡ length frame.pairs =
       ap length rule.pairs_are
       ∙ length-map {B = ℕ × ℕ} frame.pairs
@@ -106,7 +107,7 @@ module _ (db : List Statement) (t : ℕ) (c : CompiledRule) (rule : IsCompiled d
   symbols_are_constants =
       recursion_from_All (IsVariableBelow 0) (parts_of db frame.hypotheses f)
       (subst (All (IsVariableBelow 0)) rule.formula_is
-      (subst (λ n. All (IsVariableBelow n) c.formula) length_is_0 rule.formula_in))
+      (subst (λ n. All (IsVariableBelow n) c.formula) length_is_0 rule.formula_in_range))
 
   applied_pushes_formula : (es : List Formula) → applied db t c.assertion es
       ≡ unless_too_long (nat_le (length f) formula_limit) (es ++ f ∷ [])

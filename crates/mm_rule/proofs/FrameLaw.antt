@@ -33,12 +33,12 @@ filter_keeps_all P t xs all_p =
 -- a filtered list is no longer
 filter_no_longer : (t : ℕ → Bool) (xs : List ℕ) → length (filter t xs) ≤ length xs
 filter_no_longer t [] = omega arith
-filter_no_longer t (x ∷ xs) = by_test (t x) (filter_no_longer t xs)
+filter_no_longer t (x ∷ xs) = length_le (t x) (filter_no_longer t xs)
   where
-    by_test : (b : Bool) → length (filter t xs) ≤ length xs
+    length_le : (b : Bool) → length (filter t xs) ≤ length xs
         → length {A = ℕ} (cond b (x ∷ filter t xs) (filter t xs)) ≤ suc (length xs)
-    by_test true rest_le_length = omega (arith, rest_le_length)
-    by_test false rest_le_length = omega (arith, rest_le_length)
+    length_le true rest_le_length = omega (arith, rest_le_length)
+    length_le false rest_le_length = omega (arith, rest_le_length)
 
 -- an assertion has no more hypotheses than there are statements before it
 pub hypotheses_le_k : (db : List Statement) (k : ℕ) → length (mandatory_hypotheses db k) ≤ k
@@ -65,13 +65,13 @@ hypotheses_lt_length db k k_le_length =
 variable_lt_symbol_count : (db : List Statement) (x : ℕ) → is_variable_number db x ≡ true
     → x < length (symbol_names db)
 variable_lt_symbol_count db x x_is_variable =
-    by_name (slice_get (symbol_names db) x) refl x_is_variable
+    x_is_low (slice_get (symbol_names db) x) refl x_is_variable
   where
-    by_name : (o : Option Bytes) → slice_get (symbol_names db) x ≡ o
+    x_is_low : (o : Option Bytes) → slice_get (symbol_names db) x ≡ o
         → elim o [ None ↦ false | Some w ↦ is_in w (flat_map variables_of db) ] ≡ true
         → x < length (symbol_names db)
-    by_name None name_x_is_o x_is_variable = absurd (true≢false (sym x_is_variable))
-    by_name (Some w) name_x_is_o x_is_variable = slice_get_within (symbol_names db) x w name_x_is_o
+    x_is_low None name_x_is_o x_is_variable = absurd (true≢false (sym x_is_variable))
+    x_is_low (Some w) name_x_is_o x_is_variable = slice_get_within (symbol_names db) x w name_x_is_o
 
 -- a mandatory variable is one of the symbols
 mandatory_lt_symbol_count : (db : List Statement) (k x : ℕ) → is_member (mandatory_variables db k) x

@@ -65,7 +65,7 @@ module _ (db : List Statement) (request : Request) (c : Citing) (m : Marks)
       let i_lt_count : i < length c.theorems = subst (λ (ts : List ℕ). i < length ts)
       (sym theorems_are) i_lt_theorem_count in
       let decided =
-      decides_through (mark m i j) (is_matrix.marked i j i_lt_count j_lt_length)
+      decides_through (mark m i j) (is_matrix.marks_decide i j i_lt_count j_lt_length)
       (alike_relations_have_alike_chains (HasCitation c) (proof.Cites db request.essential)
       cites_as_database.citations_agree (theorem_at c i)
       (get_or (columns db request.only) j 0)) in
@@ -87,7 +87,7 @@ module _ (db : List Statement) (request : Request) (c : Citing) (m : Marks)
   rows_are =
       let names = map (label_at db) (theorems db) in
       let f = λ (i : ℕ). row_of m (get_or names i []) i in
-      let row_count_is = is_matrix.rows in
+      let row_count_is = is_matrix.rows_are in
       let counts_equal = ap (λ (ts : List ℕ). length ts) theorems_are in
       let rows_length_is = length-map-range_with_len f 0 m.rows in
       zip_of_related (IsRowOf db request) (theorems db) (rows_of m names) 0 (f 0)
@@ -123,8 +123,7 @@ pub is_report : (request : Request) (db : List Statement) (opened : Option ℕ) 
     → IsMatrix c axioms m
     → (request.choice ≡ Citations → ⊥)
     → IsReportOf request.choice db opened request
-    (report request opened (map (label_at db) axioms)
-    (rows_of m (map (label_at db) (theorems db))))
+    (report request opened (map (label_at db) axioms) (rows_of m (map (label_at db) (theorems db))))
 is_report request db opened c axioms m have_citations axioms_are is_matrix not_citations =
     let is_matrix_of_columns = subst (λ (l : List ℕ). IsMatrix c l m) axioms_are is_matrix in
     let rows = rows_of m (map (label_at db) (theorems db)) in

@@ -44,9 +44,9 @@ fn report_dependence_alone<'a, A: Allocator + Copy, W: Write>(
     citations: &Citations<A>,
     to: &mut W,
 ) -> RunEnd
-    requires judged { IsJudged request.now.essential request.now.with_open database.now
+    requires is_judged { IsJudged request.now.essential request.now.with_open database.now
         citations.now }
-    requires choice { request.now.choice ≡ choices.Citations → ⊥ }
+    requires is_no_citations { request.now.choice ≡ choices.Citations → ⊥ }
     ensures { Answers result database.now.text request.now (W.contents to.old)
         (W.contents to.new) }
 {
@@ -76,7 +76,7 @@ pub fn write_judged<'a, A: Allocator + Copy, W: Write>(
     judged: &JudgedText<'a, A>,
     to: &mut W,
 ) -> RunEnd
-    requires judged { IsJudgedText text.now request.now.essential request.now.with_open
+    requires is_judged { IsJudgedText text.now request.now.essential request.now.with_open
         judged.now }
     ensures { Answers result text.now request.now (W.contents to.old) (W.contents to.new) }
 {

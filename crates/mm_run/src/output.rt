@@ -51,16 +51,16 @@ pub(crate) fn report_citations<'a, A: Allocator + Copy, W: Write>(
     citations: &Citations<A>,
     to: &mut W,
 ) -> RunEnd
-    requires judged { IsJudged request.now.essential request.now.with_open database.now
+    requires is_judged { IsJudged request.now.essential request.now.with_open database.now
         citations.now }
-    requires choice { request.now.choice ≡ choices.Citations }
+    requires is_citations { request.now.choice ≡ choices.Citations }
     ensures { Answers result database.now.text request.now (W.contents to.old)
         (W.contents to.new) }
 {
-    let Ok(columns) = Columns::new(alloc, database, request.only) else {
+    let Ok(chosen) = Columns::new(alloc, database, request.only) else {
         return RunEnd::NoMemory;
     };
-    match write_requested_citations(to, request, database, &columns, citations) {
+    match write_requested_citations(to, request, database, &chosen, citations) {
         Ok(()) => RunEnd::Accepted,
         Err(_) => RunEnd::WriteFailed,
     }
@@ -74,10 +74,10 @@ pub(crate) fn report_usage<'a, A: Allocator, W: Write>(
     matrix: &Matrix<A>,
     to: &mut W,
 ) -> RunEnd
-    requires chosen { chosen.now ≡ columns database.now.statements request.now.only }
-    requires matrix { IsMatrixOf request.now.essential request.now.with_open database.now
+    requires columns_are { chosen.now ≡ columns database.now.statements request.now.only }
+    requires is_matrix { IsMatrixOf request.now.essential request.now.with_open database.now
         chosen.now matrix.now }
-    requires choice { request.now.choice ≡ choices.Citations → ⊥ }
+    requires is_no_citations { request.now.choice ≡ choices.Citations → ⊥ }
     ensures { Answers result database.now.text request.now (W.contents to.old)
         (W.contents to.new) }
 {
@@ -95,10 +95,10 @@ pub(crate) fn report_rows<'a, A: Allocator, W: Write>(
     marked: &MarkedRows<A>,
     to: &mut W,
 ) -> RunEnd
-    requires chosen { chosen.now ≡ columns database.now.statements request.now.only }
-    requires marked { IsMatrixOf request.now.essential request.now.with_open database.now
+    requires columns_are { chosen.now ≡ columns database.now.statements request.now.only }
+    requires is_matrix { IsMatrixOf request.now.essential request.now.with_open database.now
         chosen.now marked.now }
-    requires choice { request.now.choice ≡ choices.Citations → ⊥ }
+    requires is_no_citations { request.now.choice ≡ choices.Citations → ⊥ }
     requires no_usage { has_section request.now.choice choices.Usage ≡ false }
     ensures { Answers result database.now.text request.now (W.contents to.old)
         (W.contents to.new) }
@@ -118,9 +118,9 @@ fn report_dependence<'a, R: Threads + Sync, A: Allocator + Copy + Send + Sync, W
     citations: &Citations<A>,
     to: &mut W,
 ) -> RunEnd
-    requires judged { IsJudged request.now.essential request.now.with_open database.now
+    requires is_judged { IsJudged request.now.essential request.now.with_open database.now
         citations.now }
-    requires choice { request.now.choice ≡ choices.Citations → ⊥ }
+    requires is_no_citations { request.now.choice ≡ choices.Citations → ⊥ }
     ensures { Answers result database.now.text request.now (W.contents to.old)
         (W.contents to.new) }
 {
@@ -149,7 +149,7 @@ fn report<'a, R: Threads + Sync, A: Allocator + Copy + Send + Sync, W: Write>(
     citations: &Citations<A>,
     to: &mut W,
 ) -> RunEnd
-    requires judged { IsJudged request.now.essential request.now.with_open database.now
+    requires is_judged { IsJudged request.now.essential request.now.with_open database.now
         citations.now }
     ensures { Answers result database.now.text request.now (W.contents to.old)
         (W.contents to.new) }

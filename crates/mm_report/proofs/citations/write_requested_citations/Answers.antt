@@ -47,7 +47,7 @@ returns g c =
     let citing = c.args.citations.now in
     let labels = c.new-labels.result in
     let theorem_count_is : _ ≡ length (citing_rows db only citing labels) =
-    c.rows-theorems.ensures.rows
+    c.rows-theorems.ensures.count_is
     ∙ sym (length-map-range_with_len
     (λ i. citing_row db only citing (slice_index_or labels i []) i) 0 (length citing.theorems)) in
     let head_is =
@@ -60,7 +60,7 @@ returns g c =
     sent_equal_text _
     (sent_is_report_of_database request c.args.database.now c.args.chosen.now citing
     c.open_theorem_count-open_theorems.result c.len-axioms.result labels opened_is
-    c.len-axioms.ensures.len c.new-labels.ensures)
+    c.len-axioms.ensures.len_is c.new-labels.ensures)
     (sent_both
     (sent_both (sent_equal_text _ head_is c.send_head.ensures)
     (sent_both c.send_line.ensures (sent_equal_text _ lines_are c.send_citation_lines.ensures)))

@@ -12,7 +12,8 @@ loop-statement-preserved g c =
     let database = c.args.database.now in
     let chosen = c.args.chosen.now in
     let listed = c.statements-statement-items.result.now in
-    let statements_are_chosen : listed ≡ chosen = c.statements-statement-items.ensures.statements in
+    let statements_are_chosen : listed ≡ chosen =
+    c.statements-statement-items.ensures.statements_are in
     let is_open : ℕ → Bool =
     λ a. database.with_open && list_any is_open_theorem (statement_at database.read a) in
     let i = c.loop-statement.statement-index in

@@ -22,7 +22,7 @@ loop-first-preserved g c =
     let first = c.in-Some.first in
     let end = c.run_end-end.result in
     let run_end_is = c.run_end-end.ensures in
-    let user_found = c.in-Some.ensures.some in
+    let user_found = c.in-Some.ensures.is_next in
     let first_le_end : first ≤ end = omega arith in
     let end_is_suc : end ≡ end - 1 + 1 = omega arith in
     let labels_as_rows = c.requires.as_many_labels in
@@ -34,10 +34,10 @@ loop-first-preserved g c =
     users_with_run m labels c.args.column c.requires.column_lt_count c.loop-first.last_sent first
     end
     c.loop-first.invariant.last_is_marked user_found.1 first_le_end user_found.3
-    run_end_is.marked in
+    run_end_is.run_is_marked in
     record {
       next_le_rows = omega arith;
-      last_is_marked = run_end_is.marked (end - 1) (omega arith) (omega arith);
+      last_is_marked = run_end_is.run_is_marked (end - 1) (omega arith) (omega arith);
       sent =
           sent_equal_text _ (users_with_next_run
           ∙ ap (λ n. separated_rows (users_before m labels c.args.column n)) end_is_suc)
@@ -52,5 +52,5 @@ returns g c =
     sent_equal_text _
     (users_complete c.args.matrix.now labels c.args.column c.requires.column_lt_count
     c.loop-first.last_sent c.args.matrix.now.rows c.loop-first.invariant.next_le_rows
-    c.in_default.ensures.none)
+    c.in_default.ensures.none_is_there)
     c.loop-first.invariant.sent

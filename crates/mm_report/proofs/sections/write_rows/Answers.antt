@@ -34,7 +34,7 @@ returns g c =
     count_is_rows m labels c.len-theorems.result c.len-theorems.ensures
     (labels_as_many_as_rows db m labels c.new-labels.ensures c.requires.as_many_rows) in
     let axiom_count_is =
-    c.len-axioms.ensures.len ∙ sym (length-map c.args.chosen.now (label_at db)) in
+    c.len-axioms.ensures.len_is ∙ sym (length-map c.args.chosen.now (label_at db)) in
     let head_is = ap₂ (λ (a b : ℕ). head request.form a c.open_theorem_count-open_theorems.result b)
     axiom_count_is
     theorem_count_is in

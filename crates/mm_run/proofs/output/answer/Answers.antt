@@ -6,8 +6,8 @@ use Rattle.mm_run.specs.Counted.{IsJudgedText}
 use Rattle.mm_run.specs.declared.judged_text.JudgedText.{JudgedText}
 use Rattle.mm_run.proofs.output.answer.Goals as goal
 
-pub report-requires-clause-judged : goal.report-requires-clause-judged
-report-requires-clause-judged g c κs has_kind =
+pub report-requires-clause-is_judged : goal.report-requires-clause-is_judged
+report-requires-clause-is_judged g c κs has_kind =
     let plan = c.args.plan.now in
     rw c.request-in-Sound.ensures
     (subst

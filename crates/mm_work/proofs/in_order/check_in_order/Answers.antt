@@ -17,11 +17,10 @@ judged_valid-requires g c =
       counts_equal,
     ) in
     subst (λ (n : ℕ). HaveCitationsUpTo db c.args.essential (theorems db) n c.loop-theorem.lists)
-    index_is_count
-    c.loop-theorem.invariant.have_citations
+    index_is_count c.loop-theorem.invariant.have_citations
 
-pub verify-requires-clause-theorem : goal.verify-requires-clause-theorem
-verify-requires-clause-theorem g c =
+pub verify-requires-clause-is_theorem : goal.verify-requires-clause-is_theorem
+verify-requires-clause-is_theorem g c =
     let db = c.args.database.now.statements in
     let index_lt_length = c.loop-theorem-test.true in
     let counts_equal = ap (λ (ts : List ℕ). length ts) c.theorems-theorems.ensures.theorems in
@@ -47,7 +46,7 @@ returns-in-Err-Fault g c =
     (subst (λ (ts : List ℕ). HasFault db (get_or ts i 0) c.in-Err-Fault.fault)
     c.theorems-theorems.ensures.theorems
     (subst (λ (e : VerifyRefused). IsRefusalOf db (get_or c.theorems-theorems.result.now i 0) e)
-    c.in-Err-Fault.field-0-is c.in-Err-Fault.ensures.refused)))
+    c.in-Err-Fault.field-0-is c.in-Err-Fault.ensures.refusal_is_right)))
 
 pub loop-theorem-preserved : goal.loop-theorem-preserved
 loop-theorem-preserved g c =
@@ -55,7 +54,7 @@ loop-theorem-preserved g c =
     let i = c.loop-theorem.theorem-index in
     let has_citations =
     subst (λ (ts : List ℕ). HasCitations db c.args.essential (get_or ts i 0) c.in-Ok.checked.cites)
-    c.theorems-theorems.ensures.theorems c.in-Ok.ensures.valid in
+    c.theorems-theorems.ensures.theorems c.in-Ok.ensures.has_citations in
     record {
       made_for = c.in-Ok.ensures.made_for;
       have_citations =

@@ -21,16 +21,16 @@ lower_row_ends_before width i r r_lt_i =
     omega (arith, products_ordered, product_of_sum)
 
 -- the rows that a theorem needs stand before its own
-pub cited_rows_stand_before : (c : Citing) (columns bits before rest : List ℕ) (i : ℕ)
+pub cited_rows_stand_before : (c : Citing) (axioms bits before rest : List ℕ) (i : ℕ)
     → IsFileOrder c
-    → i < length c.theorems → before ++ rest ≡ bits → length before ≡ i * words_for (length columns)
-    → HasCitedRows c columns bits i → HasCitedRows c columns before i
-cited_rows_stand_before c columns bits before rest i is_file_order i_lt_theorems parts_are_bits
+    → i < length c.theorems → before ++ rest ≡ bits → length before ≡ i * words_for (length axioms)
+    → HasCitedRows c axioms bits i → HasCitedRows c axioms before i
+cited_rows_stand_before c axioms bits before rest i is_file_order i_lt_theorems parts_are_bits
     before_has_length cited_rows_are_known = λ r k r_lt_theorems listed theorem_is_cited.
-    let width = words_for (length columns) in
+    let width = words_for (length axioms) in
     let row_end_le_before = lower_row_ends_before width i r
     (earlier_row c i r k is_file_order i_lt_theorems listed r_lt_theorems theorem_is_cited) in
-    subst (IsBitRow c columns _)
+    subst (IsBitRow c axioms _)
     (ap (λ xs. row_at xs width r) (sym parts_are_bits)
     ∙ row_of_longer_is_kept before rest width r
     (omega (arith, row_end_le_before, before_has_length)))
@@ -51,7 +51,7 @@ pub other_rows_are_kept : (before new_row rest : List ℕ) (width i r : ℕ) →
     → length new_row ≡ width → (r ≡ i → ⊥)
     → row_at (before ++ (new_row ++ drop width rest)) width r ≡ row_at (before ++ rest) width r
 other_rows_are_kept before new_row rest width i r before_has_length row_has_width r_is_not_i =
-    kept_by_order (cases_order r i)
+    row_stays (cases_order r i)
   where
     rest_after_row : (xs : List ℕ) → i * width ≤ r * width
         → drop (r * width) (before ++ xs) ≡ drop (r * width - i * width) xs
@@ -61,16 +61,16 @@ other_rows_are_kept before new_row rest width i r before_has_length row_has_widt
         ap (λ k. drop k (before ++ xs)) row_start_is
         ∙ drop-append-add before xs (r * width - i * width)
 
-    kept_by_order : (r ≡ i) ⊎ ((r < i) ⊎ (i < r))
+    row_stays : (r ≡ i) ⊎ ((r < i) ⊎ (i < r))
         → row_at (before ++ (new_row ++ drop width rest)) width r ≡ row_at (before ++ rest) width r
-    kept_by_order (inl r_is_i) = absurd (r_is_not_i r_is_i)
-    kept_by_order (inr (inl r_lt_i)) =
+    row_stays (inl r_is_i) = absurd (r_is_not_i r_is_i)
+    row_stays (inr (inl r_lt_i)) =
         let row_end_le_before = lower_row_ends_before width i r r_lt_i in
         let row_in_before : r * width + width ≤ length before =
         omega (arith, row_end_le_before, before_has_length) in
         row_of_longer_is_kept before (new_row ++ drop width rest) width r row_in_before
         ∙ sym (row_of_longer_is_kept before rest width r row_in_before)
-    kept_by_order (inr (inr i_lt_r)) =
+    row_stays (inr (inr i_lt_r)) =
         let next_row_le = lower_row_ends_before width r i i_lt_r in
         let own_start_le : i * width ≤ r * width = omega (arith, next_row_le) in
         ap (take (r * width + width - r * width))
