@@ -34,8 +34,8 @@ bytes-requires g c =
     let lent_length = ap length c.text.ensures in
     let end_le_length = word_is_within.1 in
     record {
-      order = word_is_within.0;
-      within =
+      start_le_end = word_is_within.0;
+      end_le_length =
           omega (arith, end_le_length, text_lengths_equal, lent_length);
     }
 
