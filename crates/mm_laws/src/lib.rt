@@ -8,8 +8,8 @@
 //! that isn't true, and the prover refuses each, since the law's proof doesn't prove it: a premise
 //! says less, two arguments are exchanged, or a definition on which the law depends says something
 //! else. One, `open_theorems_left_out`, is true, but says less than the law. Each clause has one
-//! edit, named after the mistake. Each law's statement is in a file of its own, so that a change of
-//! one is tried without the others being read again. Small texts for which the definitions are
+//! edit, named after the mistake. The statements of the laws are in files of their own
+//! (`specs/Laws`), so that a change of one is tried without the others being read again. Small texts for which the definitions are
 //! worked out are in `proofs/` (`ExamplesLaw`, `VectorsLaw`, `OutputsLaw`).
 //!
 //! A law of what is read (`WhereRead`) holds of the statements as they count: with open theorems as

@@ -1,7 +1,7 @@
 //! The proved core as a library for C: calls that work on the calling thread alone, in memory that
 //! the caller lends. It starts no thread, calls nothing of the caller's, and keeps nothing between
-//! calls. What C passes as a slice is a pointer, which isn't null and may be dangling if the length
-//! is 0, and a length in bytes.
+//! calls. C passes a slice as a pointer and a length in bytes. The pointer is never null; if the
+//! length is 0, it may be dangling.
 #![tactic(auto)]
 
 ghost use Rattle.std.specs.Prelude.{◌≡◌, ◌⊎◌, [], ◌∷◌, length, take};

@@ -4,7 +4,7 @@
 //! types that go with the definitions are declared here. There is no code except the numbers
 //! of codes, the bytes of a word and the request without options. What a reader has to believe of
 //! this crate are these types and the folder `specs/` without `specs/Laws`, which has definitions
-//! that only laws and proofs use. The laws that the definitions obey are in the crate `mm_laws`.
+//! on which no output depends: laws, proofs and contracts of other crates use them. The laws that the definitions obey are in the crate `mm_laws`.
 #![tactic(auto)]
 
 ghost use Rattle.std.specs.Prelude.{◌≡◌};

@@ -1,5 +1,5 @@
-//! A caller of the layers who knows only their public calls: each is made once, by its name and with
-//! its arguments in their order, on the text with the first theorem. `status` is called in the tests
+//! A caller of the layers who knows only their public calls: each call of a run with threads is made
+//! once, by its name and with its arguments in their order, on the text with the first theorem. `status` is called in the tests
 //! of the program.
 
 ghost use Rattle.std.specs.Prelude.{◌≡◌, IfOk, Option, false, length};

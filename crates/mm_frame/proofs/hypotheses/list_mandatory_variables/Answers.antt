@@ -46,14 +46,14 @@ loop-essential-init g c = record {
       (c.in_ok-add_variables.ensures.variables_are_added x);
 }
 
-pub add_variables-requires-in-loop-essential-clause-symbols :
-    goal.add_variables-requires-in-loop-essential-clause-symbols
-add_variables-requires-in-loop-essential-clause-symbols g c =
+pub add_variables-requires-in-loop-essential-clause-symbols_lt_count :
+    goal.add_variables-requires-in-loop-essential-clause-symbols_lt_count
+add_variables-requires-in-loop-essential-clause-symbols_lt_count g c =
     c.formula-in-loop-essential.ensures.symbols_lt_count
 
-pub add_variables-requires-in-loop-essential-clause-stamps :
-    goal.add_variables-requires-in-loop-essential-clause-stamps
-add_variables-requires-in-loop-essential-clause-stamps g c = c.loop-essential.invariant.stamps
+pub add_variables-requires-in-loop-essential-clause-are_stamps :
+    goal.add_variables-requires-in-loop-essential-clause-are_stamps
+add_variables-requires-in-loop-essential-clause-are_stamps g c = c.loop-essential.invariant.stamps
 
 pub loop-essential-preserved : goal.loop-essential-preserved
 loop-essential-preserved g c = record {

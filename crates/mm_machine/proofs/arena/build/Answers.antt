@@ -57,7 +57,7 @@ loop-part-preserved g c =
     ≡ replaced xs es (take i f) ++ replaced_part xs es p =
     replaced_take_suc xs es f i p c.loop-part-test.true
     ∙ ap (λ z. replaced xs es (take i f) ++ replaced_part xs es z) (sym c.part-item.is) in
-    elim c.match-symbol.branch [
+    elim c.match-unpack.branch [
       | in-Variable+in_ok-append_symbols-in-Variable+else-len-gt-FORMULA_LIMIT w ↦
           let formula_is_replaced_part : w.formula.result.now ≡ replaced_part xs es p =
           w.formula.ensures ∙ ap (span_formula xs) w.replacement_of.ensures

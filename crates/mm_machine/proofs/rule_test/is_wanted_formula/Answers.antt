@@ -45,7 +45,7 @@ loop-part-preserved c =
     let a = c.loop-part.index in
     let e = c.args.premise.end in
     let i_lt_length_w : i < length w = c.loop-part-test.true in
-    elim c.match-symbol.branch [
+    elim c.match-unpack.branch [
       | in-Variable+else-not-begins_with b ↦
           let p = b.replacement_of-span.result in
           let replaced_part_is : replaced_part arena es c.part-item.result ≡ span_formula arena p =

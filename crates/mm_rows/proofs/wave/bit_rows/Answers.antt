@@ -5,8 +5,8 @@ use Rattle.rayon.proofs.ListFacts.{IfOk-then}
 use Rattle.rayon.proofs.ToStd.{nat_range-All}
 use Rattle.mm_rows.proofs.wave.bit_rows.Goals as goal
 
-pub collect-requires-clause-have_cited_rows : goal.collect-requires-clause-have_cited_rows
-collect-requires-clause-have_cited_rows g c κs k_lt_length =
+pub collect-requires-clause-ready : goal.collect-requires-clause-ready
+collect-requires-clause-ready g c κs k_lt_length =
     let range_ends_are = c.into_par_iter.ensures in
     let each_lt_length =
     nat_range-All (λ i. i < length c.args.rows.now) 0 (length c.args.rows.now)
