@@ -400,18 +400,19 @@ module _ {A : Type 0} (job : Job A) where
             All-push (AreFindings job.database.now.statements job.essential) [] w.findings
             (λ k d k_lt_0. absurd (omega arith)) seat_tells.are_findings;
         settled_are_valid =
-            λ i i_is_settled. (
-              w.findings,
-              (0, omega arith, refl),
-              times_contains i w.findings.valid.items
+            λ i i_is_settled. record {
+              findings = w.findings;
+              are_listed = (0, omega arith, refl);
+              has_index =
+                  times_contains i w.findings.valid.items
                   (subst (λ (l : List ℕ). 0 < times_in i l) seat_tells.settled_are_valid
-                  i_is_settled),
-            );
-        reported_are_faulty = λ i i_is_reported. (
-          w.findings,
-          (0, omega arith, refl),
-          seat_tells.reported_is_faulty i i_is_reported,
-        );
+                  i_is_settled);
+            };
+        reported_are_faulty = λ i i_is_reported. record {
+          findings = w.findings;
+          are_listed = (0, omega arith, refl);
+          index_is = seat_tells.reported_is_faulty i i_is_reported;
+        };
       })
 
   -- one more worker's seat
