@@ -9,7 +9,7 @@ use Rattle.mm_spec.specs.Derivation.{Formula, is_member}
 use Rattle.mm_spec.specs.Steps.{label, marked}
 use Rattle.mm_spec.specs.Valid.{Reason}
 use Rattle.mm_spec.specs.Citation.{context_at}
-use Rattle.mm_spec.specs.Laws.Stack.{IsCompleteReferent, step}
+use Rattle.mm_spec.specs.Laws.Stack.{IsCompleteReferent, label_entries}
 use Rattle.mm_rule.specs.Assertions.{is_assertion_at}
 use Rattle.mm_machine.specs.State.{MachineState, machine_state, applied}
 use Rattle.mm_machine.specs.Applied.{IsRefusalOf}
@@ -56,7 +56,7 @@ module _ (db : List Statement) (t : ℕ) where
     applied_step_performs m noted cache entries_are marks_stay formulas_stay has_entry noted_are =
         record {
           entries_are =
-              λ ends agree. ap (λ r. step (context_at db t) r c.machine.stack)
+              λ ends agree. ap (λ r. label_entries (context_at db t) r c.machine.stack)
               (assertion_rule db t a is_assertion rule_is_complete)
               ∙ entries_are;
           marks_stay = marks_stay;
@@ -75,6 +75,6 @@ module _ (db : List Statement) (t : ℕ) where
         → IsStepRefusal db t (label a) c e
     refusal_is_of_step e is_refusal =
         λ ends agree. subst (IsRefusalOf e)
-        (sym (ap (λ r. step (context_at db t) r c.machine.stack) (assertion_rule db t a is_assertion
+        (sym (ap (λ r. label_entries (context_at db t) r c.machine.stack) (assertion_rule db t a is_assertion
         rule_is_complete)))
         is_refusal

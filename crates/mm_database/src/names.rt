@@ -18,9 +18,9 @@ pub struct Symbol<'a> {
     pub is_variable: bool,
     /// The statement that declared the variable last.
     pub declaration: u32,
-    /// The last `$f` of the variable.
+    /// The last `$f` of the variable, or `NEVER` if it has none yet.
     pub typing: u32,
-    /// The typecode of that `$f`.
+    /// The typecode of that `$f`; the symbol itself, if there is none yet.
     pub typecode: &'a [u8],
 }
 

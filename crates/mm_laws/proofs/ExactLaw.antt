@@ -12,7 +12,7 @@ use Rattle.mm_spec.specs.Limits.{formula_limit}
 use Rattle.mm_spec.specs.Valid.{Reason, too_few, unmatched, not_disjoint, too_long, Fails}
 use Rattle.mm_spec.proofs.UnifyLaw.{tested_equal_are_equal, found_gives_formula}
 use Rattle.mm_spec.proofs.UnifyLaw.{found_keeps_disjoint}
-use Rattle.mm_spec.specs.Laws.Stack.{substitution_from, IsCompleteReferent, step, apply}
+use Rattle.mm_spec.specs.Laws.Stack.{substitution_from, IsCompleteReferent, label_entries, apply}
 use Rattle.mm_spec.specs.Laws.Stack.{unless_failed}
 use Rattle.mm_spec.specs.Laws.Stack.{unless_too_long}
 use Rattle.mm_spec.proofs.MachineLaw.{proceed, run, AreGood, forest_is_run}
@@ -27,7 +27,7 @@ module _ (c : Context) where
   -- a step that fails stops the run, for that reason
   pub step_stops_if_fails : (r : Option Referent) (es : List Formula) (reason : Reason)
       → IsCompleteReferent c r
-      → Fails c r es reason → step c r es ≡ Err reason
+      → Fails c r es reason → label_entries c r es ≡ Err reason
   step_stops_if_fails None es too_few is_complete fails = absurd fails
   step_stops_if_fails None es unmatched is_complete fails = absurd fails
   step_stops_if_fails None es not_disjoint is_complete fails = absurd fails

@@ -2,10 +2,10 @@
 use Rattle.std.proofs.Common.{cond, ◌≡◌, ◌≢◌, ℕ, zero, suc, ◌+◌, ◌-◌, ◌==◌, ◌<◌, ◌≤◌, Bool, true}
 use Rattle.std.proofs.Common.{false, ◌&&◌, ◌⊎◌, inl, inr, List, [], ◌∷◌, ◌++◌, map, length}
 use Rattle.std.proofs.Common.{flat_map, count_by, Some, nat_le, nat_lt, bytes_eq, codes, refl, sym}
-use Rattle.std.proofs.Common.{ap, ap₂, ◌∙◌, subst, true≢false, arith, leb-true, le-leb, ltb-true}
-use Rattle.std.proofs.Common.{eqb-true, eq-eqb, append_assoc, append-nil}
+use Rattle.std.proofs.Common.{ap, ap₂, ◌∙◌, subst, true≢false, arith, leb-true, le-leb}
+use Rattle.std.proofs.Common.{eq-eqb, append_assoc, append-nil}
 use Rattle.std.specs.List.{list_any, range_with_len, AllByRecursion, AllZip, filter}
-use Rattle.std.proofs.lemmas.Bool.{and_parts, and_from, cases_eq}
+use Rattle.std.proofs.lemmas.Bool.{and_parts, and_from, cases_eq, le-ltb, ne_eqb}
 use Rattle.std.proofs.lemmas.Slice.Eq.{bytes_eq-Decides}
 use Rattle.mm_spec.specs.Text.{Token, fault}
 use Rattle.mm_spec.specs.declared.Fault.{Fault}
@@ -365,20 +365,6 @@ spelled_are_faultless (mark ∷ items) xs label_count marks count are_spelled ar
 
 -- ---- groups without faults
 
-less_is_false : (n m : ℕ) → n ≤ m → nat_lt m n ≡ false
-less_is_false n m n_le_m = not_less_by_test (nat_lt m n) refl
-  where
-    not_less_by_test : (b : Bool) → nat_lt m n ≡ b → nat_lt m n ≡ false
-    not_less_by_test true m_lt_n = absurd (let m_lt_n_holds = ltb-true m n m_lt_n in omega arith)
-    not_less_by_test false not_less = not_less
-
-equal_is_false : (m n : ℕ) → (m ≡ n → ⊥) → (m == n) ≡ false
-equal_is_false m n differ = not_equal_by_test (m == n) refl
-  where
-    not_equal_by_test : (b : Bool) → (m == n) ≡ b → (m == n) ≡ false
-    not_equal_by_test true are_equal = absurd (differ (eqb-true m n are_equal))
-    not_equal_by_test false not_equal = not_equal
-
 no_faults_of_faultless : (gs : List Group) (label_count marks count : ℕ)
     → AreFaultless label_count marks count gs
     → group_faults label_count marks count gs ≡ []
@@ -423,10 +409,10 @@ no_faults_of_faultless (g ∷ gs) label_count marks count are_faultless =
         leb-true g.last.byte 84 (and_parts (nat_le 65 g.last.byte) (nat_le g.last.byte 84)
         group_is_faultless.0).1 in
         let not_mark : (g.last.byte == 90) ≡ false =
-        equal_is_false g.last.byte 90 (λ byte_is_90. omega arith) in
+        ne_eqb g.last.byte 90 (λ byte_is_90. omega arith) in
         ap₂ (λ a b. faults_of_group a b ++ faults_of_later_groups b) group_is_faultless.0 not_mark
         ∙ ap₂ (λ b ys. faults_at (starts_at g) (when b NumberTooLarge) ++ ys)
-        (less_is_false (value g) (label_count + marks) group_is_faultless.1) (after_number
+        (le-ltb (label_count + marks) (value g) group_is_faultless.1) (after_number
         group_is_faultless.2)
     number_or_mark (inr group_is_faultless) after_number after_mark =
         let is_mark_letter : (g.last.byte == 90) ≡ true = eq-eqb g.last.byte 90 group_is_faultless.1
@@ -436,7 +422,7 @@ no_faults_of_faultless (g ∷ gs) label_count marks count are_faultless =
         is_mark_letter
         ∙ ap₂ (λ (e : List Letter) (b : Bool). faults_at g.last.at
         (when (nat_lt 0 (length e)) OpenNumber ++ when b MarkBeforeStep)
-        ++ group_faults label_count (marks + 1) count gs) group_is_faultless.2 (equal_is_false count
+        ++ group_faults label_count (marks + 1) count gs) group_is_faultless.2 (ne_eqb count
         0 (λ count_is_0. omega arith))
         ∙ after_mark group_is_faultless.4
 

@@ -14,7 +14,7 @@ use Rattle.mm_spec.specs.Valid.{too_long}
 use Rattle.mm_spec.specs.Frame.{is_variable_number, formula_at, frame_at}
 use Rattle.mm_spec.specs.Citation.{context_at}
 use Rattle.mm_spec.specs.Laws.Stack.{substitution_from, are_equal, unless_failed, unless_too_long}
-use Rattle.mm_spec.specs.Laws.Stack.{apply, step}
+use Rattle.mm_spec.specs.Laws.Stack.{apply, label_entries}
 use Rattle.mm_rule.specs.declared.rule.RulePart.TheVariants.{Constant, Variable}
 use Rattle.mm_rule.specs.Rule.{floating_index, parts_of, IsVariableBelow, CompiledRule, IsCompiled}
 use Rattle.mm_machine.specs.State.{applied}
@@ -35,7 +35,7 @@ no_pairs (p ∷ ps) all_below_0 =
 module _ (c : Context) (a : Frame) (hypotheses_are_nil : a.hypotheses
     ≡ []) (pairs_are_nil : a.pairs ≡ [])
     (formula_stays : (σ : Substitution) → substitute c σ a.formula ≡ a.formula) where
-  step_alone : (es : List Formula) → step c (Some (assertion a)) es
+  step_alone : (es : List Formula) → label_entries c (Some (assertion a)) es
       ≡ unless_too_long (nat_le (length a.formula) formula_limit) (es ++ a.formula ∷ [])
   step_alone es =
       let length_hypotheses_is_0 : length a.hypotheses ≡ 0 = ap length hypotheses_are_nil in
@@ -54,12 +54,12 @@ module _ (c : Context) (a : Frame) (hypotheses_are_nil : a.hypotheses
       ∙ ap (λ f. unless_too_long (nat_le (length f) formula_limit) (es ++ f ∷ [])) (formula_stays σ)
 
 module _ (db : List Statement) (t : ℕ) (hs : List Formula) (σ : Substitution) where
-  no_variables : (f : Formula) → AllByRecursion (IsVariableBelow 0) (parts_of db hs f)
+  formula_stays_itself : (f : Formula) → AllByRecursion (IsVariableBelow 0) (parts_of db hs f)
       → substitute (context_at db t) σ f ≡ f
-  no_variables [] variables_below_0 = refl
-  no_variables (s ∷ f) variables_below_0 =
+  formula_stays_itself [] variables_below_0 = refl
+  formula_stays_itself (s ∷ f) variables_below_0 =
       ap₂ (λ u v. u ++ v) (symbol_stays (is_variable_number db s) variables_below_0.0)
-      (no_variables f variables_below_0.1)
+      (formula_stays_itself f variables_below_0.1)
     where
       symbol_stays : (v : Bool) → IsVariableBelow 0 (cond v (Variable (floating_index db hs s))
           (Constant s))
@@ -113,7 +113,7 @@ module _ (db : List Statement) (t : ℕ) (c : CompiledRule) (rule : IsCompiled d
       ≡ unless_too_long (nat_le (length f) formula_limit) (es ++ f ∷ [])
   applied_pushes_formula es =
       step_alone (context_at db t) frame hypotheses_are pairs_are
-      (λ σ. no_variables db t frame.hypotheses σ f symbols_are_constants) es
+      (λ σ. formula_stays_itself db t frame.hypotheses σ f symbols_are_constants) es
 
   pub applied_alone_is_ok : (es : List Formula) → length f ≤ formula_limit
       → applied db t c.assertion es ≡ Ok (es ++ f ∷ [])

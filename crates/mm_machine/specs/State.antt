@@ -7,7 +7,7 @@ use Rattle.mm_spec.specs.Limits.{formula_limit}
 use Rattle.mm_spec.specs.Valid.{Reason as SpecReason, too_few, unmatched, not_disjoint, too_long}
 use Rattle.mm_spec.specs.Frame.{frame_at}
 use Rattle.mm_spec.specs.Citation.{context_at}
-use Rattle.mm_spec.specs.Laws.Stack.{step, unless_too_long, top}
+use Rattle.mm_spec.specs.Laws.Stack.{label_entries, unless_too_long, top}
 use Rattle.mm_machine.specs.declared.arena.Span.{Span}
 use Rattle.mm_machine.specs.declared.reason.Reason.{Reason}
 use Rattle.mm_machine.specs.declared.reason.Reason.TheVariants.{TooFew, Unmatched, NotDisjoint}
@@ -111,7 +111,7 @@ reason_of TooLong = too_long
 
 -- the entries after the step of an assertion
 abbrev pub applied : List Statement → ℕ → ℕ → List Formula → Result (List Formula) SpecReason
-applied db t a es = step (context_at db t) (Some (assertion (frame_at db a))) es
+applied db t a es = label_entries (context_at db t) (Some (assertion (frame_at db a))) es
 
 -- The entries after a step that takes those from index `below` on as its premises, and pushes the
 -- parts with each variable replaced. It fails if that formula is too long.

@@ -43,8 +43,8 @@ module _ {A : Type 0} where
   abbrev pub symbol_in : Scope A → List ℕ → Option Symbol
   symbol_in s = find s.names.symbols
 
-  abbrev pub entry_in : Scope A → List ℕ → Option WordEntry
-  entry_in s w = entry_of (symbol_in s w)
+  abbrev pub word_entry_in : Scope A → List ℕ → Option WordEntry
+  word_entry_in s w = entry_of (symbol_in s w)
 
   abbrev pub label_in : Scope A → List ℕ → Option ℕ
   label_in s = find s.names.labels

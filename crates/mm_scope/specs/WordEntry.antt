@@ -10,7 +10,8 @@ use Rattle.mm_outline.specs.Typed.{has_word, typed_words}
 use Rattle.mm_database.specs.declared.names.Symbol.{Symbol}
 
 -- what is known of a symbol: whether it is a variable, the statement that declared it last, the
--- last `$f` that typed it, and its typecode, as bytes
+-- last `$f` that typed it, or `never`, and its typecode, as bytes; as long as no `$f` has typed it,
+-- the symbol itself stands for that
 pub record WordEntry : Type 0 where
   pub is_variable : Bool
   pub declaration : ℕ

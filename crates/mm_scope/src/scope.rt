@@ -16,7 +16,7 @@ ghost use Rattle.mm_scope.specs.WordEntry.{after_declaring, after_typing, declar
 ghost use Rattle.mm_scope.specs.WordEntry.{entry_after, label_after};
 ghost use Rattle.mm_scope.specs.Scopes.{Declares, IsAmong, IsLeastCode, IsLeastFault};
 ghost use Rattle.mm_scope.specs.Scopes.{IsScopeAfter, IsNextScope, declared_words, listed_words};
-ghost use Rattle.mm_scope.specs.Scopes.{symbol_in, entry_in, label_in, names_in};
+ghost use Rattle.mm_scope.specs.Scopes.{symbol_in, word_entry_in, label_in, names_in};
 
 use mm_database::names::{NameTable, Symbol};
 use mm_outline::blocks::{Blocks, NEVER};
@@ -235,9 +235,9 @@ impl<'a, A: Allocator + Copy> Scope<'a, A> {
         requires few_tokens { length tokens.now < 2 ^ 31 }
         ensures symbols_are_added { OnOk result
             ((w : List ℕ)
-            → entry_in self.new w
+            → word_entry_in self.new w
             ≡ entry_after statement (statement_of text.now tokens.now outline) w
-            (entry_in self.old w)) }
+            (word_entry_in self.old w)) }
         ensures label_is_added { OnOk result
             ((w : List ℕ)
             → label_in self.new w
@@ -309,9 +309,9 @@ impl<'a, A: Allocator + Copy> Scope<'a, A> {
             ((w : List ℕ) → label_in self.new w ≡ label_in self.old w) }
         ensures variable_is_typed { OnOk result
             ((w : List ℕ)
-            → entry_in self.new w
+            → word_entry_in self.new w
             ≡ after_typing statement (token_at text.now tokens.now from).word
-            (token_at text.now tokens.now (from + 1)).word (entry_in self.old) w) }
+            (token_at text.now tokens.now (from + 1)).word (word_entry_in self.old) w) }
         ensures blocks_stay { self.new.blocks ≡ self.old.blocks }
         ensures names_stay { OnOk result
             (names_in self.new ≡ names_in self.old) }
@@ -349,9 +349,9 @@ impl<'a, A: Allocator + Copy> Scope<'a, A> {
             ((w : List ℕ) → label_in self.new w ≡ label_in self.old w) }
         ensures symbols_are_declared { OnOk result
             ((w : List ℕ)
-            → entry_in self.new w
+            → word_entry_in self.new w
             ≡ after_declaring is_variable statement (listed_words text.now tokens.now outline) w
-            (entry_in self.old w)) }
+            (word_entry_in self.old w)) }
         ensures blocks_stay { self.new.blocks ≡ self.old.blocks }
         ensures names_are_declared { OnOk result
             (Declares self.old self.new (listed_words text.now tokens.now outline)) }

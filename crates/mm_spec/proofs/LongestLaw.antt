@@ -164,8 +164,8 @@ TransitionHolds d part (completed e s) =
     (spelling_of s ≡ part) × (is_complete s ≡ true) × (is_closing s ≡ true → 0 < d) ×
     (depth_following s d ≡ e)
 
-open_if_not_closing : (s : Statement) (d : ℕ) → is_closing s ≡ false → is_closing s ≡ true → 0 < d
-open_if_not_closing s d not_closing is_closing_s =
+needs_no_open_block : (s : Statement) (d : ℕ) → is_closing s ≡ false → is_closing s ≡ true → 0 < d
+needs_no_open_block s d not_closing is_closing_s =
     absurd (true≢false (sym is_closing_s ∙ not_closing))
 
 transition_holds : (r : Progress) (part : List Token) (t : Token) (k : Class) → Meaning k t.word
@@ -209,7 +209,7 @@ transition_holds (start d) part t disjoint_keyword word_has_meaning part_is_read
 transition_holds (start d) part t open_block word_has_meaning part_is_read = (
   ap₂ (λ p v. p ++ token t.at v ∷ []) (sym part_is_read) (sym word_has_meaning),
   refl,
-  open_if_not_closing
+  needs_no_open_block
       (opening t.at) d refl,
   refl,
 )
@@ -319,7 +319,7 @@ transition_holds (words d make ws) part t dot word_has_meaning part_is_read = (
       ∙ sym (append_assoc part_is_read.front ws (token t.at (codes "$.") ∷ []))
       ∙ ap₂ (λ y v. y ++ token t.at v ∷ []) (sym part_is_read.part_is) (sym word_has_meaning),
   part_is_read.is_complete_if_plain ws t.at part_is_read.are_plain,
-  open_if_not_closing (make ws t.at) d (part_is_read.not_closing ws t.at),
+  needs_no_open_block (make ws t.at) d (part_is_read.not_closing ws t.at),
   part_is_read.keeps_depth ws t.at d,
 )
 transition_holds _ part t _ word_has_meaning part_is_read = tt

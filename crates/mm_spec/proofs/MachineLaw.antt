@@ -17,7 +17,7 @@ use Rattle.mm_spec.proofs.UnifyLaw.{tested_equal_are_equal, equal_are_tested_equ
 use Rattle.mm_spec.proofs.UnifyLaw.{found_gives_formula, found_gives_formulas}
 use Rattle.mm_spec.proofs.UnifyLaw.{found_keeps_disjoint}
 use Rattle.mm_spec.specs.Laws.Stack.{substitution_from, are_equal, unless_failed, unless_too_long}
-use Rattle.mm_spec.specs.Laws.Stack.{apply, step, IsCompleteReferent}
+use Rattle.mm_spec.specs.Laws.Stack.{apply, label_entries, IsCompleteReferent}
 use Rattle.mm_spec.specs.Laws.Complete.{IsComplete}
 
 -- the index of the label at which a run fails, and why it fails
@@ -35,12 +35,12 @@ module _ (c : Context) where
   -- the entries after the steps of the labels, the first of which has the index n
   abbrev pub run : ℕ → List ℕ → List Formula → Result (List Formula) RunFailure
   run n [] es = Ok es
-  run n (l ∷ ls) es = proceed (step c (c.referent l) es) n (run (suc n) ls)
+  run n (l ∷ ls) es = proceed (label_entries c (c.referent l) es) n (run (suc n) ls)
 
   -- a step that a derivation makes is made
   assertion_is_taken : (a : Frame) (es : List Formula) (τ : Substitution) → IsComplete c a
       → KeepsDisjoint c a τ → length (substitute c τ a.formula) ≤ formula_limit
-      → step c (Some (assertion a)) (es ++ map (substitute c τ) a.hypotheses)
+      → label_entries c (Some (assertion a)) (es ++ map (substitute c τ) a.hypotheses)
       ≡ Ok (es ++ substitute c τ a.formula ∷ [])
   assertion_is_taken a es τ is_complete keeps_disjoint formula_le_limit =
       let hs = a.hypotheses in
@@ -74,7 +74,7 @@ module _ (c : Context) where
   pub follows_is_taken : (r : Option Referent) (es ps : List Formula) (f : Formula)
       → IsCompleteReferent c r
       → Follows c r ps f
-      → step c r (es ++ ps) ≡ Ok (es ++ f ∷ [])
+      → label_entries c r (es ++ ps) ≡ Ok (es ++ f ∷ [])
   follows_is_taken None es ps f is_complete follows = absurd follows
   follows_is_taken (Some (hypothesis g)) es ps f is_complete follows =
       grind (arith, common_steps, append-nil, le-leb)
@@ -190,12 +190,12 @@ module _ (c : Context) where
       grind (arith, common_steps, equal_are_tested_equal, found_gives_formulas)
 
   assertion_has_outcome : (a : Frame) (es : List Formula) → IsComplete c a
-      → StepOutcome (Some (assertion a)) es (step c (Some (assertion a)) es)
+      → StepOutcome (Some (assertion a)) es (label_entries c (Some (assertion a)) es)
   assertion_has_outcome a es is_complete =
       grind (arith, common_steps, leb-false, leb-true, found_matches_if_any, tested_equal_are_equal)
 
   pub step_has_outcome : (r : Option Referent) (es : List Formula) → IsCompleteReferent c r
-      → StepOutcome r es (step c r es)
+      → StepOutcome r es (label_entries c r es)
   step_has_outcome None es is_complete = absurd is_complete
   step_has_outcome (Some (hypothesis g)) es is_complete =
       hypothesis_has_outcome g es (nat_le (length g) formula_limit) refl

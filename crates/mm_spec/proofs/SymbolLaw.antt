@@ -52,17 +52,17 @@ formula_symbols_are_named n s (t ∷ ts) end no_faults w w_is_there =
         each_word_has_no_codes (symbol_codes n) [] ts
         (both_are_empty (faults_at t.at (when (not (is_in t.word n.constants)) BadTypecode))
         (faults_at_each (symbol_codes n) [] ts) no_faults).1 w is_there in
-        named_if_known (or_cases (is_in w n.constants) (is_in w n.active_variables)
+        named_if_declared (or_cases (is_in w n.constants) (is_in w n.active_variables)
         (not-false (is_in w n.constants || is_in w n.active_variables)
         (no_code_if_false (not (is_in w n.constants || is_in w n.active_variables)) UndeclaredSymbol
         (both_are_empty
         (when (not (is_in w n.constants || is_in w n.active_variables)) UndeclaredSymbol)
         (when (is_in w n.active_variables && not (is_typed n w)) UntypedVariable) codes_of_w.1).0)))
       where
-        named_if_known : (is_in w n.constants ≡ true) ⊎ (is_in w n.active_variables ≡ true)
+        named_if_declared : (is_in w n.constants ≡ true) ⊎ (is_in w n.active_variables ≡ true)
             → IsNamed n s w
-        named_if_known (inl is_constant) = constant is_constant
-        named_if_known (inr is_variable) = variable is_variable
+        named_if_declared (inl is_constant) = constant is_constant
+        named_if_declared (inr is_variable) = variable is_variable
 
 floating_symbols_are_named : (n : Names) (s : Statement) (keyword : ℕ) (xs : List Token)
     → floating_faults n keyword xs ≡ [] → (w : Bytes) → is_in w (words xs) ≡ true → IsNamed n s w

@@ -14,8 +14,8 @@ use Rattle.mm_spec.specs.declared.Code.TheVariants.{NotOneEntry, OtherFormula, F
 use Rattle.mm_spec.specs.declared.Code.{Code}
 
 -- the last n entries
-abbrev pub last_of : ℕ → List Formula → List Formula
-last_of n entries = drop (length entries - n) entries
+abbrev pub topmost : ℕ → List Formula → List Formula
+topmost n entries = drop (length entries - n) entries
 
 -- x is the postfix list of the last tree
 abbrev pub IsLastTree : Trees → List ℕ → Type 0
@@ -76,13 +76,13 @@ module _ (c : Context) where
   Fails (Some (assertion a)) entries too_few = length entries < length a.hypotheses
   Fails (Some (assertion a)) entries unmatched =
       (length a.hypotheses ≤ length entries)
-      × ((σ : Substitution) → ¬ Matches c a (last_of (length a.hypotheses) entries) σ)
+      × ((σ : Substitution) → ¬ Matches c a (topmost (length a.hypotheses) entries) σ)
   Fails (Some (assertion a)) entries not_disjoint =
       (σ : Substitution) × (length a.hypotheses ≤ length entries)
-      × Matches c a (last_of (length a.hypotheses) entries) σ × (¬ KeepsDisjoint c a σ)
+      × Matches c a (topmost (length a.hypotheses) entries) σ × (¬ KeepsDisjoint c a σ)
   Fails (Some (assertion a)) entries too_long =
       (σ : Substitution) × (length a.hypotheses ≤ length entries)
-      × Matches c a (last_of (length a.hypotheses) entries) σ × KeepsDisjoint c a σ
+      × Matches c a (topmost (length a.hypotheses) entries) σ × KeepsDisjoint c a σ
       × (formula_limit < length (substitute c σ a.formula))
   Fails _ entries _ = ⊥
 

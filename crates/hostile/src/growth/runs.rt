@@ -25,7 +25,7 @@ const WORKERS: u32 = 2;
 
 /// Whether a run wrote exactly this output, and allocated nothing while it wrote. `None` if it ran
 /// out of memory and wrote nothing.
-fn is_right_run<R: Threads + Wait + Sync>(
+fn writes_without_growth<R: Threads + Wait + Sync>(
     rt: &R,
     alloc: Global,
     heap: &Refusing<Global>,
@@ -60,9 +60,9 @@ fn assert_right_with_refusal<R: Abort + Threads + Wait + Sync>(
     growth: u64,
 ) -> bool {
     heap.refuse(growth);
-    let is_right = is_right_run(rt, alloc, heap, text, output);
+    let is_right = writes_without_growth(rt, alloc, heap, text, output);
     let refused = was_refused(rt, heap, is_right);
-    let is_right_again = is_right_run(rt, alloc, heap, text, output);
+    let is_right_again = writes_without_growth(rt, alloc, heap, text, output);
     assert!(rt; is_right_again == Some(true));
     refused
 }

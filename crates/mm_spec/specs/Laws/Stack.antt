@@ -66,12 +66,12 @@ module _ (c : Context) where
       (nat_le (length (substitute c σ a.formula)) formula_limit)
       (below ++ substitute c σ a.formula ∷ [])
 
-  -- the step of a label, by what it refers to
-  abbrev pub step : Option Referent → List Formula → Result (List Formula) Reason
-  step None es = Err too_few
-  step (Some (hypothesis g)) es =
+  -- the entries after the step of a label, by what it refers to
+  abbrev pub label_entries : Option Referent → List Formula → Result (List Formula) Reason
+  label_entries None es = Err too_few
+  label_entries (Some (hypothesis g)) es =
       unless_too_long (nat_le (length g) formula_limit) (es ++ g ∷ [])
-  step (Some (assertion a)) es = let n = length es - length a.hypotheses in
+  label_entries (Some (assertion a)) es = let n = length es - length a.hypotheses in
       apply a (nat_le (length a.hypotheses) (length es)) (take n es) (drop n es)
 
   -- the label refers to something, and the frame is complete if that is an assertion
@@ -89,7 +89,7 @@ module _ (c : Context) where
 
   -- the entries after a step; `last_entries` has the last entry after each step so far
   abbrev pub step_entries : Step → List Formula → List Formula → Result (List Formula) Reason
-  step_entries (label l) last_entries es = step (c.referent l) es
+  step_entries (label l) last_entries es = label_entries (c.referent l) es
   step_entries (marked j) last_entries es =
       elim (slice_get last_entries j) [ None ↦ Ok es | Some f ↦ Ok (es ++ f ∷ []) ]
 
