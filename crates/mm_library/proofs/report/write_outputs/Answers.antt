@@ -12,7 +12,7 @@ use Rattle.mm_library.proofs.report.write_outputs.Goals as goal
 pub write_output-requires-then-with_citations : goal.write_output-requires-then-with_citations
 write_output-requires-then-with_citations g c =
     record {
-      judged =
+      is_judged =
           subst
           (λ (r : Request). IsJudgedText c.args.text.now r.essential r.with_open
           c.args.judged.now) (sym c.citing.ensures) c.requires.is_judged;
