@@ -3,7 +3,8 @@
 use crate::databases::database_of;
 use crate::flags::{BY_ALL_NODES, WITHOUT_OPEN};
 use crate::texts::{chain_text, seventy_axioms_text, through_a_theorem};
-use mm_rows::{Columns, Matrix, matrix, ones, or_row, waves};
+use crate::runs::many::wide_text;
+use mm_rows::{Columns, Matrix, matrix, matrix_alone, ones, or_row, waves};
 use mm_work::{Judged, Open, check_all};
 use std::alloc::{AllocError, Global};
 use std::sync::Wait;
@@ -120,6 +121,39 @@ fn waves_are_the_longest_chains(rt: HostRuntime) -> Result<(), AllocError> {
     assert_eq!(rt; chained.len(), 130);
     for (row, wave) in chained.iter().enumerate() {
         assert_eq!(rt; *wave as usize, row);
+    }
+    Ok(())
+}
+
+/// Whether two tables have the same marks.
+fn have_equal_marks(left: &Matrix<Global>, right: &Matrix<Global>) -> bool {
+    if left.rows() != right.rows() || left.columns() != right.columns() {
+        return false;
+    }
+    for row in 0..left.rows() {
+        for column in 0..left.columns() {
+            if left.cell(row, column) != right.cell(row, column) {
+                return false;
+            }
+        }
+    }
+    true
+}
+
+// How many threads make the rows of a wave is the runtime's choice.
+#[test]
+fn rows_by_waves_are_those_in_file_order(rt: HostRuntime) -> Result<(), AllocError> {
+    let alloc = rt.alloc();
+    let text = wide_text(alloc)?;
+    let database = database_of(&rt, alloc, &text, WITHOUT_OPEN)?;
+    let columns = Columns::new(alloc, &database, None)?;
+    match check_all(&rt, alloc, &database, 1, BY_ALL_NODES, &Open)? {
+        Judged::Valid(citations) => {
+            let by_waves = matrix(&rt, alloc, &citations, &columns)?;
+            let in_order = matrix_alone(alloc, &citations, &columns)?;
+            assert!(&rt; have_equal_marks(&by_waves, &in_order));
+        }
+        Judged::Faulty(_) => assert!(&rt; false),
     }
     Ok(())
 }

@@ -90,7 +90,7 @@ fn add_wave(text: &mut Vec<u8>, letter: u8) -> Result<(), AllocError> {
 
 /// Seventy axioms, 700 theorems that cite one of them each, and 700 that cite one of these theorems
 /// and another axiom.
-fn wide_text(alloc: Global) -> Result<Vec<u8>, AllocError> {
+pub(crate) fn wide_text(alloc: Global) -> Result<Vec<u8>, AllocError> {
     let mut text = joined(alloc, &[b"$c wff $.\n$v p $.\nwp $f wff p $.\n"])?;
     for axiom in 0..AXIOMS {
         text.push(b'a')?;
@@ -164,10 +164,9 @@ fn wide_report(alloc: Global) -> Result<Vec<u8>, AllocError> {
     Ok(report)
 }
 
-// The rows of each wave differ, and those of the second are made from those of the first. How many
-// threads make them is the runtime's choice.
+// The rows of each wave differ, and those of the second are made from those of the first.
 #[test]
-fn rows_made_by_threads(rt: HostRuntime) -> Result<(), AllocError> {
+fn rows_of_wide_waves(rt: HostRuntime) -> Result<(), AllocError> {
     let alloc = rt.alloc();
     let text = wide_text(alloc)?;
     let report = wide_report(alloc)?;

@@ -2,7 +2,7 @@
 
 mod cuts;
 mod faults;
-mod many;
+pub(crate) mod many;
 mod reports;
 
 use crate::texts::joined;
