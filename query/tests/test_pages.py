@@ -196,6 +196,10 @@ class Sources(unittest.TestCase):
         name = re.findall(r"this is the edit `(\w+)`", text)[0]
         edit = (crate / "must-fail" / f"{name}.edit").read_text()
         self.assertIn(f"```\n{edit.strip()}\n```", text)
+        answers = TOP / "crates" / "mm_check" / "proofs" / "checker" / "test_end" / "Answers.antt"
+        shown = re.findall(r"```antt\n(.*?)```", text, re.S)
+        self.assertEqual(len(shown), 1)
+        self.assertIn(shown[0], answers.read_text())
 
 
 class Map(unittest.TestCase):

@@ -6,7 +6,6 @@ ghost use Rattle.mm_spec.specs.Output.{is_theorem_at};
 ghost use Rattle.mm_steps.specs.TheoremSteps.{theorem_steps};
 ghost use Rattle.mm_check.specs.Checker.{IsMadeFor};
 
-use crate::flags::BY_ALL_NODES;
 use mm_check::{CheckRefused, Checked, Checker, check};
 use mm_plan::{Cutting, Plan};
 use mm_proof::Steps;
@@ -19,10 +18,13 @@ use std::io::{Read, Write};
 use std::sync::Wait;
 use std::thread::Threads;
 
+/// A theorem cites by all nodes of its proof.
+const BY_ALL_NODES: bool = false;
+
 /// A plan that cuts the text in this way, checks proofs with `workers` workers, and writes these
 /// sections.
 pub(crate) fn plan_of<A: Allocator>(cuts: Cutting<A>, workers: u32, choice: Choice) -> Plan<A> {
-    let mut plan = Plan::plain(cuts, workers);
+    let mut plan = Plan::without_options(cuts, workers);
     plan.choice = choice;
     plan
 }
@@ -49,9 +51,10 @@ pub(crate) fn checked<A: Allocator + Copy>(
     theorem: u32,
     steps: &Steps<A>,
 ) -> Result<Checked<A>, CheckRefused>
-    requires theorem { IsTrue (is_theorem_at database.now.statements theorem) }
-    requires steps { steps.now ≡ theorem_steps theorem (steps_at database.now.statements theorem) }
-    requires sound { reading_faults_at database.now.statements theorem ≡ [] }
+    requires is_theorem { IsTrue (is_theorem_at database.now.statements theorem) }
+    requires steps_are_read { steps.now ≡ theorem_steps theorem (steps_at database.now.statements
+        theorem) }
+    requires no_reading_faults { reading_faults_at database.now.statements theorem ≡ [] }
 {
     check(alloc, database, theorem, steps, BY_ALL_NODES)
 }
@@ -65,9 +68,10 @@ pub(crate) fn checked_by<A: Allocator + Copy>(
     steps: &Steps<A>,
 ) -> Result<Checked<A>, CheckRefused>
     requires made_for { IsMadeFor database.now.statements checker.old }
-    requires theorem { IsTrue (is_theorem_at database.now.statements theorem) }
-    requires steps { steps.now ≡ theorem_steps theorem (steps_at database.now.statements theorem) }
-    requires sound { reading_faults_at database.now.statements theorem ≡ [] }
+    requires is_theorem { IsTrue (is_theorem_at database.now.statements theorem) }
+    requires steps_are_read { steps.now ≡ theorem_steps theorem (steps_at database.now.statements
+        theorem) }
+    requires no_reading_faults { reading_faults_at database.now.statements theorem ≡ [] }
     ensures made_for { IsMadeFor database.now.statements checker.new }
 {
     checker.check(alloc, database, theorem, steps, BY_ALL_NODES)

@@ -41,7 +41,7 @@ pub(crate) enum Stop {
 pub(crate) struct StoppingWriter {
     pub taken: Vec<u8>,
     /// After how many bytes a call takes none.
-    pub room: usize,
+    pub stops_after: usize,
     pub stop: Stop,
     pub calls: usize,
 }
@@ -50,7 +50,7 @@ impl Write for StoppingWriter {
     fn write(&mut self, bytes: &[u8]) -> io::Result<usize> {
         let before = self.calls;
         self.calls = self.calls.saturating_add(1);
-        if before == self.room {
+        if before == self.stops_after {
             return match self.stop {
                 Stop::Fails(kind) => Err(io::Error::from(kind)),
                 Stop::TakesNothing => Ok(0),

@@ -11,27 +11,38 @@ use std::io::ErrorKind;
 use std::sync::Wait;
 use std::thread::Threads;
 
-/// A text whose statement isn't ended, and its refusal.
+/// A text whose statement isn't ended.
 const UNENDED: &[u8] = b"$c a";
 
+/// The refusal of that text.
 const UNENDED_REFUSAL: &[u8] = b"refused 1:5 E08\n";
 
-/// How many pieces the text is cut into, and how many workers a run has.
+/// How many pieces the text is cut into.
 const PIECES: u32 = 3;
 
+/// How many workers a run has.
 const WORKERS: u32 = 2;
 
 /// How many calls it takes to read the first text to its end.
 const READS: usize = 18;
 
-/// Whether a run on the first text has the end, the output and the number of reader calls in
-/// `want`. The reader fails at the call of the number `fails_at`.
+/// What a run comes to: its end, its output, and how often it called the reader or the writer that
+/// counts its calls.
+#[derive(Clone, Copy)]
+struct Outcome<'o> {
+    end: RunEnd,
+    output: &'o [u8],
+    calls: usize,
+}
+
+/// Whether a run on the first text has the outcome `want`, with the calls of the reader. The reader
+/// fails at the call of the number `fails_at`.
 fn failed_run_is<R: Threads + Wait + Sync>(
     rt: &R,
     alloc: Global,
     fails_at: usize,
     kind: ErrorKind,
-    want: (RunEnd, &[u8], usize),
+    want: Outcome<'_>,
 ) -> bool {
     let plan = plan_of(Cutting::Count(PIECES), WORKERS, Choice::All);
     let mut written = Vec::new(alloc);
@@ -42,7 +53,7 @@ fn failed_run_is<R: Threads + Wait + Sync>(
         calls: 0,
     };
     let end = ended(rt, alloc, &plan, &mut from, &mut written);
-    end == Some(want.0) && written.as_slice() == want.1 && from.calls == want.2
+    end == Some(want.end) && written.as_slice() == want.output && from.calls == want.calls
 }
 
 // An interrupted read fails like any other. The reader returns bytes again after the call that
@@ -55,33 +66,41 @@ fn a_read_that_fails_is_not_tried_again(rt: HostRuntime) {
         ErrorKind::WouldBlock,
     ] {
         for fails_at in 1..READS + 1 {
-            let want = (RunEnd::ReadFailed, b"".as_slice(), fails_at);
+            let want = Outcome {
+                end: RunEnd::ReadFailed,
+                output: b"".as_slice(),
+                calls: fails_at,
+            };
             assert!(&rt; failed_run_is(&rt, rt.alloc(), fails_at, kind, want));
         }
-        let want = (RunEnd::Accepted, FIRST_REPORT, READS);
+        let want = Outcome {
+            end: RunEnd::Accepted,
+            output: FIRST_REPORT,
+            calls: READS,
+        };
         assert!(&rt; failed_run_is(&rt, rt.alloc(), READS + 1, kind, want));
     }
 }
 
-/// Whether a run on the text has the end, the output and the number of writer calls in `want`. The
-/// writer takes `room` bytes before the first call that takes none.
+/// Whether a run on the text has the outcome `want`, with the calls of the writer. The writer takes
+/// `stops_after` bytes before the first call that takes none.
 fn stopped_run_is<R: Threads + Wait + Sync>(
     rt: &R,
     alloc: Global,
     mut text: &[u8],
-    room: usize,
+    stops_after: usize,
     stop: Stop,
-    want: (RunEnd, &[u8], usize),
+    want: Outcome<'_>,
 ) -> bool {
     let plan = plan_of(Cutting::Count(PIECES), WORKERS, Choice::All);
     let mut to = StoppingWriter {
         taken: Vec::new(alloc),
-        room,
+        stops_after,
         stop,
         calls: 0,
     };
     let end = ended(rt, alloc, &plan, &mut text, &mut to);
-    end == Some(want.0) && to.taken.as_slice() == want.1 && to.calls == want.2
+    end == Some(want.end) && to.taken.as_slice() == want.output && to.calls == want.calls
 }
 
 // The writer takes bytes again after the call that took none, so a second try would be noticed.
@@ -92,13 +111,21 @@ fn a_write_that_fails_is_not_tried_again(rt: HostRuntime) {
         Stop::Fails(ErrorKind::Interrupted),
         Stop::TakesNothing,
     ] {
-        for room in 0..FIRST_REPORT.len() {
-            let want = (RunEnd::WriteFailed, &FIRST_REPORT[..room], room + 1);
-            assert!(&rt; stopped_run_is(&rt, rt.alloc(), FIRST_TEXT, room, stop, want));
+        for stops_after in 0..FIRST_REPORT.len() {
+            let want = Outcome {
+                end: RunEnd::WriteFailed,
+                output: &FIRST_REPORT[..stops_after],
+                calls: stops_after + 1,
+            };
+            assert!(&rt; stopped_run_is(&rt, rt.alloc(), FIRST_TEXT, stops_after, stop, want));
         }
-        for room in 0..UNENDED_REFUSAL.len() {
-            let want = (RunEnd::WriteFailed, &UNENDED_REFUSAL[..room], room + 1);
-            assert!(&rt; stopped_run_is(&rt, rt.alloc(), UNENDED, room, stop, want));
+        for stops_after in 0..UNENDED_REFUSAL.len() {
+            let want = Outcome {
+                end: RunEnd::WriteFailed,
+                output: &UNENDED_REFUSAL[..stops_after],
+                calls: stops_after + 1,
+            };
+            assert!(&rt; stopped_run_is(&rt, rt.alloc(), UNENDED, stops_after, stop, want));
         }
     }
 }
@@ -106,7 +133,11 @@ fn a_write_that_fails_is_not_tried_again(rt: HostRuntime) {
 #[test]
 fn a_writer_that_takes_one_byte_a_call_has_the_whole(rt: HostRuntime) {
     let stop = Stop::TakesNothing;
-    let room = FIRST_REPORT.len();
-    let want = (RunEnd::Accepted, FIRST_REPORT, room);
-    assert!(&rt; stopped_run_is(&rt, rt.alloc(), FIRST_TEXT, room, stop, want));
+    let stops_after = FIRST_REPORT.len();
+    let want = Outcome {
+        end: RunEnd::Accepted,
+        output: FIRST_REPORT,
+        calls: stops_after,
+    };
+    assert!(&rt; stopped_run_is(&rt, rt.alloc(), FIRST_TEXT, stops_after, stop, want));
 }

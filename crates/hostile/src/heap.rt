@@ -25,9 +25,9 @@ impl<B: Allocator> Refusing<B> {
         }
     }
 
-    /// From here on refuses only the growth of this number; the next one is number 1.
-    pub(crate) fn refuse(&self, number: u64) {
-        self.growths_left.store(number, Ordering::SeqCst);
+    /// From here on refuses only this growth, counted from the next one, which is 1.
+    pub(crate) fn refuse(&self, growth: u64) {
+        self.growths_left.store(growth, Ordering::SeqCst);
     }
 
     /// Refuses no growth from here on.

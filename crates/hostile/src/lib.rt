@@ -11,8 +11,6 @@ mod ends;
 #[cfg(test)]
 mod failing;
 #[cfg(test)]
-mod flags;
-#[cfg(test)]
 mod growth;
 pub mod heap;
 #[cfg(test)]

@@ -1,7 +1,7 @@
 //! Truncated texts, and malicious ones.
 
 use crate::calls::{ended, plan_of};
-use crate::texts::{BASE, FIRST_REPORT, FIRST_TEXT};
+use crate::texts::{BEGINNING, FIRST_REPORT, FIRST_TEXT};
 use mm_plan::Cutting;
 use mm_run::RunEnd;
 use mm_spec::{Choice, Code, Fault};
@@ -119,7 +119,7 @@ const LETTERS: &[u8] =
 
 /// That theorem with a thousand letters `U` in its proof, and these after them.
 fn thousand_letters(alloc: Global, end: &[u8]) -> Result<Vec<u8>, AllocError> {
-    let mut text = BASE.to_vec(alloc)?;
+    let mut text = BEGINNING.to_vec(alloc)?;
     text.extend_from_slice(LETTERS)?;
     for _ in 0..1000 {
         text.push(b'U')?;
@@ -149,7 +149,7 @@ const DOUBLING: &[u8] =
 #[test]
 fn formulas_that_would_double_a_hundred_times(rt: HostRuntime) -> Result<(), AllocError> {
     let alloc = rt.alloc();
-    let mut text = BASE.to_vec(alloc)?;
+    let mut text = BEGINNING.to_vec(alloc)?;
     text.extend_from_slice(DOUBLING)?;
     for _ in 0..100 {
         text.extend_from_slice(b"TBZ")?;

@@ -5,18 +5,20 @@
 pub(crate) const FIRST_TEXT: &[u8] =
     b"$c wff |- ( -> ) $.\n$v p q $.\nwp $f wff p $.\nwq $f wff q $.\nwi $a wff ( p -> q ) $.\nax-1 $a |- ( p -> ( q -> p ) ) $.\nwi2 $p wff ( p -> ( q -> p ) ) $= wp wq wp wi wi $.\n";
 
+/// The report for that text.
 pub(crate) const FIRST_REPORT: &[u8] =
     b"mmdepend 1\naxioms 2\ntheorems 1\nmatrix\nwi2:10\ncounts\nwi2:1\nusage\nwi:1:wi2\nax-1:0:\nend\n";
 
 /// The beginning of the first text, up to its first axiom: 118 bytes.
-pub(crate) const BASE: &[u8] =
+pub(crate) const BEGINNING: &[u8] =
     b"$c wff |- ( -> ) $.\n$v p q $.\nwp $f wff p $.\nwq $f wff q $.\nwi $a wff ( p -> q ) $.\nax-1 $a |- ( p -> ( q -> p ) ) $.\n";
 
 /// Two theorems with a hypothesis, of which the second cites the first, twice.
-pub(crate) const THROUGH: &[u8] =
+pub(crate) const CITED_TWICE: &[u8] =
     b"$c wff |- ( -> ) $.\n$v p q $.\nwp $f wff p $.\nwq $f wff q $.\nwi $a wff ( p -> q ) $.\nax-1 $a |- ( p -> ( q -> p ) ) $.\n${ min $e |- p $. maj $e |- ( p -> q ) $. ax-mp $a |- q $. $}\n${ h $e |- p $. a1i $p |- ( q -> p ) $= wp wq wp wi h wp wq ax-1 ax-mp $. $}\n${ g $e |- p $. a2 $p |- ( q -> ( q -> p ) ) $= wq wp wi wq wp wq g a1i a1i $. $}\n";
 
-pub(crate) const THROUGH_REPORT: &[u8] =
+/// The report for that text.
+pub(crate) const CITED_TWICE_REPORT: &[u8] =
     b"mmdepend 1\naxioms 3\ntheorems 2\nmatrix\na1i:111\na2:111\ncounts\na1i:3\na2:3\nusage\nwi:2:a1i a2\nax-1:2:a1i a2\nax-mp:2:a1i a2\nend\n";
 
 /// Only the first of these theorems, its proof in compressed form with a step that is marked and
@@ -24,6 +26,7 @@ pub(crate) const THROUGH_REPORT: &[u8] =
 pub(crate) const COMPRESSED: &[u8] =
     b"$c wff |- ( -> ) $.\n$v p q $.\nwp $f wff p $.\nwq $f wff q $.\nwi $a wff ( p -> q ) $.\nax-1 $a |- ( p -> ( q -> p ) ) $.\n${ min $e |- p $. maj $e |- ( p -> q ) $. ax-mp $a |- q $. $}\n${ h $e |- p $. a1i $p |- ( q -> p ) $= ( wi ax-1 ax-mp ) AZBADCGBEF $. $}\n";
 
+/// The report for that text.
 pub(crate) const COMPRESSED_REPORT: &[u8] =
     b"mmdepend 1\naxioms 3\ntheorems 1\nmatrix\na1i:111\ncounts\na1i:3\nusage\nwi:1:a1i\nax-1:1:a1i\nax-mp:1:a1i\nend\n";
 
@@ -32,12 +35,14 @@ pub(crate) const COMPRESSED_REPORT: &[u8] =
 pub(crate) const NOT_DISJOINT: &[u8] =
     b"$c wff |- ( -> ) $.\n$v p q $.\nwp $f wff p $.\nwq $f wff q $.\nwi $a wff ( p -> q ) $.\nax-1 $a |- ( p -> ( q -> p ) ) $.\n${ $d p q $. ax-d $a |- ( p -> q ) $. $}\nbad $p |- ( p -> q ) $= wp wq ax-d $.\n";
 
+/// The refusal of that text.
 pub(crate) const NOT_DISJOINT_REFUSAL: &[u8] = b"refused 8:31 E36\n";
 
 /// That text with a `$d` for the two, so that the proof is valid.
 pub(crate) const DISJOINT: &[u8] =
     b"$c wff |- ( -> ) $.\n$v p q $.\nwp $f wff p $.\nwq $f wff q $.\nwi $a wff ( p -> q ) $.\nax-1 $a |- ( p -> ( q -> p ) ) $.\n${ $d p q $. ax-d $a |- ( p -> q ) $. $}\n${ $d p q $. good $p |- ( p -> q ) $= wp wq ax-d $. $}\n";
 
+/// The report for that text.
 pub(crate) const DISJOINT_REPORT: &[u8] =
     b"mmdepend 1\naxioms 3\ntheorems 1\nmatrix\ngood:001\ncounts\ngood:1\nusage\nwi:0:\nax-1:0:\nax-d:1:good\nend\n";
 
@@ -45,4 +50,5 @@ pub(crate) const DISJOINT_REPORT: &[u8] =
 pub(crate) const TWO_FAULTS: &[u8] =
     b"$c wff |- ( -> ) $.\n$v p q $.\nwp $f wff p $.\nwq $f wff q $.\nwi $a wff ( p -> q ) $.\nax-1 $a |- ( p -> ( q -> p ) ) $.\nlong $p wff p $= wp wq wp wi wp wi wp wi wp wi $.\nshort $p wff p $= wq $.\n";
 
+/// The refusal of that text.
 pub(crate) const TWO_FAULTS_REFUSAL: &[u8] = b"refused 7:48 E37\n";

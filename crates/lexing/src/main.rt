@@ -1,5 +1,5 @@
 //! How fast a text is read as tokens: `lexing FILE PIECES` writes the number of bytes, of tokens
-//! that `lex` finds, and of words that a plain loop over the bytes keeps; then the nanoseconds of
+//! that `lex` finds, and of words that a simple loop over the bytes keeps; then the nanoseconds of
 //! the loop and of `lex`. The text is read in PIECES equal pieces. `lex` isn't called if PIECES is
 //! 0, and the loop runs only if it is 1. Without arguments the program does nothing. `bench/lexing`
 //! runs it. It isn't part of `mmdepend`, and promises nothing.
@@ -16,7 +16,7 @@ fn is_white(b: u8) -> bool {
     matches!(b, b'\t' | b'\n' | 0x0C | b'\r' | b' ')
 }
 
-/// The words of a text, found byte by byte; no words if the text is too long.
+/// The words of a text, found byte by byte; no words if the text is longer than `lex` reads.
 fn words(alloc: Global, text: &[u8]) -> Result<Vec<Word>, AllocError> {
     let mut words = Vec::new(alloc);
     if text.len() > 0x7FFF_FFFF {
@@ -46,6 +46,7 @@ fn tokens<R: Threads + Sync>(
     text: &[u8],
     pieces: u32,
 ) -> Result<usize, AllocError> {
+    // `Cuts::equal` cuts at most 2,147,483,648 bytes, into 1 to 65,536 pieces.
     let cuts = Cuts::equal(alloc, text.len().min(2_147_483_648), pieces.clamp(1, 65536))?;
     Ok(lex(rt, alloc, text, &cuts)?.tokens.len())
 }
@@ -63,20 +64,23 @@ fn main(rt: HostRuntime) -> Result<()> {
     let pieces = pieces.parse::<u32>().unwrap_or(1);
     let text = fs::read(&rt, name.as_str())?;
     let begun = Instant::now(&rt)?;
-    let plain = if pieces == 1 {
+    let word_count = if pieces == 1 {
         words(alloc, &text)?.len()
     } else {
         0
     };
     let between = Instant::now(&rt)?;
-    let found = if pieces == 0 {
+    let token_count = if pieces == 0 {
         0
     } else {
         tokens(&rt, alloc, &text, pieces)?
     };
     let ended = Instant::now(&rt)?;
-    let looped = nanoseconds(between.checked_duration_since(begun));
-    let lexed = nanoseconds(ended.checked_duration_since(between));
-    println!(rt; "{} {found} {plain} {looped} {lexed}", text.len())?;
+    let loop_time = nanoseconds(between.checked_duration_since(begun));
+    let lex_time = nanoseconds(ended.checked_duration_since(between));
+    println!(rt;
+        "{} {token_count} {word_count} {loop_time} {lex_time}",
+        text.len()
+    )?;
     Ok(())
 }

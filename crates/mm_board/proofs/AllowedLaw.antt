@@ -79,16 +79,16 @@ claim_allowed n slots id me n_is_bounded nothing_open is_not_over share_is_posit
       tt,
       subst
           (λ (z : ℕ). MeetsRule n (stepped s 0 z id me.1 (after_claim me.0 x) keeps)) no_wrap
-          (rule_by_claim_word x refl (cases_lt x n)),
+          (rule_after_claim x refl (cases_lt x n)),
       (refl, refl, claim_word n s meets_rule id me.0 me.0 has_view share_is_positive),
     )
   where
     count_is_n : me.0.count ≡ n
     count_is_n = count_is n s meets_rule id me.0 me.0 has_view share_is_positive
 
-    rule_by_claim_word : (x : ℕ) → x ≡ get_or s.words 0 0 → (x < n) ⊎ (n ≤ x)
+    rule_after_claim : (x : ℕ) → x ≡ get_or s.words 0 0 → (x < n) ⊎ (n ≤ x)
         → MeetsRule n (stepped s 0 (x + 1) id me.1 (after_claim me.0 x) keeps)
-    rule_by_claim_word x x_is_word (inl x_lt_n) =
+    rule_after_claim x x_is_word (inl x_lt_n) =
         let view_is : after_claim me.0 x ≡ record (me.0) { open_number = Some x } =
         ap (λ (b : Bool). cond b (record (me.0) { open_number = Some x })
         (record (me.0) { over = true })) (lt-ltb x me.0.count (let counts_equal = count_is_n in
@@ -100,7 +100,7 @@ claim_allowed n slots id me n_is_bounded nothing_open is_not_over share_is_posit
         ((meets_rule.1.seats_obey_rule id me.0 has_view).floor_le_seen share_is_positive) x x_lt_n
         nothing_open is_not_over))
         me.1)
-    rule_by_claim_word x x_is_word (inr n_le_x) =
+    rule_after_claim x x_is_word (inr n_le_x) =
         let view_is : after_claim me.0 x ≡ record (me.0) { over = true } =
         ap (λ (b : Bool). cond b (record (me.0) { open_number = Some x })
         (record (me.0) { over = true })) (le-ltb x me.0.count (let counts_equal = count_is_n in
@@ -120,7 +120,7 @@ look_allowed n slots id me share_is_positive s meets_rule _ has_view _ = (
   after_look me.0 (get_or s.words 1 0),
   keeps,
   tt,
-  rule_by_open_number me.0.open_number refl,
+  rule_after_look me.0.open_number refl,
   (refl, refl, floor_word n s meets_rule id me.0 me.0 has_view share_is_positive),
 )
   where
@@ -140,11 +140,11 @@ look_allowed n slots id me share_is_positive s meets_rule _ has_view _ = (
         ((meets_rule.1.seats_obey_rule id me.0 has_view).floor_le_seen share_is_positive)
         (get_or s.words 0 0)) me.1)
 
-    rule_by_floor_word : (i : ℕ) → me.0.open_number ≡ Some i → (get_or s.words 1 0 < i)
+    rule_after_look_if_open : (i : ℕ) → me.0.open_number ≡ Some i → (get_or s.words 1 0 < i)
         ⊎ (i ≤ get_or s.words 1 0)
         → MeetsRule n
         (stepped s 1 (get_or s.words 1 0) id me.1 (after_look me.0 (get_or s.words 1 0)) keeps)
-    rule_by_floor_word i open_number_is (inl floor_lt_i) =
+    rule_after_look_if_open i open_number_is (inl floor_lt_i) =
         subst (λ (w : View). MeetsRule n (stepped s 1 (get_or s.words 1 0) id me.1 w keeps))
         (sym (look_with_skip me.0 (get_or s.words 1 0) i open_number_is floor_lt_i))
         (floor_word_step_keeps_rule n s meets_rule id me.0 _ has_view share_is_positive
@@ -153,17 +153,17 @@ look_allowed n slots id me share_is_positive s meets_rule _ has_view _ = (
         ((meets_rule.1.seats_obey_rule id me.0 has_view).floor_le_seen share_is_positive)
         (get_or s.words 0 0) i floor_lt_i
         open_number_is) me.1)
-    rule_by_floor_word i open_number_is (inr i_le_floor) =
+    rule_after_look_if_open i open_number_is (inr i_le_floor) =
         rule_without_skip (Some i) open_number_is
         (ap (λ (b : Bool). cond b None (Some i)) (le-ltb (get_or s.words 1 0) i i_le_floor))
         (ap (λ (b : Bool). cond b (i ∷ []) []) (le-ltb (get_or s.words 1 0) i i_le_floor))
 
-    rule_by_open_number : (o : Option ℕ) → me.0.open_number ≡ o
+    rule_after_look : (o : Option ℕ) → me.0.open_number ≡ o
         → MeetsRule n
         (stepped s 1 (get_or s.words 1 0) id me.1 (after_look me.0 (get_or s.words 1 0)) keeps)
-    rule_by_open_number None open_number_is = rule_without_skip None open_number_is refl refl
-    rule_by_open_number (Some i) open_number_is =
-        rule_by_floor_word i open_number_is (cases_lt (get_or s.words 1 0) i)
+    rule_after_look None open_number_is = rule_without_skip None open_number_is refl refl
+    rule_after_look (Some i) open_number_is =
+        rule_after_look_if_open i open_number_is (cases_lt (get_or s.words 1 0) i)
 
 pub report_allowed : (n slots id i : ℕ) (me : TokenState) → me.0.open_number ≡ Some i
     → 0 < me.0.share

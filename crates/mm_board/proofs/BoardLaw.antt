@@ -20,19 +20,20 @@ use Rattle.mm_board.proofs.SumsLaw.{times_in_append, settled_at_most_recorded}
 zero_or_positive : (m : ℕ) → (m ≡ 0) ⊎ (0 < m)
 zero_or_positive m = elim (cases_lt 0 m) [ inl p ↦ inr p | inr z ↦ inl (omega arith) ]
 
-module _ (n c f d : ℕ) (views : List View) (v : View) (rule : BoardRule n c f d views)
+module _ (n claim floor settled : ℕ) (views : List View) (v : View) (rule : BoardRule n claim floor
+    settled views)
     (seat_view : IsSeatView views v) where
-  pub recorded_lt_claim_word : (x : ℕ) → 0 < times_recorded x v → x < min c n
+  pub recorded_lt_claim_word : (x : ℕ) → 0 < times_recorded x v → x < min claim n
   recorded_lt_claim_word x is_recorded =
       let times_le_total = one_at_most_total (times_recorded x) views seat_view.0 v seat_view.1 in
       let total_is_once = rule.each_recorded_once x in
-      below_by_once x (min c n) (omega arith)
+      below_by_once x (min claim n) (omega arith)
 
   pub recorded_at_most_once : (x : ℕ) → times_recorded x v ≤ 1
   recorded_at_most_once x =
       let times_le_total = one_at_most_total (times_recorded x) views seat_view.0 v seat_view.1 in
       let total_is_once = rule.each_recorded_once x in
-      let once_le_one = once_below_at_most_one x (min c n) in omega arith
+      let once_le_one = once_below_at_most_one x (min claim n) in omega arith
 
   pub share_at_most_all : v.share ≤ 64
   share_at_most_all =
@@ -41,18 +42,18 @@ module _ (n c f d : ℕ) (views : List View) (v : View) (rule : BoardRule n c f 
       let shares_are = rule.shares_are_most_seats in
       omega arith
 
-  pub floor_at_most_reported : (x : ℕ) → 0 < times_in x v.reported → f ≤ x
+  pub floor_at_most_reported : (x : ℕ) → 0 < times_in x v.reported → floor ≤ x
   floor_at_most_reported x is_reported =
       let times_le_total : times_in x v.reported
       ≤ times_reported views x = one_at_most_total
       (λ (u : View). times_in x u.reported) views seat_view.0 v seat_view.1 in
       rule.floor_is_least_reported.le_each_reported x (omega arith)
 
-  pub floor_at_most_seen : 0 < v.share → f ≤ v.seen
+  pub floor_at_most_seen : 0 < v.share → floor ≤ v.seen
   floor_at_most_seen share_is_positive =
       (rule.seats_obey_rule seat_view.0 v seat_view.1).floor_le_seen share_is_positive
 
-  pub settled_at_most_count : d ≤ n
+  pub settled_at_most_count : settled ≤ n
   settled_at_most_count =
       let settled_le_recorded = settled_at_most_recorded views in
       let lengths_are = rule.record_lengths_are_claimed in
@@ -101,7 +102,7 @@ module _ (n c f d : ℕ) (views : List View) (v : View) (rule : BoardRule n c f 
       + length u.skipped = refl in omega arith
 
   -- the rule of all seats is then the rule of that one seat
-  pub rule_of_whole_seat : v.share ≡ 64 → BoardRule n c f d (v ∷ [])
+  pub rule_of_whole_seat : v.share ≡ 64 → BoardRule n claim floor settled (v ∷ [])
   rule_of_whole_seat has_all_shares = record {
     each_recorded_once =
         λ x. let total_over_all = rule.each_recorded_once x in
@@ -119,10 +120,10 @@ module _ (n c f d : ℕ) (views : List View) (v : View) (rule : BoardRule n c f 
               (let reports_equal = same_times_reported y in
               omega arith);
           is_count_or_reported =
-              stays_count_or_reported f rule.floor_is_least_reported.is_count_or_reported;
+              stays_count_or_reported floor rule.floor_is_least_reported.is_count_or_reported;
         };
     settled_word_is_count =
-        let total_over_all : d ≡ settled_count views = rule.settled_word_is_count in
+        let total_over_all : settled ≡ settled_count views = rule.settled_word_is_count in
         let total_is_own_times : settled_count views
         ≡ length v.settled = total_is_own (λ (u : View). length u.settled)
         (λ u has_empty_record. ap (λ (l : List ℕ). length l) has_empty_record.none_settled)
@@ -162,7 +163,7 @@ module _ (n c f d : ℕ) (views : List View) (v : View) (rule : BoardRule n c f 
       stays_count_or_reported x (inr is_reported) =
           inr (let reports_equal = same_times_reported x in omega arith)
 
-      rule_of_only_seat : SeatRule n (v ∷ []) c f v
+      rule_of_only_seat : SeatRule n (v ∷ []) claim floor v
       rule_of_only_seat =
           let seat_rule = rule.seats_obey_rule seat_view.0 v seat_view.1 in
           record {
@@ -176,29 +177,29 @@ module _ (n c f d : ℕ) (views : List View) (v : View) (rule : BoardRule n c f 
           }
 
       rules_of_only_seat : (seat : ℕ) (u : View) → get_elem? (v ∷ []) seat ≡ some u
-          → SeatRule n (v ∷ []) c f u
+          → SeatRule n (v ∷ []) claim floor u
       rules_of_only_seat zero u has_view =
-          subst (SeatRule n (v ∷ []) c f) (some-injective v u has_view) rule_of_only_seat
+          subst (SeatRule n (v ∷ []) claim floor) (some-injective v u has_view) rule_of_only_seat
       rules_of_only_seat (suc seat) u has_view = absurd (some-ne-none u (sym has_view))
 
-  pub floor_of_whole_seat : v.share ≡ 64 → IsLeastReported n (v ∷ []) f
+  pub floor_of_whole_seat : v.share ≡ 64 → IsLeastReported n (v ∷ []) floor
   floor_of_whole_seat has_all_shares = (rule_of_whole_seat has_all_shares).floor_is_least_reported
 
-  pub settled_of_whole_seat : v.share ≡ 64 → d ≡ length v.settled
+  pub settled_of_whole_seat : v.share ≡ 64 → settled ≡ length v.settled
   settled_of_whole_seat has_all_shares =
       let settled_is = (rule_of_whole_seat has_all_shares).settled_word_is_count in
       let single_total_is : settled_count (v ∷ []) ≡ length v.settled + 0 = refl in omega arith
 
   pub whole_seat_has_settled_all : v.share ≡ 64 → v.over ≡ true → v.open_number ≡ None → (x : ℕ)
-      → x < f
+      → x < floor
       → times_in x v.settled ≡ 1
   whole_seat_has_settled_all has_all_shares is_over nothing_open x x_lt_floor =
       let own_rule = rule_of_whole_seat has_all_shares in
       let claim_word_gt_n =
       (rule.seats_obey_rule seat_view.0 v seat_view.1).over_only_past_count is_over in
       let floor_le_n = rule.floor_is_least_reported.le_count in
-      let once_is_one = once_below_is_one x (min c n) (omega arith) in
-      let recorded_once : times_recorded x v + 0 ≡ once_below x (min c n) =
+      let once_is_one = once_below_is_one x (min claim n) (omega arith) in
+      let recorded_once : times_recorded x v + 0 ≡ once_below x (min claim n) =
       own_rule.each_recorded_once x in
       let none_open_there : times_open x v.open_number ≡ 0 =
       ap (λ (q : Option ℕ). times_open x q) nothing_open in
@@ -246,36 +247,37 @@ joined_records_are_disjoint v w x nothing_open joined_at_most_once =
     ≡ times_open x w.open_number + times_in x w.settled + times_in x w.reported
     + times_in x w.skipped = refl in omega arith
 
-pub recorded_below_claim : (v : View) (c x : ℕ) → IsClaimWord v c → 0 < times_recorded x v → x < c
-recorded_below_claim v c x is_claim_word is_recorded =
+pub recorded_below_claim : (v : View) (claim x : ℕ) → IsClaimWord v claim → 0 < times_recorded x v →
+    x < claim
+recorded_below_claim v claim x is_claim_word is_recorded =
     let recorded_lt_bound =
-    recorded_lt_claim_word v.count c is_claim_word.0 is_claim_word.1 is_claim_word.2 v
+    recorded_lt_claim_word v.count claim is_claim_word.0 is_claim_word.1 is_claim_word.2 v
     is_claim_word.3
     is_claim_word.4 x is_recorded in
     omega arith
 
-pub claim_record_once : (v : View) (c x : ℕ) → IsClaimWord v c → times_recorded x v ≤ 1
-claim_record_once v c x is_claim_word =
-    recorded_at_most_once v.count c is_claim_word.0 is_claim_word.1 is_claim_word.2 v
+pub claim_record_once : (v : View) (claim x : ℕ) → IsClaimWord v claim → times_recorded x v ≤ 1
+claim_record_once v claim x is_claim_word =
+    recorded_at_most_once v.count claim is_claim_word.0 is_claim_word.1 is_claim_word.2 v
     is_claim_word.3 is_claim_word.4 x
 
-pub claiming_share_at_most_all : (v : View) (c : ℕ) → IsClaimWord v c → v.share ≤ 64
-claiming_share_at_most_all v c is_claim_word =
-    share_at_most_all v.count c is_claim_word.0 is_claim_word.1 is_claim_word.2 v is_claim_word.3
-    is_claim_word.4
+pub claiming_share_at_most_all : (v : View) (claim : ℕ) → IsClaimWord v claim → v.share ≤ 64
+claiming_share_at_most_all v claim is_claim_word =
+    share_at_most_all v.count claim is_claim_word.0 is_claim_word.1 is_claim_word.2 v
+    is_claim_word.3 is_claim_word.4
 
-pub floor_under_seen : (v : View) (f : ℕ) → IsFloorWord v f → 0 < v.share → f ≤ v.seen
-floor_under_seen v f is_floor_word share_is_positive =
-    floor_at_most_seen v.count is_floor_word.0 f is_floor_word.1 is_floor_word.2 v is_floor_word.3
-    is_floor_word.4 share_is_positive
+pub floor_under_seen : (v : View) (floor : ℕ) → IsFloorWord v floor → 0 < v.share → floor ≤ v.seen
+floor_under_seen v floor is_floor_word share_is_positive =
+    floor_at_most_seen v.count is_floor_word.0 floor is_floor_word.1 is_floor_word.2 v
+    is_floor_word.3 is_floor_word.4 share_is_positive
 
-pub floor_under_count : (v : View) (f : ℕ) → IsFloorWord v f → f ≤ v.count
-floor_under_count v f is_floor_word = is_floor_word.3.floor_is_least_reported.le_count
+pub floor_under_count : (v : View) (floor : ℕ) → IsFloorWord v floor → floor ≤ v.count
+floor_under_count v floor is_floor_word = is_floor_word.3.floor_is_least_reported.le_count
 
-pub floor_under_reported : (v : View) (f x : ℕ) → IsFloorWord v f → 0
-    < times_in x v.reported → f ≤ x
-floor_under_reported v f x is_floor_word is_reported =
-    floor_at_most_reported v.count is_floor_word.0 f is_floor_word.1 is_floor_word.2 v
+pub floor_under_reported : (v : View) (floor x : ℕ) → IsFloorWord v floor → 0
+    < times_in x v.reported → floor ≤ x
+floor_under_reported v floor x is_floor_word is_reported =
+    floor_at_most_reported v.count is_floor_word.0 floor is_floor_word.1 is_floor_word.2 v
     is_floor_word.3 is_floor_word.4 x is_reported
 
 pub default_at_index : (l : List ℕ) (i : ℕ) (a : ℕ) → get_elem? l i ≡ some a → get_or l i 0 ≡ a

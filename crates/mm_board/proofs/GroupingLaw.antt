@@ -17,7 +17,7 @@ use Rattle.mm_board.specs.Table.{MeetsRule}
 use Rattle.mm_board.proofs.SumsLaw.{total_after_set, total_of_appended, times_in_append}
 
 -- The views become others, over which each total is the same
-record Regroups (n c f : ℕ) (views views_after : List View) : Type 0 where
+record Regroups (n claim floor : ℕ) (views views_after : List View) : Type 0 where
   times_recorded_kept : (x : ℕ)
       → total (times_recorded x) views_after ≡ total (times_recorded x) views
   record_lengths_kept : total record_length views_after ≡ total record_length views
@@ -27,16 +27,17 @@ record Regroups (n c f : ℕ) (views views_after : List View) : Type 0 where
   shares_kept : total (λ v. v.share) views_after ≡ total (λ v. v.share) views
   over_shares_do_not_fall : total over_share views ≤ total over_share views_after
   seats_obey_rule : (seat : ℕ) (v : View) → get_elem? views_after seat ≡ some v
-      → SeatRule n views c f v
+      → SeatRule n views claim floor v
 
-module _ (n c f d : ℕ) (views after : List View) (rule : BoardRule n c f d views)
-    (regroups : Regroups n c f views after) where
+module _ (n claim floor settled : ℕ) (views after : List View) (rule : BoardRule n claim floor
+    settled views)
+    (regroups : Regroups n claim floor views after) where
   stays_count_or_reported : (x : ℕ) → IsCountOrReported n views x → IsCountOrReported n after x
   stays_count_or_reported x (inl x_is_n) = inl x_is_n
   stays_count_or_reported x (inr is_reported) =
       inr (let reports_equal = regroups.times_reported_kept x in omega arith)
 
-  rule_regrouped : BoardRule n c f d after
+  rule_regrouped : BoardRule n claim floor settled after
   rule_regrouped = record {
     each_recorded_once = λ x. regroups.times_recorded_kept x ∙ rule.each_recorded_once x;
     record_lengths_are_claimed = regroups.record_lengths_kept ∙ rule.record_lengths_are_claimed;
@@ -48,7 +49,7 @@ module _ (n c f d : ℕ) (views after : List View) (rule : BoardRule n c f d vie
               (let totals_equal = regroups.times_reported_kept y in
               omega arith);
           is_count_or_reported =
-              stays_count_or_reported f rule.floor_is_least_reported.is_count_or_reported;
+              stays_count_or_reported floor rule.floor_is_least_reported.is_count_or_reported;
         };
     settled_word_is_count = rule.settled_word_is_count ∙ sym regroups.settled_count_kept;
     skipped_gt_floor =
@@ -182,13 +183,13 @@ set_at_middle (u ∷ before) after v w = ap (λ l. u ∷ l) (set_at_middle befor
 -- a split changes two views, and nothing else has to change
 pub split_keeps : (n : ℕ) (v : View) → 1 < v.share
     → SplitKeepsRule n v (after_split v) (new_seat_view v)
-split_keeps n v shares_to_give c f d before after rule_before =
+split_keeps n v shares_to_give claim floor settled before after rule_before =
     let s : State (Unit {0}) View =
-    record { words = c ∷ f ∷ d ∷ []; homes = []; views = before ++ v ∷ after } in
+    record { words = claim ∷ floor ∷ settled ∷ []; homes = []; views = before ++ v ∷ after } in
     let views_equal =
     ap (λ l. l ++ new_seat_view v ∷ []) (set_at_middle before after v (after_split v))
     ∙ append_assoc before (after_split v ∷ after) (new_seat_view v ∷ []) in
-    subst (BoardRule n c f d) views_equal
+    subst (BoardRule n claim floor settled) views_equal
     (split_allowed n (length before) v shares_to_give s (refl, rule_before)
     (get_at_middle before after v)).1
 

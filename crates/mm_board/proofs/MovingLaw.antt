@@ -11,29 +11,34 @@ use Rattle.mm_board.specs.Rule.{total, times_reported, times_skipped, once_below
 use Rattle.mm_board.specs.Rule.{IsCountOrReported, IsLeastReported, SeatRule, BoardRule}
 use Rattle.mm_board.proofs.SumsLaw.{total_after_set, one_at_most_total}
 
--- The words go from a, b, c to a', b', c', and the view of one seat from v to w
-pub record Moves (n a b c a' b' c' : ℕ) (v w : View) : Type 0 where
+-- The claim word, the floor word and the settled word go from `claim`, `floor`, `settled` to
+-- `claim'`, `floor'`, `settled'`, and the view of one seat from v to w
+pub record MovesWords (n claim floor settled claim' floor' settled' : ℕ) (v w : View) : Type 0 where
   pub count_kept : w.count ≡ v.count
   pub share_kept : w.share ≡ v.share
   pub record_follows_claim_word : (x : ℕ)
-      → once_below x (min a n) + times_recorded x w ≡ once_below x (min a' n) + times_recorded x v
-  pub record_length_follows_claim_word : min a n + record_length w ≡ min a' n + record_length v
-  pub claim_word_rises : a ≤ a'
-  pub floor_word_falls : b' ≤ b
+      → once_below x (min claim n) + times_recorded x w ≡ once_below x (min claim' n) +
+      times_recorded x v
+  pub record_length_follows_claim_word : min claim n + record_length w ≡ min claim' n +
+      record_length v
+  pub claim_word_rises : claim ≤ claim'
+  pub floor_word_falls : floor' ≤ floor
   pub reports_are_kept : (x : ℕ) → times_in x v.reported ≤ times_in x w.reported
-  pub new_reports_ge_floor : (x : ℕ) → times_in x v.reported < times_in x w.reported → b' ≤ x
-  pub floor_kept_or_reported : (b' ≡ b) ⊎ (0 < times_in b' w.reported)
-  pub settled_word_follows_view : c + length w.settled ≡ c' + length v.settled
-  pub new_skips_gt_floor : (x : ℕ) → times_in x v.skipped < times_in x w.skipped → b' < x
-  pub floor_le_seen : b' ≤ w.seen
-  pub seen_kept_or_floor : (w.seen ≡ v.seen) ⊎ (w.seen ≡ b')
-  pub over_kept_or_past_count : w.over ≡ true → (v.over ≡ true) ⊎ (n < a')
-  pub claim_word_stays_bounded : (t : ℕ) → a ≤ n + t → a' + over_share v ≤ n + t + over_share w
+  pub new_reports_ge_floor : (x : ℕ) → times_in x v.reported < times_in x w.reported → floor' ≤ x
+  pub floor_kept_or_reported : (floor' ≡ floor) ⊎ (0 < times_in floor' w.reported)
+  pub settled_word_follows_view : settled + length w.settled ≡ settled' + length v.settled
+  pub new_skips_gt_floor : (x : ℕ) → times_in x v.skipped < times_in x w.skipped → floor' < x
+  pub floor_le_seen : floor' ≤ w.seen
+  pub seen_kept_or_floor : (w.seen ≡ v.seen) ⊎ (w.seen ≡ floor')
+  pub over_kept_or_past_count : w.over ≡ true → (v.over ≡ true) ⊎ (n < claim')
+  pub claim_word_stays_bounded : (t : ℕ) → claim ≤ n + t → claim' + over_share v ≤ n + t +
+      over_share w
 
-module _ (n a b c a' b' c' : ℕ) (v w : View) (views : List View) (id : ℕ)
-    (rule : BoardRule n a b c views) (has_view : get_elem? views id ≡ some v)
+module _ (n claim floor settled claim' floor' settled' : ℕ) (v w : View) (views : List View) (id :
+    ℕ)
+    (rule : BoardRule n claim floor settled views) (has_view : get_elem? views id ≡ some v)
     (share_is_positive : 0 < v.share)
-    (moves : Moves n a b c a' b' c' v w) where
+    (moves : MovesWords n claim floor settled claim' floor' settled' v w) where
   abbrev after : List View
   after = set views id w
 
@@ -64,16 +69,17 @@ module _ (n a b c a' b' c' : ℕ) (v w : View) (views : List View) (id : ℕ)
       let total_moves = reports_after_set x in let times_le_total =
       reported_at_most_total x in omega arith
 
-  new_floor_is_count_or_reported : IsCountOrReported n after b'
-  new_floor_is_count_or_reported = valid_by_floor moves.floor_kept_or_reported
+  new_floor_is_count_or_reported : IsCountOrReported n after floor'
+  new_floor_is_count_or_reported = count_or_reported moves.floor_kept_or_reported
     where
-      valid_by_floor : (b' ≡ b) ⊎ (0 < times_in b' w.reported) → IsCountOrReported n after b'
-      valid_by_floor (inl floor_is_kept) =
+      count_or_reported : (floor' ≡ floor) ⊎ (0 < times_in floor' w.reported) → IsCountOrReported n
+          after floor'
+      count_or_reported (inl floor_is_kept) =
           subst (IsCountOrReported n after) (sym floor_is_kept)
-          (stays_count_or_reported b rule.floor_is_least_reported.is_count_or_reported)
-      valid_by_floor (inr is_reported) = inr (reported_by_moved_seat b' is_reported)
+          (stays_count_or_reported floor rule.floor_is_least_reported.is_count_or_reported)
+      count_or_reported (inr is_reported) = inr (reported_by_moved_seat floor' is_reported)
 
-  floor_is_least_reported : IsLeastReported n after b'
+  floor_is_least_reported : IsLeastReported n after floor'
   floor_is_least_reported = record {
     le_count =
         let floor_falls = moves.floor_word_falls in
@@ -87,7 +93,7 @@ module _ (n a b c a' b' c' : ℕ) (v w : View) (views : List View) (id : ℕ)
     where
       floor_le_if_reported : (y : ℕ) → 0 < times_reported after y
           → (times_in y v.reported < times_in y w.reported)
-          ⊎ (times_in y w.reported ≤ times_in y v.reported) → b' ≤ y
+          ⊎ (times_in y w.reported ≤ times_in y v.reported) → floor' ≤ y
       floor_le_if_reported y is_reported (inl reported_more) =
           moves.new_reports_ge_floor y reported_more
       floor_le_if_reported y is_reported (inr not_reported_more) =
@@ -96,31 +102,31 @@ module _ (n a b c a' b' c' : ℕ) (v w : View) (views : List View) (id : ℕ)
           let floor_falls = moves.floor_word_falls in
           omega arith
 
-  skipped_gt_floor : (x : ℕ) → 0 < times_skipped after x → b' < x
+  skipped_gt_floor : (x : ℕ) → 0 < times_skipped after x → floor' < x
   skipped_gt_floor x is_skipped =
       floor_lt_if_skipped (cases_lt (times_in x v.skipped) (times_in x w.skipped))
     where
       floor_lt_if_skipped : (times_in x v.skipped < times_in x w.skipped)
-          ⊎ (times_in x w.skipped ≤ times_in x v.skipped) → b' < x
+          ⊎ (times_in x w.skipped ≤ times_in x v.skipped) → floor' < x
       floor_lt_if_skipped (inl skipped_more) = moves.new_skips_gt_floor x skipped_more
       floor_lt_if_skipped (inr not_skipped_more) =
           let total_moves = skips_after_set x in
           let old_floor_lt_x = rule.skipped_gt_floor x (omega arith) in
           let floor_falls = moves.floor_word_falls in omega arith
 
-  rule_of_moved_seat : SeatRule n after a' b' w
+  rule_of_moved_seat : SeatRule n after claim' floor' w
   rule_of_moved_seat = record {
     count_is_n =
         λ _. moves.count_kept ∙ (rule.seats_obey_rule id v has_view).count_is_n share_is_positive;
     floor_le_seen = λ _. moves.floor_le_seen;
     seen_is_count_or_reported = λ _. seen_is_valid moves.seen_kept_or_floor;
     over_only_past_count =
-        λ is_over_after. over_by_claim_word (moves.over_kept_or_past_count is_over_after);
+        λ is_over_after. count_lt_claim_word (moves.over_kept_or_past_count is_over_after);
     spent_has_empty_record =
         λ share_is_zero. let shares_equal = moves.share_kept in absurd (omega arith);
   }
     where
-      seen_is_valid : (w.seen ≡ v.seen) ⊎ (w.seen ≡ b') → IsCountOrReported n after w.seen
+      seen_is_valid : (w.seen ≡ v.seen) ⊎ (w.seen ≡ floor') → IsCountOrReported n after w.seen
       seen_is_valid (inl seen_is) =
           subst (IsCountOrReported n after) (sym seen_is)
           (stays_count_or_reported v.seen
@@ -128,14 +134,15 @@ module _ (n a b c a' b' c' : ℕ) (v w : View) (views : List View) (id : ℕ)
       seen_is_valid (inr seen_is) =
           subst (IsCountOrReported n after) (sym seen_is) new_floor_is_count_or_reported
 
-      over_by_claim_word : (v.over ≡ true) ⊎ (n < a') → n < a'
-      over_by_claim_word (inl was_over) =
+      count_lt_claim_word : (v.over ≡ true) ⊎ (n < claim') → n < claim'
+      count_lt_claim_word (inl was_over) =
           let old_word_gt_n =
           (rule.seats_obey_rule id v has_view).over_only_past_count was_over in let word_rises =
           moves.claim_word_rises in omega arith
-      over_by_claim_word (inr n_lt_claim_word) = n_lt_claim_word
+      count_lt_claim_word (inr n_lt_claim_word) = n_lt_claim_word
 
-  rule_of_other_seat : (u : View) → SeatRule n views a b u → SeatRule n after a' b' u
+  rule_of_other_seat : (u : View) → SeatRule n views claim floor u → SeatRule n after claim' floor'
+      u
   rule_of_other_seat u seat_rule = record {
     count_is_n = seat_rule.count_is_n;
     floor_le_seen =
@@ -152,7 +159,7 @@ module _ (n a b c a' b' c' : ℕ) (v w : View) (views : List View) (id : ℕ)
     spent_has_empty_record = seat_rule.spent_has_empty_record;
   }
 
-  pub moves_keep_rule : BoardRule n a' b' c' (set views id w)
+  pub moves_keep_rule : BoardRule n claim' floor' settled' (set views id w)
   moves_keep_rule = record {
     each_recorded_once =
         λ x. let total_moves =
@@ -173,7 +180,7 @@ module _ (n a b c a' b' c' : ℕ) (v w : View) (views : List View) (id : ℕ)
     seats_obey_rule =
         λ seat u has_view_after. elim (at_set views id seat w u has_view_after) [
           | inl is_moved_seat ↦
-              subst (SeatRule n after a' b') is_moved_seat.1 rule_of_moved_seat
+              subst (SeatRule n after claim' floor') is_moved_seat.1 rule_of_moved_seat
           | inr is_other_seat ↦
               rule_of_other_seat u (rule.seats_obey_rule seat u is_other_seat.1)
         ];

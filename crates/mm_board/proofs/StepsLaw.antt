@@ -15,13 +15,13 @@ use Rattle.mm_board.specs.Events.{IsClaimWord, IsFloorWord, IsSettledWord}
 use Rattle.mm_board.specs.Table.{MeetsRule}
 use Rattle.mm_board.proofs.SumsLaw.{once_below_moves_by_one, times_in_append, counted_is_equal}
 use Rattle.mm_board.proofs.SumsLaw.{equal_is_counted}
-use Rattle.mm_board.proofs.MovingLaw.{Moves, moves_keep_rule}
+use Rattle.mm_board.proofs.MovingLaw.{MovesWords, moves_keep_rule}
 
 -- the three steps that change a word, and the rule of the new words
 module _ (n : ℕ) (s : State (Unit {0}) View) (meets_rule : MeetsRule n s) (id : ℕ) (v w : View)
     (has_view : get_elem? s.views id ≡ some v) (share_is_positive : 0 < v.share) where
   pub claim_word_step_keeps_rule : (z : ℕ)
-      → Moves n (get_or s.words 0 0) (get_or s.words 1 0) (get_or s.words 2 0) z
+      → MovesWords n (get_or s.words 0 0) (get_or s.words 1 0) (get_or s.words 2 0) z
       (get_or s.words 1 0) (get_or s.words 2 0) v w
       → (carried : List (ℕ × Unit {0})) → MeetsRule n (stepped s 0 z id carried w keeps)
   claim_word_step_keeps_rule z moves carried =
@@ -40,7 +40,7 @@ module _ (n : ℕ) (s : State (Unit {0}) View) (meets_rule : MeetsRule n s) (id 
       )
 
   pub floor_word_step_keeps_rule : (z : ℕ)
-      → Moves n (get_or s.words 0 0) (get_or s.words 1 0) (get_or s.words 2 0)
+      → MovesWords n (get_or s.words 0 0) (get_or s.words 1 0) (get_or s.words 2 0)
       (get_or s.words 0 0) z (get_or s.words 2 0) v w
       → (carried : List (ℕ × Unit {0})) → MeetsRule n (stepped s 1 z id carried w keeps)
   floor_word_step_keeps_rule z moves carried =
@@ -59,8 +59,8 @@ module _ (n : ℕ) (s : State (Unit {0}) View) (meets_rule : MeetsRule n s) (id 
       )
 
   pub settled_word_step_keeps_rule : (z : ℕ)
-      → Moves n (get_or s.words 0 0) (get_or s.words 1 0) (get_or s.words 2 0) (get_or s.words 0 0)
-      (get_or s.words 1 0) z v w
+      → MovesWords n (get_or s.words 0 0) (get_or s.words 1 0) (get_or s.words 2 0) (get_or s.words
+      0 0) (get_or s.words 1 0) z v w
       → (carried : List (ℕ × Unit {0})) → MeetsRule n (stepped s 2 z id carried w keeps)
   settled_word_step_keeps_rule z moves carried =
       let has_three_words = meets_rule.0 in
@@ -114,7 +114,7 @@ module _ (n : ℕ) (s : State (Unit {0}) View) (meets_rule : MeetsRule n s) (id 
     (id, has_view),
   )
 
-module _ (n b c : ℕ) (v : View) (floor_le_seen : b ≤ v.seen) where
+module _ (n floor settled : ℕ) (v : View) (floor_le_seen : floor ≤ v.seen) where
   none_open_times : (y : ℕ) → v.open_number ≡ None → times_open y v.open_number ≡ 0
   none_open_times y nothing_open = ap (λ (o : Option ℕ). times_open y o) nothing_open
 
@@ -131,8 +131,8 @@ module _ (n b c : ℕ) (v : View) (floor_le_seen : b ≤ v.seen) where
   not_over_no_share : v.over ≡ false → over_share v ≡ 0
   not_over_no_share is_not_over = ap (λ (o : Bool). cond o v.share 0) is_not_over
 
-  pub reads_only : (a : ℕ) → Moves n a b c a b c v v
-  reads_only a = record {
+  pub reads_only : (claim : ℕ) → MovesWords n claim floor settled claim floor settled v v
+  reads_only claim = record {
     count_kept = refl;
     share_kept = refl;
     record_follows_claim_word = λ x. refl;
@@ -151,7 +151,7 @@ module _ (n b c : ℕ) (v : View) (floor_le_seen : b ≤ v.seen) where
   }
 
   pub claims_number : (x : ℕ) → x < n → v.open_number ≡ None → v.over ≡ false
-      → Moves n x b c (x + 1) b c v (record v { open_number = Some x })
+      → MovesWords n x floor settled (x + 1) floor settled v (record v { open_number = Some x })
   claims_number x x_lt_n nothing_open is_not_over = record {
     count_kept = refl;
     share_kept = refl;
@@ -189,7 +189,7 @@ module _ (n b c : ℕ) (v : View) (floor_le_seen : b ≤ v.seen) where
   }
 
   pub claims_none : (x : ℕ) → n ≤ x → v.over ≡ false → 0 < v.share
-      → Moves n x b c (x + 1) b c v (record v { over = true })
+      → MovesWords n x floor settled (x + 1) floor settled v (record v { over = true })
   claims_none x n_le_x is_not_over share_is_positive = record {
     count_kept = refl;
     share_kept = refl;
@@ -216,17 +216,17 @@ module _ (n b c : ℕ) (v : View) (floor_le_seen : b ≤ v.seen) where
         omega arith;
   }
 
-  pub look_skips : (a i : ℕ) → b < i → v.open_number ≡ Some i
-      → Moves n a b c a b c v
-      (record v { open_number = None; skipped = v.skipped ++ i ∷ []; seen = b })
-  look_skips a i b_lt_i open_is = record {
+  pub look_skips : (claim i : ℕ) → floor < i → v.open_number ≡ Some i
+      → MovesWords n claim floor settled claim floor settled v
+      (record v { open_number = None; skipped = v.skipped ++ i ∷ []; seen = floor })
+  look_skips claim i floor_lt_i open_is = record {
     count_kept = refl;
     share_kept = refl;
     record_follows_claim_word =
         λ y. let open_part_is =
         times_of_open y i open_is in let parts_add_up = times_in_append y v.skipped (i ∷ []) in
         let record_after_is : times_recorded y
-        (record v { open_number = None; skipped = v.skipped ++ i ∷ []; seen = b })
+        (record v { open_number = None; skipped = v.skipped ++ i ∷ []; seen = floor })
         ≡ 0 + times_in y v.settled + times_in y v.reported
         + times_in y (v.skipped ++ i ∷ []) = refl in
         let one_of_single : times_in y (i ∷ []) ≡ cond (i == y) 1 0 + 0 = refl in
@@ -237,7 +237,7 @@ module _ (n b c : ℕ) (v : View) (floor_le_seen : b ≤ v.seen) where
         let open_part_is = one_open_count i open_is in
         let parts_add_up = length-append v.skipped (i ∷ []) in
         let record_after_is : record_length
-        (record v { open_number = None; skipped = v.skipped ++ i ∷ []; seen = b })
+        (record v { open_number = None; skipped = v.skipped ++ i ∷ []; seen = floor })
         ≡ 0 + length v.settled + length v.reported + length (v.skipped ++ i ∷ []) = refl in
         let record_before_is : record_length v
         ≡ open_count v.open_number + length v.settled + length v.reported
@@ -257,13 +257,15 @@ module _ (n b c : ℕ) (v : View) (floor_le_seen : b ≤ v.seen) where
     over_kept_or_past_count = λ is_over_after. inl is_over_after;
     claim_word_stays_bounded =
         λ t claim_word_le_bound. let over_shares_equal : over_share
-        (record v { open_number = None; skipped = v.skipped ++ i ∷ []; seen = b })
+        (record v { open_number = None; skipped = v.skipped ++ i ∷ []; seen = floor })
         ≡ over_share v = refl in
         omega arith;
   }
 
-  pub look_sees : (a : ℕ) → Moves n a b c a b c v (record v { seen = b })
-  look_sees a = record {
+  pub look_sees : (claim : ℕ) → MovesWords n claim floor settled claim floor settled v (record v {
+    seen = floor;
+  })
+  look_sees claim = record {
     count_kept = refl;
     share_kept = refl;
     record_follows_claim_word = λ x. refl;
@@ -279,14 +281,18 @@ module _ (n b c : ℕ) (v : View) (floor_le_seen : b ≤ v.seen) where
     seen_kept_or_floor = inr refl;
     over_kept_or_past_count = λ is_over_after. inl is_over_after;
     claim_word_stays_bounded =
-        λ t claim_word_le_bound. let over_shares_equal : over_share (record v { seen = b })
+        λ t claim_word_le_bound. let over_shares_equal : over_share (record v { seen = floor })
         ≡ over_share v =
         refl in omega arith;
   }
 
-  pub settles_number : (a i : ℕ) → v.open_number ≡ Some i
-      → Moves n a b c a b (c + 1) v (record v { open_number = None; settled = v.settled ++ i ∷ [] })
-  settles_number a i open_is = record {
+  pub settles_number : (claim i : ℕ) → v.open_number ≡ Some i
+      → MovesWords n claim floor settled claim floor (settled + 1) v (record v {
+        open_number = None;
+        settled = v.settled ++ i ∷
+            [];
+      })
+  settles_number claim i open_is = record {
     count_kept = refl;
     share_kept = refl;
     record_follows_claim_word =
@@ -326,17 +332,17 @@ module _ (n b c : ℕ) (v : View) (floor_le_seen : b ≤ v.seen) where
         omega arith;
   }
 
-  pub reports_number : (a i : ℕ) → v.open_number ≡ Some i
-      → Moves n a b c a (min b i) c v
-      (record v { open_number = None; reported = v.reported ++ i ∷ []; seen = min b i })
-  reports_number a i open_is = record {
+  pub reports_number : (claim i : ℕ) → v.open_number ≡ Some i
+      → MovesWords n claim floor settled claim (min floor i) settled v
+      (record v { open_number = None; reported = v.reported ++ i ∷ []; seen = min floor i })
+  reports_number claim i open_is = record {
     count_kept = refl;
     share_kept = refl;
     record_follows_claim_word =
         λ y. let open_part_is =
         times_of_open y i open_is in let parts_add_up = times_in_append y v.reported (i ∷ []) in
         let record_after_is : times_recorded y
-        (record v { open_number = None; reported = v.reported ++ i ∷ []; seen = min b i })
+        (record v { open_number = None; reported = v.reported ++ i ∷ []; seen = min floor i })
         ≡ 0 + times_in y v.settled + times_in y (v.reported ++ i ∷ [])
         + times_in y v.skipped = refl in
         let one_of_single : times_in y (i ∷ []) ≡ cond (i == y) 1 0 + 0 = refl in
@@ -347,7 +353,7 @@ module _ (n b c : ℕ) (v : View) (floor_le_seen : b ≤ v.seen) where
         let open_part_is = one_open_count i open_is in
         let parts_add_up = length-append v.reported (i ∷ []) in
         let record_after_is : record_length
-        (record v { open_number = None; reported = v.reported ++ i ∷ []; seen = min b i })
+        (record v { open_number = None; reported = v.reported ++ i ∷ []; seen = min floor i })
         ≡ 0 + length v.settled + length (v.reported ++ i ∷ []) + length v.skipped = refl in
         let record_before_is : record_length v
         ≡ open_count v.open_number + length v.settled + length v.reported
@@ -359,7 +365,7 @@ module _ (n b c : ℕ) (v : View) (floor_le_seen : b ≤ v.seen) where
         λ y is_reported_more_often. let parts_add_up = times_in_append y v.reported (i ∷ []) in
         let one_of_single : times_in y (i ∷ []) ≡ cond (i == y) 1 0 + 0 = refl in
         let i_is_y = counted_is_equal y i (omega arith) in omega arith;
-    floor_kept_or_reported = floor_by_order (cases_lt i b);
+    floor_kept_or_reported = min_is_floor_or_reported (cases_lt i floor);
     settled_word_follows_view = refl;
     new_skips_gt_floor = λ y is_skipped_more_often. omega arith;
     floor_le_seen = omega arith;
@@ -367,7 +373,7 @@ module _ (n b c : ℕ) (v : View) (floor_le_seen : b ≤ v.seen) where
     over_kept_or_past_count = λ is_over_after. inl is_over_after;
     claim_word_stays_bounded =
         λ t claim_word_le_bound. let over_shares_equal : over_share
-        (record v { open_number = None; reported = v.reported ++ i ∷ []; seen = min b i })
+        (record v { open_number = None; reported = v.reported ++ i ∷ []; seen = min floor i })
         ≡ over_share v = refl in
         omega arith;
   }
@@ -380,8 +386,8 @@ module _ (n b c : ℕ) (v : View) (floor_le_seen : b ≤ v.seen) where
           equal_is_counted i in
           omega arith
 
-      floor_by_order : (i < b) ⊎ (b ≤ i) → (min b i ≡ b)
-          ⊎ (0 < times_in (min b i) (v.reported ++ i ∷ []))
-      floor_by_order (inl i_lt_b) =
-          let lesser_is_i : min b i ≡ i = omega arith in inr (rw lesser_is_i i_is_reported)
-      floor_by_order (inr b_le_i) = inl (omega arith)
+      min_is_floor_or_reported : (i < floor) ⊎ (floor ≤ i) → (min floor i ≡ floor)
+          ⊎ (0 < times_in (min floor i) (v.reported ++ i ∷ []))
+      min_is_floor_or_reported (inl i_lt_b) =
+          let lesser_is_i : min floor i ≡ i = omega arith in inr (rw lesser_is_i i_is_reported)
+      min_is_floor_or_reported (inr b_le_i) = inl (omega arith)

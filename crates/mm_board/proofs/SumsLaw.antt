@@ -71,15 +71,6 @@ counted_is_equal x y = grind (arith, nat_tests)
 pub equal_is_counted : (x : ℕ) → 0 < cond (x == x) 1 0
 equal_is_counted x = grind (arith, nat_tests)
 
-pub equal_values_equal_totals : (f : View → ℕ) (g : View → ℕ) (l : List View)
-    → ((v : View) → f v ≡ g v)
-    → total f l ≡ total g l
-equal_values_equal_totals f g [] values_equal = refl
-equal_values_equal_totals f g (x ∷ xs) values_equal =
-    let later_equal = equal_values_equal_totals f g xs values_equal in
-    let first_equal = values_equal x in
-    omega arith
-
 -- the total over seats of which all but one are spent
 total_of_spent : (f : View → ℕ) (l : List View) → total (λ v. v.share) l ≡ 0
     → ((i : ℕ) (u : View) → get_elem? l i ≡ some u → u.share ≡ 0 → f u ≡ 0) → total f l ≡ 0

@@ -5,22 +5,22 @@ use Rattle.std.specs.Prelude.{[], ◌∷◌, ◌++◌, if◌then◌else◌}
 use Rattle.mm_board.specs.declared.views.View.{View}
 use Rattle.mm_board.specs.Rule.{BoardRule, IsSeatView}
 
--- x is the claim word of some state that meets the rule, in which a seat has the view v
+-- this is the claim word of some state that meets the rule, in which a seat has the view v
 abbrev pub IsClaimWord : View → ℕ → Type 0
-IsClaimWord v x =
-    (floor settled : ℕ) × (views : List View) × BoardRule v.count x floor settled views
+IsClaimWord v claim =
+    (floor settled : ℕ) × (views : List View) × BoardRule v.count claim floor settled views
     × IsSeatView views v
 
--- x is the floor word of some state that meets the rule, in which a seat has the view v
+-- this is the floor word of some state that meets the rule, in which a seat has the view v
 abbrev pub IsFloorWord : View → ℕ → Type 0
-IsFloorWord v x =
-    (claim settled : ℕ) × (views : List View) × BoardRule v.count claim x settled views
+IsFloorWord v floor =
+    (claim settled : ℕ) × (views : List View) × BoardRule v.count claim floor settled views
     × IsSeatView views v
 
--- x is the settled word of some state that meets the rule, in which a seat has the view v
+-- this is the settled word of some state that meets the rule, in which a seat has the view v
 abbrev pub IsSettledWord : View → ℕ → Type 0
-IsSettledWord v x =
-    (claim floor : ℕ) × (views : List View) × BoardRule v.count claim floor x views
+IsSettledWord v settled =
+    (claim floor : ℕ) × (views : List View) × BoardRule v.count claim floor settled views
     × IsSeatView views v
 
 -- what a claim that found c answers, at a board of n numbers
@@ -70,7 +70,8 @@ after_report v f = record v {
 
 -- a settle, whatever it found: the open number becomes settled
 abbrev pub after_settle : View → ℕ → View
-after_settle v x = record v { open_number = None; settled = v.settled ++ open_list v.open_number }
+after_settle v found =
+    record v { open_number = None; settled = v.settled ++ open_list v.open_number }
 
 -- a split: the seat gives one share away
 abbrev pub after_split : View → View

@@ -66,8 +66,7 @@ pub record BoardRule (n claim_word floor_word settled_word : ℕ) (views : List 
   pub each_recorded_once : (x : ℕ) → total (times_recorded x) views
       ≡ once_below x (min claim_word n)
   -- all records together have that many numbers: it follows from `each_recorded_once`, but stands
-  -- here
-  -- since the proof would have to count the numbers
+  -- here since the proof would have to count the numbers
   pub record_lengths_are_claimed : total record_length views ≡ min claim_word n
   -- the floor word is the least reported number, or n
   pub floor_is_least_reported : IsLeastReported n views floor_word

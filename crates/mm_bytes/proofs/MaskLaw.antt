@@ -34,18 +34,18 @@ each_is_true false b both_hold = absurd both_hold
 all_below_gives_each : (p : ℕ → Bool) (n : ℕ) → T (all_below p n) → (i : ℕ) → i < n → T (p i)
 all_below_gives_each p zero passes_below_n i i_lt_n = absurd (not-suc-le-zero i_lt_n)
 all_below_gives_each p (suc n) passes_below_n i i_lt_n =
-    by_order_of_i_n
+    i_passes_by_order
     (all_below_gives_each p n (each_is_true (p n) (all_below p n) passes_below_n).1 i)
     (cases_order i n)
   where
-    by_order_of_i_n : (i < n → T (p i)) → (i ≡ n) ⊎ ((i < n) ⊎ (n < i)) → T (p i)
-    by_order_of_i_n below_n_passes (inl i_is_n) =
+    i_passes_by_order : (i < n → T (p i)) → (i ≡ n) ⊎ ((i < n) ⊎ (n < i)) → T (p i)
+    i_passes_by_order below_n_passes (inl i_is_n) =
         subst (λ x. T (p x)) (sym i_is_n) (each_is_true (p n) (all_below p n) passes_below_n).0
-    by_order_of_i_n below_n_passes (inr (inl i_lt_n)) = below_n_passes i_lt_n
-    by_order_of_i_n below_n_passes (inr (inr n_lt_i)) =
+    i_passes_by_order below_n_passes (inr (inl i_lt_n)) = below_n_passes i_lt_n
+    i_passes_by_order below_n_passes (inr (inr n_lt_i)) =
         let absurdity : ⊥ = omega arith in absurd absurdity
 
--- whether two truth values are the same
+-- whether two truth values are equal
 abbrev pub are_equal : Bool → Bool → Bool
 are_equal true b = b
 are_equal false true = false

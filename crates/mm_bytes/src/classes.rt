@@ -18,8 +18,8 @@ pub struct Classes {
 
 /// The classes of 64 bytes.
 pub fn class_block(bytes: &[u8; 64]) -> Classes
-    ensures white { result.white ≡ mask is_white bytes.now }
-    ensures bad { result.bad ≡ mask is_bad bytes.now }
+    ensures white_is { result.white ≡ mask is_white bytes.now }
+    ensures bad_is { result.bad ≡ mask is_bad bytes.now }
 {
     let lanes = u8x64::from_array(*bytes);
     Classes {
@@ -31,8 +31,8 @@ pub fn class_block(bytes: &[u8; 64]) -> Classes
 /// The classes of at most 63 bytes; the bits after the last byte are 0.
 pub fn class_tail(bytes: &[u8]) -> Classes
     requires { length bytes.now < 64 }
-    ensures white { result.white ≡ mask is_white bytes.now }
-    ensures bad { result.bad ≡ mask is_bad bytes.now }
+    ensures white_is { result.white ≡ mask is_white bytes.now }
+    ensures bad_is { result.bad ≡ mask is_bad bytes.now }
 {
     class_block(&padded(bytes))
 }

@@ -65,13 +65,13 @@ module _ (counts : ℕ → ℕ → Bool) where
   node_of_either : (p : ℕ → Bool) (ts us : Trees) (a : ℕ) → HasNode counts p (ts ⧺ us) a
       → HasNode counts p ts a ⊎ HasNode counts (λ n. p (tree_count ts + n)) us a
   node_of_either p ts none a has_node = inl has_node
-  node_of_either p ts (more us l f cs) a (inl has_node) = by_part (node_of_either p ts us a
+  node_of_either p ts (more us l f cs) a (inl has_node) = some_has_node (node_of_either p ts us a
       has_node)
     where
-      by_part : HasNode counts p ts a ⊎ HasNode counts (λ n. p (tree_count ts + n)) us a
+      some_has_node : HasNode counts p ts a ⊎ HasNode counts (λ n. p (tree_count ts + n)) us a
           → HasNode counts p ts a ⊎ HasNode counts (λ n. p (tree_count ts + n)) (more us l f cs) a
-      by_part (inl has_node) = inl has_node
-      by_part (inr has_node) = inr (inl has_node)
+      some_has_node (inl has_node) = inl has_node
+      some_has_node (inr has_node) = inr (inl has_node)
   node_of_either p ts (more us l f cs) a (inr has_node) = inr (inr (
     ap p (sym (tree_count_join ts
         us)) ∙ has_node.0,
@@ -96,19 +96,19 @@ step_flags_stay : (b : Bool) (s : Step) (step_flags : List Bool) (k : ℕ) → f
     → flag_at (step_flags_after b s step_flags) k ≡ true
 step_flags_stay b (label l) step_flags k flag_is_set = flag_is_set
 step_flags_stay false (marked j) step_flags k flag_is_set = flag_is_set
-step_flags_stay true (marked j) step_flags k flag_is_set = by_order (k == j) refl
+step_flags_stay true (marked j) step_flags k flag_is_set = flag_stays (k == j) refl
     (cases_lt k (length step_flags))
   where
-    by_order : (are_equal : Bool) → (k == j) ≡ are_equal
+    flag_stays : (are_equal : Bool) → (k == j) ≡ are_equal
         → (k < length step_flags) ⊎ (length step_flags ≤ k)
         → flag_at (step_flags_after true (marked j) step_flags) k ≡ true
-    by_order true equality (inl k_lt_length) =
+    flag_stays true equality (inl k_lt_length) =
         let k_is_j = eqb-true k j equality in
         subst (λ n. get_or (step_flags_after true (marked j) step_flags) n false
         ≡ true) (sym k_is_j)
         (get_or-set_same step_flags j true false (subst (λ n. n < length step_flags) k_is_j
         k_lt_length))
-    by_order true equality (inr length_le_k) =
+    flag_stays true equality (inr length_le_k) =
         absurd (true≢false (sym flag_is_set ∙ no_flag_past_the_end step_flags k length_le_k))
       where
         no_flag_past_the_end : (ws : List Bool) (k : ℕ) → length ws ≤ k → flag_at ws k ≡ false
@@ -119,7 +119,7 @@ step_flags_stay true (marked j) step_flags k flag_is_set = by_order (k == j) ref
           arith,
           length_le,
         ))
-    by_order false equality k_in_or_out =
+    flag_stays false equality k_in_or_out =
         get_or-set_other step_flags j k true false (eqb-false k j equality) ∙ flag_is_set
 
 -- a step that repeats a marked step sets the flag of that step, if its own entry is essential
@@ -136,12 +136,12 @@ no_other_step_gets_flag : (j : ℕ) (step_flags : List Bool) (b : Bool) (k : ℕ
     → flag_at (step_flags_after b (marked j) step_flags) k ≡ true
     → (flag_at step_flags k ≡ true) ⊎ ((k ≡ j) × (b ≡ true))
 no_other_step_gets_flag j step_flags false k flag_is_set = inl flag_is_set
-no_other_step_gets_flag j step_flags true k flag_is_set = by_equality (k == j) refl
+no_other_step_gets_flag j step_flags true k flag_is_set = was_set_or_is_j (k == j) refl
   where
-    by_equality : (are_equal : Bool) → (k == j) ≡ are_equal → (flag_at step_flags k ≡ true)
+    was_set_or_is_j : (are_equal : Bool) → (k == j) ≡ are_equal → (flag_at step_flags k ≡ true)
         ⊎ ((k ≡ j) × (true ≡ true))
-    by_equality true equality = inr (eqb-true k j equality, refl)
-    by_equality false equality =
+    was_set_or_is_j true equality = inr (eqb-true k j equality, refl)
+    was_set_or_is_j false equality =
         inl (sym (get_or-set_other step_flags j k true false (eqb-false k j equality))
         ∙ flag_is_set)
 
@@ -175,11 +175,11 @@ module _ (counts : ℕ → ℕ → Bool) (forest_after : ℕ → Trees) where
   module _ (i : ℕ) (ws step_flags : List Bool) (flag b : Bool)
       (b_is : b ≡ (flag || flag_at step_flags i))
       (a : ℕ) where
-    by_flag : flag ≡ true → b ≡ true
-    by_flag flag_is_set = b_is ∙ or_left flag (flag_at step_flags i) flag_is_set
+    b_if_flag : flag ≡ true → b ≡ true
+    b_if_flag flag_is_set = b_is ∙ or_left flag (flag_at step_flags i) flag_is_set
 
-    by_step_flag : flag_at step_flags i ≡ true → b ≡ true
-    by_step_flag flag_is_set = b_is ∙ or_right flag (flag_at step_flags i) flag_is_set
+    b_if_step_flag : flag_at step_flags i ≡ true → b ≡ true
+    b_if_step_flag flag_is_set = b_is ∙ or_right flag (flag_at step_flags i) flag_is_set
 
     last_flag : (n : ℕ) → length ws ≡ n → flag_at (ws ++ flag ∷ []) n ≡ flag
     last_flag n length_is_n = ap (flag_at (ws ++ flag ∷ [])) (sym length_is_n) ∙ flag_at_end ws flag
@@ -190,19 +190,19 @@ module _ (counts : ℕ → ℕ → Bool) (forest_after : ℕ → Trees) where
         → length ws ≡ tree_count earlier_trees → b ≡ true → (a ≡ l) ⊎ HasNode counts (counts l) cs a
         → IsToBeFound (suc i) (ws ++ flag ∷ []) step_flags a
     essential_tree_is_found earlier_trees l f cs forest_is flag_count_is b_is_true is_label_or_child
-        = by_flag_kind
+        = tree_is_found
         (or_cases flag (flag_at step_flags i) (sym b_is ∙ b_is_true))
       where
-        by_flag_kind : (flag ≡ true) ⊎ (flag_at step_flags i ≡ true)
+        tree_is_found : (flag ≡ true) ⊎ (flag_at step_flags i ≡ true)
             → IsToBeFound (suc i) (ws ++ flag ∷ []) step_flags a
-        by_flag_kind (inl flag_is_set) =
+        tree_is_found (inl flag_is_set) =
             inl (subst (λ t. HasNode counts (flag_at (ws ++ flag ∷ [])) t a) (sym forest_is)
             (inr (
               last_flag (tree_count earlier_trees) flag_count_is
                   ∙ flag_is_set,
               is_label_or_child,
             )))
-        by_flag_kind (inr flag_is_set) =
+        tree_is_found (inr flag_is_set) =
             inr (
               i,
               omega arith,
@@ -218,17 +218,17 @@ module _ (counts : ℕ → ℕ → Bool) (forest_after : ℕ → Trees) where
         → IsNodeOfRepeatedStep (suc i) step_flags a
         → ((b ≡ true) × ((a ≡ l) ⊎ HasNode counts (counts l) cs a))
         ⊎ IsNodeOfRepeatedStep i step_flags a
-    repeated_step_cases earlier_trees l f cs forest_is repeated = by_order (cases_lt repeated.0 i)
+    repeated_step_cases earlier_trees l f cs forest_is repeated = node_cases (cases_lt repeated.0 i)
       where
-        by_order : (repeated.0 < i) ⊎ (i ≤ repeated.0)
+        node_cases : (repeated.0 < i) ⊎ (i ≤ repeated.0)
             → ((b ≡ true) × ((a ≡ l) ⊎ HasNode counts (counts l) cs a))
             ⊎ IsNodeOfRepeatedStep i step_flags a
-        by_order (inl j_lt_i) = inr (repeated.0, j_lt_i, repeated.2, repeated.3)
-        by_order (inr i_le_j) =
+        node_cases (inl j_lt_i) = inr (repeated.0, j_lt_i, repeated.2, repeated.3)
+        node_cases (inr i_le_j) =
             let j_lt_suc_i = repeated.1 in
             let j_is_i : repeated.0 ≡ i = omega (arith, i_le_j, j_lt_suc_i) in
             inl (
-              by_step_flag (subst (λ n. flag_at step_flags n ≡ true) j_is_i repeated.2),
+              b_if_step_flag (subst (λ n. flag_at step_flags n ≡ true) j_is_i repeated.2),
               tree_node l f cs a
                   (subst (λ t. HasNode counts each_root t a)
                   (ap (λ n. last_tree (forest_after (suc n))) j_is_i
@@ -285,41 +285,41 @@ module _ (counts : ℕ → ℕ → Bool) (forest_after : ℕ → Trees) where
         found_before_step : IsToBeFound (suc i) (ws ++ flag ∷ []) step_flags a
             → ((b ≡ true) × (a ≡ l)) ⊎ IsToBeFound i (ws ++ vs) step_flags a
         found_before_step (inl to_be_found) =
-            by_root (subst (λ t. HasNode counts (flag_at (ws ++ flag ∷ [])) t a) forest_is
+            root_or_found (subst (λ t. HasNode counts (flag_at (ws ++ flag ∷ [])) t a) forest_is
             to_be_found)
           where
-            by_root : HasNode counts (flag_at (ws ++ flag ∷ [])) (more ts l f cs) a
+            root_or_found : HasNode counts (flag_at (ws ++ flag ∷ [])) (more ts l f cs) a
                 → ((b ≡ true) × (a ≡ l)) ⊎ IsToBeFound i (ws ++ vs) step_flags a
-            by_root (inl has_node) =
+            root_or_found (inl has_node) =
                 inr (node_of_row
                 (node_of_left counts (flag_at (ws ++ vs)) ts cs a (node_of_left_trees (flag ∷ []) vs
                 has_node)))
-            by_root (inr has_node) = found_below (by_flag (sym (last_flag (tree_count ts)
+            root_or_found (inr has_node) = found_below (b_if_flag (sym (last_flag (tree_count ts)
                 flag_count_is) ∙ has_node.0)) has_node.1
-        found_before_step (inr to_be_found) = by_step (repeated_step_cases ts l f cs forest_is
+        found_before_step (inr to_be_found) = step_or_found (repeated_step_cases ts l f cs forest_is
             to_be_found)
           where
-            by_step : ((b ≡ true) × ((a ≡ l) ⊎ HasNode counts (counts l) cs a))
+            step_or_found : ((b ≡ true) × ((a ≡ l) ⊎ HasNode counts (counts l) cs a))
                 ⊎ IsNodeOfRepeatedStep i step_flags a
                 → ((b ≡ true) × (a ≡ l)) ⊎ IsToBeFound i (ws ++ vs) step_flags a
-            by_step (inl essential) = found_below essential.0 essential.1
-            by_step (inr repeated) = inr (inr repeated)
+            step_or_found (inl essential) = found_below essential.0 essential.1
+            step_or_found (inr repeated) = inr (inr repeated)
 
         found_after_step : ((b ≡ true) × (a ≡ l)) ⊎ IsToBeFound i (ws ++ vs) step_flags a
             → IsToBeFound (suc i) (ws ++ flag ∷ []) step_flags a
         found_after_step (inl to_be_found) = essential_tree_is_found ts l f cs forest_is
             flag_count_is to_be_found.0 (inl to_be_found.1)
         found_after_step (inr (inl to_be_found)) =
-            by_part (node_of_either counts (flag_at (ws ++ vs)) ts cs a
+            part_is_found (node_of_either counts (flag_at (ws ++ vs)) ts cs a
             (subst (λ t. HasNode counts (flag_at (ws ++ vs)) t a) forest_before_is to_be_found))
           where
-            by_part : HasNode counts (flag_at (ws ++ vs)) ts a
+            part_is_found : HasNode counts (flag_at (ws ++ vs)) ts a
                 ⊎ HasNode counts (λ n. flag_at (ws ++ vs) (tree_count ts + n)) cs a
                 → IsToBeFound (suc i) (ws ++ flag ∷ []) step_flags a
-            by_part (inl has_node) =
+            part_is_found (inl has_node) =
                 inl (subst (λ t. HasNode counts (flag_at (ws ++ flag ∷ [])) t a) (sym forest_is)
                 (inl (node_of_left_trees vs (flag ∷ []) has_node)))
-            by_part (inr has_node) =
+            part_is_found (inr has_node) =
                 let flagged = some_root_counts counts (λ n. flag_at (ws ++ vs) (tree_count ts + n))
                 cs a has_node in
                 let b_is_true = (flagged_are_counted flagged.0 (sym (flag_after flagged.0)
@@ -369,23 +369,24 @@ module _ (counts : ℕ → ℕ → Bool) (forest_after : ℕ → Trees) where
       found_before_marked : IsToBeFound (suc i) (ws ++ flag ∷ []) step_flags a
           → IsToBeFound i (ws ++ []) (step_flags_after b (marked j) step_flags) a
       found_before_marked (inl to_be_found) =
-          by_root (subst (λ t. HasNode counts (flag_at (ws ++ flag ∷ [])) t a) forest_is
+          root_is_found (subst (λ t. HasNode counts (flag_at (ws ++ flag ∷ [])) t a) forest_is
           to_be_found)
         where
-          by_root : HasNode counts (flag_at (ws ++ flag ∷ [])) (more (forest_after i) l f cs) a
+          root_is_found : HasNode counts (flag_at (ws ++ flag ∷ [])) (more (forest_after i) l f cs)
+              a
               → IsToBeFound i (ws ++ []) (step_flags_after b (marked j) step_flags) a
-          by_root (inl has_node) = inl (node_of_earlier_trees (flag ∷ []) [] has_node)
-          by_root (inr has_node) =
-              repeated_is_found (by_flag (sym (last_flag (tree_count (forest_after i))
+          root_is_found (inl has_node) = inl (node_of_earlier_trees (flag ∷ []) [] has_node)
+          root_is_found (inr has_node) =
+              repeated_is_found (b_if_flag (sym (last_flag (tree_count (forest_after i))
               flag_count_is) ∙ has_node.0)) has_node.1
-      found_before_marked (inr to_be_found) = by_step (repeated_step_cases (forest_after i) l f cs
-          forest_is to_be_found)
+      found_before_marked (inr to_be_found) = step_is_found (repeated_step_cases (forest_after i) l
+          f cs forest_is to_be_found)
         where
-          by_step : ((b ≡ true) × ((a ≡ l) ⊎ HasNode counts (counts l) cs a))
+          step_is_found : ((b ≡ true) × ((a ≡ l) ⊎ HasNode counts (counts l) cs a))
               ⊎ IsNodeOfRepeatedStep i step_flags a
               → IsToBeFound i (ws ++ []) (step_flags_after b (marked j) step_flags) a
-          by_step (inl essential) = repeated_is_found essential.0 essential.1
-          by_step (inr repeated) = inr (
+          step_is_found (inl essential) = repeated_is_found essential.0 essential.1
+          step_is_found (inr repeated) = inr (
             repeated.0,
             repeated.1,
             step_flags_stay b (marked j)
@@ -398,18 +399,18 @@ module _ (counts : ℕ → ℕ → Bool) (forest_after : ℕ → Trees) where
       found_after_marked (inl to_be_found) =
           inl (subst (λ t. HasNode counts (flag_at (ws ++ flag ∷ [])) t a) (sym forest_is)
           (inl (node_of_earlier_trees [] (flag ∷ []) to_be_found)))
-      found_after_marked (inr to_be_found) = by_flag (no_other_step_gets_flag j step_flags b
+      found_after_marked (inr to_be_found) = is_found (no_other_step_gets_flag j step_flags b
           to_be_found.0 to_be_found.2)
         where
-          by_flag : (flag_at step_flags to_be_found.0 ≡ true) ⊎ ((to_be_found.0 ≡ j) × (b ≡ true))
+          is_found : (flag_at step_flags to_be_found.0 ≡ true) ⊎ ((to_be_found.0 ≡ j) × (b ≡ true))
               → IsToBeFound (suc i) (ws ++ flag ∷ []) step_flags a
-          by_flag (inl flag_is_set) = inr (repeated_earlier (
+          is_found (inl flag_is_set) = inr (repeated_earlier (
             to_be_found.0,
             to_be_found.1,
             flag_is_set,
             to_be_found.3,
           ))
-          by_flag (inr is_repeated) =
+          is_found (inr is_repeated) =
               essential_tree_is_found (forest_after i) l f cs forest_is flag_count_is is_repeated.1
               (tree_node l f cs a
               (subst (λ t. HasNode counts each_root t a)

@@ -4,11 +4,11 @@ use Rattle.std.proofs.Common.{Option, None, Some, slice_get, refl, sym, ap, ◌�
 use Rattle.std.proofs.Common.{subst, true≢false}
 use Rattle.std.specs.List.{list_any}
 use Rattle.mm_spec.specs.Statement.{Statement, floating, essential, axiomatic, provable}
-use Rattle.mm_spec.specs.Scope.{is_active}
+use Rattle.mm_spec.specs.Scope.{active_at}
 use Rattle.mm_spec.specs.Frame.{formula_at, frame_at}
-use Rattle.mm_spec.specs.Derivation.{Rule, hypothesis, assertion}
-use Rattle.mm_spec.specs.Citation.{context_at, rule_of, rule_at, is_assertion}
-use Rattle.mm_spec.specs.Laws.Stack.{IsCompleteRule, IsGoodStep}
+use Rattle.mm_spec.specs.Derivation.{Referent, hypothesis, assertion}
+use Rattle.mm_spec.specs.Citation.{context_at, referent_of, referent_at, is_assertion}
+use Rattle.mm_spec.specs.Laws.Stack.{IsCompleteReferent, IsGoodStep}
 use Rattle.mm_spec.proofs.FindsLaw.{got_lt_length}
 use Rattle.mm_spec.specs.Steps.{Step, label, marked}
 use Rattle.mm_rule.specs.Assertions.{is_assertion_at}
@@ -19,20 +19,22 @@ module _ (db : List Statement) (t j : ℕ) where
   record HasStatement : Type 0 where
     pub statement : Statement
     pub statement_is : slice_get db j ≡ Some statement
-    pub rule_is : rule_at db t j ≡ rule_of db j statement
+    pub rule_is : referent_at db t j ≡ referent_of db j statement
 
-  good_label_has_statement : IsCompleteRule (context_at db t) (rule_at db t j) → HasStatement
-  good_label_has_statement is_complete = by_activity (is_active db j t) refl (slice_get db j) refl
+  good_label_has_statement : IsCompleteReferent (context_at db t) (referent_at db t j)
+      → HasStatement
+  good_label_has_statement is_complete = is_statement (active_at db j t) refl (slice_get db j) refl
       is_complete
     where
-      out : Bool → Option Statement → Option Rule
-      out b o = elim b [ false ↦ None | true ↦ elim o [ None ↦ None | Some s ↦ rule_of db j s ] ]
+      out : Bool → Option Statement → Option Referent
+      out b o = elim b
+          [ false ↦ None | true ↦ elim o [ None ↦ None | Some s ↦ referent_of db j s ] ]
 
-      by_activity : (b : Bool) → is_active db j t ≡ b → (o : Option Statement) → slice_get db j ≡ o
-          → IsCompleteRule (context_at db t) (out b o) → HasStatement
-      by_activity false not_active o statement_is is_good = absurd is_good
-      by_activity true active_at_t None statement_is is_complete = absurd is_complete
-      by_activity true active_at_t (Some s) statement_is is_complete =
+      is_statement : (b : Bool) → active_at db j t ≡ b → (o : Option Statement) → slice_get db j ≡ o
+          → IsCompleteReferent (context_at db t) (out b o) → HasStatement
+      is_statement false not_active o statement_is is_good = absurd is_good
+      is_statement true active_at_t None statement_is is_complete = absurd is_complete
+      is_statement true active_at_t (Some s) statement_is is_complete =
           record {
             statement = s;
             statement_is = statement_is;
@@ -40,10 +42,10 @@ module _ (db : List Statement) (t j : ℕ) where
                 ∙ ap (λ o. out true o) statement_is;
           }
 
-  pub good_label_is_below : IsCompleteRule (context_at db t) (rule_at db t j) → j < length db
+  pub good_label_is_below : IsCompleteReferent (context_at db t) (referent_at db t j)
+      → j < length db
   good_label_is_below is_complete = let labelled = good_label_has_statement is_complete in
-      got_lt_length
-      db j labelled.statement labelled.statement_is
+      got_lt_length db j labelled.statement labelled.statement_is
 
   assertion_flag_is : (s : Statement) (b : Bool) → slice_get db j ≡ Some s → is_assertion_at db j
       ≡ b
@@ -53,39 +55,39 @@ module _ (db : List Statement) (t j : ℕ) where
       ∙ flag_is
 
   pub assertion_rule : is_assertion_at db j ≡ true
-      → IsCompleteRule (context_at db t) (rule_at db t j)
-      → rule_at db t j ≡ Some (assertion (frame_at db j))
+      → IsCompleteReferent (context_at db t) (referent_at db t j)
+      → referent_at db t j ≡ Some (assertion (frame_at db j))
   assertion_rule labels_assertion is_complete =
       let labelled = good_label_has_statement is_complete in labelled.rule_is
-      ∙ by_statement labelled.statement (assertion_flag_is labelled.statement true
+      ∙ rule_is labelled.statement (assertion_flag_is labelled.statement true
       labelled.statement_is
       labels_assertion)
     where
-      by_statement : (s : Statement) → list_any is_assertion (s ∷ []) ≡ true
-          → rule_of db j s ≡ Some (assertion (frame_at db j))
-      by_statement (axiomatic l p xs d) is_assertion = refl
-      by_statement (provable l p xs e ps d) is_assertion = refl
-      by_statement _ is_assertion = absurd (true≢false (sym is_assertion))
+      rule_is : (s : Statement) → list_any is_assertion (s ∷ []) ≡ true
+          → referent_of db j s ≡ Some (assertion (frame_at db j))
+      rule_is (axiomatic l p xs d) is_assertion = refl
+      rule_is (provable l p xs e ps d) is_assertion = refl
+      rule_is _ is_assertion = absurd (true≢false (sym is_assertion))
 
   pub hypothesis_rule : is_assertion_at db j ≡ false
-      → IsCompleteRule (context_at db t) (rule_at db t j)
-      → rule_at db t j ≡ Some (hypothesis (formula_at db j))
+      → IsCompleteReferent (context_at db t) (referent_at db t j)
+      → referent_at db t j ≡ Some (hypothesis (formula_at db j))
   hypothesis_rule not_assertion is_complete =
       let labelled = good_label_has_statement is_complete in
-      labelled.rule_is ∙ by_statement labelled.statement (assertion_flag_is labelled.statement false
+      labelled.rule_is ∙ rule_is labelled.statement (assertion_flag_is labelled.statement false
       labelled.statement_is not_assertion)
-      (subst (IsCompleteRule (context_at db t)) labelled.rule_is is_complete)
+      (subst (IsCompleteReferent (context_at db t)) labelled.rule_is is_complete)
     where
-      by_statement : (s : Statement) → list_any is_assertion (s ∷ []) ≡ false
-          → IsCompleteRule (context_at db t) (rule_of db j s)
-          → rule_of db j s ≡ Some (hypothesis (formula_at db j))
-      by_statement (floating l p xs d) not_assertion is_complete = refl
-      by_statement (essential l p xs d) not_assertion is_complete = refl
-      by_statement (axiomatic l p xs d) not_assertion is_complete = absurd (true≢false
+      rule_is : (s : Statement) → list_any is_assertion (s ∷ []) ≡ false
+          → IsCompleteReferent (context_at db t) (referent_of db j s)
+          → referent_of db j s ≡ Some (hypothesis (formula_at db j))
+      rule_is (floating l p xs d) not_assertion is_complete = refl
+      rule_is (essential l p xs d) not_assertion is_complete = refl
+      rule_is (axiomatic l p xs d) not_assertion is_complete = absurd (true≢false
           not_assertion)
-      by_statement (provable l p xs e ps d) not_assertion is_complete = absurd (true≢false
+      rule_is (provable l p xs e ps d) not_assertion is_complete = absurd (true≢false
           not_assertion)
-      by_statement _ not_assertion is_complete = absurd is_complete
+      rule_is _ not_assertion is_complete = absurd is_complete
 
 -- the label of a good step is that of a statement
 pub good_step_label_is_below : (db : List Statement) (t n : ℕ) (s : Step)

@@ -41,17 +41,17 @@ module _ (db : List Statement) (t : ℕ) (steps : List PlacedStep) where
       record {
         is_at_theorem = record {
           made_for = rw machine_is of_database;
-          theorem_lt_length = by_statement (slice_get db t) refl steps_are.is_theorem;
+          theorem_lt_length = t_lt_length (slice_get db t) refl steps_are.is_theorem;
           pairs_are_disjoint = are_disjoint_at;
         };
         are_steps = steps_are;
         has_run = no_step_has_run db t steps m noted symbol_count machine_is noted_is_nil;
       }
     where
-      by_statement : (o : Option Statement) → slice_get db t ≡ o
+      t_lt_length : (o : Option Statement) → slice_get db t ≡ o
           → list_any is_theorem (elim o [ None ↦ [] | Some s ↦ s ∷ [] ]) ≡ true → t < length db
-      by_statement None statement_is is_theorem = absurd (true≢false (sym is_theorem))
-      by_statement (Some s) statement_is is_theorem = got_lt_length db t s statement_is
+      t_lt_length None statement_is is_theorem = absurd (true≢false (sym is_theorem))
+      t_lt_length (Some s) statement_is is_theorem = got_lt_length db t s statement_is
 
   -- all steps are performed
   module _ (c d : CheckerState) (view : c ≡ d) (has_performed : HasPerformed db t steps (length
@@ -94,7 +94,7 @@ module _ (db : List Statement) (t : ℕ) (steps : List PlacedStep) where
       }
 
     pub end_is_refused : (end : ℕ) (code : Code) → option_map end_at (slice_get db t) ≡ Some end
-        → IsEndCode (context_at db t) c.machine.stack (formula_at db t) code
+        → IsEndCode c.machine.stack (formula_at db t) code
         → ProofFault db t (proof_end (slice_get db t)) (fault end code)
     end_is_refused end code end_is is_end_code =
         let f = formula_at db t in

@@ -7,10 +7,10 @@ use Rattle.std.proofs.lemmas.List.{get_or_append_left, same_from_push}
 use Rattle.mm_spec.specs.Derivation.{Formula, Context, Follows, Trees, none, more, tree, formulas}
 use Rattle.mm_spec.specs.Derivation.{postfix, AreDerivations}
 use Rattle.mm_spec.specs.Steps.{Step, label, marked}
-use Rattle.mm_spec.specs.Valid.{IsLastTree, Adds, Plain, Derives}
+use Rattle.mm_spec.specs.Valid.{IsLastTree, Adds, Expands, Derives}
 use Rattle.mm_spec.specs.Laws.Complete.{HasCompleteFrame}
 use Rattle.mm_spec.proofs.UniqueLaw.{◌⧺◌}
-use Rattle.mm_spec.proofs.CheckedLaw.{same_labels_same_forest}
+use Rattle.mm_spec.proofs.CheckedLaw.{expansion_grows, same_labels_same_forest}
 
 -- the forest after the first n steps
 abbrev pub forest_at : List Trees → ℕ → Trees
@@ -31,14 +31,14 @@ cut_two_ways (x ∷ xs) ys [] vs lists_equal = inl (x ∷ xs, refl)
 cut_two_ways (x ∷ xs) ys (u ∷ us) vs lists_equal =
     let heads_equal : x ≡ u = cc in
     let tails_equal : xs ++ ys ≡ us ++ vs = cc in
-    by_cut heads_equal (cut_two_ways xs ys us vs tails_equal)
+    is_cut heads_equal (cut_two_ways xs ys us vs tails_equal)
   where
-    by_cut : x ≡ u → ((k : List ℕ) × (xs ≡ us ++ k))
+    is_cut : x ≡ u → ((k : List ℕ) × (xs ≡ us ++ k))
         ⊎ ((k : List ℕ) × (us ≡ xs ++ k) × (ys ≡ k ++ vs))
         → ((k : List ℕ) × (x ∷ xs ≡ (u ∷ us) ++ k))
         ⊎ ((k : List ℕ) × (u ∷ us ≡ (x ∷ xs) ++ k) × (ys ≡ k ++ vs))
-    by_cut heads_equal (inl cut) = let front_is = cut.1 in inl (cut.0, cc (heads_equal, front_is))
-    by_cut heads_equal (inr cut) = let front_is = cut.1 in inr (
+    is_cut heads_equal (inl cut) = let front_is = cut.1 in inl (cut.0, cc (heads_equal, front_is))
+    is_cut heads_equal (inr cut) = let front_is = cut.1 in inr (
       cut.0,
       cc (heads_equal, front_is),
       cut.2,
@@ -69,7 +69,7 @@ module _ (c : Context) where
   abbrev pub IsMove : List Trees → ℕ → Step → Type 0
   IsMove forests n (label l) =
       (ts : Trees) × (f : Formula) × (cs : Trees) × (forest_at forests (suc n) ≡ more ts l f cs)
-      × (forest_at forests n ≡ ts ⧺ cs) × Follows c (c.rule l) (formulas cs) f
+      × (forest_at forests n ≡ ts ⧺ cs) × Follows c (c.referent l) (formulas cs) f
   IsMove forests n (marked j) =
       (j < n) × (l : ℕ) × (f : Formula) × (cs : Trees)
       × (forest_at forests (suc n) ≡ more (forest_at forests n) l f cs)
@@ -101,7 +101,7 @@ module _ (c : Context) where
   row_of_front none [] rest_labels derives postfix_is = (none, tt, refl)
   row_of_front none (x ∷ labels) rest_labels are_derivations postfix_is = absurd (cc)
   row_of_front (more ts l f cs) labels rest_labels derives postfix_is =
-      by_cut (cut_two_ways (postfix ts) (postfix cs ++ l ∷ []) labels rest_labels postfix_is)
+      row_is (cut_two_ways (postfix ts) (postfix cs ++ l ∷ []) labels rest_labels postfix_is)
       (λ k front_is. row_of_front ts labels k derives.0 front_is)
       (λ labels' k front_is. row_of_front cs labels' k derives.1 front_is)
     where
@@ -142,31 +142,14 @@ module _ (c : Context) where
       row_in_children k labels_are (inr cut) row_of_part = row_of_whole_tree k cut.0 labels_are
           cut.1 cut.2
 
-      by_cut : ((k : List ℕ) × (postfix ts ≡ labels ++ k))
+      row_is : ((k : List ℕ) × (postfix ts ≡ labels ++ k))
           ⊎ ((k : List ℕ) × (labels ≡ postfix ts ++ k) × (postfix cs ++ l ∷ [] ≡ k ++ rest_labels))
           → ((k : List ℕ) → postfix ts ≡ labels ++ k → RowOf labels)
           → ((labels' k : List ℕ) → postfix cs ≡ labels' ++ k → RowOf labels') → RowOf labels
-      by_cut (inl cut) row_of_part in_children = row_of_part cut.0 cut.1
-      by_cut (inr cut) row_of_part in_children =
+      row_is (inl cut) row_of_part in_children = row_of_part cut.0 cut.1
+      row_is (inr cut) row_of_part in_children =
           row_in_children cut.0 cut.1 (cut_two_ways (postfix cs) (l ∷ []) cut.0 rest_labels cut.2)
           in_children
-
-  -- the plain list only grows
-  adds_at_end : (lists : List (List ℕ)) (labels : List ℕ) (s : Step) (new_labels : List ℕ)
-      → Adds c lists labels s new_labels → (added : List ℕ) × (new_labels ≡ labels ++ added)
-  adds_at_end lists labels (label l) new_labels adds = (l ∷ [], adds)
-  adds_at_end lists labels (marked j) new_labels adds = (adds.1, adds.4)
-
-  plain_extends : (steps : List Step) (lists : List (List ℕ)) (labels all_labels : List ℕ)
-      → Plain c lists labels steps all_labels → (added : List ℕ) × (all_labels ≡ labels ++ added)
-  plain_extends [] lists labels all_labels plain = ([], plain ∙ sym (append-nil labels))
-  plain_extends (s ∷ steps) lists labels all_labels plain =
-      let extended = adds_at_end lists labels s plain.0 plain.1 in
-      let extended_again = plain_extends steps (lists ++ plain.0 ∷ []) plain.0 all_labels plain.2 in (
-        extended.0 ++ extended_again.0,
-        extended_again.1 ∙ ap (λ z. z ++ extended_again.0) extended.1
-            ∙ append_assoc labels extended.0 extended_again.0,
-      )
 
   -- the lists after the steps so far are those of these forests
   abbrev AreListsOf : List (List ℕ) → List Trees → Type 0
@@ -198,7 +181,7 @@ module _ (c : Context) where
       let tail_case = list_is_postfix xs ts j list are_lists.1 list_is in let j_lt_length =
       tail_case.0 in (omega (arith, j_lt_length), tail_case.1, tail_case.2)
 
-  module _ (are_complete : (l : ℕ) → HasCompleteFrame c (c.rule l)) where
+  module _ (are_complete : (l : ℕ) → HasCompleteFrame c (c.referent l)) where
     -- one step
     move_label : (forests : List Trees) (n : ℕ) (forest next_forest : Trees) (l : ℕ)
         → AreDerivations c forest
@@ -223,7 +206,7 @@ module _ (c : Context) where
           next_is ∙ ap (λ x. more ts x f cs) postfixes_equal.1,
           forest_is
               ∙ forest_splits,
-          subst (λ x. Follows c (c.rule x) (formulas cs) f) postfixes_equal.1 next_derives.2,
+          subst (λ x. Follows c (c.referent x) (formulas cs) f) postfixes_equal.1 next_derives.2,
         )
 
     move_marked : (lists : List (List ℕ)) (forests later : List Trees) (forest next_forest : Trees)
@@ -237,8 +220,7 @@ module _ (c : Context) where
         let at_j = list_is_postfix lists forests j adds.0 are_lists adds.2 in
         let repeated = adds.3 in
         let forests_equal = same_labels_same_forest c are_complete
-        (get_or forests j none) repeated.0 at_j.1
-        repeated.1 (at_j.2 ∙ sym repeated.2)
+        (get_or forests j none) repeated.0 at_j.1 repeated.1 (at_j.2 ∙ sym repeated.2)
         in
         copy repeated.0 repeated.1 repeated.3 forests_equal at_j.0
       where
@@ -343,9 +325,9 @@ module _ (c : Context) where
         (forest d : Trees)
         → AreListsOf lists forests → AreDerivations c forest → forest_at forests (length forests)
         ≡ forest
-        → AreDerivations c d → Plain c lists (postfix forest) steps (postfix d)
+        → AreDerivations c d → Expands c lists (postfix forest) steps (postfix d)
         → HasRest forests steps d
-    has_rest_from [] lists forests forest d are_lists derives forest_is d_derives plain =
+    has_rest_from [] lists forests forest d are_lists derives forest_is d_derives expands =
         let length_is : length forests + 0 ≡ length forests = omega arith in
         record {
           later = [];
@@ -353,16 +335,19 @@ module _ (c : Context) where
           ends_in_d =
               ap (forest_at (forests ++ [])) length_is
               ∙ forest_front forests [] (length forests) (omega arith) ∙ forest_is
-              ∙ sym (same_labels_same_forest c are_complete d forest d_derives derives plain);
+              ∙ sym (same_labels_same_forest c are_complete d forest d_derives derives expands);
         }
-    has_rest_from (s ∷ steps) lists forests forest d are_lists derives forest_is d_derives plain =
-        let extension = plain_extends steps (lists ++ plain.0 ∷ []) plain.0 (postfix d) plain.2 in
-        let row = row_of_front d plain.0 extension.0 d_derives extension.1 in
-        rest_after_step lists forests forest d s steps are_lists derives forest_is plain.0 plain.1
+    has_rest_from (s ∷ steps) lists forests forest d are_lists derives forest_is d_derives expands =
+        let extension =
+        expansion_grows c steps (lists ++ expands.0 ∷ []) expands.0 (postfix d) expands.2 in
+        let row = row_of_front d expands.0 extension.0 d_derives extension.1 in
+        rest_after_step lists forests forest d s steps are_lists derives forest_is expands.0
+        expands.1
         row.0 row.1 row.2
-        (λ next_is. has_rest_from steps (lists ++ plain.0 ∷ []) (forests ++ row.0 ∷ []) row.0 d
-        (lists_push lists forests plain.0 row.0 are_lists row.1 row.2) row.1 next_is d_derives
-        (subst (λ z. Plain c (lists ++ plain.0 ∷ []) z steps (postfix d)) (sym row.2) plain.2))
+        (λ next_is. has_rest_from steps (lists ++ expands.0 ∷ []) (forests ++ row.0 ∷ []) row.0 d
+        (lists_push lists forests expands.0 row.0 are_lists row.1 row.2) row.1 next_is d_derives
+        (subst (λ z. Expands c (lists ++ expands.0 ∷ []) z steps (postfix d)) (sym row.2)
+        expands.2))
 
     -- a proof's forests
     pub proof_has_forests : (steps : List Step) (f : Formula) (d : Trees) → Derives c steps f d

@@ -13,7 +13,7 @@ use Rattle.mm_spec.specs.Steps.{Step, label, marked, PlacedStep, placed}
 use Rattle.mm_spec.specs.Statement.{Statement}
 use Rattle.mm_spec.specs.Citation.{context_at}
 use Rattle.mm_spec.specs.Laws.Stack.{IsGoodStep, step_entries, top}
-use Rattle.mm_steps.specs.TheoremSteps.{step_at, is_marked, takes_up}
+use Rattle.mm_steps.specs.TheoremSteps.{step_at, is_marked, repeats}
 use Rattle.mm_machine.specs.State.{MachineState, machine_state, with_mark, reason_of}
 use Rattle.mm_machine.specs.declared.machine.StepRefused.{StepRefused}
 use Rattle.mm_machine.specs.declared.machine.StepRefused.TheVariants.{Fault, Memory}
@@ -72,8 +72,8 @@ end_formulas_push ends (j ∷ marks) (g ∷ formulas) i f are_end_formulas ends_
 repeated_step_is_marked : (steps : List PlacedStep) (i j : ℕ) → i < length steps
     → (step_at steps i).step ≡ marked j → is_marked steps j ≡ true
 repeated_step_is_marked steps i j i_lt_length is_marked_j =
-    list_any_at (λ s. takes_up j s.step) steps i (placed 0 (label 0)) i_lt_length
-    (ap (takes_up j) is_marked_j ∙ eq-eqb j j refl)
+    list_any_at (λ s. repeats j s.step) steps i (placed 0 (label 0)) i_lt_length
+    (ap (repeats j) is_marked_j ∙ eq-eqb j j refl)
 
 module _ (db : List Statement) (t : ℕ) (steps : List PlacedStep) (i : ℕ) (c : CheckerState)
     (has_performed : HasPerformed db t steps i c) (i_lt_length : i < length steps) (a : Step)
@@ -81,19 +81,17 @@ module _ (db : List Statement) (t : ℕ) (steps : List PlacedStep) (i : ℕ) (c 
   good_step : IsGoodStep (context_at db t) (length has_performed.has_run.ends) a
   good_step =
       step_at_is_good (context_at db t) steps i (length has_performed.has_run.ends) a i_lt_length
-      has_performed.are_steps.are_good
-      has_performed.has_run.end_count_is
-      a_is
+      has_performed.are_steps.are_good has_performed.has_run.end_count_is a_is
 
   -- the step can be made
   pub step_is_ready : IsReady (context_at db t) c.machine.marks a
-  step_is_ready = by_step_kind a a_is good_step
+  step_is_ready = is_ready a a_is good_step
     where
-      by_step_kind : (s : Step) → s ≡ (step_at steps i).step
+      is_ready : (s : Step) → s ≡ (step_at steps i).step
           → IsGoodStep (context_at db t) (length has_performed.has_run.ends) s
           → IsReady (context_at db t) c.machine.marks s
-      by_step_kind (label l) a_is is_good = is_good
-      by_step_kind (marked j) a_is is_good =
+      is_ready (label l) a_is is_good = is_good
+      is_ready (marked j) a_is is_good =
           has_performed.has_run.marked_are_kept j (let count_is = has_performed.has_run.end_count_is
           in omega (arith, is_good, count_is))
           (repeated_step_is_marked steps i j i_lt_length (sym a_is))
@@ -106,8 +104,7 @@ module _ (db : List Statement) (t : ℕ) (steps : List PlacedStep) (i : ℕ) (c 
   refused_step_refuses at (Fault reason) place_is is_step_refusal =
       rw place_is
       (failing_step_refuses db t steps i c.machine.stack has_performed.has_run.ends c.noted
-      (reason_of reason)
-      i_lt_length has_performed.has_run.is_reached
+      (reason_of reason) i_lt_length has_performed.has_run.is_reached
       (subst (IsGoodStep (context_at db t) (length has_performed.has_run.ends)) a_is good_step)
       (subst (λ z. step_entries (context_at db t) z has_performed.has_run.ends c.machine.stack
       ≡ Err (reason_of reason)) a_is (is_step_refusal has_performed.has_run.ends
@@ -117,7 +114,7 @@ module _ (db : List Statement) (t : ℕ) (steps : List PlacedStep) (i : ℕ) (c 
   has_run_after_step : (d : CheckerState) (m : MachineState) (b : Bool) → is_marked steps i ≡ b
       → Performs db t a c d → m ≡ with_mark b i d.machine → HasRun db t steps (i + 1) m d.noted
   has_run_after_step d m b is_b performs m_is =
-      subst (λ o. HasRun db t steps (i + 1) o d.noted) (sym m_is) (by_mark b is_b)
+      subst (λ o. HasRun db t steps (i + 1) o d.noted) (sym m_is) (has_run_with b is_b)
     where
       ends : List Formula
       ends = has_performed.has_run.ends ++ top d.machine.stack ∷ []
@@ -135,8 +132,7 @@ module _ (db : List Statement) (t : ℕ) (steps : List PlacedStep) (i : ℕ) (c 
       is_reached =
           rw (take_step steps i i_lt_length, ← a_is)
           (reached_after_step db t (steps_of (take i steps)) c.machine.stack
-          has_performed.has_run.ends c.noted a
-          d.machine.stack
+          has_performed.has_run.ends c.noted a d.machine.stack
           d.noted has_performed.has_run.is_reached good_step (performs.entries_are
           has_performed.has_run.ends has_performed.has_run.marks_agree)
           performs.noted_are)
@@ -165,9 +161,9 @@ module _ (db : List Statement) (t : ℕ) (steps : List PlacedStep) (i : ℕ) (c 
       earlier_is_kept j j_lt_i is_marked_j = subst (λ z. Contains z j) (sym performs.marks_stay)
           (has_performed.has_run.marked_are_kept j j_lt_i is_marked_j)
 
-      by_mark : (b : Bool) → is_marked steps i ≡ b
+      has_run_with : (b : Bool) → is_marked steps i ≡ b
           → HasRun db t steps (i + 1) (with_mark b i d.machine) d.noted
-      by_mark false not_marked = record {
+      has_run_with false not_marked = record {
         ends = ends;
         end_count_is = end_count_is;
         is_reached = is_reached;
@@ -184,7 +180,7 @@ module _ (db : List Statement) (t : ℕ) (steps : List PlacedStep) (i : ℕ) (c 
               absurd (true≢false
               (sym is_marked_j ∙ ap (is_marked steps) (let j_is_i : j
               ≡ i = omega (arith, i_le_j, j_lt_suc_i) in j_is_i) ∙ not_marked))
-      by_mark true is_marked_i = record {
+      has_run_with true is_marked_i = record {
         ends = ends;
         end_count_is = end_count_is;
         is_reached = is_reached;
@@ -192,15 +188,15 @@ module _ (db : List Statement) (t : ℕ) (steps : List PlacedStep) (i : ℕ) (c 
             d.machine.stack) marks_agree
             ends_at_i;
         marks_lt_i = All-push (λ j. j < i + 1) d.machine.marks i marks_lt_i (omega arith);
-        marked_are_kept = λ j j_lt_suc_i is_marked_j. by_order j is_marked_j j_lt_suc_i (cases_lt j
+        marked_are_kept = λ j j_lt_suc_i is_marked_j. has_mark j is_marked_j j_lt_suc_i (cases_lt j
             i);
       }
         where
-          by_order : (j : ℕ) → is_marked steps j ≡ true → j < i + 1 → (j < i) ⊎ (i ≤ j)
+          has_mark : (j : ℕ) → is_marked steps j ≡ true → j < i + 1 → (j < i) ⊎ (i ≤ j)
               → Contains (d.machine.marks ++ i ∷ []) j
-          by_order j is_marked_j j_lt_suc_i (inl j_lt_i) = Contains-append_left d.machine.marks (i ∷
+          has_mark j is_marked_j j_lt_suc_i (inl j_lt_i) = Contains-append_left d.machine.marks (i ∷
               []) j (earlier_is_kept j j_lt_i is_marked_j)
-          by_order j is_marked_j j_lt_suc_i (inr i_le_j) =
+          has_mark j is_marked_j j_lt_suc_i (inr i_le_j) =
               let i_is_j : i ≡ j = omega (arith, i_le_j, j_lt_suc_i) in
               subst (Contains (d.machine.marks ++ i ∷ [])) i_is_j (Contains-push d.machine.marks i)
 

@@ -12,7 +12,7 @@ use Rattle.mm_spec.specs.declared.Code.{Code}
 use Rattle.mm_spec.specs.Derivation.{Formula, Context, Trees, none, more, tree, formulas, postfix}
 use Rattle.mm_spec.specs.Derivation.{AreDerivations, is_member}
 use Rattle.mm_spec.specs.Steps.{Step, label, marked, PlacedStep, placed}
-use Rattle.mm_spec.specs.Valid.{Reason, code_of, Plain, Adds, Derives, StepFault, ProofEndFault}
+use Rattle.mm_spec.specs.Valid.{Reason, code_of, Expands, Adds, Derives, StepFault, ProofEndFault}
 use Rattle.mm_spec.specs.Valid.{IsEndCode, IsLastTree}
 use Rattle.mm_spec.proofs.StepsLaw.{ends_after_one_more, GrownForest, good_step_grows_forest}
 use Rattle.mm_spec.specs.Laws.Stack.{AreGoodSteps, IsGoodStep, step_entries, top}
@@ -119,16 +119,15 @@ reached_after_step db t steps_so_far stack ends noted s out noted' is_reached is
       entries_are = grown.3;
       lists = is_reached.lists ++ postfix grown.0 ∷ [];
       lists_end_in_formulas = ends_after_one_more c is_reached.lists ends (postfix grown.0)
-          (top out)
-          is_reached.lists_end_in_formulas
+          (top out) is_reached.lists_end_in_formulas
           (grown.0, grown.1, refl, grown.4);
-      plain_from_start =
-          λ later_steps labels is_plain. subst (λ z. Plain c [] [] z labels)
+      expands_from_start =
+          λ later_steps labels expansion. subst (λ z. Expands c [] [] z labels)
           (sym (append_assoc steps_so_far (s ∷ []) later_steps))
-          (is_reached.plain_from_start (s ∷ later_steps) labels (
+          (is_reached.expands_from_start (s ∷ later_steps) labels (
             postfix grown.0,
             grown.2,
-            is_plain,
+            expansion,
           ));
       lists_are_within =
           within_push is_reached.lists (postfix is_reached.forest) (postfix grown.0)
@@ -158,39 +157,38 @@ failing_step_refuses db t steps i stack ends noted reason i_lt_length_steps is_r
     let grown =
     subst (GrownForest c is_reached.lists is_reached.forest s.step) entries_fail
     (good_step_grows_forest c is_reached.lists ends is_reached.forest s.step
-    is_reached.are_derivations
-    is_reached.lists_end_in_formulas
+    is_reached.are_derivations is_reached.lists_end_in_formulas
     is_good) in
     record {
       before = take i steps;
-      first = s;
+      failing = s;
       after = drop (i + 1) steps;
       splits =
           sym (take-append-drop i steps)
           ∙ ap (λ z. take i steps ++ z) (drop_more steps i (placed 0 (label 0)) i_lt_length_steps);
       forest = is_reached.forest;
       derivations = is_reached.are_derivations;
-      plain =
-          subst (λ z. Plain c [] [] z (postfix is_reached.forest))
+      expansion =
+          subst (λ z. Expands c [] [] z (postfix is_reached.forest))
           (append-nil (steps_of (take i steps)))
-          (is_reached.plain_from_start [] (postfix is_reached.forest) refl);
+          (is_reached.expands_from_start [] (postfix is_reached.forest) refl);
       reason = reason;
       fails = grown;
-      is = refl;
+      fault_is = refl;
     }
 
 module _ (db : List Statement) (t : ℕ) (steps : List PlacedStep) (stack ends : List Formula)
     (noted : List ℕ) (is_reached : IsReached db t (steps_of steps) stack ends noted) where
-  plain_all : Plain (context_at db t) [] [] (steps_of steps) (postfix is_reached.forest)
-  plain_all =
-      subst (λ z. Plain (context_at db t) [] [] z (postfix is_reached.forest)) (append-nil (steps_of
-      steps))
-      (is_reached.plain_from_start [] (postfix is_reached.forest) refl)
+  whole_expansion : Expands (context_at db t) [] [] (steps_of steps) (postfix is_reached.forest)
+  whole_expansion =
+      subst (λ z. Expands (context_at db t) [] [] z (postfix is_reached.forest)) (append-nil
+      (steps_of steps))
+      (is_reached.expands_from_start [] (postfix is_reached.forest) refl)
 
   pub end_derives : (f : Formula) → stack ≡ f ∷ []
       → Derives (context_at db t) (steps_of steps) f is_reached.forest
-  end_derives f stack_is = by_forest is_reached.forest is_reached.are_derivations
-      (is_reached.entries_are ∙ stack_is) plain_all
+  end_derives f stack_is = forest_derives is_reached.forest is_reached.are_derivations
+      (is_reached.entries_are ∙ stack_is) whole_expansion
     where
       two_entries_not_one : (xs : List Formula) (h g : Formula) → ¬ ((xs ++ h ∷ []) ++ g ∷ []
           ≡ f ∷ [])
@@ -204,33 +202,33 @@ module _ (db : List Statement) (t : ℕ) (steps : List PlacedStep) (stack ends :
                 []),
           )
 
-      by_forest : (forest : Trees) → AreDerivations (context_at db t) forest → formulas forest
+      forest_derives : (forest : Trees) → AreDerivations (context_at db t) forest → formulas forest
           ≡ f ∷ []
-          → Plain (context_at db t) [] [] (steps_of steps) (postfix forest)
+          → Expands (context_at db t) [] [] (steps_of steps) (postfix forest)
           → Derives (context_at db t) (steps_of steps) f forest
-      by_forest none derives stack_is is_plain = cc
-      by_forest (more none l g cs) derives stack_is is_plain = (
+      forest_derives none derives stack_is expansion = cc
+      forest_derives (more none l g cs) derives stack_is expansion = (
         l,
         cs,
         ap (λ z. tree l z cs) (ap top
             stack_is),
         derives,
-        is_plain,
+        expansion,
       )
-      by_forest (more (more ts m h bs) l g cs) derives stack_is is_plain = absurd
+      forest_derives (more (more ts m h bs) l g cs) derives stack_is expansion = absurd
           (two_entries_not_one (formulas ts) h g stack_is)
 
   pub end_code_is_fault : (end : ℕ) (code : Code) (formula : Formula)
-      → IsEndCode (context_at db t) stack formula code
+      → IsEndCode stack formula code
       → ProofEndFault (context_at db t) steps formula end (fault end code)
   end_code_is_fault end code formula is_end_code = record {
     forest = is_reached.forest;
     derivations = is_reached.are_derivations;
-    plain = plain_all;
+    expansion = whole_expansion;
     code = code;
-    fails = subst (λ z. IsEndCode (context_at db t) z formula code)
+    fails = subst (λ z. IsEndCode z formula code)
         (sym is_reached.entries_are) is_end_code;
-    is = refl;
+    fault_is = refl;
   }
 
 -- the step at a place is good
@@ -270,7 +268,7 @@ no_step_reached db t stack ends noted stack_is_nil ends_is_nil noted_is_nil =
       entries_are = refl;
       lists = [];
       lists_end_in_formulas = tt;
-      plain_from_start = λ later_steps labels is_plain. is_plain;
+      expands_from_start = λ later_steps labels expansion. expansion;
       lists_are_within = tt;
       noted_are = λ a. refl;
     })
@@ -278,11 +276,11 @@ no_step_reached db t stack ends noted stack_is_nil ends_is_nil noted_is_nil =
 -- the place of the end of a theorem's proof
 pub proof_end_is_end_at : (db : List Statement) (t end : ℕ) → is_theorem_at db t ≡ true
     → option_map end_at (slice_get db t) ≡ Some end → proof_end (slice_get db t) ≡ end
-proof_end_is_end_at db t end is_theorem_t end_is = by_statement (slice_get db t) is_theorem_t end_is
+proof_end_is_end_at db t end is_theorem_t end_is = is_proof_end (slice_get db t) is_theorem_t end_is
   where
-    by_statement : (o : Option Statement)
+    is_proof_end : (o : Option Statement)
         → list_any is_theorem (elim o [ None ↦ [] | Some s ↦ s ∷ [] ]) ≡ true
         → option_map end_at o ≡ Some end → proof_end o ≡ end
-    by_statement None is_theorem_o end_is = absurd (true≢false (sym is_theorem_o))
-    by_statement (Some (provable l p xs q ps d)) is_theorem_o end_is = cc
-    by_statement (Some s) is_theorem_o end_is = absurd (true≢false (sym is_theorem_o))
+    is_proof_end None is_theorem_o end_is = absurd (true≢false (sym is_theorem_o))
+    is_proof_end (Some (provable l p xs q ps d)) is_theorem_o end_is = cc
+    is_proof_end (Some s) is_theorem_o end_is = absurd (true≢false (sym is_theorem_o))

@@ -9,7 +9,7 @@ use Rattle.mm_spec.specs.Derivation.{Formula, is_member}
 use Rattle.mm_spec.specs.Steps.{label, marked}
 use Rattle.mm_spec.specs.Valid.{Reason}
 use Rattle.mm_spec.specs.Citation.{context_at}
-use Rattle.mm_spec.specs.Laws.Stack.{IsCompleteRule, step}
+use Rattle.mm_spec.specs.Laws.Stack.{IsCompleteReferent, label_entries}
 use Rattle.mm_rule.specs.Assertions.{is_assertion_at}
 use Rattle.mm_machine.specs.State.{MachineState, machine_state, applied}
 use Rattle.mm_machine.specs.Applied.{IsRefusalOf}
@@ -46,7 +46,7 @@ module _ (db : List Statement) (t : ℕ) where
       }
 
   module _ (c : CheckerState) (a : ℕ)
-      (rule_is_complete : IsCompleteRule (context_at db t) ((context_at db t).rule a))
+      (rule_is_complete : IsCompleteReferent (context_at db t) ((context_at db t).referent a))
       (is_assertion : is_assertion_at db a ≡ true) where
     pub applied_step_performs : (m : MachineState) (noted : List ℕ) (cache : List (ℕ × ℕ))
         → applied db t a c.machine.stack ≡ Ok m.stack → m.marks ≡ c.machine.marks
@@ -56,25 +56,25 @@ module _ (db : List Statement) (t : ℕ) where
     applied_step_performs m noted cache entries_are marks_stay formulas_stay has_entry noted_are =
         record {
           entries_are =
-              λ ends agree. ap (λ r. step (context_at db t) r c.machine.stack)
+              λ ends agree. ap (λ r. label_entries (context_at db t) r c.machine.stack)
               (assertion_rule db t a is_assertion rule_is_complete)
               ∙ entries_are;
           marks_stay = marks_stay;
           formulas_stay = formulas_stay;
           has_entry = has_entry;
-          noted_are = λ x. noted_are x ∙ ap (λ b. is_member c.noted x || b) (by_equality x (x == a)
+          noted_are = λ x. noted_are x ∙ ap (λ b. is_member c.noted x || b) (both_hold x (x == a)
               refl);
         }
       where
-        by_equality : (x : ℕ) (b : Bool) → (x == a) ≡ b → b ≡ (b && is_assertion_at db x)
-        by_equality x false equality = refl
-        by_equality x true equality = sym (ap (is_assertion_at db) (eqb-true x a equality)
+        both_hold : (x : ℕ) (b : Bool) → (x == a) ≡ b → b ≡ (b && is_assertion_at db x)
+        both_hold x false equality = refl
+        both_hold x true equality = sym (ap (is_assertion_at db) (eqb-true x a equality)
             ∙ is_assertion)
 
     pub refusal_is_of_step : (e : StepRefused) → IsRefusalOf e (applied db t a c.machine.stack)
         → IsStepRefusal db t (label a) c e
     refusal_is_of_step e is_refusal =
         λ ends agree. subst (IsRefusalOf e)
-        (sym (ap (λ r. step (context_at db t) r c.machine.stack) (assertion_rule db t a is_assertion
+        (sym (ap (λ r. label_entries (context_at db t) r c.machine.stack) (assertion_rule db t a is_assertion
         rule_is_complete)))
         is_refusal

@@ -10,16 +10,17 @@ use Rattle.std.proofs.lemmas.List.{length-map, get_or-map, get_or-replicate}
 use Rattle.mm_spec.specs.Statement.{Statement}
 use Rattle.mm_spec.specs.Scope.{statement_at}
 use Rattle.mm_spec.specs.Frame.{is_essential, mandatory_hypotheses, formula_at, frame_at}
-use Rattle.mm_spec.specs.Derivation.{Context, Formula, hypothesis, assertion, Follows, Trees, none}
-use Rattle.mm_spec.specs.Derivation.{more, tree, formulas, is_member}
+use Rattle.mm_spec.specs.Derivation.{Context, Formula, hypothesis, assertion, Follows, Trees}
+use Rattle.mm_spec.specs.Derivation.{tree, formulas, is_member}
 use Rattle.mm_spec.specs.Nodes.{tree_count, HasNode, each_root, child_counts}
 use Rattle.mm_spec.specs.Nodes.{is_essential_hypothesis}
 use Rattle.mm_spec.specs.Steps.{Step, label, marked, PlacedStep, placed}
 use Rattle.mm_spec.specs.Valid.{Derives}
 use Rattle.mm_spec.specs.Laws.Complete.{AreComplete}
-use Rattle.mm_spec.specs.Citation.{context_at, rule_at, steps_at, IsProof, Cites}
-use Rattle.mm_spec.specs.Laws.Stack.{IsCompleteRule, AreGoodSteps, IsGoodStep}
+use Rattle.mm_spec.specs.Citation.{context_at, referent_at, steps_at, IsProof, Cites}
+use Rattle.mm_spec.specs.Laws.Stack.{IsCompleteReferent, AreGoodSteps, IsGoodStep}
 use Rattle.mm_spec.proofs.CitedLaw.{two_proofs_are_equal}
+use Rattle.mm_spec.proofs.UniqueLaw.{tree_count_formulas}
 use Rattle.mm_steps.specs.TheoremSteps.{step_at, IsEarlier}
 use Rattle.mm_rule.specs.Assertions.{is_assertion_at}
 use Rattle.mm_check.specs.Contract.{is_labelled_step}
@@ -50,11 +51,6 @@ pub record AreFoundFrom (db : List Statement) (t : ℕ) (steps : List PlacedStep
 
 -- ---- the premises of a label
 
-formula_count_is : (cs : Trees) → length (formulas cs) ≡ tree_count cs
-formula_count_is none = refl
-formula_count_is (more ts l f cs) =
-    omega (arith, length-append (formulas ts) (f ∷ []), formula_count_is ts)
-
 -- the flag of a premise
 flag_of_premise : (b : Bool) (e : ℕ → Bool) (hs : List ℕ) (n : ℕ)
     → flag_at (map (λ h. b && e h) hs) n
@@ -67,8 +63,8 @@ flag_of_premise b e (h ∷ hs) zero = refl
 flag_of_premise b e (h ∷ hs) (suc n) = flag_of_premise b e hs n
 
 module _ (db : List Statement) (t : ℕ) (b : Bool) (l : ℕ) (cs : Trees) (f : Formula)
-    (rule_is_complete : IsCompleteRule (context_at db t) (rule_at db t l))
-    (follows : Follows (context_at db t) (rule_at db t l) (formulas cs) f) where
+    (rule_is_complete : IsCompleteReferent (context_at db t) (referent_at db t l))
+    (follows : Follows (context_at db t) (referent_at db t l) (formulas cs) f) where
   -- there are as many flags as premises, and they are those of the premises for a `$e`
   record AreFlags (vs : List Bool) : Type 0 where
     pub flag_count_is : length vs ≡ tree_count cs
@@ -84,7 +80,7 @@ module _ (db : List Statement) (t : ℕ) (b : Bool) (l : ℕ) (cs : Trees) (f : 
     flag_count_is =
         length-map hs _ ∙ sym (length-map hs (formula_at db))
         ∙ sym (length-map (map (formula_at db) hs) _) ∙ sym (ap length rule_follows.1)
-        ∙ formula_count_is cs;
+        ∙ tree_count_formulas cs;
     flagged_is_counted =
         λ n flag_is_set. and_parts b (is_essential_hypothesis db l n) (sym (flag_of_premise b needed
         hs n) ∙ flag_is_set);
@@ -103,10 +99,10 @@ module _ (db : List Statement) (t : ℕ) (b : Bool) (l : ℕ) (cs : Trees) (f : 
           subst (λ r. Follows (context_at db t) r (formulas cs) f)
           (assertion_rule db t l is_assertion rule_is_complete) follows
   flags_by_kind false is_assertion = record {
-    flag_count_is = sym (ap length rule_follows.0) ∙ formula_count_is cs;
+    flag_count_is = sym (ap length rule_follows.0) ∙ tree_count_formulas cs;
     flagged_is_counted = λ n flag_is_set. absurd (no_flag n flag_is_set);
     counted_is_flagged = λ n n_lt_count b_is_true is_counted. absurd (let flag_count_is = sym (ap
-        length rule_follows.0) ∙ formula_count_is cs in omega (arith, flag_count_is, n_lt_count));
+        length rule_follows.0) ∙ tree_count_formulas cs in omega (arith, flag_count_is, n_lt_count));
   }
     where
       rule_follows : Follows (context_at db t) (Some (hypothesis (formula_at db l))) (formulas cs) f
@@ -139,8 +135,7 @@ module _ (db : List Statement) (t : ℕ) (steps : List PlacedStep) (i : ℕ) (ws
         are_found.forests i)
     pub nodes_iff : (a : ℕ)
         → IsToBeFound (child_counts db true) (forest_at are_found.forests) (suc i) (ws ++ flag ∷ [])
-        step_flags a
-        ↔ (((b ≡ true) × (is_labelled_step s a ≡ true)) ⊎ IsFoundBefore s a)
+        step_flags a ↔ (((b ≡ true) × (is_labelled_step s a ≡ true)) ⊎ IsFoundBefore s a)
 
   step_is_undone : (s : Step) → IsMove (context_at db t) are_found.forests i s
       → IsGoodStep (context_at db t) i s
@@ -178,8 +173,7 @@ module _ (db : List Statement) (t : ℕ) (steps : List PlacedStep) (i : ℕ) (ws
       found_iff : (a : ℕ)
           → IsToBeFound (child_counts db true) (forest_at are_found.forests) (suc i) (ws ++ flag ∷
           [])
-          step_flags a
-          ↔ (((b ≡ true) × (a ≡ l)) ⊎ IsFoundBefore (label l) a)
+          step_flags a ↔ (((b ≡ true) × (a ≡ l)) ⊎ IsFoundBefore (label l) a)
       found_iff a =
           label_back (child_counts db true)
           (forest_at are_found.forests) i ws step_flags flag b b_is a l ts f cs forest_is
@@ -215,8 +209,7 @@ module _ (db : List Statement) (t : ℕ) (steps : List PlacedStep) (i : ℕ) (ws
       found_iff : (a : ℕ)
           → IsToBeFound (child_counts db true) (forest_at are_found.forests) (suc i) (ws ++ flag ∷
           [])
-          step_flags a
-          ↔ IsFoundBefore (marked j) a
+          step_flags a ↔ IsFoundBefore (marked j) a
       found_iff a =
           marked_back (child_counts db true)
           (forest_at are_found.forests) i ws step_flags flag b b_is a j l f cs j_lt_i forest_is
@@ -305,12 +298,12 @@ module _ (db : List Statement) (t : ℕ) (steps : List PlacedStep) (i : ℕ) (ws
           step_flags a
           → (is_member out a ≡ true) ⊎ IsFoundBefore s a
       left_to_right a a_is_assertion (inl found) = inl (noted_stays a found)
-      left_to_right a a_is_assertion (inr found) = by_step ((is_undone.nodes_iff a).0 found)
+      left_to_right a a_is_assertion (inr found) = noted_or_before ((is_undone.nodes_iff a).0 found)
         where
-          by_step : ((b ≡ true) × (is_labelled_step s a ≡ true)) ⊎ IsFoundBefore s a
+          noted_or_before : ((b ≡ true) × (is_labelled_step s a ≡ true)) ⊎ IsFoundBefore s a
               → (is_member out a ≡ true) ⊎ IsFoundBefore s a
-          by_step (inl found) = inl (label_is_noted a a_is_assertion found.0 found.1)
-          by_step (inr found) = inr found
+          noted_or_before (inl found) = inl (label_is_noted a a_is_assertion found.0 found.1)
+          noted_or_before (inr found) = inr found
 
       right_to_left : (a : ℕ) → is_assertion_at db a ≡ true → (is_member out a
           ≡ true) ⊎ IsFoundBefore s a
@@ -319,18 +312,18 @@ module _ (db : List Statement) (t : ℕ) (steps : List PlacedStep) (i : ℕ) (ws
           [])
           step_flags a
       right_to_left a a_is_assertion (inl found) =
-          by_membership (or_cases (is_member noted a)
+          noted_or_to_be_found (or_cases (is_member noted a)
           (b && (is_labelled_step s a && is_assertion_at db a))
           (sym (members_are a) ∙ found))
         where
-          by_membership : (is_member noted a ≡ true)
+          noted_or_to_be_found : (is_member noted a ≡ true)
               ⊎ ((b && (is_labelled_step s a && is_assertion_at db a)) ≡ true)
               → (is_member noted a ≡ true)
               ⊎ IsToBeFound (child_counts db true) (forest_at are_found.forests) (suc i) (ws ++ flag
               ∷ [])
               step_flags a
-          by_membership (inl found) = inl found
-          by_membership (inr found) =
+          noted_or_to_be_found (inl found) = inl found
+          noted_or_to_be_found (inr found) =
               let is_label = and_parts b (is_labelled_step s a && is_assertion_at db a) found in
               inr ((is_undone.nodes_iff a).1
               (inl (
@@ -413,8 +406,7 @@ module _ (db : List Statement) (t : ℕ) (steps : List PlacedStep) (is_complete 
             (sym steps_are) derives
 
         found_from_forests : ((forests : List Trees) × AreMoves (context_at db t) forests 0
-            (steps_of
-            steps)
+            (steps_of steps)
             × (forest_at forests (length (steps_of steps)) ≡ d))
             → AreFoundFrom db t steps (length steps) entry_flags step_flags noted
         found_from_forests (forests, are_moves, ends_in_d) = record {
@@ -444,18 +436,18 @@ module _ (db : List Statement) (t : ℕ) (steps : List PlacedStep) (is_complete 
             counts : ℕ → ℕ → Bool
             counts = child_counts db true
 
-            node_by_root_flag : (p q : ℕ → Bool) (a : ℕ) → q 0 ≡ true
+            node_if_root_flag : (p q : ℕ → Bool) (a : ℕ) → q 0 ≡ true
                 → HasNode counts p (tree derives_formula.0 (formula_at db t) derives_formula.1) a
                 → HasNode counts q (tree derives_formula.0 (formula_at db t) derives_formula.1) a
-            node_by_root_flag p q a q_0 (inl has_node) = absurd has_node
-            node_by_root_flag p q a q_0 (inr has_node) = inr (q_0, has_node.1)
+            node_if_root_flag p q a q_0 (inl has_node) = absurd has_node
+            node_if_root_flag p q a q_0 (inr has_node) = inr (q_0, has_node.1)
 
             left_to_right : (a : ℕ) → HasNode counts each_root d a
                 → HasNode counts (flag_at entry_flags) (forest_at forests (length steps)) a
             left_to_right a has_node =
                 subst (λ u. HasNode counts (flag_at entry_flags) u a) (sym (forest_is_d
                 ∙ derives_formula.2))
-                (node_by_root_flag each_root (flag_at entry_flags) a (ap (λ ws. flag_at ws 0)
+                (node_if_root_flag each_root (flag_at entry_flags) a (ap (λ ws. flag_at ws 0)
                 entry_flags_are)
                 (subst (λ u. HasNode counts each_root u a) derives_formula.2 has_node))
 
@@ -467,7 +459,7 @@ module _ (db : List Statement) (t : ℕ) (steps : List PlacedStep) (is_complete 
                 ∙ ap (λ l. is_member l a) noted_is_nil))
             right_to_left a (inr (inl found)) =
                 subst (λ u. HasNode counts each_root u a) (sym derives_formula.2)
-                (node_by_root_flag (flag_at entry_flags) each_root a refl
+                (node_if_root_flag (flag_at entry_flags) each_root a refl
                 (subst (λ u. HasNode counts (flag_at entry_flags) u a) (forest_is_d
                 ∙ derives_formula.2) found))
             right_to_left a (inr (inr found)) =
@@ -486,18 +478,18 @@ module _ (db : List Statement) (t : ℕ) (steps : List PlacedStep) (is_complete 
         (are_found.found_iff a is_assertion).1 (inl
             is_noted),
       ),
-      λ cites. by_membership ((are_found.found_iff a cites.0).0
+      λ cites. member_is_noted ((are_found.found_iff a cites.0).0
           (subst (λ d. HasNode (child_counts db true) each_root d a)
           (two_proofs_are_equal db is_complete t cites.1 are_found.derivation cites.2
           are_found.is_proof)
           cites.3)),
     )
       where
-        by_membership : (is_member noted a ≡ true)
+        member_is_noted : (is_member noted a ≡ true)
             ⊎ IsToBeFound (child_counts db true) (forest_at are_found.forests) 0 entry_flags
             step_flags a
             → is_member noted a ≡ true
-        by_membership (inl noted_or_found) = noted_or_found
-        by_membership (inr (inl noted_or_found)) = absurd noted_or_found
-        by_membership (inr (inr noted_or_found)) = let j_lt_0 = noted_or_found.1 in absurd (omega
+        member_is_noted (inl noted_or_found) = noted_or_found
+        member_is_noted (inr (inl noted_or_found)) = absurd noted_or_found
+        member_is_noted (inr (inr noted_or_found)) = let j_lt_0 = noted_or_found.1 in absurd (omega
             (arith, j_lt_0))

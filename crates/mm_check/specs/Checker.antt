@@ -59,19 +59,20 @@ pub record HasPerformed (db : List Statement) (t : ℕ) (steps : List PlacedStep
 
 -- one step leads from the checker to the next: its entries are those after the step, and its
 -- assertion is noted
-pub record Performs (db : List Statement) (t : ℕ) (a : Step) (old new : CheckerState) : Type 0 where
+pub record Performs (db : List Statement) (t : ℕ) (step : Step) (old new : CheckerState)
+    : Type 0 where
   pub entries_are : (ends : List Formula) → AreEndFormulas ends old.machine.marks
       old.machine.formulas
-      → step_entries (context_at db t) a ends old.machine.stack ≡ Ok new.machine.stack
+      → step_entries (context_at db t) step ends old.machine.stack ≡ Ok new.machine.stack
   pub marks_stay : new.machine.marks ≡ old.machine.marks
   pub formulas_stay : new.machine.formulas ≡ old.machine.formulas
   pub has_entry : 0 < length new.machine.stack
   pub noted_are : (x : ℕ)
       → is_member new.noted x
-      ≡ (is_member old.noted x || (is_labelled_step a x && is_assertion_at db x))
+      ≡ (is_member old.noted x || (is_labelled_step step x && is_assertion_at db x))
 
 -- the step is refused for a reason for which it fails
 abbrev pub IsStepRefusal : List Statement → ℕ → Step → CheckerState → StepRefused → Type 0
-IsStepRefusal db t a c e =
+IsStepRefusal db t step c e =
     (ends : List Formula) → AreEndFormulas ends c.machine.marks c.machine.formulas
-    → IsRefusalOf e (step_entries (context_at db t) a ends c.machine.stack)
+    → IsRefusalOf e (step_entries (context_at db t) step ends c.machine.stack)

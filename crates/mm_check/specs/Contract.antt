@@ -9,7 +9,7 @@ use Rattle.mm_spec.specs.Text.{fault}
 use Rattle.mm_spec.specs.Valid.{StepFault, code_of}
 use Rattle.mm_spec.specs.Citation.{IsProof, Cites, context_at}
 use Rattle.mm_spec.specs.Output.{ProofFault, proof_end}
-use Rattle.mm_spec.specs.Laws.Stack.{IsCompleteRule}
+use Rattle.mm_spec.specs.Laws.Stack.{IsCompleteReferent}
 use Rattle.mm_machine.specs.State.{reason_of}
 use Rattle.mm_machine.specs.declared.machine.StepRefused.{StepRefused}
 use Rattle.mm_machine.specs.declared.machine.StepRefused.TheVariants.{Fault as Reasoned}
@@ -61,5 +61,5 @@ is_labelled_step (marked j) a = false
 
 -- the step is a label that stands for something, or a marked step whose formula is kept
 abbrev pub IsReady : Context → List ℕ → Step → Type 0
-IsReady c marks (label l) = IsCompleteRule c (c.rule l)
+IsReady c marks (label l) = IsCompleteReferent c (c.referent l)
 IsReady c marks (marked j) = Contains marks j

@@ -4,7 +4,7 @@ use Rattle.std.specs.Prelude.{slice_get, IsTrue}
 use Rattle.std.specs.List.{AllByRecursion, AllZip, Contains}
 use Rattle.mm_spec.specs.Derivation.{Formula, Trees, formulas, postfix, AreDerivations, is_member}
 use Rattle.mm_spec.specs.Steps.{Step, PlacedStep}
-use Rattle.mm_spec.specs.Valid.{Plain}
+use Rattle.mm_spec.specs.Valid.{Expands}
 use Rattle.mm_spec.specs.Laws.Stack.{EndsInFormula}
 use Rattle.mm_spec.specs.Statement.{Statement}
 use Rattle.mm_spec.specs.Citation.{context_at, steps_at, reading_faults_at}
@@ -25,9 +25,9 @@ pub record IsReached (db : List Statement) (t : ℕ) (steps_so_far : List Step)
   pub entries_are : formulas forest ≡ stack
   pub lists : List (List ℕ)
   pub lists_end_in_formulas : AllZip (EndsInFormula (context_at db t)) lists ends
-  pub plain_from_start : (later_steps : List Step) (labels : List ℕ)
-      → Plain (context_at db t) lists (postfix forest) later_steps labels
-      → Plain (context_at db t) [] [] (steps_so_far ++ later_steps) labels
+  pub expands_from_start : (later_steps : List Step) (labels : List ℕ)
+      → Expands (context_at db t) lists (postfix forest) later_steps labels
+      → Expands (context_at db t) [] [] (steps_so_far ++ later_steps) labels
   pub lists_are_within : AllByRecursion
       (λ l. (a : ℕ) → is_member l a ≡ true → is_member (postfix forest) a ≡ true) lists
   pub noted_are : (a : ℕ)

@@ -15,7 +15,7 @@ ghost use Rattle.mm_check.specs.Reached.{AreStepsOf};
 
 use crate::noted::NotedAssertions;
 use mm_database::Database;
-use mm_rule::{empty, hyps, is_assertion, is_essential_hypothesis};
+use mm_rule::{empty, is_assertion, is_essential_hypothesis, mandatory_hypotheses};
 use mm_steps::{Step, Steps};
 use std::alloc::{AllocError, Allocator};
 
@@ -51,9 +51,9 @@ impl<A: Allocator> Flags<A> {
         essential: bool,
         noted: &mut NotedAssertions<A>,
     ) -> Result<(), AllocError>
-        requires steps { AreStepsOf database.now.statements theorem steps.now.steps }
+        requires are_steps { AreStepsOf database.now.statements theorem steps.now.steps }
         requires has_proof { (d : Trees) × IsProof database.now.statements theorem d }
-        requires noted { (a : ℕ)
+        requires noted_are_cited { (a : ℕ)
             → Decides (is_member noted.old a) (Cites database.now.statements false theorem a) }
         ensures { OnOk result
             ((a : ℕ)
@@ -81,8 +81,8 @@ fn reset_flags<A: Allocator>(
     entry_flags: &mut Vec<bool, A>,
     step_flags: &mut Vec<bool, A>,
 ) -> Result<(), AllocError>
-    ensures entry_flags { OnOk result (entry_flags.new.items ≡ true ∷ []) }
-    ensures step_flags { OnOk result (step_flags.new.items ≡ replicate count false) }
+    ensures root_is_essential { OnOk result (entry_flags.new.items ≡ true ∷ []) }
+    ensures no_step_is_set { OnOk result (step_flags.new.items ≡ replicate count false) }
 {
     empty(entry_flags);
     empty(step_flags);
@@ -124,7 +124,7 @@ fn push_flags<A: Allocator>(
         (entry_flags.new.items ≡ entry_flags.old.items
         ++ child_flags database.now.statements is_essential assertion) }
 {
-    for hypothesis in hyps(database, assertion) {
+    for hypothesis in mandatory_hypotheses(database, assertion) {
         entry_flags.push(flag_for(database, *hypothesis, is_essential))?;
     }
     Ok(())
@@ -143,17 +143,17 @@ fn undo_step<A: Allocator>(
 ) -> Result<(), AllocError>
     requires label_is_below { IsLabelBelow (as_step step) (length database.now.statements) }
     requires repeats_earlier { IsEarlier (as_step step) (length step_flags.old) }
-    ensures noted { OnOk result
+    ensures notes_applied { OnOk result
         ((a : ℕ)
         → is_member noted.new a
         ≡ (is_member noted.old a
         || (is_essential
         && (is_labelled_step (as_step step) a && is_assertion_at database.now.statements a)))) }
-    ensures entry_flags { OnOk result
+    ensures pushes_taken_flags { OnOk result
         (entry_flags.new.items
         ≡ entry_flags.old.items
         ++ taken_flags database.now.statements is_essential (as_step step)) }
-    ensures step_flags { OnOk result
+    ensures sets_step_flag { OnOk result
         (step_flags.new ≡ step_flags_after is_essential (as_step step) step_flags.old) }
 {
     if is_essential {
@@ -185,7 +185,7 @@ fn note_essential<A: Allocator>(
     entry_flags: &mut Vec<bool, A>,
     step_flags: &mut Vec<bool, A>,
 ) -> Result<(), AllocError>
-    requires steps { AreStepsOf database.now.statements theorem steps.now.steps }
+    requires are_steps { AreStepsOf database.now.statements theorem steps.now.steps }
     requires has_proof { (d : Trees) × IsProof database.now.statements theorem d }
     ensures { OnOk result
         ((a : ℕ)

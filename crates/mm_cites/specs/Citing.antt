@@ -20,21 +20,21 @@ list_at c i = slice_index_or c.cites i []
 
 -- fewer than 2^31 statements, each greater than the one before it
 pub record IsStatementList (xs : List ℕ) : Type 0 where
-  pub few : length xs < 2 ^ 31
+  pub count_lt_2_31 : length xs < 2 ^ 31
   pub rises : (i j : ℕ) → i < j → j < length xs → slice_index xs i < slice_index xs j
 
 -- the theorems are in file order, and each has a list, which has only statements before its own
 pub record IsFileOrder (c : Citing) : Type 0 where
-  pub rising : IsStatementList c.theorems
-  pub each : length c.cites ≡ length c.theorems
-  pub earlier : (i k : ℕ) → i < length c.theorems → k < length (list_at c i)
+  pub theorems_rise : IsStatementList c.theorems
+  pub each_has_list : length c.cites ≡ length c.theorems
+  pub cited_are_earlier : (i k : ℕ) → i < length c.theorems → k < length (list_at c i)
       → slice_index (list_at c i) k < theorem_at c i
 
 -- theorem t cites a: its row has a in its list
 pub record HasCitation (c : Citing) (t a : ℕ) : Type 0 where
   pub row : ℕ
   pub list_index : ℕ
-  pub within : row < length c.theorems
-  pub listed : list_index < length (list_at c row)
-  pub theorem : theorem_at c row ≡ t
-  pub cited : slice_index (list_at c row) list_index ≡ a
+  pub row_lt_count : row < length c.theorems
+  pub index_lt_length : list_index < length (list_at c row)
+  pub theorem_is : theorem_at c row ≡ t
+  pub cited_is : slice_index (list_at c row) list_index ≡ a

@@ -6,7 +6,7 @@ use Rattle.std.proofs.Math.Path.{fun_ext}
 use Rattle.std.specs.List.{list_any, range_with_len, filter}
 use Rattle.mm_spec.specs.Statement.{Statement}
 use Rattle.mm_spec.specs.Opened.{counted}
-use Rattle.mm_spec.specs.Scope.{statement_at, is_active}
+use Rattle.mm_spec.specs.Scope.{statement_at, active_at}
 use Rattle.mm_spec.specs.Derivation.{Formula, is_member}
 use Rattle.mm_spec.specs.Frame.{is_disjoint_statement, formula_at}
 use Rattle.mm_spec.specs.NormalProof.{is_labelled}
@@ -47,9 +47,9 @@ module _ (w : Bool) (db : List Statement) where
   pub together_counted : (k x y : ℕ) → are_together_at counted_db k x y ≡ are_together_at db k x y
   together_counted k x y =
       ap (λ (f : ℕ → Formula). some_active_has_both f (disjoint_in counted_db)
-      (is_active counted_db))
+      (active_at counted_db))
       (counted_formula w db)
-      ∙ ap (λ t. some_active_has_both (formula_at db) t (is_active counted_db))
+      ∙ ap (λ t. some_active_has_both (formula_at db) t (active_at counted_db))
       (fun_ext (λ j. counted_any w db is_disjoint_statement (λ l k xs e ps d. refl) j))
       ∙ ap (λ (a : ℕ → ℕ → Bool). some_active_has_both (formula_at db) (disjoint_in db) a)
       (counted_active w db)

@@ -2,13 +2,11 @@
 use Rattle.std.proofs.Common.{◌≡◌, ◌≢◌, ℕ, zero, suc, ◌+◌, ◌-◌, ◌<◌, ◌≤◌, Bool, true, false, ◌&&◌}
 use Rattle.std.proofs.Common.{◌||◌, List, [], ◌∷◌, ◌++◌, length, get_or, nat_eq, nat_lt, nat_le}
 use Rattle.std.proofs.Common.{refl, sym, ap, ap₂, ◌∙◌, arith, true≢false, ◌⊎◌, inl, inr}
-use Rattle.std.proofs.lemmas.Bool.{cases_lt, cases_eq, cases_order, lt-ltb, ltb-true}
-use Rattle.std.proofs.lemmas.Bool.{eq-eqb, eqb-true}
+use Rattle.std.proofs.lemmas.Bool.{cases_lt, cases_eq, cases_order, lt-ltb, ltb-true, eq-eqb}
+use Rattle.std.proofs.lemmas.Bool.{eqb-true, and_parts, false_from_ne_true}
 use Rattle.std.proofs.lemmas.List.Folds.{list_any-append}
 use Rattle.std.specs.List.{list_any}
-use Rattle.std.specs.List.Sorted.{IsPartitionedBy}
 use Rattle.std.proofs.Math.Bool.{or-false, or-true}
-use Rattle.std.proofs.lemmas.Bool.{and_parts, false_from_ne_true}
 use Rattle.mm_spec.specs.Statement.{Statement}
 use Rattle.mm_spec.specs.Scope.{statement_at}
 use Rattle.mm_spec.specs.Derivation.{is_member}
@@ -19,42 +17,49 @@ use Rattle.mm_database.specs.Pairs.{has_pair, IsBefore, is_pair_before, AreRisin
 use Rattle.mm_database.specs.DisjointIndex.{has_symbol, is_active_local, HaveBlocks}
 use Rattle.mm_outline.proofs.StatementsLaw.{passing_lt_length}
 
--- ---- pairs by their places
+-- ---- pairs by their indices
+
+-- where the pair of x and y stands in the list
+pub record HasIndex (ps : List (ℕ × ℕ)) (x y : ℕ) : Type 0 where
+  pub index : ℕ
+  pub index_lt_length : index < length ps
+  pub first_is_x : (get_or ps index (0, 0)).0 ≡ x
+  pub second_is_y : (get_or ps index (0, 0)).1 ≡ y
 
 -- a pair of the list stands somewhere in it
-pub place_of_pair : (ps : List (ℕ × ℕ)) (x y : ℕ) → has_pair ps x y ≡ true
-    → (p : ℕ) × (p < length ps) × ((get_or ps p (0, 0)).0 ≡ x) × ((get_or ps p (0, 0)).1 ≡ y)
-place_of_pair [] x y has_pair_x_y = absurd (true≢false (sym has_pair_x_y))
-place_of_pair (q ∷ qs) x y has_pair_x_y =
-    by_head (nat_eq x q.0 && nat_eq y q.1) refl has_pair_x_y (λ k. place_of_pair qs x y k)
+pub index_of_pair : (ps : List (ℕ × ℕ)) (x y : ℕ) → has_pair ps x y ≡ true → HasIndex ps x y
+index_of_pair [] x y has_pair_x_y = absurd (true≢false (sym has_pair_x_y))
+index_of_pair (q ∷ qs) x y has_pair_x_y =
+    has_index (nat_eq x q.0 && nat_eq y q.1) refl has_pair_x_y (λ k. index_of_pair qs x y k)
   where
-    by_head : (b : Bool) → (nat_eq x q.0 && nat_eq y q.1) ≡ b → (b || has_pair qs x y) ≡ true
-        → (has_pair qs x y ≡ true
-        → (p : ℕ) × (p < length qs) × ((get_or qs p (0, 0)).0 ≡ x)
-        × ((get_or qs p (0, 0)).1 ≡ y))
-        → (p : ℕ) × (p < length (q ∷ qs)) × ((get_or (q ∷ qs) p (0, 0)).0 ≡ x)
-        × ((get_or (q ∷ qs) p (0, 0)).1 ≡ y)
-    by_head true q_is_x_y has_pair_x_y place_in_rest = (
-      0,
-      omega arith,
-      sym (eqb-true x q.0 (and_parts (nat_eq x q.0) (nat_eq y q.1) q_is_x_y).0),
-      sym
-          (eqb-true y q.1 (and_parts (nat_eq x q.0) (nat_eq y q.1) q_is_x_y).1),
-    )
-    by_head false q_is_x_y has_pair_x_y place_in_rest = let place = place_in_rest has_pair_x_y in
-        let place_lt_length = place.1 in
-        (suc place.0, omega (arith, place_lt_length), place.2, place.3)
+    has_index : (b : Bool) → (nat_eq x q.0 && nat_eq y q.1) ≡ b → (b || has_pair qs x y) ≡ true
+        → (has_pair qs x y ≡ true → HasIndex qs x y) → HasIndex (q ∷ qs) x y
+    has_index true q_is_x_y has_pair_x_y found_in_rest = record {
+      index = 0;
+      index_lt_length = omega arith;
+      first_is_x = sym (eqb-true x q.0 (and_parts (nat_eq x q.0) (nat_eq y q.1) q_is_x_y).0);
+      second_is_y = sym (eqb-true y q.1 (and_parts (nat_eq x q.0) (nat_eq y q.1) q_is_x_y).1);
+    }
+    has_index false q_is_x_y has_pair_x_y found_in_rest =
+        let found = found_in_rest has_pair_x_y in
+        let found_lt_length = found.index_lt_length in
+        record {
+          index = suc found.index;
+          index_lt_length = omega (arith, found_lt_length);
+          first_is_x = found.first_is_x;
+          second_is_y = found.second_is_y;
+        }
 
 -- the list has each pair that stands in it
-pub has_pair_at_place : (ps : List (ℕ × ℕ)) (p : ℕ) (d : ℕ × ℕ) → p < length ps
+pub has_pair_at_index : (ps : List (ℕ × ℕ)) (p : ℕ) (d : ℕ × ℕ) → p < length ps
     → has_pair ps (get_or ps p d).0 (get_or ps p d).1 ≡ true
-has_pair_at_place [] p d p_lt_length = absurd (omega arith)
-has_pair_at_place (q ∷ qs) zero d p_lt_length =
+has_pair_at_index [] p d p_lt_length = absurd (omega arith)
+has_pair_at_index (q ∷ qs) zero d p_lt_length =
     ap (λ b. b || has_pair qs q.0 q.1)
     (ap₂ (λ a b. a && b) (eq-eqb q.0 q.0 refl) (eq-eqb q.1 q.1 refl))
-has_pair_at_place (q ∷ qs) (suc p) d p_lt_length =
+has_pair_at_index (q ∷ qs) (suc p) d p_lt_length =
     ap (λ b. (nat_eq (get_or qs p d).0 q.0 && nat_eq (get_or qs p d).1 q.1) || b)
-    (has_pair_at_place qs p d (omega arith))
+    (has_pair_at_index qs p d (omega arith))
     ∙ or-true (nat_eq (get_or qs p d).0 q.0 && nat_eq (get_or qs p d).1 q.1)
 
 -- of two pairs in a list in ascending order, the earlier is before the later
@@ -64,7 +69,7 @@ pub earlier_is_before : (ps : List (ℕ × ℕ)) → AreRising ps → (i j : ℕ
 earlier_is_before [] are_rising i j d i_lt_j j_lt_length = absurd (omega arith)
 earlier_is_before (p ∷ ps) are_rising zero zero d i_lt_j j_lt_length = absurd (omega arith)
 earlier_is_before (p ∷ ps) are_rising zero (suc j) d i_lt_j j_lt_length =
-    are_rising.0 (get_or ps j d).0 (get_or ps j d).1 (has_pair_at_place ps j d (omega arith))
+    are_rising.0 (get_or ps j d).0 (get_or ps j d).1 (has_pair_at_index ps j d (omega arith))
 earlier_is_before (p ∷ ps) are_rising (suc i) zero d i_lt_j j_lt_length = absurd (omega arith)
 earlier_is_before (p ∷ ps) are_rising (suc i) (suc j) d i_lt_j j_lt_length =
     earlier_is_before ps are_rising.1 i j d (omega arith) (omega arith)
@@ -73,12 +78,12 @@ earlier_is_before (p ∷ ps) are_rising (suc i) (suc j) d i_lt_j j_lt_length =
 
 -- what the test of pairs says, and its converse
 pub is_before_from_test : (p : ℕ × ℕ) (x y : ℕ) → is_pair_before p x y ≡ true → IsBefore p.0 p.1 x y
-is_before_from_test p x y test_is_true = by_symbol (nat_lt p.0 x) refl test_is_true
+is_before_from_test p x y test_is_true = pair_is_before (nat_lt p.0 x) refl test_is_true
   where
-    by_symbol : (b : Bool) → nat_lt p.0 x ≡ b → (b || (nat_eq p.0 x && nat_lt p.1 y)) ≡ true
+    pair_is_before : (b : Bool) → nat_lt p.0 x ≡ b → (b || (nat_eq p.0 x && nat_lt p.1 y)) ≡ true
         → IsBefore p.0 p.1 x y
-    by_symbol true p0_lt_x test_is_true = inl (ltb-true p.0 x p0_lt_x)
-    by_symbol false p0_lt_x test_is_true =
+    pair_is_before true p0_lt_x test_is_true = inl (ltb-true p.0 x p0_lt_x)
+    pair_is_before false p0_lt_x test_is_true =
         inr (
           eqb-true p.0 x (and_parts (nat_eq p.0 x) (nat_lt p.1 y) test_is_true).0,
           ltb-true p.1 y
@@ -92,31 +97,6 @@ is_pair_before_if p x y (inr (p0_is_x, lower)) =
     ap (λ b. nat_lt p.0 x || b) (ap₂ (λ a b. a && b) (eq-eqb p.0 x p0_is_x) (lt-ltb p.1 y lower))
     ∙ or-true (nat_lt p.0 x)
 
--- a pair before one that is before a third is before the third
-before_is_transitive : (a b c d e f : ℕ) → IsBefore a b c d → IsBefore c d e f → IsBefore a b e f
-before_is_transitive a b c d e f (inl first_lower) (inl second_lower) = inl (omega arith)
-before_is_transitive a b c d e f (inl first_lower) (inr (first_equal, second_lower)) =
-    inl (omega arith)
-before_is_transitive a b c d e f (inr (first_equal, first_lower)) (inl second_lower) =
-    inl (omega arith)
-before_is_transitive a b c d e f (inr (first_equal, first_lower))
-    (inr (second_equal, second_lower)) = inr (omega arith, omega arith)
-
--- in a list in ascending order, the pairs before a pair stand first
-pub is_partitioned_by_before : (ps : List (ℕ × ℕ)) → AreRising ps → (x y : ℕ)
-    → IsPartitionedBy (λ p. is_pair_before p x y) ps
-is_partitioned_by_before ps are_rising x y i j d i_lt_j j_lt_length j_is_before =
-    by_equality (cases_eq i j)
-  where
-    by_equality : (i ≡ j) ⊎ (i ≢ j) → is_pair_before (get_or ps i d) x y ≡ true
-    by_equality (inl i_is_j) = ap (λ k. is_pair_before (get_or ps k d) x y) i_is_j ∙ j_is_before
-    by_equality (inr i_ne_j) =
-        is_pair_before_if (get_or ps i d) x y
-        (before_is_transitive (get_or ps i d).0 (get_or ps i d).1 (get_or ps j d).0
-        (get_or ps j d).1 x y
-        (earlier_is_before ps are_rising i j d (omega arith) j_lt_length)
-        (is_before_from_test (get_or ps j d) x y j_is_before))
-
 -- ---- the blocks of the pairs
 
 -- the statements that have symbols have blocks
@@ -125,7 +105,7 @@ pub have_blocks : (db : List Statement) (b : BlockLists) → IsBlocks db b → (
 have_blocks db b blocks ps pairs_are_members p p_lt_length =
     let j = (get_or ps p (0, 0)).1 in
     let x = (get_or ps p (0, 0)).0 in
-    let has_symbol_x_j = sym (pairs_are_members x j) ∙ has_pair_at_place ps p (0, 0) p_lt_length in
+    let has_symbol_x_j = sym (pairs_are_members x j) ∙ has_pair_at_index ps p (0, 0) p_lt_length in
     let j_is_there =
     passing_lt_length is_disjoint_statement db j
     (and_parts (list_any is_disjoint_statement (statement_at db j))
@@ -137,7 +117,7 @@ have_blocks db b blocks ps pairs_are_members p p_lt_length =
 
 -- ---- the pairs before that of a symbol and a statement
 
--- so many pairs stand before that of the symbol and the place
+-- so many pairs stand before that of the symbol and the statement `at`
 pub record IsPartedAt (ps : List (ℕ × ℕ)) (x at start : ℕ) : Type 0 where
   pub start_le_length : start ≤ length ps
   pub earlier_are_before : (p : ℕ) → p < start → is_pair_before (get_or ps p (0, 0)) x at ≡ true
@@ -147,11 +127,11 @@ pub record IsPartedAt (ps : List (ℕ × ℕ)) (x at start : ℕ) : Type 0 where
 -- the same for a list and a symbol that are equal to these
 module _ (qs ps : List (ℕ × ℕ)) (y x : ℕ) (qs_is_ps : qs ≡ ps) (y_is_x : y ≡ x) where
   -- what is said of the equal list is said of this one
-  pub parted_by_values : (at start : ℕ) → start ≤ length qs
+  pub parted_if_equal : (at start : ℕ) → start ≤ length qs
       → ((p : ℕ) → p < start → is_pair_before (get_or qs p (0, 0)) y at ≡ true)
       → ((p : ℕ) → start ≤ p → p < length qs → is_pair_before (get_or qs p (0, 0)) y at ≡ false)
       → IsPartedAt ps x at start
-  parted_by_values at start start_le_length earlier_are_before later_are_not_before =
+  parted_if_equal at start start_le_length earlier_are_before later_are_not_before =
       rw (← qs_is_ps, ← y_is_x) (record {
         start_le_length = start_le_length;
         earlier_are_before =
@@ -159,11 +139,11 @@ module _ (qs ps : List (ℕ × ℕ)) (y x : ℕ) (qs_is_ps : qs ≡ ps) (y_is_x 
         later_are_not_before = later_are_not_before;
       })
 
-  pub symbol_by_values : (p : ℕ) → (get_or qs p (0, 0)).0 ≡ y → (get_or ps p (0, 0)).0 ≡ x
-  symbol_by_values p symbol_is_y = rw (← qs_is_ps, ← y_is_x) symbol_is_y
+  pub symbol_if_equal : (p : ℕ) → (get_or qs p (0, 0)).0 ≡ y → (get_or ps p (0, 0)).0 ≡ x
+  symbol_if_equal p symbol_is_y = rw (← qs_is_ps, ← y_is_x) symbol_is_y
 
-  pub other_symbol_by_values : (p : ℕ) → (get_or qs p (0, 0)).0 ≢ y → (get_or ps p (0, 0)).0 ≢ x
-  other_symbol_by_values p symbol_ne_y = rw (← qs_is_ps, ← y_is_x) symbol_ne_y
+  pub other_symbol_if_equal : (p : ℕ) → (get_or qs p (0, 0)).0 ≢ y → (get_or ps p (0, 0)).0 ≢ x
+  other_symbol_if_equal p symbol_ne_y = rw (← qs_is_ps, ← y_is_x) symbol_ne_y
 
 -- ---- what is added of one symbol
 
@@ -183,16 +163,16 @@ pub record AddsFromEnd (b : BlockLists) (ps : List (ℕ × ℕ)) (x at start end
 module _ (b : BlockLists) (ps : List (ℕ × ℕ)) (ps_are_rising : AreRising ps) (x at start : ℕ)
     (is_parted : IsPartedAt ps x at start)
   where
-    -- before the place, where the symbol is that
+    -- a pair of the symbol that stands before is of an earlier statement than `at`
     pub is_before : (p : ℕ) → p < start → (get_or ps p (0, 0)).0 ≡ x → (get_or ps p (0, 0)).1 < at
     is_before p p_lt_start symbol_is_x =
-        by_symbol (is_before_from_test (get_or ps p (0, 0)) x at
+        statement_is_earlier (is_before_from_test (get_or ps p (0, 0)) x at
         (is_parted.earlier_are_before p p_lt_start))
       where
-        by_symbol : IsBefore (get_or ps p (0, 0)).0 (get_or ps p (0, 0)).1 x at
+        statement_is_earlier : IsBefore (get_or ps p (0, 0)).0 (get_or ps p (0, 0)).1 x at
             → (get_or ps p (0, 0)).1 < at
-        by_symbol (inl lower) = absurd (omega (arith, lower, symbol_is_x))
-        by_symbol (inr (symbol_is_x, lower)) = lower
+        statement_is_earlier (inl lower) = absurd (omega (arith, lower, symbol_is_x))
+        statement_is_earlier (inr (symbol_is_x, lower)) = lower
 
     -- a `$d` whose block is open is added
     pub added_open : (end next_end : ℕ) (earlier_pairs pairs_so_far : List (ℕ × ℕ))
@@ -251,7 +231,7 @@ module _ (b : BlockLists) (ps : List (ℕ × ℕ)) (ps_are_rising : AreRising ps
             inr (
               y_is_x,
               ap₂ (λ u v. has_pair ps u v) (sym last_symbol_is_x) j_is_last_statement
-                  ∙ has_pair_at_place ps (end - 1) (0, 0) (let start_le_length =
+                  ∙ has_pair_at_index ps (end - 1) (0, 0) (let start_le_length =
                   is_parted.start_le_length in
                   omega (arith, last_lt_start, start_le_length)),
               ap₂ (λ u v. u && v)
@@ -319,7 +299,7 @@ module _ (b : BlockLists) (ps : List (ℕ × ℕ)) (ps_are_rising : AreRising ps
     pub none_before_end : (end : ℕ) → end ≤ start → (0 < end → (get_or ps (end - 1) (0, 0)).0 ≢ x)
         → (p : ℕ) → p < end → (get_or ps p (0, 0)).0 ≡ x → ⊥
     none_before_end end end_le_start last_symbol_ne_x p p_lt_end symbol_is_x =
-        by_equality (cases_eq p (end - 1))
+        no_such_pair (cases_eq p (end - 1))
       where
         symbol_le_x : (q : ℕ) → q < start → (get_or ps q (0, 0)).0 ≤ x
         symbol_le_x q q_lt_start =
@@ -338,10 +318,10 @@ module _ (b : BlockLists) (ps : List (ℕ × ℕ)) (ps_are_rising : AreRising ps
         symbol_ge (inl symbol_lt) = omega (arith, symbol_lt, symbol_is_x)
         symbol_ge (inr (symbols_equal, symbol_lt)) = omega (arith, symbols_equal, symbol_is_x)
 
-        by_equality : (p ≡ end - 1) ⊎ (p ≢ end - 1) → ⊥
-        by_equality (inl p_is_last) = last_symbol_ne_x (omega (arith, p_lt_end))
+        no_such_pair : (p ≡ end - 1) ⊎ (p ≢ end - 1) → ⊥
+        no_such_pair (inl p_is_last) = last_symbol_ne_x (omega (arith, p_lt_end))
             (sym (ap (λ i. (get_or ps i (0, 0)).0) p_is_last) ∙ symbol_is_x)
-        by_equality (inr p_ne_last) =
+        no_such_pair (inr p_ne_last) =
             let start_le_length = is_parted.start_le_length in
             let x_le_last_symbol =
             symbol_ge (earlier_is_before ps ps_are_rising p (end - 1) (0, 0)
@@ -355,11 +335,11 @@ module _ (b : BlockLists) (ps : List (ℕ × ℕ)) (ps_are_rising : AreRising ps
     pub pair_lt_start : (p : ℕ) → p < length ps → (get_or ps p (0, 0)).0 ≡ x
         → (get_or ps p (0, 0)).1 < at
         → p < start
-    pair_lt_start p p_lt_length_ps symbol_is_x statement_lt_at = by_order (cases_lt p start)
+    pair_lt_start p p_lt_length_ps symbol_is_x statement_lt_at = stands_first (cases_lt p start)
       where
-        by_order : (p < start) ⊎ (start ≤ p) → p < start
-        by_order (inl p_order) = p_order
-        by_order (inr p_order) =
+        stands_first : (p < start) ⊎ (start ≤ p) → p < start
+        stands_first (inl p_order) = p_order
+        stands_first (inr p_order) =
             absurd (true≢false
             (sym (is_pair_before_if (get_or ps p (0, 0)) x at (inr (symbol_is_x, statement_lt_at)))
             ∙ is_parted.later_are_not_before p p_order p_lt_length_ps))
@@ -393,21 +373,23 @@ module _ (b : BlockLists) (ps : List (ℕ × ℕ)) (ps_are_rising : AreRising ps
         active_pair_is_found : has_pair ps x j ≡ true → is_active_local b j at ≡ true
             → has_pair pairs_so_far j x ≡ true
         active_pair_is_found has_pair_x_j j_is_active =
-            let place = place_of_pair ps x j has_pair_x_j in
-            let p = place.0 in
-            let j_lt_at = ltb-true j at (and_parts (nat_lt j at) (nat_le at (end_of b j))
-            j_is_active).0 in
-            let j_is_open = (and_parts (nat_lt j at) (nat_le at (end_of b j)) j_is_active).1 in
-            let place_lt_start = pair_lt_start p place.1 place.2 (let statement_is_j = place.3 in
-            omega (arith, j_lt_at, statement_is_j)) in
-            by_order p place_lt_start place.2 place.3 j_is_open (cases_lt p end)
+            let found = index_of_pair ps x j has_pair_x_j in
+            let p = found.index in
+            let p_has_x = found.first_is_x in
+            let statement_is_j = found.second_is_y in
+            let parts = and_parts (nat_lt j at) (nat_le at (end_of b j)) j_is_active in
+            let j_lt_at = ltb-true j at parts.0 in
+            let p_lt_start =
+            pair_lt_start p found.index_lt_length p_has_x
+            (omega (arith, j_lt_at, statement_is_j)) in
+            j_found p p_lt_start p_has_x statement_is_j parts.1 (cases_lt p end)
           where
-            by_order : (p : ℕ) → p < start → (get_or ps p (0, 0)).0 ≡ x → (get_or ps p (0, 0)).1 ≡ j
+            j_found : (p : ℕ) → p < start → (get_or ps p (0, 0)).0 ≡ x → (get_or ps p (0, 0)).1 ≡ j
                 → nat_le at (end_of b j) ≡ true → (p < end) ⊎ (end ≤ p)
                 → has_pair pairs_so_far j x ≡ true
-            by_order p p_lt_start p_has_x statement_is_j j_is_open (inl p_order) =
+            j_found p p_lt_start p_has_x statement_is_j j_is_open (inl p_order) =
                 absurd (none_before_end end adds.end_le_start last_symbol_ne_x p p_order p_has_x)
-            by_order p p_lt_start p_has_x statement_is_j j_is_open (inr p_order) =
+            j_found p p_lt_start p_has_x statement_is_j j_is_open (inr p_order) =
                 ap (λ i. has_pair pairs_so_far i x) (sym statement_is_j)
                 ∙ adds.active_pairs_are_added p p_order p_lt_start p_has_x
                 (ap (λ i. nat_le at (end_of b i)) statement_is_j ∙ j_is_open)
@@ -437,49 +419,17 @@ pub record NoneInCommon (b : BlockLists) (ps : List (ℕ × ℕ)) (x y at x_end 
       → is_active_local b (get_or ps p (0, 0)).1 at ≡ true → (p < x_end) × (q < y_end)
 
 module _ (b : BlockLists) (ps : List (ℕ × ℕ)) (ps_are_rising : AreRising ps) (x y at : ℕ) where
-  -- before any pair is looked at, all common ones are before the ends
-  pub none_at_start : (x_end y_end : ℕ) → x_end ≤ length ps → y_end ≤ length ps
-      → ((p : ℕ) → p < x_end → is_pair_before (get_or ps p (0, 0)) x at ≡ true)
-      → ((p : ℕ) → x_end ≤ p → p < length ps → is_pair_before (get_or ps p (0, 0)) x at ≡ false)
-      → ((p : ℕ) → p < y_end → is_pair_before (get_or ps p (0, 0)) y at ≡ true)
-      → ((p : ℕ) → y_end ≤ p → p < length ps → is_pair_before (get_or ps p (0, 0)) y at ≡ false)
-      → NoneInCommon b ps x y at x_end y_end
-  none_at_start x_end y_end x_end_le_length_ps y_end_le_length_ps earlier_are_before_x
-      later_are_not_before_x earlier_are_before_y later_are_not_before_y = record {
-        common_pairs_are_before_ends =
-            λ p q p_lt_length q_lt_length p_has_x q_has_y statements_equal is_active.
-            let statement_lt_at =
-            ltb-true (get_or ps p (0, 0)).1 at
-            (and_parts (nat_lt (get_or ps p (0, 0)).1 at)
-            (nat_le at (end_of b (get_or ps p (0, 0)).1)) is_active).0 in (
-              pair_lt_start b ps ps_are_rising x at x_end (record {
-                start_le_length = x_end_le_length_ps;
-                earlier_are_before =
-                    earlier_are_before_x;
-                later_are_not_before = later_are_not_before_x;
-              }) p p_lt_length
-                  p_has_x statement_lt_at,
-              pair_lt_start b ps ps_are_rising y at y_end (record {
-                start_le_length = y_end_le_length_ps;
-                earlier_are_before =
-                    earlier_are_before_y;
-                later_are_not_before = later_are_not_before_y;
-              }) q
-                  q_lt_length q_has_y (omega (arith, statement_lt_at, statements_equal)),
-            );
-      }
-
   -- of two pairs of one symbol, the earlier has no greater statement
   statements_ascend : (q r : ℕ) → q ≤ r → r < length ps
       → (get_or ps q (0, 0)).0 ≡ (get_or ps r (0, 0)).0
       → (get_or ps q (0, 0)).1 ≤ (get_or ps r (0, 0)).1
-  statements_ascend q r q_le_r r_lt_length_ps symbols_equal = by_equality (cases_eq q r)
+  statements_ascend q r q_le_r r_lt_length_ps symbols_equal = statements_rise (cases_eq q r)
     where
-      by_equality : (q ≡ r) ⊎ (q ≢ r) → (get_or ps q (0, 0)).1 ≤ (get_or ps r (0, 0)).1
-      by_equality (inl q_is_r) = let statements_equal =
+      statements_rise : (q ≡ r) ⊎ (q ≢ r) → (get_or ps q (0, 0)).1 ≤ (get_or ps r (0, 0)).1
+      statements_rise (inl q_is_r) = let statements_equal =
           ap (λ i. (get_or ps i (0, 0)).1) q_is_r in
           omega (arith, statements_equal)
-      by_equality (inr q_ne_r) =
+      statements_rise (inr q_ne_r) =
           statement_le (earlier_is_before ps ps_are_rising q r (0, 0)
           (omega (arith, q_le_r, q_ne_r))
           r_lt_length_ps)
@@ -614,20 +564,21 @@ module _ (b : BlockLists) (ps : List (ℕ × ℕ)) (ps_are_rising : AreRising ps
       → (j : ℕ) → has_pair ps x j ≡ true → has_pair ps y j ≡ true → is_active_local b j at ≡ false
   none_at_end x_end y_end none_in_common x_or_y_exhausted j j_has_x j_has_y =
       false_from_ne_true (is_active_local b j at) (λ j_is_active.
-      let place_of_x = place_of_pair ps x j j_has_x in
-      let place_of_y = place_of_pair ps y j j_has_y in
+      let x_found = index_of_pair ps x j j_has_x in
+      let y_found = index_of_pair ps y j j_has_y in
       let both_before_ends =
-      none_in_common.common_pairs_are_before_ends place_of_x.0 place_of_y.0 place_of_x.1
-      place_of_y.1 place_of_x.2 place_of_y.2 (place_of_x.3
-      ∙ sym place_of_y.3) (ap (λ i. is_active_local b i at) place_of_x.3 ∙ j_is_active) in
-      by_exhausted_symbol place_of_x.0 place_of_y.0 both_before_ends.0 both_before_ends.1
-      place_of_x.2 place_of_y.2 x_or_y_exhausted)
+      none_in_common.common_pairs_are_before_ends x_found.index y_found.index
+      x_found.index_lt_length y_found.index_lt_length x_found.first_is_x y_found.first_is_x
+      (x_found.second_is_y ∙ sym y_found.second_is_y)
+      (ap (λ i. is_active_local b i at) x_found.second_is_y ∙ j_is_active) in
+      no_pair_of_both x_found.index y_found.index both_before_ends.0 both_before_ends.1
+      x_found.first_is_x y_found.first_is_x x_or_y_exhausted)
     where
-      by_exhausted_symbol : (p q : ℕ) → p < x_end → q < y_end → (get_or ps p (0, 0)).0 ≡ x
+      no_pair_of_both : (p q : ℕ) → p < x_end → q < y_end → (get_or ps p (0, 0)).0 ≡ x
           → (get_or ps q (0, 0)).0 ≡ y
           → ((p : ℕ) → p < x_end → (get_or ps p (0, 0)).0 ≡ x → ⊥)
           ⊎ ((p : ℕ) → p < y_end → (get_or ps p (0, 0)).0 ≡ y → ⊥) → ⊥
-      by_exhausted_symbol p q p_lt_x_end q_lt_y_end p_has_x q_has_y (inl x_before_end_not) =
+      no_pair_of_both p q p_lt_x_end q_lt_y_end p_has_x q_has_y (inl x_before_end_not) =
           x_before_end_not p p_lt_x_end p_has_x
-      by_exhausted_symbol p q p_lt_x_end q_lt_y_end p_has_x q_has_y (inr y_before_end_not) =
+      no_pair_of_both p q p_lt_x_end q_lt_y_end p_has_x q_has_y (inr y_before_end_not) =
           y_before_end_not q q_lt_y_end q_has_y

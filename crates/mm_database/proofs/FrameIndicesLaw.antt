@@ -1,8 +1,7 @@
 -- Frames by the indices where they are kept.
-use Rattle.std.proofs.Common.{◌≡◌, ℕ, suc, ◌<◌, ◌≤◌, ◌⊎◌, inl, inr, List, [], ◌∷◌, ◌++◌}
-use Rattle.std.proofs.Common.{length, get_or, slice_index, Option, Some, None, refl, sym, ap, ap₂}
-use Rattle.std.proofs.Common.{◌∙◌, arith, true, true≢false, IsSome, is_some, slice_get}
-use Rattle.std.proofs.Common.{if◌then◌else◌}
+use Rattle.std.proofs.Common.{◌≡◌, ℕ, suc, ◌<◌, ◌≤◌, ◌⊎◌, inl, inr, List, [], ◌∷◌, ◌++◌, length}
+use Rattle.std.proofs.Common.{get_or, slice_index, Option, Some, None, refl, sym, ap, ap₂, ◌∙◌}
+use Rattle.std.proofs.Common.{arith, true, true≢false, IsSome, is_some, slice_get, if◌then◌else◌}
 use Rattle.std.proofs.lemmas.Bool.{cases_lt}
 use Rattle.std.proofs.lemmas.List.{map_push, length_push, length-map, get_or_push}
 use Rattle.std.proofs.lemmas.List.{get_or_append_left, get_or-map, get_or_past}
@@ -85,11 +84,11 @@ module _ {A : Type 0} (fs : List (Frame A)) where
   -- where a frame is, there is its index
   pub frame_index_lt_length : (ps : List ℕ) (k : ℕ) → IsSome (get_or (frames_at fs ps) k None)
       → k < length ps
-  frame_index_lt_length ps k k_has_frame = by_order (cases_lt k (length ps))
+  frame_index_lt_length ps k k_has_frame = k_lt_length (cases_lt k (length ps))
     where
-      by_order : (k < length ps) ⊎ (length ps ≤ k) → k < length ps
-      by_order (inl k_order) = k_order
-      by_order (inr k_order) =
+      k_lt_length : (k < length ps) ⊎ (length ps ≤ k) → k < length ps
+      k_lt_length (inl k_order) = k_order
+      k_lt_length (inr k_order) =
           let indices_count = as_many_indices ps in
           let frame_is_none =
           get_or_past (frames_at fs ps) k None (omega (arith, k_order, indices_count)) in
@@ -99,7 +98,7 @@ module _ {A : Type 0} (fs : List (Frame A)) where
   pub frame_at_index : (ps : List ℕ) (k p : ℕ) → IsSome (get_or (frames_at fs ps) k None)
       → p ≡ slice_index ps k → (p < length fs) × ((d : Frame A)
       → get_or (frames_at fs ps) k None ≡ Some (mandatory_in (get_or fs p d)))
-  frame_at_index ps k p k_has_frame p_is_index = by_order (cases_lt p (length fs))
+  frame_at_index ps k p k_has_frame p_is_index = is_frame_index (cases_lt p (length fs))
     where
       frame_with_index : ℕ → Option Mandatory
       frame_with_index q = option_map mandatory_in (slice_get fs q)
@@ -109,15 +108,15 @@ module _ {A : Type 0} (fs : List (Frame A)) where
           get_or-map frame_with_index ps k 0 None (frame_index_lt_length ps k k_has_frame)
           ∙ ap frame_with_index (sym p_is_index)
 
-      by_order : (p < length fs) ⊎ (length fs ≤ p)
+      is_frame_index : (p < length fs) ⊎ (length fs ≤ p)
           → (p < length fs) × ((d : Frame A)
           → get_or (frames_at fs ps) k None ≡ Some (mandatory_in (get_or fs p d)))
-      by_order (inl p_order) = (
+      is_frame_index (inl p_order) = (
         p_order,
         λ d. frame_is_at_index
             ∙ ap (option_map mandatory_in) (slice_get-get_or fs p d p_order),
       )
-      by_order (inr p_order) =
+      is_frame_index (inr p_order) =
           absurd (true≢false
           (sym k_has_frame
           ∙ ap is_some (frame_is_at_index

@@ -99,15 +99,15 @@ numbers_by_kind test p test_decides db =
     ap (λ count. filter (λ j. tested (slice_get (map kind_of db) j))
     (range_with_len 0 count)) kinds_length
     ∙ ap (λ q. filter q (range_with_len 0 (length db)))
-    (fun_ext (λ j. ap tested (kind_at_index db j) ∙ by_statement (slice_get db j)))
+    (fun_ext (λ j. ap tested (kind_at_index db j) ∙ tests_agree (slice_get db j)))
   where
     tested : Option Kind → Bool
     tested o = elim o [ None ↦ false | Some k ↦ test k ]
 
-    by_statement : (o : Option Statement)
+    tests_agree : (o : Option Statement)
         → tested (option_map kind_of o) ≡ list_any p (elim o [ None ↦ [] | Some s ↦ s ∷ [] ])
-    by_statement None = refl
-    by_statement (Some s) = test_decides s
+    tests_agree None = refl
+    tests_agree (Some s) = test_decides s
 
 -- the theorems are the statements with the kind of one
 pub theorems_by_kind : (db : List Statement) (kinds : List Kind) → kinds ≡ map kind_of db
@@ -133,7 +133,7 @@ counted_push false db s = refl
 
 -- ---- the kind of one statement
 
--- the test of a kind at a place
+-- the test of the kind with an index
 pub test_at_is_test_of_kind : (test : Kind → Bool) (kinds : List Kind) (j : ℕ) (d : Kind)
     → j < length kinds
     → elim (slice_get kinds j) [ None ↦ false | Some k ↦ test k ] ≡ test (get_or kinds j d)
@@ -182,15 +182,15 @@ counted_theorem_is_unchanged true (floating l k xs d) counts_as_theorem = refl
 counted_theorem_is_unchanged true (essential l k xs d) counts_as_theorem = refl
 counted_theorem_is_unchanged true (axiomatic l k xs d) counts_as_theorem = refl
 counted_theorem_is_unchanged true (provable l k xs e ps d) counts_as_theorem =
-    by_open_proof (is_open_proof ps) counts_as_theorem
+    is_unchanged (is_open_proof ps) counts_as_theorem
   where
-    by_open_proof : (b : Bool)
+    is_unchanged : (b : Bool)
         → kind_of (elim b [ true ↦ axiomatic l k xs d | false ↦ provable l k xs e ps d ])
         ≡ kind.Theorem
         → (elim b [ true ↦ axiomatic l k xs d | false ↦ provable l k xs e ps d ])
         ≡ provable l k xs e ps d
-    by_open_proof true counts_as_theorem = absurd (cc)
-    by_open_proof false counts_as_theorem = refl
+    is_unchanged true counts_as_theorem = absurd (cc)
+    is_unchanged false counts_as_theorem = refl
 counted_theorem_is_unchanged true (opening k) counts_as_theorem = refl
 counted_theorem_is_unchanged true (closing k) counts_as_theorem = refl
 
@@ -233,14 +233,14 @@ open_statement true (disjoint k xs d) = refl
 open_statement true (floating l k xs d) = refl
 open_statement true (essential l k xs d) = refl
 open_statement true (axiomatic l k xs d) = refl
-open_statement true (provable l k xs e ps d) = by_open_proof (is_open_proof ps)
+open_statement true (provable l k xs e ps d) = axiom_is_open (is_open_proof ps)
   where
-    by_open_proof : (b : Bool)
+    axiom_is_open : (b : Bool)
         → is_axiom_kind
         (kind_of (elim b [ true ↦ axiomatic l k xs d | false ↦ provable l k xs e ps d ]))
         ≡ (b || false)
-    by_open_proof true = refl
-    by_open_proof false = refl
+    axiom_is_open true = refl
+    axiom_is_open false = refl
 open_statement true (opening k) = refl
 open_statement true (closing k) = refl
 
@@ -251,13 +251,13 @@ pub is_open_by_kinds : (w : Bool) (db : List Statement) (k : ℕ) (x y : Kind)
     → (is_theorem_kind x && is_axiom_kind y)
     ≡ (w && list_any is_open_theorem (statement_at db k))
 is_open_by_kinds w db k x y read_kind_is_x counted_kind_is_y =
-    by_statement (slice_get db k) refl read_kind_is_x
+    kinds_tell_open (slice_get db k) refl read_kind_is_x
   where
-    by_statement : (o : Option Statement) → slice_get db k ≡ o → option_map kind_of o ≡ Some x
+    kinds_tell_open : (o : Option Statement) → slice_get db k ≡ o → option_map kind_of o ≡ Some x
         → (is_theorem_kind x && is_axiom_kind y)
         ≡ (w && list_any is_open_theorem (statement_at db k))
-    by_statement None statement_k_is_o kind_of_o_is_x = absurd (cc)
-    by_statement (Some s) statement_k_is_o kind_of_o_is_x =
+    kinds_tell_open None statement_k_is_o kind_of_o_is_x = absurd (cc)
+    kinds_tell_open (Some s) statement_k_is_o kind_of_o_is_x =
         let kind_of_s_is_x : kind_of s ≡ x = cc in
         let some_counted_kind_is_y : Some (kind_of (counted_as w s)) ≡ Some y =
         sym (ap (option_map kind_of) (counted_element w db k s statement_k_is_o))
@@ -276,12 +276,12 @@ pub test_by_kind : (p : Statement → Bool) (test : Kind → Bool)
     → ((s : Statement) → test (kind_of s) ≡ list_any p (s ∷ [])) → (db : List Statement) (k : ℕ)
     → (x : Kind)
     → option_map kind_of (slice_get db k) ≡ Some x → test x ≡ list_any p (statement_at db k)
-test_by_kind p test test_decides db k x kind_is_x = by_statement (slice_get db k) kind_is_x
+test_by_kind p test test_decides db k x kind_is_x = tests_agree (slice_get db k) kind_is_x
   where
-    by_statement : (o : Option Statement) → option_map kind_of o ≡ Some x
+    tests_agree : (o : Option Statement) → option_map kind_of o ≡ Some x
         → test x ≡ list_any p (elim o [ None ↦ [] | Some s ↦ s ∷ [] ])
-    by_statement None kind_of_o_is_x = absurd (cc)
-    by_statement (Some s) kind_of_o_is_x = let x_is_kind_of_s : x ≡ kind_of s = cc in
+    tests_agree None kind_of_o_is_x = absurd (cc)
+    tests_agree (Some s) kind_of_o_is_x = let x_is_kind_of_s : x ≡ kind_of s = cc in
         ap test x_is_kind_of_s ∙ test_decides s
 
 -- the tests of kinds are those of statements

@@ -6,13 +6,13 @@ use Rattle.mm_spec.specs.Text.{Bytes}
 
 -- a longer word is another one
 longer_word_is_other : (v w : Bytes) → length v < length w → bytes_eq v w ≡ false
-longer_word_is_other v w v_shorter_w = by_equality (bytes_eq v w) refl
+longer_word_is_other v w v_shorter_w = words_differ (bytes_eq v w) refl
   where
-    by_equality : (b : Bool) → bytes_eq v w ≡ b → b ≡ false
-    by_equality true v_eq_w = let lengths_equal = ap length ((bytes_eq-Decides v w).0 v_eq_w) in
+    words_differ : (b : Bool) → bytes_eq v w ≡ b → b ≡ false
+    words_differ true v_eq_w = let lengths_equal = ap length ((bytes_eq-Decides v w).0 v_eq_w) in
         absurd
         (omega (arith, v_shorter_w, lengths_equal))
-    by_equality false v_eq_w = refl
+    words_differ false v_eq_w = refl
 
 -- with one name more, none is longer than the longest so far and that one
 pub none_longer_with_name : {V : Type 0} (old new : Bytes

@@ -1,9 +1,8 @@
 -- What a list of names says of them.
 use Rattle.std.proofs.Common.{Result, Ok, Err, OnOk, is_some, ◌≡◌, ℕ, zero, suc, ◌≤◌, ◌<◌, Bool}
-use Rattle.std.proofs.Common.{true}
-use Rattle.std.proofs.Common.{false, ◌||◌, List, [], ◌∷◌, ◌++◌, length, map, slice_get, Option}
-use Rattle.std.proofs.Common.{None}
-use Rattle.std.proofs.Common.{Some, bytes_eq, if◌then◌else◌, refl, sym, ap, ◌∙◌, arith}
+use Rattle.std.proofs.Common.{true, false, ◌||◌, List, [], ◌∷◌, ◌++◌, length, map, slice_get}
+use Rattle.std.proofs.Common.{Option, None, Some, bytes_eq, if◌then◌else◌, refl, sym, ap, ◌∙◌}
+use Rattle.std.proofs.Common.{arith}
 use Rattle.std.proofs.lemmas.List.{length-map}
 use Rattle.std.proofs.lemmas.Map.Made.{is_some-lookup}
 use Rattle.std.specs.Option.{option_map}
@@ -21,13 +20,13 @@ pub names_inserted : {V : Type 0} (es : List (Name × V)) (k : Name) (v : V)
     (keys_of (insert_entry (λ (a b : Name). bytes_eq a.bytes.now b.bytes.now) es k v))
     ≡ with_name k.bytes.now (map (λ x. x.bytes.now) (keys_of es))
 names_inserted [] k v = refl
-names_inserted (e ∷ es) k v = by_equality (bytes_eq k.bytes.now e.0.bytes.now)
+names_inserted (e ∷ es) k v = names_with_k (bytes_eq k.bytes.now e.0.bytes.now)
     (names_inserted es k v)
   where
     ns : List Bytes
     ns = map (λ x. x.bytes.now) (keys_of es)
 
-    by_membership : (b : Bool)
+    names_behind : (b : Bool)
         → map (λ x. x.bytes.now)
         (keys_of (insert_entry (λ (a b : Name). bytes_eq a.bytes.now b.bytes.now) es k v))
         ≡ (if b then ns else (ns ++ k.bytes.now ∷ []))
@@ -35,10 +34,10 @@ names_inserted (e ∷ es) k v = by_equality (bytes_eq k.bytes.now e.0.bytes.now)
         ∷ map (λ x. x.bytes.now)
         (keys_of (insert_entry (λ (a b : Name). bytes_eq a.bytes.now b.bytes.now) es k v))
         ≡ (if b then (e.0.bytes.now ∷ ns) else ((e.0.bytes.now ∷ ns) ++ k.bytes.now ∷ []))
-    by_membership true rest_inserted = ap (λ l. e.0.bytes.now ∷ l) rest_inserted
-    by_membership false rest_inserted = ap (λ l. e.0.bytes.now ∷ l) rest_inserted
+    names_behind true rest_inserted = ap (λ l. e.0.bytes.now ∷ l) rest_inserted
+    names_behind false rest_inserted = ap (λ l. e.0.bytes.now ∷ l) rest_inserted
 
-    by_equality : (b : Bool)
+    names_with_k : (b : Bool)
         → map (λ x. x.bytes.now)
         (keys_of (insert_entry (λ (a b : Name). bytes_eq a.bytes.now b.bytes.now) es k v))
         ≡ with_name k.bytes.now ns
@@ -48,8 +47,8 @@ names_inserted (e ∷ es) k v = by_equality (bytes_eq k.bytes.now e.0.bytes.now)
         (e ∷ insert_entry (λ (a b : Name). bytes_eq a.bytes.now b.bytes.now) es k v)))
         ≡ (if b || is_in k.bytes.now ns then (e.0.bytes.now ∷ ns) else
         ((e.0.bytes.now ∷ ns) ++ k.bytes.now ∷ []))
-    by_equality true rest_inserted = refl
-    by_equality false rest_inserted = by_membership (is_in k.bytes.now ns) rest_inserted
+    names_with_k true rest_inserted = refl
+    names_with_k false rest_inserted = names_behind (is_in k.bytes.now ns) rest_inserted
 
 -- a name that is there stays the list as it was
 pub with_known_name_is_unchanged : (w : Bytes) (ns : List Bytes) → is_in w ns ≡ true
@@ -71,15 +70,15 @@ missing_number_is_count w es w_is_missing =
     (sym (key_is_name w (keys_of es)) ∙ sym (is_some-lookup (λ k. bytes_eq w k.bytes.now) es)
     ∙ ap is_some w_is_missing)
 
--- a name's place
+-- a name's index
 pub index_of_le_length : (w : Bytes) (ns : List Bytes) → index_of w ns ≤ length ns
 index_of_le_length w [] = omega arith
-index_of_le_length w (n ∷ ns) = by_equality (bytes_eq w n) (index_of_le_length w ns)
+index_of_le_length w (n ∷ ns) = index_le_length (bytes_eq w n) (index_of_le_length w ns)
   where
-    by_equality : (b : Bool) → index_of w ns ≤ length ns
+    index_le_length : (b : Bool) → index_of w ns ≤ length ns
         → elim b [ true ↦ 0 | false ↦ suc (index_of w ns) ] ≤ suc (length ns)
-    by_equality true rest_index_le = omega arith
-    by_equality false rest_index_le = omega (arith, rest_index_le)
+    index_le_length true rest_index_le = omega arith
+    index_le_length false rest_index_le = omega (arith, rest_index_le)
 
 -- what follows from a clause holds of the result too
 pub on_ok_then : {A E : Type 0} {P Q : Type 0} (r : Result A E) → OnOk r P → (P → Q) → OnOk r Q

@@ -6,7 +6,7 @@ use Rattle.std.specs.List.{list_any, range_with_len}
 use Rattle.std.specs.Option.{option_map}
 use Rattle.mm_spec.specs.Statement.{Statement, constants, variables, disjoint, floating, essential}
 use Rattle.mm_spec.specs.Statement.{axiomatic, provable, opening, closing}
-use Rattle.mm_spec.specs.Scope.{is_active, active, statement_at}
+use Rattle.mm_spec.specs.Scope.{active_at, active, statement_at}
 use Rattle.mm_spec.specs.Derivation.{is_member}
 use Rattle.mm_spec.specs.Frame.{formula_at, is_disjoint_statement, active_of}
 use Rattle.mm_outline.specs.declared.parts.Kind.TheVariants as kind
@@ -28,16 +28,16 @@ is_disjoint_kind (closing k) kind_is_disjoint = absurd (cc)
 is_disjoint_at : (db : List Statement) (j : ℕ)
     → option_map kind_of (slice_get db j) ≡ Some kind.Disjoint
     → list_any is_disjoint_statement (statement_at db j) ≡ true
-is_disjoint_at db j kind_is_disjoint = by_statement (slice_get db j) kind_is_disjoint
+is_disjoint_at db j kind_is_disjoint = disjoint_if_kind_is (slice_get db j) kind_is_disjoint
   where
-    by_statement : (o : Option Statement) → option_map kind_of o ≡ Some kind.Disjoint
+    disjoint_if_kind_is : (o : Option Statement) → option_map kind_of o ≡ Some kind.Disjoint
         → list_any is_disjoint_statement (elim o [ None ↦ [] | Some s ↦ s ∷ [] ]) ≡ true
-    by_statement None kind_is_disjoint = absurd (cc)
-    by_statement (Some s) kind_is_disjoint = ap (λ b. b || false) (is_disjoint_kind s (cc))
+    disjoint_if_kind_is None kind_is_disjoint = absurd (cc)
+    disjoint_if_kind_is (Some s) kind_is_disjoint = ap (λ b. b || false) (is_disjoint_kind s (cc))
 
 -- an active `$d` that has both symbols makes them stand together
 pub near_are_together : (db : List Statement) (j k x y : ℕ)
-    → option_map kind_of (slice_get db j) ≡ Some kind.Disjoint → is_active db j k ≡ true
+    → option_map kind_of (slice_get db j) ≡ Some kind.Disjoint → active_at db j k ≡ true
     → is_member (formula_at db j) x ≡ true → is_member (formula_at db j) y ≡ true
     → are_together_at db k x y ≡ true
 near_are_together db j k x y j_is_disjoint active_at_k j_has_x j_has_y =
@@ -45,8 +45,7 @@ near_are_together db j k x y j_is_disjoint active_at_k j_has_x j_has_y =
     (active_of is_disjoint_statement db k) j
     (member_filter (λ i. list_any is_disjoint_statement (statement_at db i)) (active db k) j
     ∙ ap₂ (λ p q. p && q) (is_disjoint_at db j j_is_disjoint)
-    (member_filter (λ i. is_active db i k) (range_with_len 0 k) j
-    ∙ ap₂ (λ p q. p && q) active_at_k
+    (member_filter (λ i. active_at db i k) (range_with_len 0 k) j ∙ ap₂ (λ p q. p && q) active_at_k
     (member_range k 0 j (omega arith) ∙ (let zero_plus_k_is_k : 0 + k ≡ k = omega arith in
     ap (nat_lt j) zero_plus_k_is_k)
     ∙ (and_parts (nat_lt j k) _ active_at_k).0)))

@@ -1,10 +1,8 @@
 -- The kept words of statements: that they are the tokens of these, and what they answer.
 use Rattle.std.proofs.Common.{◌≡◌, ℕ, zero, suc, ◌+◌, ◌-◌, ◌<◌, ◌≤◌, Bool, true, false, List, []}
 use Rattle.std.proofs.Common.{◌∷◌, ◌++◌, length, map, take, drop, get_or, slice_get, slice_range}
-use Rattle.std.proofs.Common.{All}
-use Rattle.std.proofs.Common.{Option, Some, None, refl, sym, ap, ap₂, ◌∙◌, subst, arith}
-use Rattle.std.proofs.Common.{append_assoc}
-use Rattle.std.proofs.Common.{length-append, if◌then◌else◌}
+use Rattle.std.proofs.Common.{All, Option, Some, None, refl, sym, ap, ap₂, ◌∙◌, subst, arith}
+use Rattle.std.proofs.Common.{append_assoc, length-append, if◌then◌else◌}
 use Rattle.std.specs.Option.{option_map, option_and_then}
 use Rattle.std.proofs.lemmas.List.{length-map}
 use Rattle.std.proofs.lemmas.List.Elements.{All-append, All-take, All-drop}
@@ -18,8 +16,8 @@ use Rattle.mm_spec.specs.declared.Fault.{Fault}
 use Rattle.mm_spec.specs.declared.Word.{Word}
 use Rattle.mm_spec.proofs.OpenedLaw.{counted_got, counted_then, counted_length}
 use Rattle.mm_outline.specs.Parts.{AreWithin, HasEnd, IsOutline, as_tokens, between}
-use Rattle.mm_outline.specs.Parts.{statement_between, nth_word}
-use Rattle.mm_outline.specs.Parts.{statement_of, token_of}
+use Rattle.mm_outline.specs.Parts.{statement_between, nth_word, statement_of, token_of}
+use Rattle.mm_outline.specs.Parts.{is_labelled_kind}
 use Rattle.mm_outline.specs.Statements.{statements}
 use Rattle.mm_outline.specs.declared.parts.Kind.{Kind}
 use Rattle.mm_outline.specs.declared.parts.Kind.TheVariants as kind
@@ -27,7 +25,6 @@ use Rattle.mm_outline.specs.declared.parts.Outline.{Outline}
 use Rattle.mm_outline.proofs.StatementsLaw.{element_of_mapped, statement_of_outline_is}
 use Rattle.mm_database.specs.Database.{Contents, contents, kind_of}
 use Rattle.mm_database.specs.RetainedWords.{AreRetained, IsRetained, retained_words, label_tokens}
-use Rattle.mm_outline.specs.Parts.{is_labelled_kind}
 use Rattle.mm_database.specs.RetainedWords.{label_word, end_at}
 use Rattle.mm_database.proofs.KindsLaw.{counted_theorem_is_theorem}
 
@@ -48,7 +45,7 @@ module _ (text : List ℕ) (ws : List Word) where
   label_word_is_label kind.Essential k m e = refl
   label_word_is_label kind.Axiom k m e = refl
 
-  -- no tokens are between two places that are equal
+  -- no tokens are between two indices that are equal
   nothing_between : (m e : ℕ) → m ≡ e → between text ws (m + 1) e ≡ []
   nothing_between m e m_is_e =
       let no_width : e - (m + 1) ≡ 0 = omega arith in
@@ -93,16 +90,16 @@ module _ (text : List ℕ) (ws : List Word) where
 
     label_is_within : (o : Outline) → IsOutline o × (o.end < length ws)
         → AreWithin text (label_word ws o)
-    label_is_within o is_outline = by_label (is_labelled_kind o.kind)
+    label_is_within o is_outline = is_within (is_labelled_kind o.kind)
       where
-        by_label : (with_label : Bool)
+        is_within : (with_label : Bool)
             → AreWithin text (if with_label then nth_word ws (o.keyword - 1) ∷ [] else [])
-        by_label true =
+        is_within true =
             let keyword_gt_0 = is_outline.0.2 in let keyword_le_middle = is_outline.0.3 in
             let end_lt_length = is_outline.1 in
             one_word_is_within (o.keyword - 1)
             (omega (arith, keyword_gt_0, keyword_le_middle, end_lt_length))
-        by_label false = λ k d k_lt_0. absurd (omega arith)
+        is_within false = λ k d k_lt_0. absurd (omega arith)
 
     retained_words_are_of_statement : (o : Outline) → IsOutline o × (o.end < length ws)
         → IsRetained text (statement_of text ws o) (retained_words ws o)

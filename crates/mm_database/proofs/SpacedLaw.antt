@@ -11,6 +11,7 @@ use Rattle.mm_spec.proofs.FindsLaw.{each_filter, each_any}
 use Rattle.mm_lists.specs.Lists.{joined}
 use Rattle.mm_database.specs.Database.{spaced_labels}
 
+-- each of the theorems is one, so that a caller may read and check it
 pub theorems_are : (db : List Statement) → All (λ k. IsTrue (is_theorem_at db k)) (theorems db)
 theorems_are db =
     let places = range_with_len 0 (length db) in

@@ -16,19 +16,10 @@ pub record StartsTo (ps : List (ℕ × ℕ)) (n : ℕ) (starts : List ℕ) : Typ
   pub starts_are : (x : ℕ) → x < length starts → IsStart ps x (get_or starts x 0)
   pub symbols_have_starts : (p : ℕ) → p < n → (get_or ps p (0, 0)).0 < length starts
 
--- no pairs have no starts
-pub starts_of_no_pairs : (ps : List (ℕ × ℕ)) → StartsTo ps 0 []
-starts_of_no_pairs ps =
-    record {
-      starts_are = λ x lt_zero. absurd (omega arith);
-      symbols_have_starts =
-          λ p lt_zero. absurd (omega arith);
-    }
-
 -- later pairs are of no earlier symbol
 symbols_ascend : (ps : List (ℕ × ℕ)) → AreRising ps → (i j : ℕ) → i ≤ j → j < length ps
     → (get_or ps i (0, 0)).0 ≤ (get_or ps j (0, 0)).0
-symbols_ascend ps are_rising i j i_le_j j_lt_length = by_equality (cases_eq i j)
+symbols_ascend ps are_rising i j i_le_j j_lt_length = symbol_i_le_j (cases_eq i j)
   where
     symbol_le : IsBefore (get_or ps i (0, 0)).0 (get_or ps i (0, 0)).1 (get_or ps j (0, 0)).0
         (get_or ps j (0, 0)).1
@@ -36,10 +27,10 @@ symbols_ascend ps are_rising i j i_le_j j_lt_length = by_equality (cases_eq i j)
     symbol_le (inl lower) = omega arith
     symbol_le (inr (symbols_equal, lower)) = omega arith
 
-    by_equality : (i ≡ j) ⊎ (i ≡ j → ⊥) → (get_or ps i (0, 0)).0 ≤ (get_or ps j (0, 0)).0
-    by_equality (inl i_is_j) = let symbols_equal = ap (λ k. (get_or ps k (0, 0)).0) i_is_j in
+    symbol_i_le_j : (i ≡ j) ⊎ (i ≡ j → ⊥) → (get_or ps i (0, 0)).0 ≤ (get_or ps j (0, 0)).0
+    symbol_i_le_j (inl i_is_j) = let symbols_equal = ap (λ k. (get_or ps k (0, 0)).0) i_is_j in
         omega (arith, symbols_equal)
-    by_equality (inr i_ne_j) =
+    symbol_i_le_j (inr i_ne_j) =
         symbol_le (earlier_is_before ps are_rising i j (0, 0) (omega arith) j_lt_length)
 
 -- a symbol more, up to that of pair n
@@ -76,32 +67,17 @@ starts_push ps n starts are_rising n_lt_length starts_le_symbol starts_to_n = re
         subst (IsStart ps x) (sym (get_or_append_left starts (n ∷ []) 0 x x_lt_length_starts))
         (starts_to_n.starts_are x x_lt_length_starts)
 
--- a pair more, whose symbol has a start
-pub starts_with_pair : (ps : List (ℕ × ℕ)) (n : ℕ) (starts : List ℕ)
-    → (get_or ps n (0, 0)).0 < length starts → StartsTo ps n starts → StartsTo ps (n + 1) starts
-starts_with_pair ps n starts symbol_has_start starts_to_n = record {
-  starts_are = starts_to_n.starts_are;
-  symbols_have_starts = λ p l. by_equality p l (cases_eq p n);
-}
-  where
-    by_equality : (p : ℕ) → p < n + 1 → (p ≡ n) ⊎ (p ≡ n → ⊥) → (get_or ps p (0, 0)).0
-        < length starts
-    by_equality p p_le_n (inl p_is_n) = let symbols_equal =
-        ap (λ k. (get_or ps k (0, 0)).0) p_is_n in
-        omega (arith, symbols_equal, symbol_has_start)
-    by_equality p p_le_n (inr p_ne_n) = starts_to_n.symbols_have_starts p (omega arith)
-
 -- the starts for the first n pairs are those for all pairs, if there are no more than n
 pub starts_of_all_pairs : (ps : List (ℕ × ℕ)) (n : ℕ) (starts : List ℕ) → length ps ≤ n
     → StartsTo ps n starts → AreStarts ps starts
-starts_of_all_pairs ps n starts length_le_n starts_to_n x = by_order (cases_lt x (length starts))
+starts_of_all_pairs ps n starts length_le_n starts_to_n x = is_start (cases_lt x (length starts))
   where
-    by_order : (x < length starts) ⊎ (length starts ≤ x)
+    is_start : (x < length starts) ⊎ (length starts ≤ x)
         → IsStart ps x (get_or starts x (length ps))
-    by_order (inl x_lt_starts) =
+    is_start (inl x_lt_starts) =
         subst (IsStart ps x) (get_or_default starts x 0 (length ps) x_lt_starts)
         (starts_to_n.starts_are x x_lt_starts)
-    by_order (inr starts_le_x) =
+    is_start (inr starts_le_x) =
         subst (IsStart ps x) (sym (get_or_past starts x (length ps) starts_le_x)) (record {
           start_le_length = omega arith;
           earlier_are_lower = λ p p_lt_start. let symbol_lt_starts =
@@ -138,7 +114,7 @@ module _ (ps : List (ℕ × ℕ)) (ps_are_rising : AreRising ps) (x at from to :
 
   -- among them those with a lower statement stand first
   pub slice_is_partitioned : IsPartitionedBy (λ p. nat_lt p.1 at) (slice_range ps from to)
-  slice_is_partitioned i j d i_le_j j_lt_length j_is_lower = by_equality (cases_eq i j)
+  slice_is_partitioned i j d i_le_j j_lt_length j_is_lower = i_is_before (cases_eq i j)
     where
       j_lt_width : j < to - from
       j_lt_width = let width = slice_length in omega (arith, j_lt_length, width)
@@ -159,11 +135,11 @@ module _ (ps : List (ℕ × ℕ)) (ps_are_rising : AreRising ps) (x at from to :
           absurd (omega (arith, i_has_x, j_has_x, symbol_lt))
       statement_lt i_lt_j (inr (symbol_is_equal, statement_is_lower)) = statement_is_lower
 
-      by_equality : (i ≡ j) ⊎ (i ≡ j → ⊥) → nat_lt (get_or (slice_range ps from to) i d).1 at ≡ true
-      by_equality (inl i_is_j) =
+      i_is_before : (i ≡ j) ⊎ (i ≡ j → ⊥) → nat_lt (get_or (slice_range ps from to) i d).1 at ≡ true
+      i_is_before (inl i_is_j) =
           ap (λ k. nat_lt (get_or (slice_range ps from to) k d).1 at) i_is_j
           ∙ j_is_lower
-      by_equality (inr i_ne_j) =
+      i_is_before (inr i_ne_j) =
           let i_lt_j_here : i < j = omega arith in
           let j_lt_width_here = j_lt_width in
           let i_lt_width : i < to - from = omega (arith, i_lt_j_here, j_lt_width_here) in
@@ -184,13 +160,13 @@ module _ (ps : List (ℕ × ℕ)) (ps_are_rising : AreRising ps) (x at from to :
     -- so with n of them the pairs before are counted, and no others
     pub pair_before_point_is_before : (p : ℕ) → p < from + n
         → is_pair_before (get_or ps p (0, 0)) x at ≡ true
-    pair_before_point_is_before p p_lt_point = by_order (cases_lt p from)
+    pair_before_point_is_before p p_lt_point = p_is_before (cases_lt p from)
       where
-        by_order : (p < from) ⊎ (from ≤ p) → is_pair_before (get_or ps p (0, 0)) x at ≡ true
-        by_order (inl p_order) =
+        p_is_before : (p < from) ⊎ (from ≤ p) → is_pair_before (get_or ps p (0, 0)) x at ≡ true
+        p_is_before (inl p_order) =
             is_pair_before_if (get_or ps p (0, 0)) x at
             (inl (from_starts_x.earlier_are_lower p p_order))
-        by_order (inr p_order) =
+        p_is_before (inr p_order) =
             let width = slice_length in
             let index_lt_width : p - from < to - from =
             omega (arith, p_order, p_lt_point, bound, width) in

@@ -41,13 +41,13 @@ first_occurrences_cons e v ws b v_in_e_is_b =
 pub first_occurrences_append : (ws e : List Bytes) (w : Bytes)
     → first_occurrences e (ws ++ w ∷ [])
     ≡ first_occurrences e ws ++ if_new (is_in w e || is_in w ws) w
-first_occurrences_append [] e w = by_membership (is_in w e)
+first_occurrences_append [] e w = w_is_new (is_in w e)
   where
-    by_membership : (b : Bool) → elim b [ true ↦ [] | false ↦ w ∷ [] ] ≡ if_new (b || false) w
-    by_membership true = refl
-    by_membership false = refl
+    w_is_new : (b : Bool) → elim b [ true ↦ [] | false ↦ w ∷ [] ] ≡ if_new (b || false) w
+    w_is_new true = refl
+    w_is_new false = refl
 first_occurrences_append (v ∷ ws) e w =
-    by_membership (is_in v e) refl (first_occurrences_append ws e w)
+    adds_w_if_new (is_in v e) refl (first_occurrences_append ws e w)
     (first_occurrences_append ws (v ∷ e) w)
   where
     new_if_equal : is_in v e ≡ true → (b : Bool) → bytes_eq w v ≡ b
@@ -60,20 +60,20 @@ first_occurrences_append (v ∷ ws) e w =
         ∙ v_in_e))
     new_if_equal v_in_e false w_eq_v = refl
 
-    by_membership : (b : Bool) → is_in v e ≡ b
+    adds_w_if_new : (b : Bool) → is_in v e ≡ b
         → first_occurrences e (ws ++ w ∷ [])
         ≡ first_occurrences e ws ++ if_new (is_in w e || is_in w ws) w
         → first_occurrences (v ∷ e) (ws ++ w ∷ [])
         ≡ first_occurrences (v ∷ e) ws ++ if_new ((bytes_eq w v || is_in w e) || is_in w ws) w
         → first_occurrences e (v ∷ (ws ++ w ∷ []))
         ≡ first_occurrences e (v ∷ ws) ++ if_new (is_in w e || (bytes_eq w v || is_in w ws)) w
-    by_membership true word_in_e without_v with_v =
+    adds_w_if_new true word_in_e without_v with_v =
         first_occurrences_cons e v (ws ++ w ∷ []) true word_in_e ∙ without_v
         ∙ ap (λ b. first_occurrences e ws ++ if_new b w)
         (new_if_equal word_in_e (bytes_eq w v) refl)
         ∙ sym (ap (λ l. l ++ if_new (is_in w e || (bytes_eq w v || is_in w ws)) w)
         (first_occurrences_cons e v ws true word_in_e))
-    by_membership false v_not_in_e without_v with_v =
+    adds_w_if_new false v_not_in_e without_v with_v =
         first_occurrences_cons e v (ws ++ w ∷ []) false v_not_in_e ∙ ap (λ l. v ∷ l) with_v
         ∙ ap (λ b. (v ∷ first_occurrences (v ∷ e) ws) ++ if_new b w)
         (or_rotate (bytes_eq w v) (is_in w e) (is_in w ws))
@@ -85,49 +85,27 @@ pub in_first_occurrences : (ws e : List Bytes) (w : Bytes) → is_in w e ≡ fal
     → is_in w (first_occurrences e ws) ≡ is_in w ws
 in_first_occurrences [] e w w_not_in_e = refl
 in_first_occurrences (v ∷ ws) e w w_not_in_e =
-    by_head (in_first_occurrences ws e w w_not_in_e) (in_first_occurrences ws (v ∷ e) w)
+    is_in_cons (in_first_occurrences ws e w w_not_in_e) (in_first_occurrences ws (v ∷ e) w)
     (is_in v e) refl
     (bytes_eq w v) refl
   where
-    by_head : is_in w (first_occurrences e ws) ≡ is_in w ws
+    is_in_cons : is_in w (first_occurrences e ws) ≡ is_in w ws
         → (is_in w (v ∷ e) ≡ false → is_in w (first_occurrences (v ∷ e) ws) ≡ is_in w ws)
         → (b : Bool) → is_in v e ≡ b → (w_eq_v : Bool) → bytes_eq w v ≡ w_eq_v
         → is_in w (first_occurrences e (v ∷ ws)) ≡ (bytes_eq w v || is_in w ws)
-    by_head without_v with_v true word_in_e true w_eq_v = absurd (true≢false
+    is_in_cons without_v with_v true word_in_e true w_eq_v = absurd (true≢false
         (sym (ap (λ x. is_in x e) (equal_bytes_equal_words w v w_eq_v) ∙ word_in_e) ∙ w_not_in_e))
-    by_head without_v with_v true word_in_e false w_eq_v =
+    is_in_cons without_v with_v true word_in_e false w_eq_v =
         ap (is_in w) (first_occurrences_cons e v ws true word_in_e) ∙ without_v
         ∙ sym (ap (λ b. b || is_in w ws) w_eq_v)
-    by_head without_v with_v false v_not_in_e true w_eq_v =
+    is_in_cons without_v with_v false v_not_in_e true w_eq_v =
         ap (is_in w) (first_occurrences_cons e v ws false v_not_in_e)
         ∙ ap (λ b. b || is_in w (first_occurrences (v ∷ e) ws)) w_eq_v
         ∙ sym (ap (λ b. b || is_in w ws) w_eq_v)
-    by_head without_v with_v false v_not_in_e false w_eq_v =
+    is_in_cons without_v with_v false v_not_in_e false w_eq_v =
         ap (is_in w) (first_occurrences_cons e v ws false v_not_in_e)
         ∙ ap (λ b. b || is_in w (first_occurrences (v ∷ e) ws)) w_eq_v
         ∙ with_v (ap₂ (λ a b. a || b) w_eq_v w_not_in_e) ∙ sym (ap (λ b. b || is_in w ws) w_eq_v)
-
--- an earlier word is no first occurrence
-not_in_first_occurrences : (ws e : List Bytes) (w : Bytes) → is_in w e ≡ true
-    → is_in w (first_occurrences e ws) ≡ false
-not_in_first_occurrences [] e w word_in_e = refl
-not_in_first_occurrences (v ∷ ws) e w word_in_e =
-    by_head (not_in_first_occurrences ws e w word_in_e) (not_in_first_occurrences ws (v ∷ e) w)
-    (is_in v e) refl (bytes_eq w v)
-    refl
-  where
-    by_head : is_in w (first_occurrences e ws) ≡ false
-        → (is_in w (v ∷ e) ≡ true → is_in w (first_occurrences (v ∷ e) ws) ≡ false) → (b : Bool)
-        → is_in v e ≡ b → (w_eq_v : Bool) → bytes_eq w v ≡ w_eq_v
-        → is_in w (first_occurrences e (v ∷ ws)) ≡ false
-    by_head without_v with_v true word_in_e w_eq_v w_eq_v_is_s =
-        ap (is_in w) (first_occurrences_cons e v ws true word_in_e) ∙ without_v
-    by_head without_v with_v false v_not_in_e true w_eq_v = absurd (true≢false
-        (sym word_in_e ∙ ap (λ x. is_in x e) (equal_bytes_equal_words w v w_eq_v) ∙ v_not_in_e))
-    by_head without_v with_v false v_not_in_e false w_eq_v =
-        ap (is_in w) (first_occurrences_cons e v ws false v_not_in_e)
-        ∙ ap (λ b. b || is_in w (first_occurrences (v ∷ e) ws)) w_eq_v
-        ∙ with_v (ap (λ a. a || is_in w e) w_eq_v ∙ word_in_e)
 
 -- the names with a word more
 abbrev pub added : List Bytes → Bytes → List Bytes
@@ -140,19 +118,19 @@ first_occurrences_push ws w =
     first_occurrences_append ws [] w
     ∙ ap (λ b. first_occurrences [] ws ++ if_new b w) (sym (in_first_occurrences ws [] w refl))
 
--- a name's place
+-- a name's index
 pub name_at_index_of : (ns : List Bytes) (w : Bytes) → is_in w ns ≡ true
     → slice_get ns (index_of w ns) ≡ Some w
 name_at_index_of [] w w_in_ns = absurd (true≢false (sym w_in_ns))
-name_at_index_of (n ∷ ns) w w_in_ns = by_equality (name_at_index_of ns w) (bytes_eq w n) refl
+name_at_index_of (n ∷ ns) w w_in_ns = name_at_index (name_at_index_of ns w) (bytes_eq w n) refl
   where
-    by_equality : (is_in w ns ≡ true → slice_get ns (index_of w ns) ≡ Some w) → (b : Bool)
+    name_at_index : (is_in w ns ≡ true → slice_get ns (index_of w ns) ≡ Some w) → (b : Bool)
         → bytes_eq w n ≡ b
         → slice_get (n ∷ ns) (index_of w (n ∷ ns)) ≡ Some w
-    by_equality in_rest true w_eq_n =
+    name_at_index in_rest true w_eq_n =
         ap (λ b. slice_get (n ∷ ns) (elim b [ true ↦ 0 | false ↦ suc (index_of w ns) ])) w_eq_n
         ∙ ap Some (sym (equal_bytes_equal_words w n w_eq_n))
-    by_equality in_rest false w_eq_n =
+    name_at_index in_rest false w_eq_n =
         ap (λ b. slice_get (n ∷ ns) (elim b [ true ↦ 0 | false ↦ suc (index_of w ns) ])) w_eq_n
         ∙ in_rest (sym (ap (λ b. b || is_in w ns) w_eq_n) ∙ w_in_ns)
 
@@ -168,55 +146,6 @@ element_is_in_names (n ∷ ns) zero w element_is_w =
     ap (λ b. b || is_in w ns) (ap (bytes_eq w) n_is_w ∙ bytes_eq_itself w)
 element_is_in_names (n ∷ ns) (suc s) w element_is_w =
     ap (λ b. bytes_eq w n || b) (element_is_in_names ns s w element_is_w) ∙ or-true (bytes_eq w n)
-
--- each name stands once
-pub index_of_element : (ws e : List Bytes) (s : ℕ) (w : Bytes)
-    → slice_get (first_occurrences e ws) s ≡ Some w → index_of w (first_occurrences e ws) ≡ s
-index_of_element [] e zero w element_is_w = absurd (let none_is_w : None ≡ Some w = element_is_w in
-    cc)
-index_of_element [] e (suc s) w element_is_w =
-    absurd (let none_is_w : None ≡ Some w = element_is_w in cc)
-index_of_element (v ∷ ws) e s w element_is_w =
-    by_membership (λ place. index_of_element ws e place w)
-    (λ place. index_of_element ws (v ∷ e) place w)
-    (is_in v e) refl s
-    element_is_w
-  where
-    index_in_cons : (t : List Bytes) (s : ℕ) → slice_get (v ∷ t) s ≡ Some w → is_in v t ≡ false
-        → ((index_in_rest : ℕ) → slice_get t index_in_rest ≡ Some w → index_of w t ≡ index_in_rest)
-        → index_of w (v ∷ t) ≡ s
-    index_in_cons t zero element_is_w v_not_in_t index_in_rest =
-        ap (λ b. elim b [ true ↦ 0 | false ↦ suc (index_of w t) ])
-        (ap (bytes_eq w) (let some_v_is_w : Some v ≡ Some w = element_is_w in
-        let v_is_w : v ≡ w = cc in
-        v_is_w) ∙ bytes_eq_itself w)
-    index_in_cons t (suc s) element_is_w v_not_in_t index_in_rest = by_equality (bytes_eq w v) refl
-      where
-        by_equality : (b : Bool) → bytes_eq w v ≡ b → index_of w (v ∷ t) ≡ suc s
-        by_equality true w_eq_v =
-            absurd (true≢false
-            (sym (ap (λ x. is_in x t) (sym (equal_bytes_equal_words w v w_eq_v))
-            ∙ element_is_in_names t s w element_is_w) ∙ v_not_in_t))
-        by_equality false w_eq_v = ap (λ b. elim b [ true ↦ 0 | false ↦ suc (index_of w t) ]) w_eq_v
-            ∙ ap suc (index_in_rest s element_is_w)
-
-    by_membership : ((r : ℕ) → slice_get (first_occurrences e ws) r ≡ Some w
-        → index_of w (first_occurrences e ws) ≡ r)
-        → ((r : ℕ) → slice_get (first_occurrences (v ∷ e) ws) r ≡ Some w
-        → index_of w (first_occurrences (v ∷ e) ws) ≡ r)
-        → (b : Bool) → is_in v e ≡ b → (s : ℕ) → slice_get (first_occurrences e (v ∷ ws)) s ≡ Some w
-        → index_of w (first_occurrences e (v ∷ ws)) ≡ s
-    by_membership without_v with_v true word_in_e s element_is_w =
-        ap (index_of w) (first_occurrences_cons e v ws true word_in_e)
-        ∙ without_v s (sym (ap (λ l. slice_get l s) (first_occurrences_cons e v ws true word_in_e))
-        ∙ element_is_w)
-    by_membership without_v with_v false v_not_in_e s element_is_w =
-        ap (index_of w) (first_occurrences_cons e v ws false v_not_in_e)
-        ∙ index_in_cons (first_occurrences (v ∷ e) ws) s
-        (sym (ap (λ l. slice_get l s) (first_occurrences_cons e v ws false v_not_in_e))
-        ∙ element_is_w)
-        (not_in_first_occurrences ws (v ∷ e) v (ap (λ b. b || is_in v e) (bytes_eq_itself v)))
-        with_v
 
 -- where the code finds a name
 pub position_is_index : (w : Bytes) (ks : List (Name))
@@ -236,35 +165,35 @@ pub key_is_name : (w : Bytes) (ks : List (Name))
 key_is_name w [] = refl
 key_is_name w (k ∷ ks) = ap (λ b. bytes_eq w k.bytes.now || b) (key_is_name w ks)
 
--- the place of a name that is found, and of one that is not
+-- the index of a name that is found, and of one that is not
 pub position_is_index_of : (w : Bytes) (ks : List (Name)) (n : ℕ)
     → position (λ k. bytes_eq w k.bytes.now) ks ≡ Some n
     → n ≡ index_of w (map (λ k. k.bytes.now) ks)
 position_is_index_of w ks n position_is_n =
-    by_presence (nat_lt (position_or_len (λ k. bytes_eq w k.bytes.now) ks) (length ks))
+    is_position (nat_lt (position_or_len (λ k. bytes_eq w k.bytes.now) ks) (length ks))
     position_is_n
     ∙ position_is_index w ks
   where
-    by_presence : (b : Bool) → cond b (Some (position_or_len (λ k. bytes_eq w k.bytes.now) ks)) None
+    is_position : (b : Bool) → cond b (Some (position_or_len (λ k. bytes_eq w k.bytes.now) ks)) None
         ≡ Some n
         → n ≡ position_or_len (λ k. bytes_eq w k.bytes.now) ks
-    by_presence true found_is_n =
+    is_position true found_is_n =
         let some_is_n : Some (position_or_len (λ k. bytes_eq w k.bytes.now) ks)
         ≡ Some n = found_is_n in cc
-    by_presence false found_is_n = let some_is_n : None ≡ Some n = found_is_n in cc
+    is_position false found_is_n = let some_is_n : None ≡ Some n = found_is_n in cc
 
 -- a word that is no name has the number after the last
 pub missing_index_is_length : (w : Bytes) (ns : List Bytes) → is_in w ns ≡ false
     → length ns ≡ index_of w ns
 missing_index_is_length w [] w_not_in_ns = refl
 missing_index_is_length w (n ∷ ns) w_not_in_ns =
-    by_equality (bytes_eq w n) refl (missing_index_is_length w ns)
+    is_index (bytes_eq w n) refl (missing_index_is_length w ns)
   where
-    by_equality : (b : Bool) → bytes_eq w n ≡ b → (is_in w ns ≡ false → length ns ≡ index_of w ns)
+    is_index : (b : Bool) → bytes_eq w n ≡ b → (is_in w ns ≡ false → length ns ≡ index_of w ns)
         → suc (length ns) ≡ index_of w (n ∷ ns)
-    by_equality true w_eq_n index_in_rest =
+    is_index true w_eq_n index_in_rest =
         absurd (true≢false (sym (ap (λ b. b || is_in w ns) w_eq_n) ∙ w_not_in_ns))
-    by_equality false w_eq_n index_in_rest =
+    is_index false w_eq_n index_in_rest =
         ap suc (index_in_rest (sym (ap (λ b. b || is_in w ns) w_eq_n) ∙ w_not_in_ns))
         ∙ sym (ap (λ b. elim b [ true ↦ 0 | false ↦ suc (index_of w ns) ]) w_eq_n)
 
@@ -281,7 +210,7 @@ right_is_true : (a b : Bool) → (not a && b) ≡ true → b ≡ true
 right_is_true true b both_hold = absurd (true≢false (sym both_hold))
 right_is_true false b both_hold = both_hold
 
--- the place of a name is where it stands
+-- the index of a name is where it stands
 pub index_of_distinct : (ns : List Bytes) → are_distinct ns ≡ true → (i : ℕ) (w : Bytes)
     → slice_get ns i ≡ Some w → i ≡ index_of w ns
 index_of_distinct [] are_distinct_names zero w element_i_is_w =
@@ -292,18 +221,18 @@ index_of_distinct (n ∷ ns) are_distinct_names zero w element_i_is_w =
     sym (ap (λ b. elim b [ true ↦ 0 | false ↦ suc (index_of w ns) ])
     (ap (bytes_eq w) (some_injective element_i_is_w) ∙ bytes_eq_itself w))
 index_of_distinct (n ∷ ns) are_distinct_names (suc i) w element_i_is_w =
-    by_equality (bytes_eq w n) refl (index_of_distinct ns
+    suc_is_index (bytes_eq w n) refl (index_of_distinct ns
     (right_is_true (is_in n ns) (are_distinct ns) are_distinct_names)
     i w element_i_is_w)
   where
-    by_equality : (b : Bool) → bytes_eq w n ≡ b → i ≡ index_of w ns
+    suc_is_index : (b : Bool) → bytes_eq w n ≡ b → i ≡ index_of w ns
         → suc i ≡ elim b [ true ↦ 0 | false ↦ suc (index_of w ns) ]
-    by_equality true w_eq_n index_in_rest =
+    suc_is_index true w_eq_n index_in_rest =
         absurd (true≢false
         (sym (element_is_in_names ns i w element_i_is_w)
         ∙ ap (λ x. is_in x ns) (equal_bytes_equal_words w n w_eq_n)
         ∙ left_is_false (is_in n ns) (are_distinct ns) are_distinct_names))
-    by_equality false w_eq_n index_in_rest = ap suc index_in_rest
+    suc_is_index false w_eq_n index_in_rest = ap suc index_in_rest
 
 -- names of which none is twice stay such with a new one
 distinct_push : (ns : List Bytes) (w : Bytes) → are_distinct ns ≡ true → is_in w ns ≡ false
@@ -327,9 +256,9 @@ distinct_push (n ∷ ns) w are_distinct_names w_not_in_ns =
 -- a name more, where it is new
 pub distinct_with_name : (w : Bytes) (ns : List Bytes) → are_distinct ns ≡ true
     → are_distinct (with_name w ns) ≡ true
-distinct_with_name w ns are_distinct_names = by_membership (is_in w ns) refl
+distinct_with_name w ns are_distinct_names = stay_distinct (is_in w ns) refl
   where
-    by_membership : (b : Bool) → is_in w ns ≡ b → are_distinct (if b then ns else (ns ++ w ∷ []))
+    stay_distinct : (b : Bool) → is_in w ns ≡ b → are_distinct (if b then ns else (ns ++ w ∷ []))
         ≡ true
-    by_membership true w_in_ns = are_distinct_names
-    by_membership false w_in_ns = distinct_push ns w are_distinct_names w_in_ns
+    stay_distinct true w_in_ns = are_distinct_names
+    stay_distinct false w_in_ns = distinct_push ns w are_distinct_names w_in_ns

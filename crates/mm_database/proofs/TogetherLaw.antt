@@ -1,7 +1,6 @@
--- Which `$d` are active at a place, and whether one of them has two symbols.
+-- Which `$d` are active at a statement, and whether one of them has two symbols.
 use Rattle.std.proofs.Common.{◌≡◌, ℕ, ◌<◌, ◌≤◌, Bool, true, false, ◌&&◌, List, length, nat_lt}
-use Rattle.std.proofs.Common.{nat_le}
-use Rattle.std.proofs.Common.{refl, sym, ap, ap₂, ◌∙◌, true≢false, ◌⊎◌, inl, inr}
+use Rattle.std.proofs.Common.{nat_le, refl, sym, ap, ap₂, ◌∙◌, true≢false, ◌⊎◌, inl, inr}
 use Rattle.std.proofs.lemmas.Bool.{cases_lt, le-ltb, and_parts}
 use Rattle.std.specs.List.{list_any}
 use Rattle.mm_spec.specs.Statement.{Statement}
@@ -22,16 +21,16 @@ module _ (db : List Statement) (b : BlockLists) (are_blocks : IsBlocks db b) (k 
   pub active_local_is_active : (j : ℕ) → list_any is_disjoint_statement (statement_at db j) ≡ true
       → is_active_local b j k ≡ is_member (active_of is_disjoint_statement db k) j
   active_local_is_active j j_is_disjoint =
-      by_order (cases_lt j k) ∙ sym (active_member is_disjoint_statement db disjoint_local k j)
+      tests_agree (cases_lt j k) ∙ sym (active_member is_disjoint_statement db disjoint_local k j)
     where
-      by_order : (j < k) ⊎ (k ≤ j)
+      tests_agree : (j < k) ⊎ (k ≤ j)
           → is_active_local b j k
           ≡ (nat_lt j k && (list_any is_disjoint_statement (statement_at db j)
           && is_block_open db j k))
-      by_order (inl j_lt_k) = ap (λ c. nat_lt j k && c)
+      tests_agree (inl j_lt_k) = ap (λ c. nat_lt j k && c)
           (sym (ap₂ (λ p q. p && q) j_is_disjoint
           (are_blocks.open_up_to_end j k j_lt_k k_le_length)))
-      by_order (inr k_le_j) =
+      tests_agree (inr k_le_j) =
           ap (λ c. c && nat_le k (end_of b j)) (le-ltb j k k_le_j)
           ∙ sym (ap (λ c. c
           && (list_any is_disjoint_statement (statement_at db j) && is_block_open db j k))

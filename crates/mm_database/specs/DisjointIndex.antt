@@ -1,4 +1,4 @@
--- Which `$d` statements have a symbol, and which of those are active at a place.
+-- Which `$d` statements have a symbol, and which of those are active at a statement.
 use Rattle.std.specs.Prelude.{◌≡◌, ℕ, ◌<◌, ◌≤◌, Bool, ◌&&◌, List, length, get_or, nat_lt, nat_le}
 use Rattle.std.specs.List.{list_any}
 use Rattle.mm_spec.specs.Statement.{Statement}
@@ -39,22 +39,22 @@ pub record AreSkips (blocks : BlockLists) (ps : List (ℕ × ℕ)) (skips : List
   pub within : (q : ℕ) → q < length ps → get_or skips q 0 ≤ q
   pub covers : (q : ℕ) → q < length ps → Covers blocks ps (get_or skips q 0) q
 
--- symbols, each with a `$d` that has it, and for each of these pairs an index to skip to
+-- pairs of a symbol and a `$d` that has it, and for each of them an index to skip to
 pub record PairLists : Type 0 where
-  pub pairs : List (ℕ × ℕ)
+  pub by_symbol : List (ℕ × ℕ)
   pub skips : List ℕ
 
 abbrev pub pair_lists : List (ℕ × ℕ) → List ℕ → PairLists
-pair_lists pairs skips = record { pairs = pairs; skips = skips }
+pair_lists by_symbol skips = record { by_symbol = by_symbol; skips = skips }
 
 -- the pairs are in order, their statements have a block, and the skips are theirs
 pub record IsOrdered (blocks : BlockLists) (index : PairLists) : Type 0 where
-  pub rising : AreRising index.pairs
-  pub known : HaveBlocks blocks index.pairs
-  pub skips_are : AreSkips blocks index.pairs index.skips
+  pub rising : AreRising index.by_symbol
+  pub known : HaveBlocks blocks index.by_symbol
+  pub skips_are : AreSkips blocks index.by_symbol index.skips
 
 -- each symbol with each `$d` that has it
 pub record IsDisjointIndex (db : List Statement) (blocks : BlockLists) (index : PairLists) : Type 0
   where
-    pub members_are : (x j : ℕ) → has_pair index.pairs x j ≡ has_symbol db x j
+    pub members_are : (x j : ℕ) → has_pair index.by_symbol x j ≡ has_symbol db x j
     pub ordered : IsOrdered blocks index

@@ -3,15 +3,15 @@ use Rattle.std.specs.Prelude.{◌≡◌, ℕ, ◌<◌, Bool, true, ◌&&◌, ◌
 use Rattle.std.specs.Prelude.{◌⊎◌}
 use Rattle.std.specs.List.{list_any}
 
--- whether the pair is in the list
+-- whether the pair of x and y, in this order, is in the list
 abbrev pub has_pair : List (ℕ × ℕ) → ℕ → ℕ → Bool
 has_pair ps x y = list_any (λ p. nat_eq x p.0 && nat_eq y p.1) ps
 
--- one pair is before another
+-- the pair of a and b is before the pair of x and y
 abbrev pub IsBefore : ℕ → ℕ → ℕ → ℕ → Type 0
 IsBefore a b x y = (a < x) ⊎ ((a ≡ x) × (b < y))
 
--- whether a pair is before another
+-- whether the pair p is before the pair of x and y
 abbrev pub is_pair_before : ℕ × ℕ → ℕ → ℕ → Bool
 is_pair_before p x y = nat_lt p.0 x || (nat_eq p.0 x && nat_lt p.1 y)
 

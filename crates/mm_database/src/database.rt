@@ -1,14 +1,13 @@
 //! The database of a text: its statements, and the calls that read them.
 
-ghost use Rattle.std.specs.Prelude.{◌≡◌, ◌<◌, ◌≤◌, ◌^◌, ◌+◌, ◌&&◌, ◌∷◌, ℕ, Option};
-ghost use Rattle.std.specs.Prelude.{Some, None, IfSome, IfNone, IsTrue, All, length, map, flat_map};
-ghost use Rattle.std.specs.Prelude.{slice_get, slice_range, true};
-ghost use Rattle.std.specs.Prelude.{false};
+ghost use Rattle.std.specs.Prelude.{◌≡◌, ◌<◌, ◌≤◌, ◌^◌, ◌+◌, ◌&&◌, ◌∷◌, ℕ, Option, Some, None};
+ghost use Rattle.std.specs.Prelude.{IfSome, IfNone, IsTrue, All, length, map, flat_map, slice_get};
+ghost use Rattle.std.specs.Prelude.{slice_range, true, false};
 ghost use Rattle.std.specs.Option.{option_map, option_copied, option_and_then};
 ghost use Rattle.std.specs.List.{list_any};
 ghost use Rattle.mm_spec.specs.Statement.{label_of, proof_of};
 ghost use Rattle.mm_spec.specs.Opened.{counted, is_open_theorem};
-ghost use Rattle.mm_spec.specs.Scope.{is_active, statement_at};
+ghost use Rattle.mm_spec.specs.Scope.{active_at, statement_at};
 ghost use Rattle.mm_spec.specs.Derivation.{pair};
 ghost use Rattle.mm_spec.specs.Frame.{symbol_names, is_variable_number, formula_at};
 ghost use Rattle.mm_spec.specs.Frame.{mandatory_hypotheses, mandatory_pairs, disjoint_at};
@@ -18,8 +17,7 @@ ghost use Rattle.mm_spec.specs.Laws.Complete.{AreComplete};
 ghost use Rattle.mm_spec.specs.Lexed.{lexed_of};
 ghost use Rattle.mm_spec.specs.Output.{IsRead, theorems, columns, label_at};
 ghost use Rattle.mm_outline.specs.Parts.{as_tokens, AreWithin};
-ghost use Rattle.mm_database.specs.Database.{kind_of, end_at, typecode_of, contents_of};
-ghost use Rattle.mm_database.specs.Database.{IsDatabase};
+ghost use Rattle.mm_database.specs.Database.{kind_of, end_at, typecode_of, contents_of, IsDatabase};
 ghost use Rattle.mm_database.specs.Kinds.{is_axiom_kind, is_theorem_kind};
 
 use crate::disjoint_index::are_together;
@@ -98,12 +96,12 @@ impl<'a, A: Allocator> Database<'a, A> {
     /// Returns the number of statements, at most that of the text's bytes.
     pub fn len(&self) -> u32
         ensures len { result ≡ length self.now.statements }
-        ensures few { result ≤ length self.now.text }
-        ensures small { result < 2 ^ 31 }
-        ensures read { IsRead (length self.now.text)
+        ensures len_le_text { result ≤ length self.now.text }
+        ensures len_lt_2_31 { result < 2 ^ 31 }
+        ensures is_read { IsRead (length self.now.text)
             (lexed_of self.now.text) self.now.read self.now.fault }
-        ensures counted { self.now.statements ≡ counted self.now.with_open self.now.read }
-        ensures complete { AreComplete self.now.statements }
+        ensures are_counted { self.now.statements ≡ counted self.now.with_open self.now.read }
+        ensures are_complete { AreComplete self.now.statements }
     {
         self.reading.statements.len()
     }
@@ -157,14 +155,14 @@ impl<'a, A: Allocator> Database<'a, A> {
     /// Returns the statement that has the label, or `None` if there is none.
     #[inline(always)]
     pub fn find(&self, label: &[u8]) -> Option<u32>
-        ensures some { IfSome result
+        ensures has_label { IfSome result
             (λ k. (k < length self.now.statements)
             × IsTrue (list_any (is_labelled label.now) (statement_at self.now.statements k))) }
-        ensures only { IfSome result
+        ensures is_unique { IfSome result
             (λ k. (j : ℕ)
             → list_any (is_labelled label.now) (statement_at self.now.statements j) ≡ true
             → j ≡ k) }
-        ensures none { IfNone result
+        ensures none_has_label { IfNone result
             ((j : ℕ)
             → list_any (is_labelled label.now) (statement_at self.now.statements j) ≡ false) }
     {
@@ -176,8 +174,9 @@ impl<'a, A: Allocator> Database<'a, A> {
     pub fn formula(&self, statement: u32) -> &[Sym]
         requires { statement < length self.now.statements }
         ensures formula { result.now ≡ formula_at self.now.statements statement }
-        ensures known { All (λ s. s < length (symbol_names self.now.statements)) result.now }
-        ensures few { length result.now < 2 ^ 32 }
+        ensures symbols_lt_count { All
+            (λ s. s < length (symbol_names self.now.statements)) result.now }
+        ensures length_lt_2_32 { length result.now < 2 ^ 32 }
     {
         self.reading.statements.formula(statement)
     }
@@ -186,7 +185,8 @@ impl<'a, A: Allocator> Database<'a, A> {
     pub fn typecode(&self, statement: u32) -> Option<Sym>
         requires { statement < length self.now.statements }
         ensures typecode { result ≡ typecode_of self.now.statements statement }
-        ensures known { IfSome result (λ s. s < length (symbol_names self.now.statements)) }
+        ensures symbol_lt_count { IfSome result
+            (λ s. s < length (symbol_names self.now.statements)) }
     {
         if self.kind(statement).has_label() {
             self.formula(statement).first().copied()
@@ -197,8 +197,8 @@ impl<'a, A: Allocator> Database<'a, A> {
 
     /// Returns the number of symbols. The number of each symbol is less than this.
     pub fn symbol_count(&self) -> u32
-        ensures count { result ≡ length (symbol_names self.now.statements) }
-        ensures few { result < 2 ^ 31 }
+        ensures count_is { result ≡ length (symbol_names self.now.statements) }
+        ensures count_lt_2_31 { result < 2 ^ 31 }
     {
         self.reading.statements.symbol_count()
     }
@@ -222,11 +222,11 @@ impl<'a, A: Allocator> Database<'a, A> {
     /// Whether a statement is active at the statement `at`, or at the end, which is `len()`. A `${`
     /// or `$}` is never active.
     pub fn active_at(&self, statement: u32, at: u32) -> bool
-        requires statement { statement < length self.now.statements }
-        requires at { at ≤ length self.now.statements }
-        ensures { result ≡ is_active self.now.statements statement at }
+        requires statement_lt_length { statement < length self.now.statements }
+        requires at_le_length { at ≤ length self.now.statements }
+        ensures { result ≡ active_at self.now.statements statement at }
     {
-        self.reading.statements.is_active(statement, at)
+        self.reading.statements.active_at(statement, at)
     }
 
     /// Returns the frame of an assertion.
@@ -236,7 +236,7 @@ impl<'a, A: Allocator> Database<'a, A> {
             ≡ mandatory_hypotheses self.now.statements assertion }
         ensures pairs { map (λ p. pair p.0 p.1) result.now.pairs.items
             ≡ mandatory_pairs self.now.statements assertion }
-        ensures few { length self.now.statements < 2 ^ 31 }
+        ensures few_statements { length self.now.statements < 2 ^ 31 }
     {
         self.tables.frame_tables.frames.of(assertion)
     }
@@ -262,9 +262,9 @@ impl<'a, A: Allocator> Database<'a, A> {
     /// isn't a theorem.
     pub fn proof_words(&self, statement: u32) -> &[Word]
         requires { statement < length self.now.statements }
-        ensures words { option_map proof_of (slice_get self.now.statements statement)
+        ensures words_are { option_map proof_of (slice_get self.now.statements statement)
             ≡ Some (as_tokens self.now.text result.now) }
-        ensures within { AreWithin self.now.text result.now }
+        ensures words_within { AreWithin self.now.text result.now }
     {
         match self.kind(statement) {
             Kind::Theorem => {
@@ -279,8 +279,8 @@ impl<'a, A: Allocator> Database<'a, A> {
     /// count as axioms.
     pub fn theorems(&self) -> &[u32]
         ensures theorems { result.now ≡ theorems self.now.statements }
-        ensures few { length self.now.statements < 2 ^ 31 }
-        ensures complete { AreComplete self.now.statements }
+        ensures few_statements { length self.now.statements < 2 ^ 31 }
+        ensures are_complete { AreComplete self.now.statements }
     {
         self.tables.statement_lists.theorems.as_slice()
     }
@@ -289,7 +289,7 @@ impl<'a, A: Allocator> Database<'a, A> {
     /// axioms.
     pub fn axioms(&self) -> &[u32]
         ensures axioms { result.now ≡ columns self.now.statements None }
-        ensures few { length self.now.statements < 2 ^ 31 }
+        ensures few_statements { length self.now.statements < 2 ^ 31 }
     {
         self.tables.statement_lists.axioms.as_slice()
     }
@@ -297,8 +297,8 @@ impl<'a, A: Allocator> Database<'a, A> {
     /// Returns the labels of the theorems with indices in `theorems` from `from` up to `to`, each
     /// after a space.
     pub fn spaced_labels(&self, from: u32, to: u32) -> &[u8]
-        requires order { from ≤ to }
-        requires within { to ≤ length (theorems self.now.statements) }
+        requires from_le_to { from ≤ to }
+        requires to_le_length { to ≤ length (theorems self.now.statements) }
         ensures { result.now
             ≡ flat_map (λ k. 32 ∷ label_at self.now.statements k)
             (slice_range (theorems self.now.statements) from to) }

@@ -15,8 +15,8 @@ use std::marker::Model;
 
 /// The `$d` statements by their variables.
 pub struct DisjointIndex<A: Allocator> {
-    /// Each variable with each `$d` that has it, in ascending order.
-    pairs: Vec<(u32, u32), A>,
+    /// For each variable and each `$d` that has it the two, the variable first, in ascending order.
+    by_symbol: Vec<(u32, u32), A>,
     /// For each pair the index of an earlier one, or its own. All pairs from there up to it have
     /// its variable, and their blocks end no later than its own. So if its block is closed, all of
     /// them are skipped at once.
@@ -29,7 +29,7 @@ pub struct DisjointIndex<A: Allocator> {
 impl<A: Allocator> Drop for DisjointIndex<A> {
     fn drop(self) {
         let Self {
-            pairs: _,
+            by_symbol: _,
             skips: _,
             starts: _,
         } = self;
@@ -42,23 +42,23 @@ impl<A: Allocator> Model for DisjointIndex<A> {
 
     ghost Value = { PairLists };
 
-    ghost view = { λ i. pair_lists i.pairs.items i.skips.items };
+    ghost view = { λ i. pair_lists i.by_symbol.items i.skips.items };
 
-    ghost invariant = { λ i. AreStarts i.pairs.items i.starts.items };
+    ghost invariant = { λ i. AreStarts i.by_symbol.items i.starts.items };
 }
 
 impl<A: Allocator> DisjointIndex<A> {
     /// Returns the index with these pairs, skips and starts.
     pub fn new(
-        pairs: Vec<(u32, u32), A>,
+        by_symbol: Vec<(u32, u32), A>,
         skips: Vec<usize, A>,
         starts: Vec<usize, A>,
     ) -> DisjointIndex<A>
-        requires { AreStarts pairs.items starts.items }
-        ensures { result ≡ pair_lists pairs.items skips.items }
+        requires { AreStarts by_symbol.items starts.items }
+        ensures { result ≡ pair_lists by_symbol.items skips.items }
     {
         DisjointIndex {
-            pairs,
+            by_symbol,
             skips,
             starts,
         }
@@ -66,29 +66,29 @@ impl<A: Allocator> DisjointIndex<A> {
 }
 
 /// Returns the number of pairs of symbols before a symbol.
-fn start_of(pairs: &[(u32, u32)], starts: &[usize], symbol: usize) -> usize
-    requires { AreStarts pairs.now starts.now }
-    ensures { IsStart pairs.now symbol result }
+fn start_of(by_symbol: &[(u32, u32)], starts: &[usize], symbol: usize) -> usize
+    requires { AreStarts by_symbol.now starts.now }
+    ensures { IsStart by_symbol.now symbol result }
 {
     match starts.get(symbol) {
         Some(start) => *start,
-        None => pairs.len(),
+        None => by_symbol.len(),
     }
 }
 
 /// Returns the number of pairs before the pair of `symbol` and the statement `at`.
-fn count_before(pairs: &[(u32, u32)], starts: &[usize], symbol: u32, at: u32) -> usize
-    requires rising { AreRising pairs.now }
-    requires starts { AreStarts pairs.now starts.now }
-    ensures within { result ≤ length pairs.now }
-    ensures before { (p : ℕ)
-        → p < result → is_pair_before (get_or pairs.now p (0, 0)) symbol at ≡ true }
-    ensures after { (p : ℕ) → result ≤ p → p < length pairs.now
-        → is_pair_before (get_or pairs.now p (0, 0)) symbol at ≡ false }
+fn count_before(by_symbol: &[(u32, u32)], starts: &[usize], symbol: u32, at: u32) -> usize
+    requires rising { AreRising by_symbol.now }
+    requires are_starts { AreStarts by_symbol.now starts.now }
+    ensures result_le_length { result ≤ length by_symbol.now }
+    ensures earlier_are_before { (p : ℕ)
+        → p < result → is_pair_before (get_or by_symbol.now p (0, 0)) symbol at ≡ true }
+    ensures later_are_not_before { (p : ℕ) → result ≤ p → p < length by_symbol.now
+        → is_pair_before (get_or by_symbol.now p (0, 0)) symbol at ≡ false }
 {
-    let from = start_of(pairs, starts, symbol as usize);
-    let to = start_of(pairs, starts, symbol as usize + 1);
-    let earlier = pairs[from..to].partition_point(
+    let from = start_of(by_symbol, starts, symbol as usize);
+    let to = start_of(by_symbol, starts, symbol as usize + 1);
+    let earlier = by_symbol[from..to].partition_point(
         |pair: &(u32, u32)| -> bool
             ensures { result ≡ nat_lt pair.now.1 at }
         { pair.1 < at },
@@ -97,12 +97,14 @@ fn count_before(pairs: &[(u32, u32)], starts: &[usize], symbol: u32, at: u32) ->
 }
 
 /// Whether the last of the first `end` pairs, if there is one, has the symbol.
-fn ends_with(pairs: &[(u32, u32)], end: usize, symbol: u32) -> bool
-    requires { end ≤ length pairs.now }
-    ensures some { result ≡ true → (0 < end) × ((get_or pairs.now (end - 1) (0, 0)).0 ≡ symbol) }
-    ensures none { result ≡ false → 0 < end → (get_or pairs.now (end - 1) (0, 0)).0 ≢ symbol }
+fn ends_with(by_symbol: &[(u32, u32)], end: usize, symbol: u32) -> bool
+    requires { end ≤ length by_symbol.now }
+    ensures ends_if_true { result ≡ true
+        → (0 < end) × ((get_or by_symbol.now (end - 1) (0, 0)).0 ≡ symbol) }
+    ensures differs_if_false { result ≡ false → 0 < end
+        → (get_or by_symbol.now (end - 1) (0, 0)).0 ≢ symbol }
 {
-    end > 0 && pairs[end - 1].0 == symbol
+    end > 0 && by_symbol[end - 1].0 == symbol
 }
 
 /// Returns how many of the first `end` pairs are still to be looked at once the last of them has
@@ -114,50 +116,51 @@ fn skip_last<A: Allocator>(
     end: usize,
     at: u32,
 ) -> usize
-    requires some { 0 < end }
-    requires within { end ≤ length disjoint_index.now.pairs }
+    requires end_gt_0 { 0 < end }
+    requires end_le_length { end ≤ length disjoint_index.now.by_symbol }
     requires ordered { IsOrdered blocks.now disjoint_index.now }
-    ensures less { result < end }
-    ensures passed { (p : ℕ) → result ≤ p → p + 1 < end
-        → nat_le at (end_of blocks.now (get_or disjoint_index.now.pairs p (0, 0)).1) ≡ false }
+    ensures result_lt_end { result < end }
+    ensures skipped_are_closed { (p : ℕ) → result ≤ p → p + 1 < end
+        → nat_le at (end_of blocks.now (get_or disjoint_index.now.by_symbol p (0, 0)).1) ≡ false }
 {
-    if blocks.is_open_at(disjoint_index.pairs[end - 1].1, at) {
+    if blocks.is_open_at(disjoint_index.by_symbol[end - 1].1, at) {
         end - 1
     } else {
         disjoint_index.skips[end - 1]
     }
 }
 
-/// Appends the `$d` that are active at `at` and have the symbol, each paired with the symbol.
+/// Appends each `$d` that is active at the statement `at` and has the symbol, paired with the
+/// symbol: the `$d` first.
 pub fn add_active<A: Allocator>(
     blocks: &Blocks<A>,
     disjoint_index: &DisjointIndex<A>,
     symbol: Sym,
     at: u32,
-    into: &mut Vec<(u32, u32), A>,
+    by_statement: &mut Vec<(u32, u32), A>,
 ) -> Result<(), AllocError>
     requires ordered { IsOrdered blocks.now disjoint_index.now }
     ensures { OnOk result
         ((j y : ℕ)
-        → has_pair into.new.items j y
-        ≡ (has_pair into.old.items j y
+        → has_pair by_statement.new.items j y
+        ≡ (has_pair by_statement.old.items j y
         || (nat_eq y symbol
-        && (has_pair disjoint_index.now.pairs symbol j && is_active_local blocks.now j at)))) }
+        && (has_pair disjoint_index.now.by_symbol symbol j && is_active_local blocks.now j at)))) }
 {
-    let pairs = disjoint_index.pairs.as_slice();
+    let by_symbol = disjoint_index.by_symbol.as_slice();
     let starts = disjoint_index.starts.as_slice();
-    let mut end = count_before(pairs, starts, symbol.number(), at);
-    while ends_with(pairs, end, symbol.number()) {
-        let statement = pairs[end - 1].1;
+    let mut end = count_before(by_symbol, starts, symbol.number(), at);
+    while ends_with(by_symbol, end, symbol.number()) {
+        let statement = by_symbol[end - 1].1;
         if blocks.is_open_at(statement, at) {
-            into.push((statement, symbol.number()))?;
+            by_statement.push((statement, symbol.number()))?;
         }
         end = skip_last(blocks, disjoint_index, end, at);
     }
     Ok(())
 }
 
-/// Whether a `$d` that is active at `at` has both symbols.
+/// Whether a `$d` that is active at the statement `at` has both symbols.
 #[inline(never)]
 pub(crate) fn are_together<A: Allocator>(
     blocks: &Blocks<A>,
@@ -167,20 +170,22 @@ pub(crate) fn are_together<A: Allocator>(
     at: u32,
 ) -> bool
     requires ordered { IsOrdered blocks.now disjoint_index.now }
-    ensures found { result ≡ true
-        → (j : ℕ) × (has_pair disjoint_index.now.pairs x j ≡ true)
-        × (has_pair disjoint_index.now.pairs y j ≡ true)
+    ensures are_together_if_true { result ≡ true
+        → (j : ℕ) × (has_pair disjoint_index.now.by_symbol x j ≡ true)
+        × (has_pair disjoint_index.now.by_symbol y j ≡ true)
         × (is_active_local blocks.now j at ≡ true) }
-    ensures none { result ≡ false → (j : ℕ) → has_pair disjoint_index.now.pairs x j ≡ true
-        → has_pair disjoint_index.now.pairs y j ≡ true → is_active_local blocks.now j at ≡ false }
+    ensures none_if_false { result ≡ false
+        → (j : ℕ) → has_pair disjoint_index.now.by_symbol x j ≡ true
+        → has_pair disjoint_index.now.by_symbol y j ≡ true
+        → is_active_local blocks.now j at ≡ false }
 {
-    let pairs = disjoint_index.pairs.as_slice();
+    let by_symbol = disjoint_index.by_symbol.as_slice();
     let starts = disjoint_index.starts.as_slice();
-    let mut x_end = count_before(pairs, starts, x.number(), at);
-    let mut y_end = count_before(pairs, starts, y.number(), at);
-    while ends_with(pairs, x_end, x.number()) && ends_with(pairs, y_end, y.number()) {
-        let x_statement = pairs[x_end - 1].1;
-        let y_statement = pairs[y_end - 1].1;
+    let mut x_end = count_before(by_symbol, starts, x.number(), at);
+    let mut y_end = count_before(by_symbol, starts, y.number(), at);
+    while ends_with(by_symbol, x_end, x.number()) && ends_with(by_symbol, y_end, y.number()) {
+        let x_statement = by_symbol[x_end - 1].1;
+        let y_statement = by_symbol[y_end - 1].1;
         if x_statement == y_statement && blocks.is_open_at(x_statement, at) {
             return true;
         }

@@ -1,12 +1,10 @@
 //! The names before a statement: symbols and labels.
 
-ghost use Rattle.std.specs.Prelude.{◌≡◌, ◌<◌, OnOk, IfOk, IfSome, false, length, slice_get};
-ghost use Rattle.std.specs.Prelude.{get_or};
+ghost use Rattle.std.specs.Prelude.{◌≡◌, ◌<◌, OnOk, IfOk, IfSome, false, length, slice_get, get_or};
 ghost use Rattle.std.specs.Prelude.{ℕ, List, [], is_some, Some, if◌then◌else◌, bytes_eq};
 ghost use Rattle.std.specs.Option.{option_map};
 ghost use Rattle.mm_spec.specs.Frame.{index_of};
-ghost use Rattle.mm_database.specs.Names.{find, known_names, names_of, with_name};
-ghost use Rattle.mm_database.specs.Names.{is_variable_in};
+ghost use Rattle.mm_database.specs.Names.{find, known_names, names_of, with_name, is_variable_in};
 
 use crate::name::Name;
 use indexmap::IndexMap;
@@ -19,10 +17,10 @@ use std::marker::Model;
 pub struct Symbol<'a> {
     pub is_variable: bool,
     /// The statement that declared the variable last.
-    pub declared: u32,
-    /// The last `$f` of the variable.
-    pub typed: u32,
-    /// The typecode of that `$f`.
+    pub declaration: u32,
+    /// The last `$f` of the variable, or `NEVER` if it has none yet.
+    pub typing: u32,
+    /// The typecode of that `$f`; the symbol itself, if there is none yet.
     pub typecode: &'a [u8],
 }
 
@@ -247,8 +245,10 @@ impl<'a, A: Allocator + Copy> NameTable<'a, A> {
     /// Returns the number of the guessed symbol and the symbol, if the guess is right.
     #[inline(always)]
     fn guessed_symbol(&self, word: &[u8]) -> Option<(usize, &Symbol<'a>)>
-        ensures number { IfSome result (λ p. p.0 ≡ index_of word.now (names_of self.now.symbols)) }
-        ensures symbol { IfSome result (λ p. Some p.1.now ≡ find self.now.symbols word.now) }
+        ensures number_is_index { IfSome result
+            (λ p. p.0 ≡ index_of word.now (names_of self.now.symbols)) }
+        ensures symbol_is_found { IfSome result
+            (λ p. Some p.1.now ≡ find self.now.symbols word.now) }
     {
         let guess = *self.symbol_guesses.get(symbol_guess_index(word))?;
         let (name, symbol) = self.symbols.get_index(guess)?;
@@ -271,8 +271,8 @@ impl<'a, A: Allocator + Copy> NameTable<'a, A> {
     /// the word isn't a symbol, returns the count of symbols and `None`.
     #[inline(always)]
     pub fn numbered(&self, word: &[u8]) -> (usize, Option<Symbol<'a>>)
-        ensures number { result.0 ≡ index_of word.now (names_of self.now.symbols) }
-        ensures symbol { result.1 ≡ find self.now.symbols word.now }
+        ensures number_is_index { result.0 ≡ index_of word.now (names_of self.now.symbols) }
+        ensures symbol_is_found { result.1 ≡ find self.now.symbols word.now }
     {
         let (number, symbol) = match self.guessed_symbol(word) {
             Some((number, symbol)) => (number, Some(symbol)),
@@ -286,8 +286,9 @@ impl<'a, A: Allocator + Copy> NameTable<'a, A> {
 
     /// Returns the same as `numbered`, with the symbol borrowed. Finds it by the word's hash.
     fn looked_up_symbol(&self, word: &[u8]) -> (usize, Option<&Symbol<'a>>)
-        ensures number { result.0 ≡ index_of word.now (names_of self.now.symbols) }
-        ensures symbol { option_map (λ s. s.now) result.1 ≡ find self.now.symbols word.now }
+        ensures number_is_index { result.0 ≡ index_of word.now (names_of self.now.symbols) }
+        ensures symbol_is_found { option_map (λ s. s.now) result.1
+            ≡ find self.now.symbols word.now }
     {
         if word.len() > self.longest_symbol {
             return (self.symbols.len(), None);
@@ -307,13 +308,13 @@ impl<'a, A: Allocator + Copy> NameTable<'a, A> {
 
     /// Sets the entry of the symbol with this name. A new symbol gets the next number.
     pub fn set_symbol(&mut self, word: &'a [u8], symbol: Symbol<'a>) -> Result<(), AllocError>
-        ensures symbols { OnOk result
+        ensures symbol_is_set { OnOk result
             ((w : List ℕ)
             → find self.new.symbols w
             ≡ (if bytes_eq word.now w then Some symbol.entry else find self.old.symbols w)) }
-        ensures labels { OnOk result
+        ensures labels_stay { OnOk result
             ((w : List ℕ) → find self.new.labels w ≡ find self.old.labels w) }
-        ensures names { OnOk result
+        ensures name_is_added { OnOk result
             (names_of self.new.symbols ≡ with_name word.now (names_of self.old.symbols)) }
     {
         let (number, _) = self.symbols.insert_full(Name { bytes: word }, symbol)?;
@@ -324,11 +325,11 @@ impl<'a, A: Allocator + Copy> NameTable<'a, A> {
 
     /// Sets the statement of a label.
     pub fn set_label(&mut self, word: &'a [u8], statement: u32) -> Result<(), AllocError>
-        ensures labels { OnOk result
+        ensures label_is_set { OnOk result
             ((w : List ℕ)
             → find self.new.labels w
             ≡ (if bytes_eq word.now w then Some statement else find self.old.labels w)) }
-        ensures symbols { OnOk result (self.new.symbols ≡ self.old.symbols) }
+        ensures symbols_stay { OnOk result (self.new.symbols ≡ self.old.symbols) }
     {
         let (index, _) = self.labels.insert_full(Name { bytes: word }, statement)?;
         self.longest_label = self.longest_label.max(word.len());
@@ -338,8 +339,8 @@ impl<'a, A: Allocator + Copy> NameTable<'a, A> {
 
     /// Returns for each symbol, by its number, whether it is a variable.
     pub fn variable_flags(&self, alloc: A) -> Result<Vec<bool, A>, AllocError>
-        ensures count { IfOk result (λ v. length v.items ≡ length (names_of self.now.symbols)) }
-        ensures each { IfOk result
+        ensures count_is { IfOk result (λ v. length v.items ≡ length (names_of self.now.symbols)) }
+        ensures flags_are { IfOk result
             (λ v. (i : ℕ) (w : List ℕ) → slice_get (names_of self.now.symbols) i ≡ Some w
             → get_or v.items i false ≡ is_variable_in (find self.now.symbols w)) }
     {

@@ -4,12 +4,12 @@ ghost use Rattle.std.specs.Prelude.{◌≡◌, ◌<◌, ◌≤◌, ◌^◌, All,
 ghost use Rattle.std.specs.List.{list_any};
 ghost use Rattle.std.specs.Option.{option_map};
 ghost use Rattle.mm_spec.specs.Lexed.{tokens_of};
-ghost use Rattle.mm_spec.specs.Scope.{statement_at, is_block_open, is_active};
+ghost use Rattle.mm_spec.specs.Scope.{statement_at, is_block_open, active_at};
 ghost use Rattle.mm_spec.specs.Frame.{symbol_names, is_variable_number, is_disjoint_statement};
 ghost use Rattle.mm_spec.specs.Frame.{is_essential, is_floating, formula_at};
 ghost use Rattle.mm_spec.specs.Citation.{is_assertion};
 ghost use Rattle.mm_outline.specs.Blocks.{IsBlocks};
-ghost use Rattle.mm_outline.specs.Statements.{statements, active_kind};
+ghost use Rattle.mm_outline.specs.Statements.{statements, is_active_kind};
 ghost use Rattle.mm_database.specs.Kinds.{kind_of, is_essential_kind, is_floating_kind};
 ghost use Rattle.mm_database.specs.Kinds.{is_disjoint_kind, is_assertion_kind};
 ghost use Rattle.mm_database.specs.ParsedStatements.{parsed_statements, AreParsedStatements};
@@ -98,8 +98,8 @@ impl<'a, A: Allocator> Statements<'a, A> {
     /// Returns the blocks in which the statements are.
     #[inline(always)]
     pub fn blocks(&self) -> &Blocks<A>
-        ensures blocks { result.now ≡ self.now.blocks }
-        ensures theirs { IsBlocks self.now.list self.now.blocks }
+        ensures blocks_are { result.now ≡ self.now.blocks }
+        ensures are_blocks { IsBlocks self.now.list self.now.blocks }
     {
         &self.blocks
     }
@@ -108,7 +108,7 @@ impl<'a, A: Allocator> Statements<'a, A> {
     #[inline(always)]
     pub fn len(&self) -> u32
         ensures len { result ≡ length self.now.list }
-        ensures sound { IsSound self.now.list }
+        ensures is_sound { IsSound self.now.list }
     {
         self.outlines.len() as u32
     }
@@ -116,8 +116,8 @@ impl<'a, A: Allocator> Statements<'a, A> {
     /// Returns the number of symbols.
     #[inline(always)]
     pub fn symbol_count(&self) -> u32
-        ensures count { result ≡ length (symbol_names self.now.list) }
-        ensures few { result < 2 ^ 31 }
+        ensures count_is { result ≡ length (symbol_names self.now.list) }
+        ensures count_lt_2_31 { result < 2 ^ 31 }
     {
         self.variable_flags.len() as u32
     }
@@ -173,8 +173,8 @@ impl<'a, A: Allocator> Statements<'a, A> {
     pub fn formula(&self, statement: u32) -> &[Sym]
         requires { statement < length self.now.list }
         ensures formula { result.now ≡ formula_at self.now.list statement }
-        ensures known { All (λ s. s < length (symbol_names self.now.list)) result.now }
-        ensures few { length result.now < 2 ^ 32 }
+        ensures symbols_lt_count { All (λ s. s < length (symbol_names self.now.list)) result.now }
+        ensures length_lt_2_32 { length result.now < 2 ^ 32 }
     {
         self.formulas.get(statement as usize)
     }
@@ -203,8 +203,8 @@ impl<'a, A: Allocator> Statements<'a, A> {
     /// Whether the block of a statement is still open before a later one.
     #[inline(always)]
     pub fn is_open_at(&self, statement: u32, at: u32) -> bool
-        requires before { statement < at }
-        requires within { at ≤ length self.now.list }
+        requires statement_lt_at { statement < at }
+        requires at_le_length { at ≤ length self.now.list }
         ensures { result ≡ is_block_open self.now.list statement at }
     {
         self.blocks.is_open_at(statement, at)
@@ -212,10 +212,10 @@ impl<'a, A: Allocator> Statements<'a, A> {
 
     /// Whether a statement is active at the statement `at`, or at the end, which is `len()`.
     #[inline(always)]
-    pub fn is_active(&self, statement: u32, at: u32) -> bool
-        requires statement { statement < length self.now.list }
-        requires at { at ≤ length self.now.list }
-        ensures { result ≡ is_active self.now.list statement at }
+    pub fn active_at(&self, statement: u32, at: u32) -> bool
+        requires statement_lt_length { statement < length self.now.list }
+        requires at_le_length { at ≤ length self.now.list }
+        ensures { result ≡ active_at self.now.list statement at }
     {
         let kind = self.outlines[statement as usize].kind;
         statement < at && is_active_kind(kind, self.blocks.is_open_at(statement, at))
@@ -260,7 +260,7 @@ fn is_assertion_kind(kind: Kind) -> bool
 
 /// Whether a statement of this kind is active. `is_open` says whether its block is open.
 fn is_active_kind(kind: Kind, is_open: bool) -> bool
-    ensures { result ≡ active_kind kind is_open }
+    ensures { result ≡ is_active_kind kind is_open }
 {
     match kind {
         Kind::Constants | Kind::Axiom | Kind::Theorem => true,

@@ -63,11 +63,11 @@ rising_from_next : (links : List (ℕ × ℕ)) (n k : ℕ) (js : List ℕ) → I
     → (0 < n → (get_or links (n - 1) (0, 0)).0 ≡ k → ⊥) → IsRisingFrom (k + 1) js
 rising_from_next links n k [] is_chain is_rising first_ne_k = tt
 rising_from_next links n k (j ∷ js) is_chain is_rising first_ne_k =
-    (by_equality (cases_eq j k), is_rising.1)
+    (k_lt_j (cases_eq j k), is_rising.1)
   where
-    by_equality : (j ≡ k) ⊎ (j ≢ k) → k + 1 ≤ j
-    by_equality (inl j_is_k) = absurd (first_ne_k is_chain.0 (is_chain.2 ∙ j_is_k))
-    by_equality (inr j_ne_k) = let k_le_j = is_rising.0 in omega (arith, k_le_j, j_ne_k)
+    k_lt_j : (j ≡ k) ⊎ (j ≢ k) → k + 1 ≤ j
+    k_lt_j (inl j_is_k) = absurd (first_ne_k is_chain.0 (is_chain.2 ∙ j_is_k))
+    k_lt_j (inr j_ne_k) = let k_le_j = is_rising.0 in omega (arith, k_le_j, j_ne_k)
 
 -- what rises from a bound also rises from a lower one
 rising_from_lower : (a b : ℕ) (js : List ℕ) → a ≤ b → IsRisingFrom b js → IsRisingFrom a js
@@ -99,53 +99,6 @@ chain_for_equal_test passes equal_test a b links n a_le_b tests_equal has_chain 
 
 -- ---- a statement in front of a chain
 
-module _ (heads : List ℕ) (links : List (ℕ × ℕ)) (x k : ℕ) (x_lt_length : x < length heads) where
-  -- a link more keeps all within the list
-  pub linked_with_link : AreLinked heads links
-      → AreLinked (set heads x (length links + 1)) (links ++ (k, get_or heads x 0) ∷ [])
-  linked_with_link are_linked = record {
-    heads_le_length = λ y y_lt_length. head_le_length y y_lt_length (cases_eq y x);
-    next_le_index = λ i i_lt_length. next_le_link i i_lt_length (cases_eq i (length links));
-  }
-    where
-      pushed_length : length (links ++ (k, get_or heads x 0) ∷ []) ≡ length links + 1
-      pushed_length = length-append links ((k, get_or heads x 0) ∷ [])
-
-      head_le_length : (y : ℕ) → y < length (set heads x (length links + 1)) → (y ≡ x) ⊎ (y ≢ x)
-          → get_or (set heads x (length links + 1)) y 0
-          ≤ length (links ++ (k, get_or heads x 0) ∷ [])
-      head_le_length y y_lt_set_length (inl y_is_x) =
-          let head_is_set =
-          ap (λ z. get_or (set heads x (length links + 1)) z 0) y_is_x
-          ∙ get_or-set_same heads x (length links + 1) 0 x_lt_length in
-          let pushed_length_here = pushed_length in
-          omega (arith, head_is_set, pushed_length_here)
-      head_le_length y y_lt_set_length (inr y_ne_x) =
-          let head_is_set = get_or-set_other heads x y (length links + 1) 0 y_ne_x in
-          let pushed_length_here = pushed_length in
-          let set_length = length-set heads x (length links + 1) in
-          let head_le = are_linked.heads_le_length y (omega (arith, y_lt_set_length, set_length)) in
-          omega (arith, head_is_set, pushed_length_here, head_le)
-
-      next_le_link : (i : ℕ) → i < length (links ++ (k, get_or heads x 0) ∷ [])
-          → (i ≡ length links) ⊎ (i ≢ length links)
-          → (get_or (links ++ (k, get_or heads x 0) ∷ []) i (0, 0)).1 ≤ i
-      next_le_link i i_lt_pushed_length (inl i_is_last) =
-          let next_is_head =
-          ap (λ (q : ℕ × ℕ). q.1)
-          (get_or_push links (k, get_or heads x 0) (0, 0) i (sym i_is_last)) in
-          let head_le = are_linked.heads_le_length x x_lt_length in
-          omega (arith, next_is_head, head_le, i_is_last)
-      next_le_link i i_lt_pushed_length (inr i_ne_last) =
-          let pushed_length_here = pushed_length in
-          let i_lt_length_links : i < length links =
-          omega (arith, i_lt_pushed_length, pushed_length_here, i_ne_last) in
-          let next_is_head =
-          ap (λ (q : ℕ × ℕ). q.1)
-          (get_or_append_left links ((k, get_or heads x 0) ∷ []) (0, 0) i i_lt_length_links) in
-          let next_le = are_linked.next_le_index i i_lt_length_links in
-          omega (arith, next_is_head, next_le)
-
 module _ (passes : ℕ → ℕ → Bool) (heads : List ℕ) (links : List (ℕ × ℕ)) (s x k : ℕ) (s_is_x : s
     ≡ x)
     (x_lt_length : x < length heads)
@@ -157,7 +110,7 @@ module _ (passes : ℕ → ℕ → Bool) (heads : List ℕ) (links : List (ℕ �
         → AreChains (λ y j. passes y j || (nat_eq y s && nat_eq j k)) k heads links
     chains_with_known_statement head_gt_0 first_is_k are_chains y y_lt_length =
         chain_for_equal_test (passes y) (λ j. passes y j || (nat_eq y s && nat_eq j k)) k k links
-        (get_or heads y 0) (omega arith) (λ j. by_equality j (cases_eq y x) (cases_eq j k))
+        (get_or heads y 0) (omega arith) (λ j. passes_agree j (cases_eq y x) (cases_eq j k))
         (are_chains y y_lt_length)
       where
         x_has_k : passes x k ≡ true
@@ -166,15 +119,15 @@ module _ (passes : ℕ → ℕ → Bool) (heads : List ℕ) (links : List (ℕ �
             ∙ first_is_member links (get_or heads x 0) k (are_chains x x_lt_length).statements
             (are_chains x x_lt_length).chain head_gt_0 first_is_k
 
-        by_equality : (j : ℕ) → (y ≡ x) ⊎ (y ≢ x) → (j ≡ k) ⊎ (j ≢ k)
+        passes_agree : (j : ℕ) → (y ≡ x) ⊎ (y ≢ x) → (j ≡ k) ⊎ (j ≢ k)
             → passes y j ≡ (passes y j || (nat_eq y s && nat_eq j k))
-        by_equality j (inl y_is_x) (inl j_is_k) =
+        passes_agree j (inl y_is_x) (inl j_is_k) =
             let y_has_j : passes y j ≡ true = ap₂ passes y_is_x j_is_k ∙ x_has_k in
             y_has_j ∙ sym (ap (λ b. b || (nat_eq y s && nat_eq j k)) y_has_j)
-        by_equality j (inl y_is_x) (inr differs) =
+        passes_agree j (inl y_is_x) (inr differs) =
             sym (ap (λ b. passes y j || (nat_eq y s && b)) (ne_eqb j k differs)
             ∙ ap (λ b. passes y j || b) (and-false (nat_eq y s)) ∙ or-false (passes y j))
-        by_equality j (inr differs) j_order =
+        passes_agree j (inr differs) j_order =
             sym (ap (λ b. passes y j || (b && nat_eq j k))
             (ne_eqb y s (λ y_is_x. differs (y_is_x ∙ s_is_x)))
             ∙ or-false (passes y j))
@@ -185,7 +138,7 @@ module _ (passes : ℕ → ℕ → Bool) (heads : List ℕ) (links : List (ℕ �
         → AreChains passes k heads links
         → AreChains (λ y j. passes y j || (nat_eq y s && nat_eq j k)) k
         (set heads x (length links + 1)) (links ++ (k, get_or heads x 0) ∷ [])
-    chains_with_statement first_ne_k are_chains y y_lt_set_length = by_equality (cases_eq y x)
+    chains_with_statement first_ne_k are_chains y y_lt_set_length = y_has_chain (cases_eq y x)
       where
         chain_of_x : HasChain (passes x) k links (get_or heads x 0)
         chain_of_x = are_chains x x_lt_length
@@ -204,10 +157,10 @@ module _ (passes : ℕ → ℕ → Bool) (heads : List ℕ) (links : List (ℕ �
             or_swap false true = refl
             or_swap false false = refl
 
-        by_equality : (y ≡ x) ⊎ (y ≢ x)
+        y_has_chain : (y ≡ x) ⊎ (y ≢ x)
             → HasChain (λ j. passes y j || (nat_eq y s && nat_eq j k)) k
             (links ++ (k, get_or heads x 0) ∷ []) (get_or (set heads x (length links + 1)) y 0)
-        by_equality (inl y_is_x) = record {
+        y_has_chain (inl y_is_x) = record {
           statements = k ∷ chain_of_x.statements;
           chain =
               subst
@@ -225,7 +178,7 @@ module _ (passes : ℕ → ℕ → Bool) (heads : List ℕ) (links : List (ℕ �
           );
           members_are = λ j. members_with_front j y_is_x;
         }
-        by_equality (inr y_ne_x) =
+        y_has_chain (inr y_ne_x) =
             let set_length = length-set heads x (length links + 1) in
             let has_chain : HasChain (passes y) k links (get_or heads y 0) =
             are_chains y (omega (arith, y_lt_set_length, set_length)) in
@@ -263,7 +216,7 @@ pub test_with_next_symbol : (passes : ℕ → ℕ → Bool) (xs : List ℕ) (i d
     → ((passes x j || (is_member (take i xs) x && nat_eq j k)) || (nat_eq x s && nat_eq j k))
     ≡ (passes x j || (is_member (take (i + 1) xs) x && nat_eq j k))
 test_with_next_symbol passes xs i d s k i_lt_length_xs s_is_element_i x j =
-    by_values (passes x j) (is_member (take i xs) x) (nat_eq x s) (nat_eq j k)
+    or_factors (passes x j) (is_member (take i xs) x) (nat_eq x s) (nat_eq j k)
     ∙ sym (ap (λ b. passes x j || (b && nat_eq j k)) member_of_one_more)
   where
     member_of_one_more : is_member (take (i + 1) xs) x ≡ (is_member (take i xs) x || nat_eq x s)
@@ -273,11 +226,11 @@ test_with_next_symbol passes xs i d s k i_lt_length_xs s_is_element_i x j =
         ∙ ap (λ b. is_member (take i xs) x || b) (or-false (nat_eq x (get_or xs i d)))
         ∙ ap (λ y. is_member (take i xs) x || nat_eq x y) (sym s_is_element_i)
 
-    by_values : (a m n e : Bool) → ((a || (m && e)) || (n && e)) ≡ (a || ((m || n) && e))
-    by_values true m n e = refl
-    by_values false true n true = refl
-    by_values false true n false = and-false n
-    by_values false false n e = refl
+    or_factors : (a m n e : Bool) → ((a || (m && e)) || (n && e)) ≡ (a || ((m || n) && e))
+    or_factors true m n e = refl
+    or_factors false true n true = refl
+    or_factors false true n false = and-false n
+    or_factors false false n e = refl
 
 -- ---- the statements, from the last to the first
 
@@ -289,14 +242,14 @@ no_chains_at_start db heads heads_are_0 x x_lt_length = record {
   statements = [];
   chain = heads_are_0 x x_lt_length;
   rising = tt;
-  members_are = λ j. sym (by_values j (nat_le (length db) j) refl (has_symbol db x j) refl);
+  members_are = λ j. sym (none_past j (nat_le (length db) j) refl (has_symbol db x j) refl);
 }
   where
-    by_values : (j : ℕ) (a : Bool) → nat_le (length db) j ≡ a → (b : Bool) → has_symbol db x j ≡ b
+    none_past : (j : ℕ) (a : Bool) → nat_le (length db) j ≡ a → (b : Bool) → has_symbol db x j ≡ b
         → (a && b) ≡ false
-    by_values j false length_le_j_is_a b has_symbol_is_b = refl
-    by_values j true length_le_j_is_a false has_symbol_is_b = refl
-    by_values j true length_le_j_is_a true has_symbol_x_j =
+    none_past j false length_le_j_is_a b has_symbol_is_b = refl
+    none_past j true length_le_j_is_a false has_symbol_is_b = refl
+    none_past j true length_le_j_is_a true has_symbol_x_j =
         let j_lt_length =
         passing_lt_length is_disjoint_statement db j
         (and_parts (list_any is_disjoint_statement (statement_at db j))
@@ -314,17 +267,17 @@ no_links_are_linked heads heads_are_0 = record {
 
 -- to be at least `k` is to be more than `k` or equal to it
 le_is_le_next_or_equal : (k j : ℕ) → nat_le k j ≡ (nat_le (k + 1) j || nat_eq j k)
-le_is_le_next_or_equal k j = by_order (cases_order j k)
+le_is_le_next_or_equal k j = tests_agree (cases_order j k)
   where
-    by_order : (j ≡ k) ⊎ ((j < k) ⊎ (k < j)) → nat_le k j ≡ (nat_le (k + 1) j || nat_eq j k)
-    by_order (inl j_is_k) =
+    tests_agree : (j ≡ k) ⊎ ((j < k) ⊎ (k < j)) → nat_le k j ≡ (nat_le (k + 1) j || nat_eq j k)
+    tests_agree (inl j_is_k) =
         le-leb k j (omega (arith, j_is_k))
         ∙ sym (ap (λ b. nat_le (k + 1) j || b) (eq-eqb j k j_is_k) ∙ or-true (nat_le (k + 1) j))
-    by_order (inr (inl j_order)) =
+    tests_agree (inr (inl j_order)) =
         lt-leb k j j_order
         ∙ sym (ap₂ (λ a b. a || b) (lt-leb (k + 1) j (omega (arith, j_order)))
         (ne_eqb j k (λ j_is_k. absurd (omega (arith, j_order, j_is_k)))))
-    by_order (inr (inr j_order)) =
+    tests_agree (inr (inr j_order)) =
         le-leb k j (omega (arith, j_order))
         ∙ sym (ap (λ b. b || nat_eq j k) (le-leb (k + 1) j (omega (arith, j_order))))
 
@@ -335,14 +288,14 @@ module _ (db : List Statement) (k : ℕ) (x j : ℕ) where
       || ((d && is_member (formula_at db k) x) && nat_eq j k))
       ≡ (nat_le k j && has_symbol db x j)
   at_k_or_later d k_is_disjoint_is_d =
-      by_equality (cases_eq j k)
+      tests_agree (cases_eq j k)
       ∙ sym (ap (λ b. b && has_symbol db x j) (le_is_le_next_or_equal k j))
     where
-      by_equality : (j ≡ k) ⊎ (j ≢ k)
+      tests_agree : (j ≡ k) ⊎ (j ≢ k)
           → ((nat_le (k + 1) j && has_symbol db x j)
           || ((d && is_member (formula_at db k) x) && nat_eq j k))
           ≡ ((nat_le (k + 1) j || nat_eq j k) && has_symbol db x j)
-      by_equality (inl j_is_k) =
+      tests_agree (inl j_is_k) =
           ap₂ (λ a b. (a && has_symbol db x j) || ((d && is_member (formula_at db k) x) && b))
           (lt-leb (k + 1) j (omega (arith, j_is_k))) (eq-eqb j k j_is_k)
           ∙ and-true (d && is_member (formula_at db k) x)
@@ -350,7 +303,7 @@ module _ (db : List Statement) (k : ℕ) (x j : ℕ) where
           ∙ ap (has_symbol db x) (sym j_is_k)
           ∙ sym (ap₂ (λ a b. (a || b) && has_symbol db x j)
           (lt-leb (k + 1) j (omega (arith, j_is_k))) (eq-eqb j k j_is_k))
-      by_equality (inr j_ne_k) =
+      tests_agree (inr j_ne_k) =
           ap (λ b. (nat_le (k + 1) j && has_symbol db x j)
           || ((d && is_member (formula_at db k) x) && b)) (ne_eqb j k j_ne_k)
           ∙ ap (λ b. (nat_le (k + 1) j && has_symbol db x j) || b)
@@ -382,16 +335,16 @@ module _ (db : List Statement) (k : ℕ) (x j : ℕ) where
 member_lt_bound : (n y : ℕ) (xs : List ℕ) → All (λ s. s < n) xs → is_member xs y ≡ true → y < n
 member_lt_bound n y [] all_lt_n y_is_member = absurd (true≢false (sym y_is_member))
 member_lt_bound n y (x ∷ xs) all_lt_n y_is_member =
-    by_membership (or_cases (nat_eq y x) (is_member xs y) y_is_member)
+    y_lt_n (or_cases (nat_eq y x) (is_member xs y) y_is_member)
     (member_lt_bound n y xs (All-tail (λ s. s < n) x xs all_lt_n))
   where
-    by_membership : (nat_eq y x ≡ true) ⊎ (is_member xs y ≡ true) → (is_member xs y ≡ true → y < n)
+    y_lt_n : (nat_eq y x ≡ true) ⊎ (is_member xs y ≡ true) → (is_member xs y ≡ true → y < n)
         → y < n
-    by_membership (inl y_equals_x) rest_lt_n =
+    y_lt_n (inl y_equals_x) rest_lt_n =
         let y_is_x = eqb-true y x y_equals_x in
         let x_lt_n = All-head (λ s. s < n) x xs all_lt_n in
         omega (arith, y_is_x, x_lt_n)
-    by_membership (inr y_in_rest) rest_lt_n = rest_lt_n y_in_rest
+    y_lt_n (inr y_in_rest) rest_lt_n = rest_lt_n y_in_rest
 
 -- a symbol of a `$d` has a number
 pub symbol_lt_symbol_count : (db : List Statement) → IsSound db → (x j : ℕ)
@@ -408,44 +361,33 @@ symbol_lt_symbol_count db sound x j j_has_x =
 
 -- ---- the pairs of one chain
 
--- so far `pairs_so_far` has been made of `earlier_pairs`, and the chain from link `number` on is
+-- so far `pairs_so_far` has been made of `earlier_pairs`, and the chain from link `link` on is
 -- still to be added
-pub record IsRest (links : List (ℕ × ℕ)) (symbol number : ℕ)
+pub record IsRest (links : List (ℕ × ℕ)) (symbol link : ℕ)
     (earlier_pairs pairs_so_far : List (ℕ × ℕ))
     (all_statements : List ℕ) : Type 0 where
   pub remaining : List ℕ
-  pub chain : IsLinkChain links number remaining
+  pub chain : IsLinkChain links link remaining
   pub pairs : earlier_pairs ++ map (λ j. (symbol, j)) all_statements
       ≡ pairs_so_far ++ map (λ j. (symbol, j)) remaining
 
 module _ (links : List (ℕ × ℕ)) (symbol : ℕ) (earlier_pairs pairs_so_far : List (ℕ × ℕ))
     (all_statements : List ℕ) where
-  -- before the first link the whole chain remains
-  pub rest_is_all : (number : ℕ) → IsLinkChain links number all_statements
-      → earlier_pairs ≡ pairs_so_far
-      → IsRest links symbol number earlier_pairs pairs_so_far all_statements
-  rest_is_all number is_chain earlier_is_so_far =
-      record {
-        remaining = all_statements;
-        chain = is_chain;
-        pairs =
-            ap (λ ps. ps ++ map (λ j. (symbol, j)) all_statements) earlier_is_so_far;
-      }
-
   -- after a link the rest of the chain remains
-  pub rest_after_link : (number : ℕ) → 0 < number
-      → IsRest links symbol number earlier_pairs pairs_so_far all_statements
-      → IsRest links symbol (get_or links (number - 1) (0, 0)).1 earlier_pairs
-      (pairs_so_far ++ (symbol, (get_or links (number - 1) (0, 0)).0) ∷ []) all_statements
-  rest_after_link number number_gt_0 is_rest = by_rest is_rest.remaining is_rest.chain is_rest.pairs
+  pub rest_after_link : (link : ℕ) → 0 < link
+      → IsRest links symbol link earlier_pairs pairs_so_far all_statements
+      → IsRest links symbol (get_or links (link - 1) (0, 0)).1 earlier_pairs
+      (pairs_so_far ++ (symbol, (get_or links (link - 1) (0, 0)).0) ∷ []) all_statements
+  rest_after_link link link_gt_0 is_rest =
+      is_rest_after is_rest.remaining is_rest.chain is_rest.pairs
     where
-      by_rest : (remaining : List ℕ) → IsLinkChain links number remaining
+      is_rest_after : (remaining : List ℕ) → IsLinkChain links link remaining
           → earlier_pairs ++ map (λ j. (symbol, j)) all_statements
           ≡ pairs_so_far ++ map (λ j. (symbol, j)) remaining
-          → IsRest links symbol (get_or links (number - 1) (0, 0)).1 earlier_pairs
-          (pairs_so_far ++ (symbol, (get_or links (number - 1) (0, 0)).0) ∷ []) all_statements
-      by_rest [] is_chain pairs_equal = absurd (omega (arith, is_chain, number_gt_0))
-      by_rest (j ∷ js) is_chain pairs_equal = record {
+          → IsRest links symbol (get_or links (link - 1) (0, 0)).1 earlier_pairs
+          (pairs_so_far ++ (symbol, (get_or links (link - 1) (0, 0)).0) ∷ []) all_statements
+      is_rest_after [] is_chain pairs_equal = absurd (omega (arith, is_chain, link_gt_0))
+      is_rest_after (j ∷ js) is_chain pairs_equal = record {
         remaining = js;
         chain = is_chain.3;
         pairs =
@@ -456,19 +398,19 @@ module _ (links : List (ℕ × ℕ)) (symbol : ℕ) (earlier_pairs pairs_so_far 
       }
 
   -- if nothing remains of the chain, all its statements were added
-  pub no_rest_is_all_added : (number : ℕ) → number ≡ 0
-      → IsRest links symbol number earlier_pairs pairs_so_far all_statements
+  pub no_rest_is_all_added : (link : ℕ) → link ≡ 0
+      → IsRest links symbol link earlier_pairs pairs_so_far all_statements
       → pairs_so_far ≡ earlier_pairs ++ map (λ j. (symbol, j)) all_statements
-  no_rest_is_all_added number number_is_0 is_rest =
-      by_rest is_rest.remaining is_rest.chain is_rest.pairs
+  no_rest_is_all_added link link_is_0 is_rest =
+      all_are_added is_rest.remaining is_rest.chain is_rest.pairs
     where
-      by_rest : (remaining : List ℕ) → IsLinkChain links number remaining
+      all_are_added : (remaining : List ℕ) → IsLinkChain links link remaining
           → earlier_pairs ++ map (λ j. (symbol, j)) all_statements
           ≡ pairs_so_far ++ map (λ j. (symbol, j)) remaining
           → pairs_so_far ≡ earlier_pairs ++ map (λ j. (symbol, j)) all_statements
-      by_rest [] is_chain pairs_equal = sym (pairs_equal ∙ append-nil pairs_so_far)
-      by_rest (j ∷ js) is_chain pairs_equal = absurd (let number_gt_0 = is_chain.0 in
-          omega (arith, number_gt_0, number_is_0))
+      all_are_added [] is_chain pairs_equal = sym (pairs_equal ∙ append-nil pairs_so_far)
+      all_are_added (j ∷ js) is_chain pairs_equal = absurd (let link_gt_0 = is_chain.0 in
+          omega (arith, link_gt_0, link_is_0))
 
 -- ---- the pairs of all chains, symbol after symbol
 
@@ -483,7 +425,7 @@ rising_append : (ps qs : List (ℕ × ℕ)) → AreRising ps → AreRising qs
     → AreRising (ps ++ qs)
 rising_append [] qs ps_are_rising qs_are_rising ps_before_qs = qs_are_rising
 rising_append (p ∷ ps) qs ps_are_rising qs_are_rising ps_before_qs = (
-  λ x y has_either. by_membership x y (or_cases (has_pair ps x y) (has_pair qs x y)
+  λ x y has_either. p_is_before x y (or_cases (has_pair ps x y) (has_pair qs x y)
       (sym (list_any-append (λ q. nat_eq x q.0 && nat_eq y q.1) ps qs) ∙ has_either)),
   rising_append ps qs ps_are_rising.1 qs_are_rising
       (λ a b x y has_either has_second. ps_before_qs a b x y
@@ -494,10 +436,10 @@ rising_append (p ∷ ps) qs ps_are_rising qs_are_rising ps_before_qs = (
     first_pair_is_in =
         ap₂ (λ a b. (a && b) || has_pair ps p.0 p.1) (eq-eqb p.0 p.0 refl) (eq-eqb p.1 p.1 refl)
 
-    by_membership : (x y : ℕ) → (has_pair ps x y ≡ true) ⊎ (has_pair qs x y ≡ true)
+    p_is_before : (x y : ℕ) → (has_pair ps x y ≡ true) ⊎ (has_pair qs x y ≡ true)
         → IsBefore p.0 p.1 x y
-    by_membership x y (inl in_ps) = ps_are_rising.0 x y in_ps
-    by_membership x y (inr in_qs) = ps_before_qs p.0 p.1 x y first_pair_is_in in_qs
+    p_is_before x y (inl in_ps) = ps_are_rising.0 x y in_ps
+    p_is_before x y (inr in_qs) = ps_before_qs p.0 p.1 x y first_pair_is_in in_qs
 
 -- a row has the pairs of its symbol with each statement of the row
 has_pair_in_row : (x : ℕ) (js : List ℕ) (y j : ℕ)
@@ -505,27 +447,27 @@ has_pair_in_row : (x : ℕ) (js : List ℕ) (y j : ℕ)
 has_pair_in_row x [] y j = sym (and-false (nat_eq y x))
 has_pair_in_row x (i ∷ js) y j =
     ap (λ b. (nat_eq y x && nat_eq j i) || b) (has_pair_in_row x js y j)
-    ∙ by_values (nat_eq y x) (nat_eq j i) (is_member js j)
+    ∙ and_factors (nat_eq y x) (nat_eq j i) (is_member js j)
   where
-    by_values : (a b c : Bool) → ((a && b) || (a && c)) ≡ (a && (b || c))
-    by_values true b c = refl
-    by_values false b c = refl
+    and_factors : (a b c : Bool) → ((a && b) || (a && c)) ≡ (a && (b || c))
+    and_factors true b c = refl
+    and_factors false b c = refl
 
 -- each member is at least what the list rises from
 least_le_member : (least j : ℕ) (js : List ℕ) → IsRisingFrom least js → is_member js j ≡ true
     → least ≤ j
 least_le_member least j [] is_rising j_is_member = absurd (true≢false (sym j_is_member))
 least_le_member least j (i ∷ js) is_rising j_is_member =
-    by_membership (or_cases (nat_eq j i) (is_member js j) j_is_member)
+    least_le_j (or_cases (nat_eq j i) (is_member js j) j_is_member)
     (least_le_member (i + 1) j js is_rising.1)
   where
-    by_membership : (nat_eq j i ≡ true) ⊎ (is_member js j ≡ true)
+    least_le_j : (nat_eq j i ≡ true) ⊎ (is_member js j ≡ true)
         → (is_member js j ≡ true → i + 1 ≤ j)
         → least ≤ j
-    by_membership (inl j_is_i) rest_le = let least_le_i = is_rising.0 in
+    least_le_j (inl j_is_i) rest_le = let least_le_i = is_rising.0 in
         let j_eq_i = eqb-true j i j_is_i in
         omega (arith, least_le_i, j_eq_i)
-    by_membership (inr j_in_rest) rest_le = let least_le_i = is_rising.0 in
+    least_le_j (inr j_in_rest) rest_le = let least_le_i = is_rising.0 in
         let next_le_j = rest_le j_in_rest in omega (arith, least_le_i, next_le_j)
 
 -- the pairs of a symbol with rising statements rise
@@ -542,16 +484,16 @@ rising_row x least (i ∷ js) is_rising = (
 
 -- to be below `x + 1` is to be below `x` or equal to it
 lt_next_is_lt_or_equal : (y x : ℕ) → nat_lt y (x + 1) ≡ (nat_lt y x || nat_eq y x)
-lt_next_is_lt_or_equal y x = by_order (cases_order y x)
+lt_next_is_lt_or_equal y x = tests_agree (cases_order y x)
   where
-    by_order : (y ≡ x) ⊎ ((y < x) ⊎ (x < y)) → nat_lt y (x + 1) ≡ (nat_lt y x || nat_eq y x)
-    by_order (inl y_is_x) =
+    tests_agree : (y ≡ x) ⊎ ((y < x) ⊎ (x < y)) → nat_lt y (x + 1) ≡ (nat_lt y x || nat_eq y x)
+    tests_agree (inl y_is_x) =
         lt-ltb y (x + 1) (omega (arith, y_is_x))
         ∙ sym (ap (λ b. nat_lt y x || b) (eq-eqb y x y_is_x) ∙ or-true (nat_lt y x))
-    by_order (inr (inl y_order)) =
+    tests_agree (inr (inl y_order)) =
         lt-ltb y (x + 1) (omega (arith, y_order))
         ∙ sym (ap (λ b. b || nat_eq y x) (lt-ltb y x y_order))
-    by_order (inr (inr y_order)) =
+    tests_agree (inr (inr y_order)) =
         le-ltb y (x + 1) (omega (arith, y_order))
         ∙ sym (ap₂ (λ a b. a || b) (le-ltb y x (omega (arith, y_order)))
         (ne_eqb y x (λ y_is_x. absurd (omega (arith, y_order, y_is_x)))))
@@ -570,7 +512,7 @@ pairs_with_symbol db x n links ps qs chain are_pairs_to qs_are_pushed =
           list_any-append (λ q. nat_eq y q.0 && nat_eq j q.1) ps row
           ∙ ap₂ (λ b c. b || c) (are_pairs_to.members_are y j)
           (has_pair_in_row x chain.statements y j)
-          ∙ by_equality y j (cases_eq y x)
+          ∙ tests_agree y j (cases_eq y x)
           ∙ sym (ap (λ b. b && has_symbol db y j) (lt_next_is_lt_or_equal y x));
     })
   where
@@ -587,30 +529,18 @@ pairs_with_symbol db x n links ps qs chain are_pairs_to qs_are_pushed =
         (sym (has_pair_in_row x chain.statements y j) ∙ row_has_pair)).0 in
         omega (arith, b_lt_x, y_is_x)
 
-    by_equality : (y j : ℕ) → (y ≡ x) ⊎ (y ≢ x)
+    tests_agree : (y j : ℕ) → (y ≡ x) ⊎ (y ≢ x)
         → ((nat_lt y x && has_symbol db y j) || (nat_eq y x && is_member chain.statements j))
         ≡ ((nat_lt y x || nat_eq y x) && has_symbol db y j)
-    by_equality y j (inl ps_has_pair) =
+    tests_agree y j (inl ps_has_pair) =
         ap₂ (λ b c. (b && has_symbol db y j) || (c && is_member chain.statements j))
         (le-ltb y x (omega (arith, ps_has_pair))) (eq-eqb y x ps_has_pair)
         ∙ chain.members_are j ∙ ap (λ z. has_symbol db z j) (sym ps_has_pair)
         ∙ sym (ap₂ (λ b c. (b || c) && has_symbol db y j) (le-ltb y x (omega (arith, ps_has_pair)))
         (eq-eqb y x ps_has_pair))
-    by_equality y j (inr y_ne_x) =
+    tests_agree y j (inr y_ne_x) =
         ap (λ b. (nat_lt y x && has_symbol db y j) || (b && is_member chain.statements j))
         (ne_eqb y x y_ne_x)
         ∙ or-false (nat_lt y x && has_symbol db y j)
         ∙ sym (ap (λ b. (nat_lt y x || b) && has_symbol db y j) (ne_eqb y x y_ne_x)
         ∙ ap (λ b. b && has_symbol db y j) (or-false (nat_lt y x)))
-
--- there are no other symbols
-pub pairs_of_all_symbols : (db : List Statement) (x : ℕ) (ps : List (ℕ × ℕ))
-    → ((y j : ℕ) → has_symbol db y j ≡ true → y < x) → ArePairsTo db x ps
-    → (y j : ℕ) → has_pair ps y j ≡ has_symbol db y j
-pairs_of_all_symbols db x ps symbols_lt_x are_pairs y j =
-    are_pairs.members_are y j ∙ by_has_symbol (has_symbol db y j) refl
-  where
-    by_has_symbol : (b : Bool) → has_symbol db y j ≡ b → (nat_lt y x && b) ≡ b
-    by_has_symbol false has_symbol_is_b = and-false (nat_lt y x)
-    by_has_symbol true has_symbol_is_b =
-        ap (λ b. b && true) (lt-ltb y x (symbols_lt_x y j has_symbol_is_b))

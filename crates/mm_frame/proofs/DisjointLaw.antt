@@ -12,92 +12,91 @@ use Rattle.mm_spec.specs.Statement.{Statement}
 use Rattle.mm_spec.specs.Scope.{statement_at}
 use Rattle.mm_spec.specs.Derivation.{Pair, pair, is_member}
 use Rattle.mm_spec.specs.Frame.{symbol_names, is_disjoint_statement, active_of, formula_at}
-use Rattle.mm_spec.specs.Frame.{mandatory_variables, mandatory_pairs, disjoint_at, pairs_of}
+use Rattle.mm_spec.specs.Frame.{mandatory_variables, mandatory_pairs, disjoint_at, pairs_below}
 use Rattle.mm_spec.proofs.BoolLaw.{same_tests}
 use Rattle.mm_spec.proofs.MemberLaw.{passing_has_witness, witness_makes_any, member_range}
 use Rattle.mm_outline.specs.Blocks.{BlockLists, IsBlocks}
 use Rattle.mm_database.specs.DisjointIndex.{has_symbol, is_active_local}
 use Rattle.mm_database.specs.Pairs.{has_pair, IsBefore, AreRising}
 use Rattle.mm_database.proofs.TogetherLaw.{active_local_is_active, active_is_disjoint}
-use Rattle.mm_database.proofs.DisjointIndexLaw.{place_of_pair, has_pair_at_place, earlier_is_before}
+use Rattle.mm_database.proofs.DisjointIndexLaw.{index_of_pair, has_pair_at_index, earlier_is_before}
 use Rattle.mm_frame.specs.Together.{has_later}
 use Rattle.mm_frame.proofs.HypothesesLaw.{mandatory_has_name}
 use Rattle.mm_frame.proofs.PairsLaw.{has_mapped_pair, mapped_are_sorted}
 use Rattle.mm_frame.proofs.PairsLaw.{sorted_with_same_members_equal, has_filtered_pair}
-use Rattle.mm_frame.proofs.PairsLaw.{has_pair_in_rows}
-use Rattle.mm_frame.proofs.PairsLaw.{filtered_are_sorted, all_pairs_are_sorted}
+use Rattle.mm_frame.proofs.PairsLaw.{has_pair_in_rows, filtered_are_sorted, all_pairs_are_sorted}
 
--- if some pair passes a test, there is a place where it does
-place_where_test_holds : (f : ℕ × ℕ → Bool) (ps : List (ℕ × ℕ)) → list_any f ps ≡ true
+-- if some pair passes a test, there is an index where it does
+index_where_test_holds : (f : ℕ × ℕ → Bool) (ps : List (ℕ × ℕ)) → list_any f ps ≡ true
     → (p : ℕ) × (p < length ps) × (f (get_or ps p (0, 0)) ≡ true)
-place_where_test_holds f [] some_passes = absurd (true≢false (sym some_passes))
-place_where_test_holds f (q ∷ qs) some_passes =
-    by_head (f q) refl some_passes (λ k. place_where_test_holds f qs k)
+index_where_test_holds f [] some_passes = absurd (true≢false (sym some_passes))
+index_where_test_holds f (q ∷ qs) some_passes =
+    has_index (f q) refl some_passes (λ k. index_where_test_holds f qs k)
   where
-    by_head : (c : Bool) → f q ≡ c → (c || list_any f qs) ≡ true
+    has_index : (c : Bool) → f q ≡ c → (c || list_any f qs) ≡ true
         → (list_any f qs ≡ true → (p : ℕ) × (p < length qs) × (f (get_or qs p (0, 0)) ≡ true))
         → (p : ℕ) × (p < length (q ∷ qs)) × (f (get_or (q ∷ qs) p (0, 0)) ≡ true)
-    by_head true q_is_c some_passes place_in_rest = (0, omega arith, q_is_c)
-    by_head false q_is_c some_passes place_in_rest = let place = place_in_rest some_passes in
-        let place_lt_length = place.1 in
-        (suc place.0, omega (arith, place_lt_length), place.2)
+    has_index true q_is_c some_passes found_in_rest = (0, omega arith, q_is_c)
+    has_index false q_is_c some_passes found_in_rest = let found = found_in_rest some_passes in
+        let found_lt_length = found.1 in
+        (suc found.0, omega (arith, found_lt_length), found.2)
 
 -- ---- the variables after one, in the same statement
 
--- the pairs after index `place` and before index `at` have been looked at
-pub record AddsLater (by_statement : List (ℕ × ℕ)) (place at : ℕ)
+-- the pairs after index `first` and before index `end` have been looked at
+pub record AddsLater (by_statement : List (ℕ × ℕ)) (first end : ℕ)
     (earlier_pairs pairs_so_far : List (ℕ × ℕ)) : Type 0
   where
-    pub place_lt_at : place < at
-    pub at_le_length : at ≤ length by_statement
-    pub statement_is_same : (p : ℕ) → place < p → p < at → (get_or by_statement p (0, 0)).0
-        ≡ (get_or by_statement place (0, 0)).0
+    pub first_lt_end : first < end
+    pub end_le_length : end ≤ length by_statement
+    pub statement_is_same : (p : ℕ) → first < p → p < end → (get_or by_statement p (0, 0)).0
+        ≡ (get_or by_statement first (0, 0)).0
     pub earlier_pairs_stay : (x y : ℕ) → has_pair earlier_pairs x y ≡ true
         → has_pair pairs_so_far x y ≡ true
     pub new_pairs_are_later : (x y : ℕ) → has_pair pairs_so_far x y ≡ true
         → (has_pair earlier_pairs x y ≡ true)
-        ⊎ ((x ≡ (get_or by_statement place (0, 0)).1) × (p : ℕ) × (place < p) × (p < at)
+        ⊎ ((x ≡ (get_or by_statement first (0, 0)).1) × (p : ℕ) × (first < p) × (p < end)
         × ((get_or by_statement p (0, 0)).1 ≡ y))
-    pub later_pairs_are_added : (p : ℕ) → place < p → p < at
-        → has_pair pairs_so_far (get_or by_statement place (0, 0)).1
+    pub later_pairs_are_added : (p : ℕ) → first < p → p < end
+        → has_pair pairs_so_far (get_or by_statement first (0, 0)).1
         (get_or by_statement p (0, 0)).1 ≡ true
 
-module _ (by_statement : List (ℕ × ℕ)) (pairs_are_rising : AreRising by_statement) (place : ℕ)
-    (place_lt_length : place < length by_statement) where
-  -- the statement at the place
+module _ (by_statement : List (ℕ × ℕ)) (pairs_are_rising : AreRising by_statement) (first : ℕ)
+    (first_lt_length : first < length by_statement) where
+  -- the statement of the first pair
   abbrev j : ℕ
-  j = (get_or by_statement place (0, 0)).0
+  j = (get_or by_statement first (0, 0)).0
 
-  -- the lower symbol at the place
+  -- the symbol of the first pair, the lower one
   abbrev low : ℕ
-  low = (get_or by_statement place (0, 0)).1
+  low = (get_or by_statement first (0, 0)).1
 
-  -- right after the place no later pair was added yet
+  -- right after the first pair no later pair was added yet
   pub adds_later_at_start : (earlier_pairs : List (ℕ × ℕ))
-      → AddsLater by_statement place (place + 1) earlier_pairs earlier_pairs
+      → AddsLater by_statement first (first + 1) earlier_pairs earlier_pairs
   adds_later_at_start earlier_pairs =
       record {
-        place_lt_at = omega arith;
-        at_le_length = omega (arith, place_lt_length);
-        statement_is_same = λ p place_lt_p p_lt_next. absurd (omega (arith, place_lt_p, p_lt_next));
+        first_lt_end = omega arith;
+        end_le_length = omega (arith, first_lt_length);
+        statement_is_same = λ p first_lt_p p_lt_next. absurd (omega (arith, first_lt_p, p_lt_next));
         earlier_pairs_stay = λ x y had_pair. had_pair;
         new_pairs_are_later = λ x y had_pair. inl had_pair;
         later_pairs_are_added =
-            λ p place_lt_p p_lt_next. absurd (omega (arith, place_lt_p, p_lt_next));
+            λ p first_lt_p p_lt_next. absurd (omega (arith, first_lt_p, p_lt_next));
       }
 
   -- a later pair of the same statement is added
-  pub adds_later_with_pair : (at : ℕ) (earlier_pairs pairs_so_far : List (ℕ × ℕ))
-      → AddsLater by_statement place at earlier_pairs pairs_so_far
-      → at < length by_statement → (get_or by_statement at (0, 0)).0 ≡ j
-      → AddsLater by_statement place (at + 1) earlier_pairs
-      (pairs_so_far ++ (low, (get_or by_statement at (0, 0)).1) ∷ [])
-  adds_later_with_pair at earlier_pairs pairs_so_far adds at_lt_length_by_statement same_statement =
+  pub adds_later_with_pair : (end : ℕ) (earlier_pairs pairs_so_far : List (ℕ × ℕ))
+      → AddsLater by_statement first end earlier_pairs pairs_so_far
+      → end < length by_statement → (get_or by_statement end (0, 0)).0 ≡ j
+      → AddsLater by_statement first (end + 1) earlier_pairs
+      (pairs_so_far ++ (low, (get_or by_statement end (0, 0)).1) ∷ [])
+  adds_later_with_pair end earlier_pairs pairs_so_far adds end_lt_length same_statement =
       record {
-        place_lt_at = let place_lt_at = adds.place_lt_at in omega (arith, place_lt_at);
-        at_le_length = omega (arith, at_lt_length_by_statement);
+        first_lt_end = let first_lt_end = adds.first_lt_end in omega (arith, first_lt_end);
+        end_le_length = omega (arith, end_lt_length);
         statement_is_same =
-            λ p place_lt_p p_lt_next. statement_is_same p place_lt_p p_lt_next (cases_eq p at);
+            λ p first_lt_p p_lt_next. statement_is_same p first_lt_p p_lt_next (cases_eq p end);
         earlier_pairs_stay =
             λ x y had_pair. has_pair_still x y (adds.earlier_pairs_stay x y had_pair);
         new_pairs_are_later =
@@ -106,11 +105,11 @@ module _ (by_statement : List (ℕ × ℕ)) (pairs_are_rising : AreRising by_sta
             ((low, high_variable) ∷ []))
             ∙ had_pair);
         later_pairs_are_added =
-            λ p place_lt_p p_lt_next. later_pair_is_added p place_lt_p p_lt_next (cases_eq p at);
+            λ p first_lt_p p_lt_next. later_pair_is_added p first_lt_p p_lt_next (cases_eq p end);
       }
     where
       high_variable : ℕ
-      high_variable = (get_or by_statement at (0, 0)).1
+      high_variable = (get_or by_statement end (0, 0)).1
 
       has_pair_still : (x y : ℕ) → has_pair pairs_so_far x y ≡ true
           → has_pair (pairs_so_far ++ (low, high_variable) ∷ []) x y ≡ true
@@ -119,112 +118,112 @@ module _ (by_statement : List (ℕ × ℕ)) (pairs_are_rising : AreRising by_sta
           ((low, high_variable) ∷ [])
           ∙ ap (λ c. c || has_pair ((low, high_variable) ∷ []) x y) had_pair
 
-      statement_is_same : (p : ℕ) → place < p → p < at + 1 → (p ≡ at) ⊎ (p ≢ at)
+      statement_is_same : (p : ℕ) → first < p → p < end + 1 → (p ≡ end) ⊎ (p ≢ end)
           → (get_or by_statement p (0, 0)).0 ≡ j
-      statement_is_same p place_lt_p p_lt_next (inl p_is_at) =
-          ap (λ i. (get_or by_statement i (0, 0)).0) p_is_at ∙ same_statement
-      statement_is_same p place_lt_p p_lt_next (inr p_ne_at) =
-          adds.statement_is_same p place_lt_p (omega (arith, p_lt_next, p_ne_at))
+      statement_is_same p first_lt_p p_lt_next (inl p_is_end) =
+          ap (λ i. (get_or by_statement i (0, 0)).0) p_is_end ∙ same_statement
+      statement_is_same p first_lt_p p_lt_next (inr p_ne_end) =
+          adds.statement_is_same p first_lt_p (omega (arith, p_lt_next, p_ne_end))
 
       new_pair_is_later : (x y : ℕ) (c : Bool) → has_pair pairs_so_far x y ≡ c
           → (c || ((nat_eq x low && nat_eq y high_variable) || false)) ≡ true
           → (has_pair earlier_pairs x y ≡ true)
-          ⊎ ((x ≡ low) × (p : ℕ) × (place < p) × (p < at + 1)
+          ⊎ ((x ≡ low) × (p : ℕ) × (first < p) × (p < end + 1)
           × ((get_or by_statement p (0, 0)).1 ≡ y))
       new_pair_is_later x y true has_pair_x_y has_pair_after =
           later_with_next (adds.new_pairs_are_later x y has_pair_x_y)
         where
           later_with_next : (has_pair earlier_pairs x y ≡ true)
-              ⊎ ((x ≡ low) × (p : ℕ) × (place < p) × (p < at)
+              ⊎ ((x ≡ low) × (p : ℕ) × (first < p) × (p < end)
               × ((get_or by_statement p (0, 0)).1 ≡ y))
               → (has_pair earlier_pairs x y ≡ true)
-              ⊎ ((x ≡ low) × (p : ℕ) × (place < p) × (p < at + 1)
+              ⊎ ((x ≡ low) × (p : ℕ) × (first < p) × (p < end + 1)
               × ((get_or by_statement p (0, 0)).1 ≡ y))
           later_with_next (inl was_earlier) = inl was_earlier
-          later_with_next (inr (x_is_low, p, place_lt_p, p_lt_at, variable_is_y)) =
-              inr (x_is_low, p, place_lt_p, omega (arith, p_lt_at), variable_is_y)
+          later_with_next (inr (x_is_low, p, first_lt_p, p_lt_end, variable_is_y)) =
+              inr (x_is_low, p, first_lt_p, omega (arith, p_lt_end), variable_is_y)
       new_pair_is_later x y false not_had has_pair_after =
           let is_new_pair = sym (or-false (nat_eq x low && nat_eq y high_variable))
           ∙ has_pair_after in
-          let place_lt_at = adds.place_lt_at in
+          let first_lt_end = adds.first_lt_end in
           inr (
             eqb-true x low (and_parts (nat_eq x low) (nat_eq y high_variable) is_new_pair).0,
-            at,
-            place_lt_at,
+            end,
+            first_lt_end,
             omega arith,
             sym
                 (eqb-true y high_variable
                 (and_parts (nat_eq x low) (nat_eq y high_variable) is_new_pair).1),
           )
 
-      later_pair_is_added : (p : ℕ) → place < p → p < at + 1 → (p ≡ at) ⊎ (p ≢ at)
+      later_pair_is_added : (p : ℕ) → first < p → p < end + 1 → (p ≡ end) ⊎ (p ≢ end)
           → has_pair (pairs_so_far ++ (low, high_variable) ∷ []) low
           (get_or by_statement p (0, 0)).1 ≡ true
-      later_pair_is_added p place_lt_p p_lt_next_at (inl p_is_at) =
+      later_pair_is_added p first_lt_p p_lt_next_end (inl p_is_end) =
           list_any-append (λ q. nat_eq low q.0 && nat_eq (get_or by_statement p (0, 0)).1 q.1)
           pairs_so_far
           ((low, high_variable) ∷ [])
           ∙ ap (λ c. has_pair pairs_so_far low (get_or by_statement p (0, 0)).1 || (c || false))
           (ap₂ (λ u v. u && v) (eq-eqb low low refl)
           (eq-eqb (get_or by_statement p (0, 0)).1 high_variable
-          (ap (λ i. (get_or by_statement i (0, 0)).1) p_is_at)))
+          (ap (λ i. (get_or by_statement i (0, 0)).1) p_is_end)))
           ∙ or-true (has_pair pairs_so_far low (get_or by_statement p (0, 0)).1)
-      later_pair_is_added p place_lt_p p_lt_next_at (inr p_ne_at) =
+      later_pair_is_added p first_lt_p p_lt_next_end (inr p_ne_end) =
           has_pair_still low (get_or by_statement p (0, 0)).1
-          (adds.later_pairs_are_added p place_lt_p (omega (arith, p_lt_next_at, p_ne_at)))
+          (adds.later_pairs_are_added p first_lt_p (omega (arith, p_lt_next_end, p_ne_end)))
 
   -- where the statement ends, all its later pairs were added
-  pub adds_later_at_end : (at : ℕ) (earlier_pairs pairs_so_far : List (ℕ × ℕ))
-      → AddsLater by_statement place at earlier_pairs pairs_so_far
-      → (at < length by_statement → (get_or by_statement at (0, 0)).0 ≢ j)
+  pub adds_later_at_end : (end : ℕ) (earlier_pairs pairs_so_far : List (ℕ × ℕ))
+      → AddsLater by_statement first end earlier_pairs pairs_so_far
+      → (end < length by_statement → (get_or by_statement end (0, 0)).0 ≢ j)
       → (x y : ℕ)
       → has_pair pairs_so_far x y
-      ≡ (has_pair earlier_pairs x y || has_later by_statement (get_or by_statement place
+      ≡ (has_pair earlier_pairs x y || has_later by_statement (get_or by_statement first
       (0, 0)) x y)
-  adds_later_at_end at earlier_pairs pairs_so_far adds statement_ends x y =
+  adds_later_at_end end earlier_pairs pairs_so_far adds statement_ends x y =
       same_tests (has_pair pairs_so_far x y)
       (has_pair earlier_pairs x y || (nat_eq x low && (has_pair by_statement j y && nat_lt x y)))
       (λ test. left_to_right (adds.new_pairs_are_later x y test))
       (λ test. right_to_left (has_pair earlier_pairs x y) refl test)
     where
-      later_is_higher : (p : ℕ) → place < p → p < at → low < (get_or by_statement p (0, 0)).1
-      later_is_higher p place_lt_p p_lt_at =
-          variable_lt (earlier_is_before by_statement pairs_are_rising place p (0, 0) place_lt_p
-          (let at_le_length = adds.at_le_length in omega (arith, p_lt_at, at_le_length)))
+      later_is_higher : (p : ℕ) → first < p → p < end → low < (get_or by_statement p (0, 0)).1
+      later_is_higher p first_lt_p p_lt_end =
+          variable_lt (earlier_is_before by_statement pairs_are_rising first p (0, 0) first_lt_p
+          (let end_le_length = adds.end_le_length in omega (arith, p_lt_end, end_le_length)))
         where
           variable_lt : IsBefore j low (get_or by_statement p (0, 0)).0
               (get_or by_statement p (0, 0)).1
               → low < (get_or by_statement p (0, 0)).1
           variable_lt (inl lower) =
-              absurd (let statement_lt = adds.statement_is_same p place_lt_p p_lt_at in
+              absurd (let statement_lt = adds.statement_is_same p first_lt_p p_lt_end in
               omega (arith, lower, statement_lt))
           variable_lt (inr (statement_lt, lower)) = lower
 
       left_to_right : (has_pair earlier_pairs x y ≡ true)
-          ⊎ ((x ≡ low) × (p : ℕ) × (place < p) × (p < at) × ((get_or by_statement p (0, 0)).1 ≡ y))
+          ⊎ ((x ≡ low) × (p : ℕ) × (first < p) × (p < end) × ((get_or by_statement p (0, 0)).1 ≡ y))
           → (has_pair earlier_pairs x y ||
           (nat_eq x low && (has_pair by_statement j y && nat_lt x y))) ≡ true
       left_to_right (inl was_earlier) = ap (λ c. c || (nat_eq x low
           && (has_pair by_statement j y && nat_lt x y))) was_earlier
-      left_to_right (inr (x_is_low, p, place_lt_p, p_lt_at, variable_is_y)) =
+      left_to_right (inr (x_is_low, p, first_lt_p, p_lt_end, variable_is_y)) =
           let has_pair_j_y =
-          ap₂ (has_pair by_statement) (sym (adds.statement_is_same p place_lt_p p_lt_at))
+          ap₂ (has_pair by_statement) (sym (adds.statement_is_same p first_lt_p p_lt_end))
           (sym variable_is_y)
-          ∙ has_pair_at_place by_statement p (0, 0) (let at_le_length = adds.at_le_length in
-          omega (arith, p_lt_at, at_le_length)) in
-          let low_lt_variable = later_is_higher p place_lt_p p_lt_at in
+          ∙ has_pair_at_index by_statement p (0, 0) (let end_le_length = adds.end_le_length in
+          omega (arith, p_lt_end, end_le_length)) in
+          let low_lt_variable = later_is_higher p first_lt_p p_lt_end in
           ap (λ c. has_pair earlier_pairs x y || c)
           (ap₂ (λ u v. u && v) (eq-eqb x low x_is_low)
           (ap₂ (λ u v. u && v) has_pair_j_y
           (lt-ltb x y (omega (arith, x_is_low, low_lt_variable, variable_is_y)))))
           ∙ or-true (has_pair earlier_pairs x y)
 
-      place_in_range : (p : ℕ) → p < length by_statement → (get_or by_statement p (0, 0)).0 ≡ j
+      index_in_range : (p : ℕ) → p < length by_statement → (get_or by_statement p (0, 0)).0 ≡ j
           → low
           < (get_or by_statement p (0, 0)).1
-          → (place < p) × (p < at)
-      place_in_range p p_lt_length_by_statement statement_is_j low_lt_variable =
-          (place_lt_p (cases_order place p), by_order (cases_lt p at))
+          → (first < p) × (p < end)
+      index_in_range p p_lt_length_by_statement statement_is_j low_lt_variable =
+          (first_lt_p (cases_order first p), p_before_end (cases_lt p end))
         where
           not_before : IsBefore (get_or by_statement p (0, 0)).0
               (get_or by_statement p (0, 0)).1 j low
@@ -233,47 +232,46 @@ module _ (by_statement : List (ℕ × ℕ)) (pairs_are_rising : AreRising by_sta
           not_before (inr (statements_equal, statement_lt)) =
               omega (arith, statement_lt, low_lt_variable)
 
-          place_lt_p : (place ≡ p) ⊎ ((place < p) ⊎ (p < place)) → place < p
-          place_lt_p (inl place_is_p) =
-              absurd (let variables_equal = ap (λ i. (get_or by_statement i (0, 0)).1) place_is_p in
+          first_lt_p : (first ≡ p) ⊎ ((first < p) ⊎ (p < first)) → first < p
+          first_lt_p (inl first_is_p) =
+              absurd (let variables_equal = ap (λ i. (get_or by_statement i (0, 0)).1) first_is_p in
               omega (arith, variables_equal, low_lt_variable))
-          place_lt_p (inr (inl place_order)) = place_order
-          place_lt_p (inr (inr place_order)) =
-              absurd (not_before (earlier_is_before by_statement pairs_are_rising p place (0, 0)
-              place_order
-              place_lt_length))
+          first_lt_p (inr (inl first_order)) = first_order
+          first_lt_p (inr (inr first_order)) =
+              absurd (not_before (earlier_is_before by_statement pairs_are_rising p first (0, 0)
+              first_order
+              first_lt_length))
 
-          at_not_before : at < length by_statement → at ≤ p
-              → IsBefore j low (get_or by_statement at (0, 0)).0 (get_or by_statement at (0, 0)).1
+          end_not_before : end < length by_statement → end ≤ p
+              → IsBefore j low (get_or by_statement end (0, 0)).0 (get_or by_statement end (0, 0)).1
               → ⊥
-          at_not_before at_lt_length_by_statement at_le_p (inr (statements_equal, statement_lt)) =
-              statement_ends at_lt_length_by_statement (sym statements_equal)
-          at_not_before at_lt_length_by_statement at_le_p (inl statement_lt) =
-              not_at_or_later (cases_eq at p)
+          end_not_before end_lt_length end_le_p (inr (statements_equal, statement_lt)) =
+              statement_ends end_lt_length (sym statements_equal)
+          end_not_before end_lt_length end_le_p (inl statement_lt) =
+              not_end_or_later (cases_eq end p)
             where
-              p_not_before : IsBefore (get_or by_statement at (0, 0)).0
-                  (get_or by_statement at (0, 0)).1
+              p_not_before : IsBefore (get_or by_statement end (0, 0)).0
+                  (get_or by_statement end (0, 0)).1
                   (get_or by_statement p (0, 0)).0 (get_or by_statement p (0, 0)).1
                   → ⊥
               p_not_before (inl lower) = omega (arith, lower, statement_lt, statement_is_j)
               p_not_before (inr (statements_equal, lower)) =
                   omega (arith, statements_equal, statement_lt, statement_is_j)
 
-              not_at_or_later : (at ≡ p) ⊎ (at ≢ p) → ⊥
-              not_at_or_later (inl at_is_p) =
-                  let statements_equal =
-                  ap (λ i. (get_or by_statement i (0, 0)).0) at_is_p in
+              not_end_or_later : (end ≡ p) ⊎ (end ≢ p) → ⊥
+              not_end_or_later (inl end_is_p) =
+                  let statements_equal = ap (λ i. (get_or by_statement i (0, 0)).0) end_is_p in
                   omega (arith, statements_equal, statement_lt, statement_is_j)
-              not_at_or_later (inr at_ne_p) =
-                  p_not_before (earlier_is_before by_statement pairs_are_rising at p (0, 0)
-                  (omega (arith, at_le_p, at_ne_p))
+              not_end_or_later (inr end_ne_p) =
+                  p_not_before (earlier_is_before by_statement pairs_are_rising end p (0, 0)
+                  (omega (arith, end_le_p, end_ne_p))
                   p_lt_length_by_statement)
 
-          by_order : (p < at) ⊎ (at ≤ p) → p < at
-          by_order (inl p_order) = p_order
-          by_order (inr p_order) =
-              absurd (at_not_before (omega (arith, p_order, p_lt_length_by_statement)) p_order
-              (earlier_is_before by_statement pairs_are_rising place at (0, 0) adds.place_lt_at
+          p_before_end : (p < end) ⊎ (end ≤ p) → p < end
+          p_before_end (inl p_order) = p_order
+          p_before_end (inr p_order) =
+              absurd (end_not_before (omega (arith, p_order, p_lt_length_by_statement)) p_order
+              (earlier_is_before by_statement pairs_are_rising first end (0, 0) adds.first_lt_end
               (omega (arith, p_order, p_lt_length_by_statement))))
 
       right_to_left : (c : Bool) → has_pair earlier_pairs x y ≡ c
@@ -286,16 +284,15 @@ module _ (by_statement : List (ℕ × ℕ)) (pairs_are_rising : AreRising by_sta
           is_later).0 in
           let is_pair_of_j =
           (and_parts (nat_eq x low) (has_pair by_statement j y && nat_lt x y) is_later).1 in
-          let place = place_of_pair by_statement j y
-          (and_parts (has_pair by_statement j y) (nat_lt x y) is_pair_of_j).0
-          in
+          let found = index_of_pair by_statement j y
+          (and_parts (has_pair by_statement j y) (nat_lt x y) is_pair_of_j).0 in
           let x_lt_y = ltb-true x y
           (and_parts (has_pair by_statement j y) (nat_lt x y) is_pair_of_j).1 in
-          let variable_is_y = place.3 in
-          let range = place_in_range place.0 place.1 place.2
+          let variable_is_y = found.second_is_y in
+          let range = index_in_range found.index found.index_lt_length found.first_is_x
           (omega (arith, x_is_low, x_lt_y, variable_is_y)) in
           ap₂ (has_pair pairs_so_far) x_is_low (sym variable_is_y)
-          ∙ adds.later_pairs_are_added place.0 range.0 range.1
+          ∙ adds.later_pairs_are_added found.index range.0 range.1
 
 -- ---- one symbol more
 
@@ -303,20 +300,20 @@ module _ (by_statement : List (ℕ × ℕ)) (pairs_are_rising : AreRising by_sta
 pub or_with_next_symbol : (o m q r l : Bool) (y s : ℕ) → (y ≡ s → q ≡ r)
     → ((o || (m && (r && l))) || (nat_eq y s && (q && l))) ≡ (o || ((m || nat_eq y s) && (r && l)))
 or_with_next_symbol true m q r l y s q_is_r = refl
-or_with_next_symbol false m q r l y s q_is_r = by_equality (cases_eq y s)
+or_with_next_symbol false m q r l y s q_is_r = tests_agree (cases_eq y s)
   where
     or_absorbs : (m r : Bool) → ((m && r) || r) ≡ ((m || true) && r)
     or_absorbs true true = refl
     or_absorbs true false = refl
     or_absorbs false r = refl
 
-    by_equality : (y ≡ s) ⊎ (y ≢ s)
+    tests_agree : (y ≡ s) ⊎ (y ≢ s)
         → ((m && (r && l)) || (nat_eq y s && (q && l))) ≡ ((m || nat_eq y s) && (r && l))
-    by_equality (inl y_is_s) =
+    tests_agree (inl y_is_s) =
         ap₂ (λ c d. (m && (r && l)) || (c && (d && l))) (eq-eqb y s y_is_s) (q_is_r y_is_s)
         ∙ or_absorbs m (r && l)
         ∙ sym (ap (λ c. (m || c) && (r && l)) (eq-eqb y s y_is_s))
-    by_equality (inr y_ne_s) =
+    tests_agree (inr y_ne_s) =
         ap (λ c. (m && (r && l)) || (c && (q && l))) (ne_eqb y s y_ne_s) ∙ or-false (m && (r && l))
         ∙ sym (ap (λ c. (m || c) && (r && l)) (ne_eqb y s y_ne_s)
         ∙ ap (λ c. c && (r && l)) (or-false m))
@@ -391,21 +388,20 @@ module _ (db : List Statement) (b : BlockLists) (are_blocks : IsBlocks db b) (k 
         && (is_member (range_with_len 0 count) x && is_member (range_with_len 0 count) y))
         ≡ true
     left_to_right x y x_y_together =
-        let place = place_where_test_holds (λ p. has_later by_statement p x y) by_statement
+        let found = index_where_test_holds (λ p. has_later by_statement p x y) by_statement
         x_y_together in
-        let j = (get_or by_statement place.0 (0, 0)).0 in
+        let j = (get_or by_statement found.0 (0, 0)).0 in
         let x_is_variable =
-        eqb-true x (get_or by_statement place.0 (0, 0)).1
-        (and_parts (nat_eq x (get_or by_statement place.0 (0, 0)).1)
-        (has_pair by_statement j y && nat_lt x y) place.2).0 in
+        eqb-true x (get_or by_statement found.0 (0, 0)).1
+        (and_parts (nat_eq x (get_or by_statement found.0 (0, 0)).1)
+        (has_pair by_statement j y && nat_lt x y) found.2).0 in
         let is_later_pair =
-        (and_parts (nat_eq x (get_or by_statement place.0 (0, 0)).1)
-        (has_pair by_statement j y && nat_lt x y) place.2).1 in
+        (and_parts (nat_eq x (get_or by_statement found.0 (0, 0)).1)
+        (has_pair by_statement j y && nat_lt x y) found.2).1 in
         let x_lt_y_test = (and_parts (has_pair by_statement j y) (nat_lt x y) is_later_pair).1 in
         let x_lt_y = ltb-true x y x_lt_y_test in
         let x_of_j = paired_is_active_member j x (ap (has_pair by_statement j) x_is_variable
-        ∙ has_pair_at_place by_statement place.0 (0, 0) place.1)
-        in
+        ∙ has_pair_at_index by_statement found.0 (0, 0) found.1) in
         let y_of_j = paired_is_active_member j y
         (and_parts (has_pair by_statement j y) (nat_lt x y) is_later_pair).0 in
         let some_active_has_both =
@@ -456,12 +452,12 @@ module _ (db : List Statement) (b : BlockLists) (are_blocks : IsBlocks db b) (k 
         active_member_is_paired j y y_is_member
         (and_parts (is_member (formula_at db j) x)
         (is_member (formula_at db j) y) active_with_both.2).1 active_with_both.1 in
-        let place_of_x = place_of_pair by_statement j x j_has_x in
-        list_any_at (λ p. has_later by_statement p x y) by_statement place_of_x.0
-        (0, 0) place_of_x.1
+        let x_found = index_of_pair by_statement j x j_has_x in
+        list_any_at (λ p. has_later by_statement p x y) by_statement x_found.index
+        (0, 0) x_found.index_lt_length
         (ap₂ (λ a b. a && b)
-        (eq-eqb x (get_or by_statement place_of_x.0 (0, 0)).1 (sym place_of_x.3))
-        (ap₂ (λ a b. a && b) (ap (λ i. has_pair by_statement i y) place_of_x.2
+        (eq-eqb x (get_or by_statement x_found.index (0, 0)).1 (sym x_found.second_is_y))
+        (ap₂ (λ a b. a && b) (ap (λ i. has_pair by_statement i y) x_found.first_is_x
         ∙ j_has_y) x_lt_y_test))
 
     -- rising pairs with the same members are the mandatory pairs of the frame
@@ -469,14 +465,14 @@ module _ (db : List Statement) (b : BlockLists) (are_blocks : IsBlocks db b) (k 
         → ((x y : ℕ) → has_pair qs x y ≡ together x y)
         → map (λ p. pair p.0 p.1) qs ≡ mandatory_pairs db k
     pairs_are_mandatory_pairs qs rising has_pair_is_together =
-        sorted_with_same_members_equal (map (λ p. pair p.0 p.1) qs) (filter wanted (pairs_of count))
+        sorted_with_same_members_equal (map (λ p. pair p.0 p.1) qs)
+        (filter wanted (pairs_below count))
         (mapped_are_sorted qs rising)
-        (filtered_are_sorted wanted (pairs_of count) (all_pairs_are_sorted count))
+        (filtered_are_sorted wanted (pairs_below count) (all_pairs_are_sorted count))
         (λ x y. has_mapped_pair qs x y ∙ has_pair_is_together x y
         ∙ same_tests (together x y)
         (wanted (pair x y)
         && (is_member (range_with_len 0 count) x && is_member (range_with_len 0 count) y))
         (left_to_right x y) (right_to_left x y)
-        ∙ sym (has_filtered_pair wanted (pairs_of count) x y
-        ∙ ap (λ b. wanted (pair x y) && b)
+        ∙ sym (has_filtered_pair wanted (pairs_below count) x y ∙ ap (λ b. wanted (pair x y) && b)
         (has_pair_in_rows (range_with_len 0 count) (range_with_len 0 count) x y)))

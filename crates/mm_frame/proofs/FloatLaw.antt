@@ -13,10 +13,11 @@ use Rattle.std.specs.List.{list_any}
 use Rattle.mm_spec.specs.Text.{Bytes, Token, is_in, fault}
 use Rattle.mm_spec.specs.Statement.{Statement, constants, variables, disjoint, floating, essential}
 use Rattle.mm_spec.specs.Statement.{axiomatic, provable, opening, closing}
-use Rattle.mm_spec.specs.Scope.{Names, names_before, active_statements, is_active}
+use Rattle.mm_spec.specs.Scope.{Names, names_before, active_statements, active_at}
 use Rattle.mm_spec.specs.Scope.{is_some_still_active}
 use Rattle.mm_spec.specs.Scope.{depth, constants_of, variables_of, is_block_open}
-use Rattle.mm_spec.specs.Lawful.{scope_faults, least, is_typed, floating_faults, label_faults, at}
+use Rattle.mm_spec.specs.Lawful.{scope_faults, least, is_typed, floating_faults, label_faults}
+use Rattle.mm_spec.specs.Lawful.{faults_at}
 use Rattle.mm_spec.specs.Lawful.{when, is_typed_otherwise}
 use Rattle.mm_spec.specs.declared.Fault.{Fault}
 use Rattle.mm_spec.specs.declared.Code.TheVariants.{BadFloating, TypedBefore, OtherTypecode}
@@ -29,20 +30,20 @@ use Rattle.mm_database.specs.ParsedStatements.{IsSound, typed_variable_at}
 use Rattle.mm_outline.proofs.FaultlessLaw.{faultless_floating_is_new}
 use Rattle.mm_outline.proofs.AmongLaw.{typed_word_is_typing, word_of_active_is_any}
 
--- a word that has a place is there
+-- a word that has an index is there
 pub word_at_index_of : (w : Bytes) (ws : List Bytes) → index_of w ws < length ws
     → slice_get ws (index_of w ws) ≡ Some w
 word_at_index_of w [] index_lt_length = absurd (omega arith)
 word_at_index_of w (v ∷ vs) index_lt_length =
-    by_equality (bytes_eq w v) refl index_lt_length (word_at_index_of w vs)
+    word_at_index (bytes_eq w v) refl index_lt_length (word_at_index_of w vs)
   where
-    by_equality : (b : Bool) → bytes_eq w v ≡ b
+    word_at_index : (b : Bool) → bytes_eq w v ≡ b
         → (elim b [ true ↦ 0 | false ↦ suc (index_of w vs) ]) < length (v ∷ vs)
         → (index_of w vs < length vs → slice_get vs (index_of w vs) ≡ Some w)
         → slice_get (v ∷ vs) (elim b [ true ↦ 0 | false ↦ suc (index_of w vs) ]) ≡ Some w
-    by_equality true w_eq_v index_lt_length in_rest =
+    word_at_index true w_eq_v index_lt_length in_rest =
         ap Some (sym ((bytes_eq-Decides w v).0 w_eq_v))
-    by_equality false w_eq_v index_lt_length in_rest = in_rest (omega arith)
+    word_at_index false w_eq_v index_lt_length in_rest = in_rest (omega arith)
 
 -- the statement as a list, which is empty if there is none
 abbrev pub as_list : Option Statement → List Statement
@@ -82,21 +83,21 @@ module _ (db : List Statement) (is_sound : IsSound db) where
   typecode_is_constant : (n : Names) (keyword : ℕ) (c v : Token)
       → floating_faults n keyword (c ∷ v ∷ []) ≡ [] → is_in c.word n.constants ≡ true
   typecode_is_constant n keyword c v no_fault =
-      by_membership (is_in c.word n.constants) refl no_fault
+      is_constant (is_in c.word n.constants) refl no_fault
     where
       codes : Bool → List Fault
       codes =
           λ b. elim b [
-            | true ↦ at v.at
+            | true ↦ faults_at v.at
                 (when (is_typed n v.word) TypedBefore
                 ++ when (is_typed_otherwise n c.word v.word) OtherTypecode)
             | false ↦ fault keyword BadFloating ∷ []
           ]
 
-      by_membership : (a : Bool) → is_in c.word n.constants ≡ a
+      is_constant : (a : Bool) → is_in c.word n.constants ≡ a
           → codes (a && is_in v.word n.active_variables) ≡ [] → is_in c.word n.constants ≡ true
-      by_membership true c_is_constant no_fault = c_is_constant
-      by_membership false c_is_constant no_fault = absurd (cc)
+      is_constant true c_is_constant no_fault = c_is_constant
+      is_constant false c_is_constant no_fault = absurd (cc)
 
   -- a `$f` by its statement
   is_float_of_statement : (k v : ℕ) → k < length db → (o : Option Statement) → slice_get db k ≡ o
@@ -160,15 +161,15 @@ module _ (db : List Statement) (is_sound : IsSound db) where
   -- a statement that gives a variable a type is its `$f`
   pub typed_is_float : (k v : ℕ) → k < length db → typed_variable_at db k ≡ Some v → IsFloat db k v
   typed_is_float k v k_lt_length_db typed_variable_is_v =
-      by_statement (slice_get db k) refl typed_variable_is_v
+      is_float (slice_get db k) refl typed_variable_is_v
     where
-      by_statement : (o : Option Statement) → slice_get db k ≡ o → typed_variable_of db o ≡ Some v
+      is_float : (o : Option Statement) → slice_get db k ≡ o → typed_variable_of db o ≡ Some v
           → IsFloat db k v
-      by_statement o statement_k_is_o typed_variable_is_v = by_floating (list_any is_floating
+      is_float o statement_k_is_o typed_variable_is_v = is_float_if (list_any is_floating
           (elim o [ None ↦ [] | Some statement_k_is_o ↦ statement_k_is_o ∷ [] ])) refl
           typed_variable_is_v
         where
-          by_floating : (b : Bool)
+          is_float_if : (b : Bool)
               → list_any is_floating
               (elim o [ None ↦ [] | Some statement_k_is_o ↦ statement_k_is_o ∷ [] ])
               ≡ b
@@ -177,50 +178,49 @@ module _ (db : List Statement) (is_sound : IsSound db) where
               (elim o [ None ↦ [] | Some statement_k_is_o ↦ statement_k_is_o ∷ [] ])) 1 else None)
               ≡ Some v
               → IsFloat db k v
-          by_floating true o_is_floating second_symbol_is_v =
+          is_float_if true o_is_floating second_symbol_is_v =
               is_float_of_statement k v k_lt_length_db o statement_k_is_o o_is_floating
               second_symbol_is_v
-          by_floating false o_is_floating second_symbol_is_v = absurd (cc)
+          is_float_if false o_is_floating second_symbol_is_v = absurd (cc)
 
   -- a `$f` has a variable
   pub floating_is_typed : (k : ℕ) → k < length db
       → list_any is_floating (as_list (slice_get db k)) ≡ true
       → (v : ℕ) × (typed_variable_at db k ≡ Some v) × IsFloat db k v
   floating_is_typed k k_lt_length_db k_is_floating =
-      by_statement (slice_get db k) refl k_is_floating
+      has_variable (slice_get db k) refl k_is_floating
     where
-      by_statement : (o : Option Statement) → slice_get db k ≡ o → list_any is_floating (as_list o)
+      has_variable : (o : Option Statement) → slice_get db k ≡ o → list_any is_floating (as_list o)
           ≡ true
           → (v : ℕ) × (typed_variable_at db k ≡ Some v) × IsFloat db k v
-      by_statement None statement_k_is_o k_is_floating = absurd (true≢false (sym k_is_floating))
-      by_statement (Some (constants a xs d)) statement_k_is_o k_is_floating =
+      has_variable None statement_k_is_o k_is_floating = absurd (true≢false (sym k_is_floating))
+      has_variable (Some (constants a xs d)) statement_k_is_o k_is_floating =
           absurd (true≢false (sym k_is_floating))
-      by_statement (Some (variables a xs d)) statement_k_is_o k_is_floating =
+      has_variable (Some (variables a xs d)) statement_k_is_o k_is_floating =
           absurd (true≢false (sym k_is_floating))
-      by_statement (Some (disjoint a xs d)) statement_k_is_o k_is_floating =
+      has_variable (Some (disjoint a xs d)) statement_k_is_o k_is_floating =
           absurd (true≢false (sym k_is_floating))
-      by_statement (Some (essential l a xs d)) statement_k_is_o k_is_floating =
+      has_variable (Some (essential l a xs d)) statement_k_is_o k_is_floating =
           absurd (true≢false (sym k_is_floating))
-      by_statement (Some (axiomatic l a xs d)) statement_k_is_o k_is_floating =
+      has_variable (Some (axiomatic l a xs d)) statement_k_is_o k_is_floating =
           absurd (true≢false (sym k_is_floating))
-      by_statement (Some (provable l a xs q ps d)) statement_k_is_o k_is_floating =
+      has_variable (Some (provable l a xs q ps d)) statement_k_is_o k_is_floating =
           absurd (true≢false (sym k_is_floating))
-      by_statement (Some (opening a)) statement_k_is_o k_is_floating =
+      has_variable (Some (opening a)) statement_k_is_o k_is_floating =
           absurd (true≢false (sym k_is_floating))
-      by_statement (Some (closing a)) statement_k_is_o k_is_floating =
+      has_variable (Some (closing a)) statement_k_is_o k_is_floating =
           absurd (true≢false (sym k_is_floating))
-      by_statement (Some (floating l a [] d)) statement_k_is_o k_is_floating =
+      has_variable (Some (floating l a [] d)) statement_k_is_o k_is_floating =
           absurd (let no_typing_fault = (both_are_empty (label_faults (names_before db k) l)
           (floating_faults (names_before db k) a [])
-          (lawful_has_no_faults k k_lt_length_db (floating l a [] d) statement_k_is_o)).1
-          in
+          (lawful_has_no_faults k k_lt_length_db (floating l a [] d) statement_k_is_o)).1 in
           cc)
-      by_statement (Some (floating l a (c ∷ []) d)) statement_k_is_o k_is_floating =
+      has_variable (Some (floating l a (c ∷ []) d)) statement_k_is_o k_is_floating =
           absurd (let no_typing_fault = (both_are_empty (label_faults (names_before db k) l)
           (floating_faults (names_before db k) a (c ∷ []))
           (lawful_has_no_faults k k_lt_length_db (floating l a (c ∷ []) d) statement_k_is_o)).1 in
           cc)
-      by_statement (Some (floating l a (c ∷ x ∷ xs) d)) statement_k_is_o k_is_floating =
+      has_variable (Some (floating l a (c ∷ x ∷ xs) d)) statement_k_is_o k_is_floating =
           let v = index_of x.word (symbol_names db) in
           let typed_variable_is_v = ap (typed_variable_of db) statement_k_is_o in
           (v, typed_variable_is_v, typed_is_float k v k_lt_length_db typed_variable_is_v)
@@ -272,7 +272,7 @@ module _ (db : List Statement) (is_sound : IsSound db) where
         float.typecode_is_declared)
 
     -- a `$f` is active exactly while its block is open
-    pub float_active_is_block_open : (l : ℕ) → k < l → is_active db k l ≡ is_block_open db k l
+    pub float_active_is_block_open : (l : ℕ) → k < l → active_at db k l ≡ is_block_open db k l
     float_active_is_block_open l k_lt_l =
         ap₂ (λ t o. t && is_some_still_active o (is_block_open db k l))
         (lt-ltb k l k_lt_l) float.statement_is
@@ -297,10 +297,10 @@ module _ (db : List Statement) (is_sound : IsSound db) where
       ∙ ap (λ b. b || false)
       ((bytes_eq-Decides w j_is_float.variable.word).1 (sym variables_equal)) in
       true≢false
-      (sym (range_any (λ j_lt_length. is_active db j_lt_length k && has_word db typed_words w
+      (sym (range_any (λ j_lt_length. active_at db j_lt_length k && has_word db typed_words w
       j_lt_length) k 0 j (omega arith)
       (omega arith) (ap₂ (λ a b. a && b)
       (float_active_is_block_open j v j_lt_length j_is_float k j_lt_k
       ∙ j_is_open) j_types_w))
-      ∙ sym (word_of_active_is_any db typed_words w (λ j_lt_length. is_active db j_lt_length k) k 0)
+      ∙ sym (word_of_active_is_any db typed_words w (λ j_lt_length. active_at db j_lt_length k) k 0)
       ∙ sym (typed_word_is_typing w (active_statements db k)) ∙ k_is_float.variable_is_untyped)

@@ -42,18 +42,18 @@ last_floats_without_float db k ts last_floats k_has_no_float = record {
             omega (arith, last_lt_k)),
         last_is_typed_before.1,
       );
-  open_is_last = λ j v v_lt_count v_has_number j_types_v j_is_open. by_order j v v_lt_count
+  open_is_last = λ j v v_lt_count v_has_number j_types_v j_is_open. last_is_j j v v_lt_count
       v_has_number j_types_v
       j_is_open (cases_lt j k);
 }
   where
-    by_order : (j v : ℕ) → j < k + 1 → v < length (symbol_names db) → typed_variable_at db j
+    last_is_j : (j v : ℕ) → j < k + 1 → v < length (symbol_names db) → typed_variable_at db j
         ≡ Some v
         → is_block_open db j (k + 1) ≡ true → (j < k) ⊎ (k ≤ j) → get_or ts v 0 ≡ j
-    by_order j v v_lt_count j_types_v_at j_types_v j_is_open (inl k_order) =
+    last_is_j j v v_lt_count j_types_v_at j_types_v j_is_open (inl k_order) =
         last_floats.open_is_last j v k_order j_types_v_at j_types_v
         (open_at_earlier db j k (k + 1) (omega arith) (omega arith) j_is_open)
-    by_order j v v_lt_count j_types_v_at j_types_v j_is_open (inr k_order) =
+    last_is_j j v v_lt_count j_types_v_at j_types_v j_is_open (inr k_order) =
         absurd (let j_is_k : j ≡ k = omega arith in let none_is_some = sym j_types_v
         ∙ ap (typed_variable_at db) j_is_k
         ∙ k_has_no_float in cc)
@@ -65,7 +65,7 @@ pub last_floats_with_float : (db : List Statement) → IsSound db → (k v : ℕ
     → AreLastFloats db (k + 1) (set ts v k)
 last_floats_with_float db sound k v ts k_lt_length last_floats k_types_v = record {
   count = length-set ts v k ∙ last_floats.count;
-  last_is_typed = λ u u_lt_count last_is_some. by_equality u u_lt_count last_is_some (cases_eq u v);
+  last_is_typed = λ u u_lt_count last_is_some. u_is_typed u u_lt_count last_is_some (cases_eq u v);
   open_is_last = λ j u u_lt_count j_lt_next j_types_u j_is_open. open_is_last_float j u u_lt_count
       j_lt_next j_types_u j_is_open (cases_lt j k) (cases_eq u v);
 }
@@ -80,17 +80,17 @@ last_floats_with_float db sound k v ts k_lt_length last_floats k_types_v = recor
     float_is_set : get_or (set ts v k) v 0 ≡ k
     float_is_set = get_or-set_same ts v k 0 v_lt_length
 
-    by_equality : (u : ℕ) → u < length (symbol_names db) → get_or (set ts v k) u 0 ≢ never
+    u_is_typed : (u : ℕ) → u < length (symbol_names db) → get_or (set ts v k) u 0 ≢ never
         → (u ≡ v) ⊎ (u ≢ v)
         → (get_or (set ts v k) u 0 < k + 1) × (typed_variable_at db (get_or (set ts v k) u 0)
         ≡ Some u)
-    by_equality u u_lt_count last_ne_never (inl u_is_v) =
+    u_is_typed u u_lt_count last_ne_never (inl u_is_v) =
         let last_is = ap (λ i. get_or (set ts v k) i 0) u_is_v ∙ float_is_set in (
           (omega (arith, last_is)),
           ap (typed_variable_at db) last_is ∙ k_types_v
               ∙ ap Some (sym u_is_v),
         )
-    by_equality u u_lt_count last_ne_never (inr u_ne_v) =
+    u_is_typed u u_lt_count last_ne_never (inr u_ne_v) =
         let last_is = get_or-set_other ts v u k 0 u_ne_v in
         let last_is_typed_before =
         last_floats.last_is_typed u u_lt_count (λ last_is_never. last_ne_never (last_is

@@ -12,7 +12,7 @@ use Rattle.std.proofs.Math.Bool.{or-false, or-true}
 use Rattle.mm_spec.specs.Text.{is_in}
 use Rattle.mm_spec.specs.Derivation.{is_member}
 use Rattle.mm_spec.specs.Statement.{Statement}
-use Rattle.mm_spec.specs.Scope.{statement_at, active, is_active, variables_of, is_block_open}
+use Rattle.mm_spec.specs.Scope.{statement_at, active, active_at, variables_of, is_block_open}
 use Rattle.mm_spec.specs.Frame.{symbol_names, index_of, is_variable_number, is_essential}
 use Rattle.mm_spec.specs.Frame.{is_floating, active_of, formula_at, mandatory_variables}
 use Rattle.mm_spec.specs.Frame.{mandatory_hypotheses}
@@ -63,19 +63,19 @@ rising_from_increasing (y ∷ ys) a increasing a_le_first = (
 filter_filter : (p q : ℕ → Bool) (xs : List ℕ)
     → filter p (filter q xs) ≡ filter (λ j. q j && p j) xs
 filter_filter p q [] = refl
-filter_filter p q (x ∷ xs) = by_first_test (q x) (filter_filter p q xs)
+filter_filter p q (x ∷ xs) = filters_agree (q x) (filter_filter p q xs)
   where
-    by_first_test : (b : Bool) → filter p (filter q xs) ≡ filter (λ j. q j && p j) xs
+    filters_agree : (b : Bool) → filter p (filter q xs) ≡ filter (λ j. q j && p j) xs
         → filter p (cond b (x ∷ filter q xs) (filter q xs))
         ≡ cond (b && p x) (x ∷ filter (λ j. q j && p j) xs) (filter (λ j. q j && p j) xs)
-    by_first_test true filters_equal = by_second_test (p x)
+    filters_agree true filters_equal = filters_agree_at_x (p x)
       where
-        by_second_test : (c : Bool)
+        filters_agree_at_x : (c : Bool)
             → ◌≡◌ {A = List ℕ} (cond c (x ∷ filter p (filter q xs)) (filter p (filter q xs)))
             (cond c (x ∷ filter (λ j. q j && p j) xs) (filter (λ j. q j && p j) xs))
-        by_second_test true = ap (λ ys. x ∷ ys) filters_equal
-        by_second_test false = filters_equal
-    by_first_test false filters_equal = filters_equal
+        filters_agree_at_x true = ap (λ ys. x ∷ ys) filters_equal
+        filters_agree_at_x false = filters_equal
+    filters_agree false filters_equal = filters_equal
 
 module _ (db : List Statement) (k : ℕ) where
   -- ---- variables
@@ -110,12 +110,12 @@ module _ (db : List Statement) (k : ℕ) where
 
   -- a variable is one of the symbols
   variable_has_name : (x : ℕ) → is_variable_number db x ≡ true → x < length (symbol_names db)
-  variable_has_name x x_is_variable = by_order (cases_lt x (length (symbol_names db)))
+  variable_has_name x x_is_variable = x_lt_count (cases_lt x (length (symbol_names db)))
     where
-      by_order : (x < length (symbol_names db)) ⊎ (length (symbol_names db) ≤ x)
+      x_lt_count : (x < length (symbol_names db)) ⊎ (length (symbol_names db) ≤ x)
           → x < length (symbol_names db)
-      by_order (inl x_order) = x_order
-      by_order (inr x_order) =
+      x_lt_count (inl x_order) = x_order
+      x_lt_count (inr x_order) =
           absurd (true≢false
           (sym x_is_variable ∙ ap (λ o. elim o
           [ None ↦ false | Some w ↦ is_in w (flat_map variables_of db) ])
@@ -157,7 +157,7 @@ module _ (db : List Statement) (k : ℕ) where
       -- an active `$f` of a mandatory variable is found
       float_found : (j : ℕ) → j < k → list_any is_floating (statement_at db j) ≡ true
           → list_any (is_member (mandatory_variables db k)) (formula_at db j) ≡ true
-          → is_active db j k ≡ true → list_any (is_float_of db k ts j) variables ≡ true
+          → active_at db j k ≡ true → list_any (is_float_of db k ts j) variables ≡ true
       float_found j j_lt_k j_is_floating j_has_mandatory active_at_k =
           let j_lt_length_db : j < length db = omega arith in
           let floating = floating_is_typed db is_sound j j_lt_length_db j_is_floating in
@@ -197,7 +197,7 @@ module _ (db : List Statement) (k : ℕ) where
 
       -- what is found is an active `$f` of a mandatory variable
       found_is_active_float : (j : ℕ) → list_any (is_float_of db k ts j) variables ≡ true
-          → (is_active db j k ≡ true) × (list_any is_floating (statement_at db j) ≡ true)
+          → (active_at db j k ≡ true) × (list_any is_floating (statement_at db j) ≡ true)
           × (list_any (is_member (mandatory_variables db k)) (formula_at db j) ≡ true) × (j < k)
       found_is_active_float j j_is_found =
           let witness = passing_has_witness (is_float_of db k ts j) variables j_is_found in
@@ -207,12 +207,10 @@ module _ (db : List Statement) (k : ℕ) where
           eqb-true j last_float
           (and_parts (nat_eq j last_float)
           (not (nat_eq last_float never) && is_block_open db last_float k)
-          witness.2).0
-          in
+          witness.2).0 in
           let t_is_open = (and_parts (nat_eq j last_float)
           (not (nat_eq last_float never) && is_block_open db last_float k)
-          witness.2).1
-          in
+          witness.2).1 in
           let v_is_mandatory = sym (variables_are v) ∙ witness.1 in
           let t_types_v =
           last_floats.last_is_typed v (mandatory_has_name v v_is_mandatory)
@@ -246,8 +244,8 @@ module _ (db : List Statement) (k : ℕ) where
           || list_any (is_float_of db k ts j) variables))
           → xs ≡ mandatory_hypotheses db k
       hypotheses_are_mandatory es xs essentials_are_active xs_are_rising xs_members_are =
-          sym (filter_filter wanted (λ j. is_active db j k) (range_with_len 0 k)
-          ∙ filter_is (λ j. is_active db j k && wanted j) k 0 xs
+          sym (filter_filter wanted (λ j. active_at db j k) (range_with_len 0 k)
+          ∙ filter_is (λ j. active_at db j k && wanted j) k 0 xs
           (rising_from_increasing xs 0 xs_are_rising (λ j_lt_k. omega arith))
           (λ j j_is_in_xs. let j_lt_k = (right_to_left j (sym (xs_members_are j) ∙ j_is_in_xs)).1 in
           omega (arith, j_lt_k))
@@ -255,41 +253,41 @@ module _ (db : List Statement) (k : ℕ) where
         where
           member_is_active_essential : (j : ℕ)
               → is_member es j
-              ≡ (list_any is_essential (statement_at db j) && (is_active db j k && nat_lt j k))
+              ≡ (list_any is_essential (statement_at db j) && (active_at db j k && nat_lt j k))
           member_is_active_essential j =
               essentials_are_active j
               ∙ member_filter (λ j. list_any is_essential (statement_at db j)) (active db k) j
               ∙ ap (λ b. list_any is_essential (statement_at db j) && b)
-              (member_filter (λ j. is_active db j k) (range_with_len 0 k) j
-              ∙ ap (λ b. is_active db j k && b)
+              (member_filter (λ j. active_at db j k) (range_with_len 0 k) j
+              ∙ ap (λ b. active_at db j k && b)
               (member_range k 0 j (omega arith)
               ∙ (let zero_plus_k_is_k : 0 + k ≡ k = omega arith in ap (nat_lt j) zero_plus_k_is_k)))
 
           right_to_left : (j : ℕ) → (is_member es j || list_any (is_float_of db k ts j) variables)
               ≡ true
-              → ((is_active db j k && wanted j) ≡ true) × (j < k)
-          right_to_left j is_found = by_membership (is_member es j) refl is_found
+              → ((active_at db j k && wanted j) ≡ true) × (j < k)
+          right_to_left j is_found = is_wanted (is_member es j) refl is_found
             where
-              by_membership : (b : Bool) → is_member es j ≡ b
+              is_wanted : (b : Bool) → is_member es j ≡ b
                   → (b || list_any (is_float_of db k ts j) variables) ≡ true
-                  → ((is_active db j k && wanted j) ≡ true) × (j < k)
-              by_membership true j_is_member is_found =
+                  → ((active_at db j k && wanted j) ≡ true) × (j < k)
+              is_wanted true j_is_member is_found =
                   let j_is_active_essential = sym (member_is_active_essential j) ∙ j_is_member in
                   let j_is_essential =
                   (and_parts (list_any is_essential (statement_at db j))
-                  (is_active db j k && nat_lt j k) j_is_active_essential).0 in
+                  (active_at db j k && nat_lt j k) j_is_active_essential).0 in
                   let j_is_active_before_k =
                   (and_parts (list_any is_essential (statement_at db j))
-                  (is_active db j k && nat_lt j k) j_is_active_essential).1 in (
+                  (active_at db j k && nat_lt j k) j_is_active_essential).1 in (
                     ap₂ (λ a b. a
                         && (b ||
                         (list_any is_floating (statement_at db j)
                         && list_any (is_member (mandatory_variables db k)) (formula_at db j))))
-                        (and_parts (is_active db j k) (nat_lt j k) j_is_active_before_k).0
+                        (and_parts (active_at db j k) (nat_lt j k) j_is_active_before_k).0
                         j_is_essential,
-                    ltb-true j k (and_parts (is_active db j k) (nat_lt j k) j_is_active_before_k).1,
+                    ltb-true j k (and_parts (active_at db j k) (nat_lt j k) j_is_active_before_k).1,
                   )
-              by_membership false not_member is_found =
+              is_wanted false not_member is_found =
                   let active_float = found_is_active_float j is_found in (
                     ap₂ (λ a b. a && b) active_float.0
                         (ap (λ b. list_any is_essential (statement_at db j) || b)
@@ -298,25 +296,25 @@ module _ (db : List Statement) (k : ℕ) where
                     active_float.3,
                   )
 
-          left_to_right : (j : ℕ) → j < k → (is_active db j k && wanted j) ≡ true
+          left_to_right : (j : ℕ) → j < k → (active_at db j k && wanted j) ≡ true
               → (is_member es j || list_any (is_float_of db k ts j) variables) ≡ true
           left_to_right j j_lt_k active_and_wanted =
-              by_essential (list_any is_essential (statement_at db j)) refl
-              (and_parts (is_active db j k) (wanted j) active_and_wanted).1
+              is_listed (list_any is_essential (statement_at db j)) refl
+              (and_parts (active_at db j k) (wanted j) active_and_wanted).1
             where
-              j_is_active : is_active db j k ≡ true
-              j_is_active = (and_parts (is_active db j k) (wanted j) active_and_wanted).0
+              j_is_active : active_at db j k ≡ true
+              j_is_active = (and_parts (active_at db j k) (wanted j) active_and_wanted).0
 
-              by_essential : (b : Bool) → list_any is_essential (statement_at db j) ≡ b
+              is_listed : (b : Bool) → list_any is_essential (statement_at db j) ≡ b
                   → (b || (list_any is_floating (statement_at db j)
                   && list_any (is_member (mandatory_variables db k)) (formula_at db j)))
                   ≡ true
                   → (is_member es j || list_any (is_float_of db k ts j) variables) ≡ true
-              by_essential true j_is_essential active_and_wanted =
+              is_listed true j_is_essential active_and_wanted =
                   ap (λ b. b || list_any (is_float_of db k ts j) variables)
                   (member_is_active_essential j ∙ ap₂ (λ p q. p && q) j_is_essential
                   (ap₂ (λ p q. p && q) j_is_active (lt-ltb j k j_lt_k)))
-              by_essential false j_is_essential active_and_wanted =
+              is_listed false j_is_essential active_and_wanted =
                   ap (λ b. is_member es j || b)
                   (float_found j j_lt_k
                   (and_parts (list_any is_floating (statement_at db j))
@@ -327,9 +325,9 @@ module _ (db : List Statement) (k : ℕ) where
                   active_and_wanted).1 j_is_active)
                   ∙ or-true (is_member es j)
 
-          wanted_is_member : (j : ℕ) → j < k → (is_active db j k && wanted j) ≡ is_member xs j
+          wanted_is_member : (j : ℕ) → j < k → (active_at db j k && wanted j) ≡ is_member xs j
           wanted_is_member j j_lt_k =
-              same_tests (is_active db j k && wanted j)
+              same_tests (active_at db j k && wanted j)
               (is_member es j || list_any (is_float_of db k ts j) variables)
               (left_to_right j j_lt_k)
               (λ is_found. (right_to_left j is_found).0)

@@ -1,17 +1,15 @@
 -- How the last active statement of a kind is found, and the others from it.
-use Rattle.std.proofs.Common.{◌≡◌, ◌≢◌, ℕ, ◌+◌, ◌<◌, ◌≤◌, Bool, true, false, ◌&&◌, ◌||◌}
-use Rattle.std.proofs.Common.{cond, List, [], ◌∷◌, ◌++◌, length, nat_eq, nat_lt}
-use Rattle.std.proofs.Common.{refl, sym, ap, ap₂, ◌∙◌, subst, arith, ◌⊎◌, inl, inr}
-use Rattle.std.proofs.Common.{true≢false, eqb-true, get_or, length-append}
-use Rattle.std.proofs.lemmas.Bool.{cases_lt, cases_eq, cases_order, lt-ltb, le-ltb, eq-eqb, ne_eqb}
+use Rattle.std.proofs.Common.{◌≡◌, ◌≢◌, ℕ, ◌+◌, ◌<◌, ◌≤◌, Bool, true, false, ◌&&◌, ◌||◌, cond, List}
+use Rattle.std.proofs.Common.{[], ◌∷◌, ◌++◌, length, nat_eq, nat_lt, refl, sym, ap, ap₂, ◌∙◌, subst}
+use Rattle.std.proofs.Common.{arith, ◌⊎◌, inl, inr, true≢false, eqb-true, get_or, length-append}
+use Rattle.std.proofs.lemmas.Bool.{cases_lt, cases_eq, cases_order, lt-ltb, le-ltb, eq-eqb}
 use Rattle.std.proofs.lemmas.List.{get_or_append_left}
 use Rattle.std.proofs.Math.Seq.{get_or-append_seam}
 use Rattle.std.specs.List.{list_any}
 use Rattle.std.proofs.lemmas.Bool.{and_parts, false_from_ne_true}
 use Rattle.std.proofs.Math.Bool.{or-true}
 use Rattle.mm_spec.specs.Statement.{Statement}
-use Rattle.mm_spec.specs.Scope.{statement_at}
-use Rattle.mm_spec.specs.Scope.{is_block_open}
+use Rattle.mm_spec.specs.Scope.{statement_at, is_block_open}
 use Rattle.mm_spec.specs.Derivation.{is_member}
 use Rattle.mm_spec.specs.Frame.{active_of}
 use Rattle.mm_spec.proofs.BoolLaw.{same_tests}
@@ -56,27 +54,27 @@ module _ (test : Statement → Bool) (db : List Statement) where
               (is_block_open db next last) next_is_found.1).0,
         );
     later_are_not_staying =
-        λ i i_lt_k later_than_next. by_order i i_lt_k later_than_next (cases_order i last);
+        λ i i_lt_k later_than_next. is_not_staying i i_lt_k later_than_next (cases_order i last);
   }
     where
-      by_order : (i : ℕ) → i < k → (next < i) ⊎ (next ≡ never) → (i ≡ last)
+      is_not_staying : (i : ℕ) → i < k → (next < i) ⊎ (next ≡ never) → (i ≡ last)
           ⊎ ((i < last) ⊎ (last < i))
           → is_staying test db i k ≡ false
-      by_order i i_lt_k later_than_next (inr (inl i_lt_last)) =
+      is_not_staying i i_lt_k later_than_next (inr (inl i_lt_last)) =
           false_from_ne_true (is_staying test db i k)
           (λ i_stays. true≢false
           (sym (staying_at_earlier i last k (omega arith)
           (let last_lt_i = (is_candidate.last_is_found last_ne_never).0 in
           omega (arith, last_lt_i)) i_stays)
           ∙ is_latest.later_are_not_staying i i_lt_last later_than_next))
-      by_order i i_lt_k later_than_next (inl i_is_last) =
+      is_not_staying i i_lt_k later_than_next (inl i_is_last) =
           subst (λ i. is_staying test db i k ≡ false) (sym i_is_last)
           (false_from_ne_true (is_staying test db last k)
           (λ i_stays. true≢false
           (sym (and_parts (list_any test (statement_at db last))
           (is_block_open db last k) i_stays).1
           ∙ last_is_closed)))
-      by_order i i_lt_k later_than_next (inr (inr last_lt_i)) =
+      is_not_staying i i_lt_k later_than_next (inr (inr last_lt_i)) =
           is_candidate.later_are_not_staying i i_lt_k (inl last_lt_i)
 
   -- a candidate that still stays is the latest
@@ -116,49 +114,20 @@ module _ (test : Statement → Bool) (db : List Statement) where
               (is_block_open db last k) last_is_found_here.1).0,
         );
     later_are_not_staying =
-        λ i i_lt_next later_than_last. by_order i i_lt_next later_than_last (cases_lt i k);
+        λ i i_lt_next later_than_last. is_not_staying i i_lt_next later_than_last (cases_lt i k);
   }
     where
-      by_order : (i : ℕ) → i < k + 1 → (last < i) ⊎ (last ≡ never) → (i < k) ⊎ (k ≤ i)
+      is_not_staying : (i : ℕ) → i < k + 1 → (last < i) ⊎ (last ≡ never) → (i < k) ⊎ (k ≤ i)
           → is_staying test db i (k + 1) ≡ false
-      by_order i i_lt_next later_than_last (inl last_lt_k) =
+      is_not_staying i i_lt_next later_than_last (inl last_lt_k) =
           false_from_ne_true (is_staying test db i (k + 1))
           (λ i_stays. true≢false
           (sym (staying_at_earlier i k (k + 1) (omega arith) (omega arith) i_stays)
           ∙ is_latest.later_are_not_staying i last_lt_k later_than_last))
-      by_order i i_lt_next later_than_last (inr k_le_i) =
+      is_not_staying i i_lt_next later_than_last (inr k_le_i) =
           let i_is_k : i ≡ k = omega arith in
           ap (λ b. b && is_block_open db i (k + 1))
           (ap (λ i. list_any test (statement_at db i)) i_is_k ∙ k_is_other)
-
-  -- before the first statement there is no latest
-  pub no_latest_at_start : (last : ℕ) → last ≡ never → IsLatest test db 0 last
-  no_latest_at_start last last_is_never =
-      record {
-        last_is_found =
-            λ last_ne_never. absurd (last_ne_never last_is_never);
-        later_are_not_staying =
-            λ i i_lt_0 later_than_last. absurd (omega arith);
-      }
-
-  -- the next on the way is nearer to the start
-  pub next_height_lt_height : (k last next : ℕ) → last ≢ never → IsLatest test db last next
-      → height next < height last
-  next_height_lt_height k last next last_ne_never is_latest = by_presence (cases_eq next never)
-    where
-      height_is_last_plus_1 : height last ≡ last + 1
-      height_is_last_plus_1 = ap (λ b. cond b 0 (last + 1)) (ne_eqb last never last_ne_never)
-
-      by_presence : (next ≡ never) ⊎ (next ≢ never) → height next < height last
-      by_presence (inl next_is_never) =
-          let height_of_next : height next ≡ 0 =
-          ap (λ b. cond b 0 (next + 1)) (eq-eqb next never next_is_never) in
-          omega (arith, height_of_next, height_is_last_plus_1)
-      by_presence (inr next_ne_never) =
-          let height_of_next : height next ≡ next + 1 =
-          ap (λ b. cond b 0 (next + 1)) (ne_eqb next never next_ne_never) in
-          let next_lt_last = (is_latest.last_is_found next_ne_never).0 in
-          omega (arith, height_of_next, height_is_last_plus_1, next_lt_last)
 
   -- ---- the walk
 
@@ -170,28 +139,6 @@ module _ (test : Statement → Bool) (db : List Statement) where
         → (i < k) × (is_staying test db i k ≡ true)
     pub staying_are_members : (i : ℕ) → i < k → is_staying test db i k ≡ true
         → (is_member xs i ≡ true) ⊎ ((last ≢ never) × (i ≤ last))
-
-  -- the walk begins at the latest
-  pub walked_from_latest : (k last : ℕ) → IsLatest test db k last → IsWalked k [] last
-  walked_from_latest k last is_latest = record {
-    last_is_found = is_latest.last_is_found;
-    members_are_staying = λ i i_stays. absurd (true≢false (sym i_stays));
-    staying_are_members =
-        λ i i_lt_k i_stays. inr
-        (by_presence i i_lt_k i_stays (cases_eq last never) (cases_lt last i));
-  }
-    where
-      by_presence : (i : ℕ) → i < k → is_staying test db i k ≡ true → (last ≡ never)
-          ⊎ (last ≢ never)
-          → (last < i) ⊎ (i ≤ last) → (last ≢ never) × (i ≤ last)
-      by_presence i i_lt_k i_stays (inl last_is_never) order =
-          absurd (true≢false (sym i_stays
-          ∙ is_latest.later_are_not_staying i i_lt_k (inr last_is_never)))
-      by_presence i i_lt_k i_stays (inr last_ne_never) (inl last_lt_i) =
-          absurd (true≢false (sym i_stays
-          ∙ is_latest.later_are_not_staying i i_lt_k (inl last_lt_i)))
-      by_presence i i_lt_k i_stays (inr last_ne_never) (inr i_le_last) =
-          (last_ne_never, i_le_last)
 
   -- the walk goes on with the next
   pub walked_with_last : (k : ℕ) (xs : List ℕ) (last next : ℕ) → k ≤ length db
@@ -216,16 +163,16 @@ module _ (test : Statement → Bool) (db : List Statement) where
 
       member_is_staying : (i : ℕ) → is_member (xs ++ last ∷ []) i ≡ true
           → (i < k) × (is_staying test db i k ≡ true)
-      member_is_staying i i_is_member = by_values (is_member xs i) (nat_eq i last) refl refl
+      member_is_staying i i_is_member = stays_at_k (is_member xs i) (nat_eq i last) refl refl
           (sym (member_push xs last i) ∙ i_is_member)
         where
-          by_values : (a b : Bool) → is_member xs i ≡ a → nat_eq i last ≡ b → (a || b) ≡ true
+          stays_at_k : (a b : Bool) → is_member xs i ≡ a → nat_eq i last ≡ b → (a || b) ≡ true
               → (i < k) × (is_staying test db i k ≡ true)
-          by_values true b in_xs is_last in_one = is_walked.members_are_staying i in_xs
-          by_values false true in_xs is_last in_one =
+          stays_at_k true b in_xs is_last in_one = is_walked.members_are_staying i in_xs
+          stays_at_k false true in_xs is_last in_one =
               subst (λ i. (i < k) × (is_staying test db i k ≡ true))
               (sym (eqb-true i last is_last)) last_is_staying
-          by_values false false in_xs is_last in_one = absurd (true≢false (sym in_one))
+          stays_at_k false false in_xs is_last in_one = absurd (true≢false (sym in_one))
 
       staying_is_member : (i : ℕ) → i < k → is_staying test db i k ≡ true
           → (is_member xs i ≡ true) ⊎ ((last ≢ never) × (i ≤ last))
@@ -233,29 +180,29 @@ module _ (test : Statement → Bool) (db : List Statement) where
       staying_is_member i i_lt_k staying_at_k (inl in_xs) = inl (member_push xs last i
           ∙ ap (λ b. b || nat_eq i last) in_xs)
       staying_is_member i i_lt_k staying_at_k (inr (last_ne_never, i_le_last)) =
-          by_order (cases_lt i last)
+          listed_or_later (cases_lt i last)
         where
-          by_presence : i < last → (next ≡ never) ⊎ (next ≢ never) → (next < i) ⊎ (i ≤ next)
+          next_reaches_i : i < last → (next ≡ never) ⊎ (next ≢ never) → (next < i) ⊎ (i ≤ next)
               → (next ≢ never) × (i ≤ next)
-          by_presence i_lt_last (inl next_is_never) order =
+          next_reaches_i i_lt_last (inl next_is_never) order =
               absurd (true≢false
               (sym (staying_at_earlier i last k (omega arith) (let last_lt_k = last_is_staying.0 in
               omega (arith, last_lt_k))
               staying_at_k)
               ∙ is_latest.later_are_not_staying i i_lt_last (inr next_is_never)))
-          by_presence i_lt_last (inr next_ne_never) (inl next_lt_i) =
+          next_reaches_i i_lt_last (inr next_ne_never) (inl next_lt_i) =
               absurd (true≢false
               (sym (staying_at_earlier i last k (omega arith) (let last_lt_k = last_is_staying.0 in
               omega (arith, last_lt_k))
               staying_at_k)
               ∙ is_latest.later_are_not_staying i i_lt_last (inl next_lt_i)))
-          by_presence i_lt_last (inr next_ne_never) (inr i_le_next) = (next_ne_never, i_le_next)
+          next_reaches_i i_lt_last (inr next_ne_never) (inr i_le_next) = (next_ne_never, i_le_next)
 
-          by_order : (i < last) ⊎ (last ≤ i)
+          listed_or_later : (i < last) ⊎ (last ≤ i)
               → (is_member (xs ++ last ∷ []) i ≡ true) ⊎ ((next ≢ never) × (i ≤ next))
-          by_order (inl i_lt_last) =
-              inr (by_presence i_lt_last (cases_eq next never) (cases_lt next i))
-          by_order (inr last_le_i) =
+          listed_or_later (inl i_lt_last) =
+              inr (next_reaches_i i_lt_last (cases_eq next never) (cases_lt next i))
+          listed_or_later (inr last_le_i) =
               let i_is_last : i ≡ last = omega arith in
               inl (member_push xs last i ∙ ap (λ b. is_member xs i || b) (eq-eqb i last i_is_last)
               ∙ or-true (is_member xs i))
@@ -267,24 +214,24 @@ module _ (test : Statement → Bool) (db : List Statement) where
       same_tests (is_member xs i) (nat_lt i k && is_staying test db i k)
       (λ in_xs. let i_is_staying = is_walked.members_are_staying i in_xs in
       ap₂ (λ a b. a && b) (lt-ltb i k i_is_staying.0) i_is_staying.1)
-      (λ i_is_active. by_order i_is_active (cases_lt i k))
+      (λ i_is_active. active_is_in i_is_active (cases_lt i k))
       ∙ sym (active_member test db is_local k i)
     where
-      by_order : (nat_lt i k && is_staying test db i k) ≡ true → (i < k) ⊎ (k ≤ i) → is_member xs i
-          ≡ true
-      by_order i_is_active (inr i_order) =
+      active_is_in : (nat_lt i k && is_staying test db i k) ≡ true → (i < k) ⊎ (k ≤ i)
+          → is_member xs i ≡ true
+      active_is_in i_is_active (inr i_order) =
           absurd (true≢false
           (sym (and_parts (nat_lt i k) (is_staying test db i k) i_is_active).0
           ∙ le-ltb i k i_order))
-      by_order i_is_active (inl i_order) = by_membership (is_walked.staying_are_members i i_order
+      active_is_in i_is_active (inl i_order) = walked_has_i (is_walked.staying_are_members i i_order
           (and_parts (nat_lt i k) (is_staying test db i k) i_is_active).1)
         where
-          by_membership : (is_member xs i ≡ true) ⊎ ((last ≢ never) × (i ≤ last)) → is_member xs i
+          walked_has_i : (is_member xs i ≡ true) ⊎ ((last ≢ never) × (i ≤ last)) → is_member xs i
               ≡ true
-          by_membership (inl in_xs) = in_xs
-          by_membership (inr (last_ne_never, i_order)) = absurd (last_ne_never last_is_never)
+          walked_has_i (inl in_xs) = in_xs
+          walked_has_i (inr (last_ne_never, i_order)) = absurd (last_ne_never last_is_never)
 
--- a list of the latest statements stays such with the one at the next place
+-- a list of the latest statements stays such with that at the next statement
 pub each_latest_with_next : (test : Statement → Bool) (db : List Statement) (xs ys : List ℕ)
     (last k : ℕ)
     → length xs ≡ k + 1 → ys ≡ xs ++ last ∷ []
@@ -297,16 +244,16 @@ each_latest_with_next test db xs ys last k length_xs_is_next_k ys_are_pushed lat
     latest_at_next = record {
       count = ap length ys_are_pushed ∙ length-append xs (last ∷ [])
           ∙ ap (λ m. m + 1) length_xs_is_next_k;
-      each_is_latest = λ i i_lt_length. by_order i i_lt_length (cases_lt i (k + 1));
+      each_is_latest = λ i i_lt_length. latest_i i i_lt_length (cases_lt i (k + 1));
     }
   where
-    by_order : (i : ℕ) → i ≤ k + 1 → (i < k + 1) ⊎ (k + 1 ≤ i) → IsLatest test db i (get_or ys i 0)
-    by_order i i_le_next_k (inl i_order) =
+    latest_i : (i : ℕ) → i ≤ k + 1 → (i < k + 1) ⊎ (k + 1 ≤ i) → IsLatest test db i (get_or ys i 0)
+    latest_i i i_le_next_k (inl i_order) =
         subst (IsLatest test db i)
         (sym (ap (λ zs. get_or zs i 0) ys_are_pushed
         ∙ get_or_append_left xs (last ∷ []) 0 i (omega (arith, length_xs_is_next_k, i_order))))
         (latest_before i (omega arith))
-    by_order i i_le_next_k (inr i_order) =
+    latest_i i i_le_next_k (inr i_order) =
         let i_is_length_xs : i ≡ length xs =
         omega (arith, length_xs_is_next_k, i_le_next_k, i_order) in
         let i_is_next_k : i ≡ k + 1 = omega arith in

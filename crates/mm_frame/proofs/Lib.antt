@@ -3,8 +3,8 @@
 -- `open_candidate_is_latest` and `walked_is_active` (`LatestLaw.antt`) find the active `$e`,
 -- `found_are_mandatory_variables` the variables, and `hypotheses_are_mandatory`
 -- (`HypothesesLaw.antt`) the hypotheses. `has_symbol_with_disjoint` and `pairs_with_symbol`
--- (`ChainsLaw.antt`) give the `$d` by variables, with `have_blocks` of `mm_database`
--- `IsDisjointIndex`, and `pairs_are_mandatory_pairs` (`DisjointLaw.antt`) the pairs.
+-- (`ChainsLaw.antt`) give the `$d` by variables. With `have_blocks` of `mm_database` they give
+-- `IsDisjointIndex`. `pairs_are_mandatory_pairs` (`DisjointLaw.antt`) gives the pairs.
 -- (`SkipsLaw.antt`: the loops of `skips_of`; `LoopsLaw.antt`: one more element in the loops that
 -- collect.) The loop of `frames_of` adds to the frames by `frames_with_statement`
 -- (`FramesLaw.antt`). So `frame_tables_of` has `AreFrameTables`.

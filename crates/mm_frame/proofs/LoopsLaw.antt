@@ -1,7 +1,6 @@
 -- One more element in the loops that collect numbers and pairs.
-use Rattle.std.proofs.Common.{◌≡◌, ℕ, ◌+◌, ◌<◌, Bool, true, false, ◌&&◌, ◌||◌, not}
-use Rattle.std.proofs.Common.{List, [], ◌∷◌, ◌++◌, length, get_or, take, nat_eq}
-use Rattle.std.proofs.Common.{refl, sym, ap, ◌∙◌, arith}
+use Rattle.std.proofs.Common.{◌≡◌, ℕ, ◌+◌, ◌<◌, Bool, true, false, ◌&&◌, ◌||◌, not, List, [], ◌∷◌}
+use Rattle.std.proofs.Common.{◌++◌, length, get_or, take, nat_eq, refl, sym, ap, ◌∙◌, arith}
 use Rattle.std.proofs.lemmas.List.Folds.{list_any_more, list_any-append}
 use Rattle.std.proofs.Math.Bool.{or-false}
 use Rattle.std.specs.List.{list_any}
@@ -98,37 +97,38 @@ pub floats_with_open_float : (hs pushed : List ℕ) (f j : ℕ) (never is_open :
     → is_member pushed j ≡ (is_member hs j || (nat_eq j f && (not never && is_open)))
 floats_with_open_float hs pushed f j never is_open never_false is_open_true more_is_pushed =
     ap (λ xs. is_member xs j) more_is_pushed ∙ list_any-append (nat_eq j) hs (f ∷ [])
-    ∙ ap (λ z. is_member hs j || z) (by_values (nat_eq j f))
+    ∙ ap (λ z. is_member hs j || z) (or_false_is_and_true (nat_eq j f))
     ∙ ap (λ z. is_member hs j || (nat_eq j f && (not z && true))) (sym never_false)
     ∙ ap (λ z. is_member hs j || (nat_eq j f && (not never && z))) (sym is_open_true)
   where
-    by_values : (b : Bool) → (b || false) ≡ (b && true)
-    by_values true = refl
-    by_values false = refl
+    or_false_is_and_true : (b : Bool) → (b || false) ≡ (b && true)
+    or_false_is_and_true true = refl
+    or_false_is_and_true false = refl
 
 -- a `$f` whose block is closed isn't added
 pub floats_without_closed_float : (hs unchanged : List ℕ) (f j : ℕ) (never is_open : Bool)
     → is_open ≡ false → unchanged ≡ hs
     → is_member unchanged j ≡ (is_member hs j || (nat_eq j f && (not never && is_open)))
 floats_without_closed_float hs unchanged f j never is_open is_open_false unchanged_is_hs =
-    ap (λ xs. is_member xs j) unchanged_is_hs ∙ by_values (is_member hs j) (nat_eq j f) (not never)
+    ap (λ xs. is_member xs j) unchanged_is_hs ∙ adds_nothing (is_member hs j) (nat_eq j f)
+    (not never)
     ∙ ap (λ z. is_member hs j || (nat_eq j f && (not never && z))) (sym is_open_false)
   where
-    by_values : (a b c : Bool) → a ≡ (a || (b && (c && false)))
-    by_values true b c = refl
-    by_values false true true = refl
-    by_values false true false = refl
-    by_values false false c = refl
+    adds_nothing : (a b c : Bool) → a ≡ (a || (b && (c && false)))
+    adds_nothing true b c = refl
+    adds_nothing false true true = refl
+    adds_nothing false true false = refl
+    adds_nothing false false c = refl
 
 -- a variable without a `$f` adds none
 pub floats_without_float : (hs unchanged : List ℕ) (f j : ℕ) (never is_open : Bool) → never ≡ true
     → unchanged ≡ hs
     → is_member unchanged j ≡ (is_member hs j || (nat_eq j f && (not never && is_open)))
 floats_without_float hs unchanged f j never is_open never_true unchanged_is_hs =
-    ap (λ xs. is_member xs j) unchanged_is_hs ∙ by_values (is_member hs j) (nat_eq j f)
+    ap (λ xs. is_member xs j) unchanged_is_hs ∙ adds_nothing (is_member hs j) (nat_eq j f)
     ∙ ap (λ z. is_member hs j || (nat_eq j f && (not z && is_open))) (sym never_true)
   where
-    by_values : (a b : Bool) → a ≡ (a || (b && false))
-    by_values true b = refl
-    by_values false true = refl
-    by_values false false = refl
+    adds_nothing : (a b : Bool) → a ≡ (a || (b && false))
+    adds_nothing true b = refl
+    adds_nothing false true = refl
+    adds_nothing false false = refl

@@ -1,6 +1,5 @@
 -- Of two blocks that are open, the one that was opened first stays open for as long as the other.
-use Rattle.std.proofs.Common.{◌≡◌, ℕ, ◌<◌, ◌≤◌, true, List, arith, ◌⊎◌, inl}
-use Rattle.std.proofs.Common.{inr}
+use Rattle.std.proofs.Common.{◌≡◌, ℕ, ◌<◌, ◌≤◌, true, List, arith, ◌⊎◌, inl, inr}
 use Rattle.std.proofs.lemmas.Bool.{cases_lt}
 use Rattle.mm_spec.specs.Statement.{Statement}
 use Rattle.mm_spec.specs.Scope.{depth, is_block_open}
@@ -27,11 +26,12 @@ module _ (db : List Statement) where
       ((is_block_open_iff_in_block db j k j_le_k).0 j_is_open_at_k)))
     where
       in_both_blocks : InBlock db i j → InBlock db j k → InBlock db i k
-      in_both_blocks i_is_open_at_j j_block m i_le_m m_le_k = by_order (cases_lt j m)
+      in_both_blocks i_is_open_at_j j_block m i_le_m m_le_k = depth_le_m (cases_lt j m)
         where
-          by_order : (j < m) ⊎ (m ≤ j) → depth db i ≤ depth db m
-          by_order (inl m_order) = let depth_i_le_depth_j = i_is_open_at_j j i_lt_j (omega arith) in
+          depth_le_m : (j < m) ⊎ (m ≤ j) → depth db i ≤ depth db m
+          depth_le_m (inl m_order) =
+              let depth_i_le_depth_j = i_is_open_at_j j i_lt_j (omega arith) in
               let depth_j_le_depth_m = j_block m m_order m_le_k in
               omega
               (arith, depth_i_le_depth_j, depth_j_le_depth_m)
-          by_order (inr m_order) = i_is_open_at_j m i_le_m m_order
+          depth_le_m (inr m_order) = i_is_open_at_j m i_le_m m_order

@@ -18,7 +18,7 @@ use Rattle.std.proofs.lemmas.List.Kept.{Contains-from_dedup}
 use Rattle.std.proofs.lemmas.List.Sorted.{Contains-permutation, IsPermutation-sym}
 use Rattle.std.proofs.Math.Bool.{and-false, or-true}
 use Rattle.mm_spec.specs.Derivation.{Pair, pair, is_member}
-use Rattle.mm_spec.specs.Frame.{pairs_of}
+use Rattle.mm_spec.specs.Frame.{pairs_below}
 use Rattle.mm_spec.proofs.BoolLaw.{same_tests}
 use Rattle.mm_database.specs.Pairs.{has_pair, IsBefore, AreRising}
 
@@ -39,33 +39,33 @@ cmp_greater a b b_lt_a =
 
 -- a pair that compares as less is before the other
 less_is_before : (a b c d : ℕ) → ordering_then (nat_cmp a c) (nat_cmp b d) ≡ Less → IsBefore a b c d
-less_is_before a b c d is_less = by_order (cases_order a c) (cases_order b d)
+less_is_before a b c d is_less = is_before (cases_order a c) (cases_order b d)
   where
-    by_order : (a ≡ c) ⊎ ((a < c) ⊎ (c < a)) → (b ≡ d) ⊎ ((b < d) ⊎ (d < b)) → IsBefore a b c d
-    by_order (inr (inl a_lt_c)) b_order = inl a_lt_c
-    by_order (inl a_is_c) (inr (inl a_lt_c)) = inr (a_is_c, a_lt_c)
-    by_order (inl a_is_c) (inl b_is_d) =
+    is_before : (a ≡ c) ⊎ ((a < c) ⊎ (c < a)) → (b ≡ d) ⊎ ((b < d) ⊎ (d < b)) → IsBefore a b c d
+    is_before (inr (inl a_lt_c)) b_order = inl a_lt_c
+    is_before (inl a_is_c) (inr (inl a_lt_c)) = inr (a_is_c, a_lt_c)
+    is_before (inl a_is_c) (inl b_is_d) =
         absurd (let less_is_other =
         sym (ap₂ ordering_then (cmp_equal a c a_is_c) (cmp_equal b d b_is_d)) ∙ is_less in cc)
-    by_order (inl a_is_c) (inr (inr is_greater)) =
+    is_before (inl a_is_c) (inr (inr is_greater)) =
         absurd (let less_is_other =
         sym (ap₂ ordering_then (cmp_equal a c a_is_c) (cmp_greater b d is_greater)) ∙ is_less in
         cc)
-    by_order (inr (inr is_greater)) b_order =
+    is_before (inr (inr is_greater)) b_order =
         absurd (let less_is_other =
         sym (ap (λ o. ordering_then o (nat_cmp b d)) (cmp_greater a c is_greater))
         ∙ is_less in cc)
 
 -- numbers are equal exactly if they compare as equal
 eq_is_cmp_equal : (a b : ℕ) → nat_eq a b ≡ is_eq (nat_cmp a b)
-eq_is_cmp_equal a b = by_order (cases_order a b)
+eq_is_cmp_equal a b = tests_agree (cases_order a b)
   where
-    by_order : (a ≡ b) ⊎ ((a < b) ⊎ (b < a)) → nat_eq a b ≡ is_eq (nat_cmp a b)
-    by_order (inl a_is_b) = eq-eqb a b a_is_b ∙ sym (ap is_eq (cmp_equal a b a_is_b))
-    by_order (inr (inl a_lt_b)) =
+    tests_agree : (a ≡ b) ⊎ ((a < b) ⊎ (b < a)) → nat_eq a b ≡ is_eq (nat_cmp a b)
+    tests_agree (inl a_is_b) = eq-eqb a b a_is_b ∙ sym (ap is_eq (cmp_equal a b a_is_b))
+    tests_agree (inr (inl a_lt_b)) =
         ne_eqb a b (λ a_is_b_here. absurd (omega (arith, a_is_b_here, a_lt_b)))
         ∙ sym (ap is_eq (cmp_less a b a_lt_b))
-    by_order (inr (inr b_lt_a)) =
+    tests_agree (inr (inr b_lt_a)) =
         ne_eqb a b (λ a_is_b_here. absurd (omega (arith, a_is_b_here, b_lt_a)))
         ∙ sym (ap is_eq (cmp_greater a b b_lt_a))
 
@@ -91,18 +91,19 @@ sorted_is_rising (p ∷ ps) are_sorted = (
         → has_pair qs x y ≡ true → IsBefore p.0 p.1 x y
     before_all [] all_less x y has_pair_x_y = absurd (true≢false (sym has_pair_x_y))
     before_all (q ∷ qs) all_less x y has_pair_x_y =
-        by_head (nat_eq x q.0 && nat_eq y q.1) refl has_pair_x_y
+        p_is_before (nat_eq x q.0 && nat_eq y q.1) refl has_pair_x_y
         (before_all qs all_less.1 x y)
       where
-        by_head : (b : Bool) → (nat_eq x q.0 && nat_eq y q.1) ≡ b → (b || has_pair qs x y) ≡ true
+        p_is_before : (b : Bool) → (nat_eq x q.0 && nat_eq y q.1) ≡ b
+            → (b || has_pair qs x y) ≡ true
             → (has_pair qs x y ≡ true → IsBefore p.0 p.1 x y) → IsBefore p.0 p.1 x y
-        by_head true x_y_is_q has_pair_x_y rest_is_before =
+        p_is_before true x_y_is_q has_pair_x_y rest_is_before =
             let x_is_q0 = eqb-true x q.0 (and_parts (nat_eq x q.0) (nat_eq y q.1) x_y_is_q).0 in
             let y_is_q1 = eqb-true y q.1 (and_parts (nat_eq x q.0) (nat_eq y q.1) x_y_is_q).1 in
             less_is_before p.0 p.1 x y
             (ap₂ (λ i j. ordering_then (nat_cmp p.0 i) (nat_cmp p.1 j)) x_is_q0 y_is_q1
             ∙ all_less.0)
-        by_head false x_y_is_q has_pair_x_y rest_is_before = rest_is_before has_pair_x_y
+        p_is_before false x_y_is_q has_pair_x_y rest_is_before = rest_is_before has_pair_x_y
 
 -- sorted pairs rise once repetitions are left out
 pub deduped_is_rising : (xs ys : List (ℕ × ℕ)) → IsSorted pair_order xs → ys ≡ dedup same_pair xs
@@ -145,9 +146,9 @@ same_pair_is_equal p q pairs_are_same =
     (eqb-true p.1 q.1 (and_parts (nat_eq p.0 q.0) (nat_eq p.1 q.1) pairs_are_same).1)
 
 -- sorting and leaving out repetitions keeps the same pairs
-pub sort_and_dedup_same : (xs ys zs : List (ℕ × ℕ)) → IsPermutation xs ys → zs ≡ dedup same_pair ys
+pub sorting_keeps_pairs : (xs ys zs : List (ℕ × ℕ)) → IsPermutation xs ys → zs ≡ dedup same_pair ys
     → (x y : ℕ) → has_pair zs x y ≡ has_pair xs x y
-sort_and_dedup_same xs ys zs is_permutation zs_are_deduped x y =
+sorting_keeps_pairs xs ys zs is_permutation zs_are_deduped x y =
     ap (λ z. has_pair z x y) zs_are_deduped
     ∙ same_tests _ _
     (λ has_pair_z. has_pair_from_contains xs x y
@@ -212,18 +213,18 @@ not_before_each_other a b c d (inr (first_equal, lower)) (inr (first_equal_back,
 -- the front of a list, or one of those after
 in_first_or_rest : (p : Pair) (ps : List Pair) (x y : ℕ) → has_symbol_pair (p ∷ ps) x y ≡ true
     → ((x ≡ p.low) × (y ≡ p.high)) ⊎ (has_symbol_pair ps x y ≡ true)
-in_first_or_rest p ps x y in_list = by_head (nat_eq x p.low && nat_eq y p.high) refl in_list
+in_first_or_rest p ps x y in_list = first_or_rest (nat_eq x p.low && nat_eq y p.high) refl in_list
   where
-    by_head : (b : Bool) → (nat_eq x p.low && nat_eq y p.high) ≡ b
+    first_or_rest : (b : Bool) → (nat_eq x p.low && nat_eq y p.high) ≡ b
         → (b || has_symbol_pair ps x y) ≡ true
         → ((x ≡ p.low) × (y ≡ p.high)) ⊎ (has_symbol_pair ps x y ≡ true)
-    by_head true is_first in_list =
+    first_or_rest true is_first in_list =
         inl (
           eqb-true x p.low (and_parts (nat_eq x p.low) (nat_eq y p.high) is_first).0,
           eqb-true y p.high
               (and_parts (nat_eq x p.low) (nat_eq y p.high) is_first).1,
         )
-    by_head false is_first in_list = inr in_list
+    first_or_rest false is_first in_list = inr in_list
 
 -- a pair of the rest is in the list
 in_rest_is_in : (p : Pair) (ps : List Pair) (x y : ℕ) → has_symbol_pair ps x y ≡ true
@@ -297,55 +298,55 @@ pub has_filtered_pair : (t : Pair → Bool) (ps : List Pair) (x y : ℕ)
     → has_symbol_pair (filter t ps) x y ≡ (t (pair x y) && has_symbol_pair ps x y)
 has_filtered_pair t [] x y = sym (and-false (t (pair x y)))
 has_filtered_pair t (p ∷ ps) x y =
-    by_test (t p) refl (nat_eq x p.low && nat_eq y p.high) refl (has_filtered_pair t ps x y)
+    filtered_has (t p) refl (nat_eq x p.low && nat_eq y p.high) refl (has_filtered_pair t ps x y)
   where
     test_of_equal_pairs : (nat_eq x p.low && nat_eq y p.high) ≡ true → t (pair x y) ≡ t p
     test_of_equal_pairs pair_is_p =
         ap t (ap₂ pair (eqb-true x p.low (and_parts (nat_eq x p.low) (nat_eq y p.high) pair_is_p).0)
         (eqb-true y p.high (and_parts (nat_eq x p.low) (nat_eq y p.high) pair_is_p).1))
 
-    by_test : (b : Bool) → t p ≡ b → (c : Bool) → (nat_eq x p.low && nat_eq y p.high) ≡ c
+    filtered_has : (b : Bool) → t p ≡ b → (c : Bool) → (nat_eq x p.low && nat_eq y p.high) ≡ c
         → has_symbol_pair (filter t ps) x y ≡ (t (pair x y) && has_symbol_pair ps x y)
         → has_symbol_pair (cond b (p ∷ filter t ps) (filter t ps)) x y
         ≡ (t (pair x y) && (c || has_symbol_pair ps x y))
-    by_test true test_of_p true equality_is_c rest_has_filtered =
+    filtered_has true test_of_p true equality_is_c rest_has_filtered =
         ap (λ b. b || has_symbol_pair (filter t ps) x y) equality_is_c
         ∙ sym (ap (λ b. b && true) (test_of_equal_pairs equality_is_c ∙ test_of_p))
-    by_test true test_of_p false equality_is_c rest_has_filtered =
+    filtered_has true test_of_p false equality_is_c rest_has_filtered =
         ap (λ b. b || has_symbol_pair (filter t ps) x y) equality_is_c ∙ rest_has_filtered
-    by_test false test_of_p true equality_is_c rest_has_filtered =
+    filtered_has false test_of_p true equality_is_c rest_has_filtered =
         rest_has_filtered
         ∙ ap (λ b. b && has_symbol_pair ps x y) (test_of_equal_pairs equality_is_c ∙ test_of_p)
         ∙ sym (ap (λ b. b && true) (test_of_equal_pairs equality_is_c ∙ test_of_p))
-    by_test false test_of_p false equality_is_c rest_has_filtered = rest_has_filtered
+    filtered_has false test_of_p false equality_is_c rest_has_filtered = rest_has_filtered
 
 -- sorted pairs stay so when filtered
 pub filtered_are_sorted : (t : Pair → Bool) (ps : List Pair) → AreSorted ps
     → AreSorted (filter t ps)
 filtered_are_sorted t [] are_sorted = tt
-filtered_are_sorted t (p ∷ ps) are_sorted = by_test (t p) (filtered_are_sorted t ps are_sorted.1)
+filtered_are_sorted t (p ∷ ps) are_sorted = stays_so (t p) (filtered_are_sorted t ps are_sorted.1)
   where
-    by_test : (b : Bool) → AreSorted (filter t ps)
+    stays_so : (b : Bool) → AreSorted (filter t ps)
         → AreSorted (cond b (p ∷ filter t ps) (filter t ps))
-    by_test true rest_is_sorted = (
+    stays_so true rest_is_sorted = (
       λ x y has_filtered. are_sorted.0 x y
           (and_parts (t (pair x y)) (has_symbol_pair ps x y) (sym (has_filtered_pair t ps x y)
           ∙ has_filtered)).1,
       rest_is_sorted,
     )
-    by_test false rest_is_sorted = rest_is_sorted
+    stays_so false rest_is_sorted = rest_is_sorted
 
 -- a row has the pairs of its symbol with each symbol of the row
 has_pair_in_row : (c : ℕ) (xs : List ℕ) (x y : ℕ)
     → has_symbol_pair (map (pair c) xs) x y ≡ (nat_eq x c && is_member xs y)
 has_pair_in_row c [] x y = sym (and-false (nat_eq x c))
 has_pair_in_row c (z ∷ xs) x y =
-    ap (λ b. (nat_eq x c && nat_eq y z) || b) (has_pair_in_row c xs x y) ∙ by_values (nat_eq x c)
+    ap (λ b. (nat_eq x c && nat_eq y z) || b) (has_pair_in_row c xs x y) ∙ and_factors (nat_eq x c)
   where
-    by_values : (b : Bool)
+    and_factors : (b : Bool)
         → ((b && nat_eq y z) || (b && is_member xs y)) ≡ (b && (nat_eq y z || is_member xs y))
-    by_values true = refl
-    by_values false = refl
+    and_factors true = refl
+    and_factors false = refl
 
 -- the rows have the pairs of each symbol with each other one
 pub has_pair_in_rows : (ys xs : List ℕ) (x y : ℕ)
@@ -354,28 +355,28 @@ has_pair_in_rows ys [] x y = refl
 has_pair_in_rows ys (c ∷ xs) x y =
     list_any-append _ (map (pair c) ys) (flat_map (λ c. map (pair c) ys) xs)
     ∙ ap₂ (λ a b. a || b) (has_pair_in_row c ys x y) (has_pair_in_rows ys xs x y)
-    ∙ by_values (nat_eq x c) (is_member ys y)
+    ∙ and_factors (nat_eq x c) (is_member ys y)
   where
-    by_values : (a b : Bool) → ((a && b) || (is_member xs x && b)) ≡ ((a || is_member xs x) && b)
-    by_values true true = refl
-    by_values true false = right_is_false (is_member xs x)
+    and_factors : (a b : Bool) → ((a && b) || (is_member xs x && b)) ≡ ((a || is_member xs x) && b)
+    and_factors true true = refl
+    and_factors true false = right_is_false (is_member xs x)
       where
         right_is_false : (a : Bool) → (false || (a && false)) ≡ false
         right_is_false true = refl
         right_is_false false = refl
-    by_values false b = refl
+    and_factors false b = refl
 
 -- no number of a range is below its start
 start_le_member : (n a x : ℕ) → is_member (range_with_len a n) x ≡ true → a ≤ x
 start_le_member zero a x is_member_x = absurd (true≢false (sym is_member_x))
 start_le_member (suc n) a x is_member_x =
-    by_equality (nat_eq x a) refl is_member_x (start_le_member n (a + 1) x)
+    start_le_x (nat_eq x a) refl is_member_x (start_le_member n (a + 1) x)
   where
-    by_equality : (b : Bool) → nat_eq x a ≡ b → (b || is_member (range_with_len (a + 1) n) x) ≡ true
+    start_le_x : (b : Bool) → nat_eq x a ≡ b → (b || is_member (range_with_len (a + 1) n) x) ≡ true
         → (is_member (range_with_len (a + 1) n) x ≡ true → a + 1 ≤ x) → a ≤ x
-    by_equality true x_is_a is_member_x rest_le = let a_le_x = eqb-true x a x_is_a in
+    start_le_x true x_is_a is_member_x rest_le = let a_le_x = eqb-true x a x_is_a in
         omega (arith, a_le_x)
-    by_equality false x_is_a is_member_x rest_le = let a_le_x = rest_le is_member_x in
+    start_le_x false x_is_a is_member_x rest_le = let a_le_x = rest_le is_member_x in
         omega (arith, a_le_x)
 
 -- two sorted lists, one before the other, are sorted
@@ -385,18 +386,18 @@ appended_are_sorted : (ps qs : List Pair) → AreSorted ps → AreSorted qs
     → AreSorted (ps ++ qs)
 appended_are_sorted [] qs ps_sorted qs_sorted ps_before_qs = qs_sorted
 appended_are_sorted (p ∷ ps) qs ps_sorted qs_sorted ps_before_qs = (
-  λ x y has_either. by_membership x y (has_symbol_pair ps x y) refl
+  λ x y has_either. p_is_before x y (has_symbol_pair ps x y) refl
       (sym (list_any-append _ ps qs) ∙ has_either),
   appended_are_sorted ps qs ps_sorted.1 qs_sorted
       (λ a b x y has_either has_second. ps_before_qs a b x y
       (in_rest_is_in p ps a b has_either) has_second),
 )
   where
-    by_membership : (x y : ℕ) → (c : Bool) → has_symbol_pair ps x y ≡ c
+    p_is_before : (x y : ℕ) → (c : Bool) → has_symbol_pair ps x y ≡ c
         → (c || has_symbol_pair qs x y) ≡ true
         → IsBefore p.low p.high x y
-    by_membership x y true in_ps in_either = ps_sorted.0 x y in_ps
-    by_membership x y false in_ps in_either =
+    p_is_before x y true in_ps in_either = ps_sorted.0 x y in_ps
+    p_is_before x y false in_ps in_either =
         ps_before_qs p.low p.high x y (first_is_in p ps) in_either
 
 -- a row of pairs is sorted
@@ -432,5 +433,5 @@ rows_are_sorted m (suc n) a =
     inl (omega (arith, p_is_a, next_le_x)))
 
 -- the list of all pairs of numbers below n is sorted
-pub all_pairs_are_sorted : (n : ℕ) → AreSorted (pairs_of n)
+pub all_pairs_are_sorted : (n : ℕ) → AreSorted (pairs_below n)
 all_pairs_are_sorted n = rows_are_sorted n n 0

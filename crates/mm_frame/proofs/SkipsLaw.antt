@@ -10,15 +10,15 @@ use Rattle.mm_outline.specs.Blocks.{BlockLists, end_of}
 use Rattle.mm_database.specs.DisjointIndex.{IsCovered, Covers, AreSkips}
 
 module _ (b : BlockLists) (ps : List (ℕ × ℕ)) where
-  -- the pair at a place
+  -- the pair with an index
   abbrev pair_at : ℕ → ℕ × ℕ
   pair_at i = get_or ps i (0, 0)
 
-  -- the skips of the pairs before `at`
+  -- the skips of the pairs before index `index`
   abbrev pub AreSkipsSoFar : ℕ → List ℕ → Type 0
-  AreSkipsSoFar at skips =
-      (length skips ≡ at)
-      × ((q : ℕ) → q < at → (get_or skips q 0 ≤ q) × Covers b ps (get_or skips q 0) q)
+  AreSkipsSoFar index skips =
+      (length skips ≡ index)
+      × ((q : ℕ) → q < index → (get_or skips q 0 ≤ q) × Covers b ps (get_or skips q 0) q)
 
   -- a pair covers itself
   pub covers_itself : (q : ℕ) → Covers b ps q q
@@ -27,79 +27,79 @@ module _ (b : BlockLists) (ps : List (ℕ × ℕ)) where
       subst (λ i. IsCovered b (pair_at i) (pair_at q)) q_is_p (refl, omega arith)
 
   -- the pair before `first` is covered, and so are those which it covers
-  pub covers_before : (first at s : ℕ) → 0 < first → first ≤ at → Covers b ps first at
-      → (nat_eq (pair_at (first - 1)).0 (pair_at at).0
-      && nat_le (end_of b (pair_at (first - 1)).1) (end_of b (pair_at at).1)) ≡ true
-      → (s ≤ first - 1) × Covers b ps s (first - 1) → (s ≤ at) × Covers b ps s at
-  covers_before first at s first_positive first_le_at first_covers is_covered s_covers =
+  pub covers_before : (first index s : ℕ) → 0 < first → first ≤ index → Covers b ps first index
+      → (nat_eq (pair_at (first - 1)).0 (pair_at index).0
+      && nat_le (end_of b (pair_at (first - 1)).1) (end_of b (pair_at index).1)) ≡ true
+      → (s ≤ first - 1) × Covers b ps s (first - 1) → (s ≤ index) × Covers b ps s index
+  covers_before first index s first_positive first_le_index first_covers is_covered s_covers =
       let s_le_previous = s_covers.0 in (
-        omega (arith, first_positive, first_le_at, s_le_previous),
-        λ p s_le_p p_le_at. by_order p s_le_p p_le_at
+        omega (arith, first_positive, first_le_index, s_le_previous),
+        λ p s_le_p p_le_index. is_covered_at p s_le_p p_le_index
             (cases_lt p first),
       )
     where
-      parts : (nat_eq (pair_at (first - 1)).0 (pair_at at).0 ≡ true)
-          × (nat_le (end_of b (pair_at (first - 1)).1) (end_of b (pair_at at).1) ≡ true)
+      parts : (nat_eq (pair_at (first - 1)).0 (pair_at index).0 ≡ true)
+          × (nat_le (end_of b (pair_at (first - 1)).1) (end_of b (pair_at index).1) ≡ true)
       parts =
-          and_parts (nat_eq (pair_at (first - 1)).0 (pair_at at).0)
-          (nat_le (end_of b (pair_at (first - 1)).1) (end_of b (pair_at at).1)) is_covered
+          and_parts (nat_eq (pair_at (first - 1)).0 (pair_at index).0)
+          (nat_le (end_of b (pair_at (first - 1)).1) (end_of b (pair_at index).1)) is_covered
 
-      symbols_equal : (pair_at (first - 1)).0 ≡ (pair_at at).0
-      symbols_equal = eqb-true (pair_at (first - 1)).0 (pair_at at).0 parts.0
+      symbols_equal : (pair_at (first - 1)).0 ≡ (pair_at index).0
+      symbols_equal = eqb-true (pair_at (first - 1)).0 (pair_at index).0 parts.0
 
-      end_le_end : end_of b (pair_at (first - 1)).1 ≤ end_of b (pair_at at).1
-      end_le_end = leb-true (end_of b (pair_at (first - 1)).1) (end_of b (pair_at at).1) parts.1
+      end_le_end : end_of b (pair_at (first - 1)).1 ≤ end_of b (pair_at index).1
+      end_le_end = leb-true (end_of b (pair_at (first - 1)).1) (end_of b (pair_at index).1) parts.1
 
-      by_order : (p : ℕ) → s ≤ p → p ≤ at → (p < first) ⊎ (first ≤ p)
-          → IsCovered b (pair_at p) (pair_at at)
-      by_order p s_le_p p_le_at (inr p_order) = first_covers p p_order p_le_at
-      by_order p s_le_p p_le_at (inl p_order) =
+      is_covered_at : (p : ℕ) → s ≤ p → p ≤ index → (p < first) ⊎ (first ≤ p)
+          → IsCovered b (pair_at p) (pair_at index)
+      is_covered_at p s_le_p p_le_index (inr p_order) = first_covers p p_order p_le_index
+      is_covered_at p s_le_p p_le_index (inl p_order) =
           let p_is_covered = s_covers.1 p s_le_p (omega (arith, p_order)) in
           let p_end_le = p_is_covered.1 in
           (p_is_covered.0 ∙ symbols_equal, omega (arith, p_end_le, end_le_end))
 
   -- a skip that was found is no later than its pair
-  pub skip_covers : (at : ℕ) (skips : List ℕ) → AreSkipsSoFar at skips → (q r d : ℕ) → q < at
-      → r ≡ get_or skips q d → (r ≤ q) × Covers b ps r q
-  skip_covers at skips are_so_far q r d q_lt_at r_is_skip =
+  pub skip_covers : (index : ℕ) (skips : List ℕ) → AreSkipsSoFar index skips → (q r d : ℕ)
+      → q < index → r ≡ get_or skips q d → (r ≤ q) × Covers b ps r q
+  skip_covers index skips are_so_far q r d q_lt_index r_is_skip =
       let skips_length = are_so_far.0 in
       subst (λ s. (s ≤ q) × Covers b ps s q)
-      (sym (r_is_skip ∙ get_or_default_zero skips q d (omega (arith, q_lt_at, skips_length))))
-      (are_so_far.1 q q_lt_at)
+      (sym (r_is_skip ∙ get_or_default_zero skips q d (omega (arith, q_lt_index, skips_length))))
+      (are_so_far.1 q q_lt_index)
 
   -- the skips so far, with that of the next pair
-  pub skips_with_next : (at s : ℕ) (skips : List ℕ) → AreSkipsSoFar at skips
-      → (s ≤ at) × Covers b ps s at
-      → (pushed : List ℕ) → pushed ≡ skips ++ s ∷ [] → AreSkipsSoFar (at + 1) pushed
-  skips_with_next at s skips are_so_far s_covers pushed more_is_pushed = (
+  pub skips_with_next : (index s : ℕ) (skips : List ℕ) → AreSkipsSoFar index skips
+      → (s ≤ index) × Covers b ps s index
+      → (pushed : List ℕ) → pushed ≡ skips ++ s ∷ [] → AreSkipsSoFar (index + 1) pushed
+  skips_with_next index s skips are_so_far s_covers pushed more_is_pushed = (
     ap length more_is_pushed ∙ length-append skips (s ∷ []) ∙ ap (λ n. n + 1) are_so_far.0,
-    λ q q_lt_next. by_order q (cases_lt q at) q_lt_next,
+    λ q q_lt_next. is_skip q (cases_lt q index) q_lt_next,
   )
     where
-      by_order : (q : ℕ) → (q < at) ⊎ (at ≤ q) → q < at + 1
+      is_skip : (q : ℕ) → (q < index) ⊎ (index ≤ q) → q < index + 1
           → (get_or pushed q 0 ≤ q) × Covers b ps (get_or pushed q 0) q
-      by_order q (inl q_order) q_lt_next_at =
+      is_skip q (inl q_order) q_lt_next_index =
           let skips_length = are_so_far.0 in
           subst (λ x. (x ≤ q) × Covers b ps x q)
           (sym (ap (λ xs. get_or xs q 0) more_is_pushed
           ∙ get_or_append_left skips (s ∷ []) 0 q (omega (arith, q_order, skips_length))))
           (are_so_far.1 q q_order)
-      by_order q (inr q_order) q_lt_next_at =
-          let at_is_q : at ≡ q = omega (arith, q_order, q_lt_next_at) in
-          subst (λ j. (get_or pushed j 0 ≤ j) × Covers b ps (get_or pushed j 0) j) at_is_q
-          (subst (λ x. (x ≤ at) × Covers b ps x at)
-          (sym (ap (λ xs. get_or xs at 0) more_is_pushed
+      is_skip q (inr q_order) q_lt_next_index =
+          let index_is_q : index ≡ q = omega (arith, q_order, q_lt_next_index) in
+          subst (λ j. (get_or pushed j 0 ≤ j) × Covers b ps (get_or pushed j 0) j) index_is_q
+          (subst (λ x. (x ≤ index) × Covers b ps x index)
+          (sym (ap (λ xs. get_or xs index 0) more_is_pushed
           ∙ ap (λ j. get_or (skips ++ s ∷ []) j 0) (sym are_so_far.0)
           ∙ get_or-append_seam skips s [] 0)) s_covers)
 
   -- at the end the skips so far are all of them
-  pub so_far_are_skips : (at : ℕ) (skips : List ℕ) → AreSkipsSoFar at skips → at ≤ length ps
-      → length ps ≤ at → AreSkips b ps skips
-  so_far_are_skips at skips are_so_far at_le_length length_le_at = record {
+  pub so_far_are_skips : (index : ℕ) (skips : List ℕ) → AreSkipsSoFar index skips
+      → index ≤ length ps → length ps ≤ index → AreSkips b ps skips
+  so_far_are_skips index skips are_so_far index_le_length length_le_index = record {
     count = (let skips_length = are_so_far.0 in
-        omega (arith, skips_length, at_le_length, length_le_at));
+        omega (arith, skips_length, index_le_length, length_le_index));
     within = λ q q_lt_length.
-        (are_so_far.1 q (omega (arith, q_lt_length, at_le_length, length_le_at))).0;
+        (are_so_far.1 q (omega (arith, q_lt_length, index_le_length, length_le_index))).0;
     covers = λ q q_lt_length.
-        (are_so_far.1 q (omega (arith, q_lt_length, at_le_length, length_le_at))).1;
+        (are_so_far.1 q (omega (arith, q_lt_length, index_le_length, length_le_index))).1;
   }

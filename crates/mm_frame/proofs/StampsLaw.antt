@@ -63,45 +63,45 @@ fresh_stamps_mark_none n k stamps variables length_is_n stamps_le_k variables_ar
 -- a symbol that has been noted already, one that is new, and one that is no variable
 pub listed_with_new : (v : ℕ → Bool) (s x : ℕ) (b : Bool) → v s ≡ true
     → (b || nat_eq x s) ≡ (b || (v x && nat_eq x s))
-listed_with_new v s x b s_is_variable = by_equality (cases_eq x s)
+listed_with_new v s x b s_is_variable = tests_agree (cases_eq x s)
   where
-    by_equality : (x ≡ s) ⊎ (x ≢ s) → (b || nat_eq x s) ≡ (b || (v x && nat_eq x s))
-    by_equality (inl x_order) =
+    tests_agree : (x ≡ s) ⊎ (x ≢ s) → (b || nat_eq x s) ≡ (b || (v x && nat_eq x s))
+    tests_agree (inl x_order) =
         ap (λ a. b || (a && nat_eq x s)) (sym (ap v x_order ∙ s_is_variable))
-    by_equality (inr x_order) =
+    tests_agree (inr x_order) =
         ap (λ a. b || a) (ne_eqb x s x_order)
         ∙ sym (ap (λ a. b || a) (ap (λ a. v x && a) (ne_eqb x s x_order) ∙ and-false (v x)))
 
 -- a symbol that is already listed changes nothing
 pub listed_is_unchanged : (v m : ℕ → Bool) (s x : ℕ) → m s ≡ true
     → m x ≡ (m x || (v x && nat_eq x s))
-listed_is_unchanged v m s x s_is_listed = by_equality (cases_eq x s)
+listed_is_unchanged v m s x s_is_listed = tests_agree (cases_eq x s)
   where
     right_false : (a b : Bool) → a ≡ (a || (b && false))
     right_false true b = refl
     right_false false true = refl
     right_false false false = refl
 
-    by_equality : (x ≡ s) ⊎ (x ≢ s) → m x ≡ (m x || (v x && nat_eq x s))
-    by_equality (inl x_order) = let x_is_listed = ap m x_order ∙ s_is_listed in
+    tests_agree : (x ≡ s) ⊎ (x ≢ s) → m x ≡ (m x || (v x && nat_eq x s))
+    tests_agree (inl x_order) = let x_is_listed = ap m x_order ∙ s_is_listed in
         x_is_listed ∙ sym (ap (λ a. a || (v x && nat_eq x s)) x_is_listed)
-    by_equality (inr x_order) =
+    tests_agree (inr x_order) =
         right_false (m x) (v x) ∙ ap (λ a. m x || (v x && a)) (sym (ne_eqb x s x_order))
 
 -- a symbol that is no variable changes nothing
 pub not_listed_is_unchanged : (v m : ℕ → Bool) (s x : ℕ) → v s ≡ false
     → m x ≡ (m x || (v x && nat_eq x s))
-not_listed_is_unchanged v m s x s_is_no_variable = by_equality (cases_eq x s)
+not_listed_is_unchanged v m s x s_is_no_variable = tests_agree (cases_eq x s)
   where
     right_false : (a b : Bool) → a ≡ (a || (b && false))
     right_false true b = refl
     right_false false true = refl
     right_false false false = refl
 
-    by_equality : (x ≡ s) ⊎ (x ≢ s) → m x ≡ (m x || (v x && nat_eq x s))
-    by_equality (inl x_order) = sym (or-false (m x))
+    tests_agree : (x ≡ s) ⊎ (x ≢ s) → m x ≡ (m x || (v x && nat_eq x s))
+    tests_agree (inl x_order) = sym (or-false (m x))
         ∙ ap (λ a. m x || (a && nat_eq x s)) (sym (ap v x_order ∙ s_is_no_variable))
-    by_equality (inr x_order) =
+    tests_agree (inr x_order) =
         right_false (m x) (v x) ∙ ap (λ a. m x || (v x && a)) (sym (ne_eqb x s x_order))
 
 -- a variable is among the found ones and those of the row with one symbol more
@@ -111,13 +111,13 @@ listed_row false false t e = refl
 listed_row false true t e = refl
 
 -- a symbol with this stamp has been found
-pub stamped_is_member : (n stamp : ℕ) (stamps variables : List ℕ) (s place r : ℕ)
+pub stamped_is_member : (n stamp : ℕ) (stamps variables : List ℕ) (s index r : ℕ)
     → AreStamps n stamp stamps variables
-    → s < n → place ≡ s → r ≡ get_or stamps place r → r ≡ stamp → is_member variables s ≡ true
-stamped_is_member n stamp stamps variables s place r are_stamps s_lt_n place_is_s r_is_stamp_of_s
+    → s < n → index ≡ s → r ≡ get_or stamps index r → r ≡ stamp → is_member variables s ≡ true
+stamped_is_member n stamp stamps variables s index r are_stamps s_lt_n index_is_s r_is_stamp_of_s
     r_is_stamp =
     sym (are_stamps.marked_is_member s s_lt_n)
     ∙ eq-eqb (get_or stamps s 0) stamp
     (sym (get_or_default_zero stamps s r (let stamps_count = are_stamps.count in
     omega (arith, s_lt_n, stamps_count)))
-    ∙ ap (λ i. get_or stamps i r) (sym place_is_s) ∙ sym r_is_stamp_of_s ∙ r_is_stamp)
+    ∙ ap (λ i. get_or stamps i r) (sym index_is_s) ∙ sym r_is_stamp_of_s ∙ r_is_stamp)

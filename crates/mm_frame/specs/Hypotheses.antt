@@ -8,14 +8,14 @@ use Rattle.mm_spec.specs.Scope.{is_block_open}
 use Rattle.mm_outline.specs.Blocks.{never}
 use Rattle.mm_database.specs.ParsedStatements.{typed_variable_at}
 
--- the symbols with this stamp are those that have been found
+-- of n symbols those with this stamp are the variables that have been found
 pub record AreStamps (n stamp : ℕ) (stamps variables : List ℕ) : Type 0 where
   pub count : length stamps ≡ n
   pub stamps_le_stamp : (x : ℕ) → x < n → slice_index stamps x ≤ stamp
   pub marked_is_member : (x : ℕ) → x < n
       → nat_eq (slice_index stamps x) stamp ≡ is_member variables x
 
--- no symbol has a later stamp
+-- none of n symbols has a later stamp
 pub record IsFresh (n stamp : ℕ) (stamps : List ℕ) : Type 0 where
   pub count : length stamps ≡ n
   pub stamps_le_stamp : (x : ℕ) → x < n → slice_index stamps x ≤ stamp

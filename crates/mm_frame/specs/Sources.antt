@@ -5,9 +5,8 @@ use Rattle.mm_frame.specs.Latest.{AreLatest}
 use Rattle.mm_database.specs.ParsedStatements.{IsSound}
 use Rattle.mm_frame.specs.declared.sources.FrameSources.{FrameSources}
 
--- the statements are sound, and the latest `$e` and the index of the `$d` are theirs
 module _ {A : Type 0} where
-  -- the tables from which frames are made are those of one database
+  -- the statements are sound, and the latest `$e` and the index of the `$d` are theirs
   pub record AreSources (s : FrameSources A) : Type 0 where
     pub sound : IsSound s.statements.now.list
     pub essentials_are : AreLatest is_essential s.statements.now.list s.essentials.now

@@ -11,24 +11,24 @@ use std::alloc::{AllocError, Allocator};
 
 /// Returns the last `$e` that is active at the statement `at`, or `NEVER`. No `$e` after the
 /// candidate is active there, so it goes back from `candidate`.
-fn last_open<A: Allocator>(
+fn latest_essential<A: Allocator>(
     statements: &Statements<A>,
     latest: &[u32],
     candidate: u32,
     at: u32,
 ) -> u32
-    requires at { at ≤ length statements.now.list }
-    requires long { at ≤ length latest.now }
-    requires latest { (k : ℕ) → k < at
+    requires at_le_length { at ≤ length statements.now.list }
+    requires at_le_latest { at ≤ length latest.now }
+    requires are_latest { (k : ℕ) → k < at
         → IsLatest is_essential statements.now.list k (slice_index latest.now k) }
-    requires candidate { IsCandidate is_essential statements.now.list at candidate }
+    requires is_candidate { IsCandidate is_essential statements.now.list at candidate }
     ensures { IsLatest is_essential statements.now.list at result }
 {
-    let mut last = candidate;
-    while last != NEVER && !statements.is_open_at(last, at) {
-        last = latest[last as usize];
+    let mut essential = candidate;
+    while essential != NEVER && !statements.is_open_at(essential, at) {
+        essential = latest[essential as usize];
     }
-    last
+    essential
 }
 
 /// Returns, for each statement and for the end, the last `$e` that is active there, or `NEVER`.
@@ -46,8 +46,8 @@ pub(crate) fn latest_essentials<A: Allocator + Copy>(
         } else {
             latest[statement as usize]
         };
-        let last = last_open(statements, &latest, candidate, statement + 1);
-        latest.push(last)?;
+        let essential = latest_essential(statements, &latest, candidate, statement + 1);
+        latest.push(essential)?;
     }
     Ok(latest)
 }
@@ -59,18 +59,18 @@ pub(crate) fn active_essentials<A: Allocator>(
     at: u32,
     into: &mut Vec<u32, A>,
 ) -> Result<(), AllocError>
-    requires at { at ≤ length statements.now.list }
-    requires latest { AreLatest is_essential statements.now.list latest.now }
+    requires at_le_length { at ≤ length statements.now.list }
+    requires are_latest { AreLatest is_essential statements.now.list latest.now }
     ensures { OnOk result
         ((i : ℕ)
         → is_member into.new.items i
         ≡ is_member (active_of is_essential statements.now.list at) i) }
 {
     into.clear();
-    let mut last = latest[at as usize];
-    while last != NEVER {
-        into.push(last)?;
-        last = latest[last as usize];
+    let mut essential = latest[at as usize];
+    while essential != NEVER {
+        into.push(essential)?;
+        essential = latest[essential as usize];
     }
     Ok(())
 }

@@ -30,15 +30,15 @@ impl<A: Allocator> Drop for Chains<A> {
     }
 }
 
-/// Whether the chain from a link on begins with the statement.
-fn begins_with(links: &[(u32, usize)], number: usize, statement: u32) -> bool
-    requires { number ≤ length links.now }
-    ensures some { result ≡ true
-        → (0 < number) × ((get_or links.now (number - 1) (0, 0)).0 ≡ statement) }
-    ensures none { result ≡ false → 0 < number
-        → (get_or links.now (number - 1) (0, 0)).0 ≢ statement }
+/// Whether the chain from the link with the number `link` on begins with the statement.
+fn begins_with(links: &[(u32, usize)], link: usize, statement: u32) -> bool
+    requires { link ≤ length links.now }
+    ensures begins_if_true { result ≡ true
+        → (0 < link) × ((get_or links.now (link - 1) (0, 0)).0 ≡ statement) }
+    ensures differs_if_false { result ≡ false → 0 < link
+        → (get_or links.now (link - 1) (0, 0)).0 ≢ statement }
 {
-    number > 0 && links[number - 1].0 == statement
+    link > 0 && links[link - 1].0 == statement
 }
 
 /// Puts the statement in front of the symbol's chain, unless it is there already.
@@ -47,11 +47,12 @@ fn add_link<A: Allocator>(
     statement: u32,
     chains: &mut Chains<A>,
 ) -> Result<(), AllocError>
-    requires symbol { symbol < length chains.old.heads.items }
-    requires linked { AreLinked chains.old.heads.items chains.old.links.items }
-    ensures count { OnOk result (length chains.new.heads.items ≡ length chains.old.heads.items) }
-    ensures linked { OnOk result (AreLinked chains.new.heads.items chains.new.links.items) }
-    ensures chains { OnOk result
+    requires symbol_lt_count { symbol < length chains.old.heads.items }
+    requires are_linked { AreLinked chains.old.heads.items chains.old.links.items }
+    ensures head_count_stays { OnOk result
+        (length chains.new.heads.items ≡ length chains.old.heads.items) }
+    ensures are_linked { OnOk result (AreLinked chains.new.heads.items chains.new.links.items) }
+    ensures adds_in_front { OnOk result
         (AddsInFront (λ x. nat_eq x symbol) statement chains.old chains.new) }
 {
     let index = symbol.number() as usize;
@@ -69,11 +70,12 @@ fn add_links<A: Allocator>(
     statement: u32,
     chains: &mut Chains<A>,
 ) -> Result<(), AllocError>
-    requires symbols { All (λ s. s < length chains.old.heads.items) symbols.now }
-    requires linked { AreLinked chains.old.heads.items chains.old.links.items }
-    ensures count { OnOk result (length chains.new.heads.items ≡ length chains.old.heads.items) }
-    ensures linked { OnOk result (AreLinked chains.new.heads.items chains.new.links.items) }
-    ensures chains { OnOk result
+    requires symbols_lt_count { All (λ s. s < length chains.old.heads.items) symbols.now }
+    requires are_linked { AreLinked chains.old.heads.items chains.old.links.items }
+    ensures head_count_stays { OnOk result
+        (length chains.new.heads.items ≡ length chains.old.heads.items) }
+    ensures are_linked { OnOk result (AreLinked chains.new.heads.items chains.new.links.items) }
+    ensures adds_in_front { OnOk result
         (AddsInFront (is_member symbols.now) statement chains.old chains.new) }
 {
     for symbol in symbols {
@@ -87,12 +89,12 @@ fn chains_of<A: Allocator + Copy>(
     alloc: A,
     statements: &Statements<A>,
 ) -> Result<Chains<A>, AllocError>
-    ensures count { IfOk result
+    ensures head_count_is { IfOk result
         (λ c. length c.heads.items ≡ length (symbol_names statements.now.list)) }
-    ensures all { IfOk result
+    ensures symbols_have_heads { IfOk result
         (λ c. (x j : ℕ) → has_symbol statements.now.list x j ≡ true → x < length c.heads.items) }
-    ensures linked { IfOk result (λ c. AreLinked c.heads.items c.links.items) }
-    ensures chains { IfOk result
+    ensures are_linked { IfOk result (λ c. AreLinked c.heads.items c.links.items) }
+    ensures are_chains { IfOk result
         (λ c. AreChains (has_symbol statements.now.list) 0 c.heads.items c.links.items) }
 {
     let heads = vec![in alloc; 0; statements.symbol_count() as usize]?;
@@ -114,24 +116,24 @@ fn chains_of<A: Allocator + Copy>(
 fn add_chain<A: Allocator>(
     chains: &Chains<A>,
     symbol: u32,
-    pairs: &mut Vec<(u32, u32), A>,
+    by_symbol: &mut Vec<(u32, u32), A>,
 ) -> Result<(), AllocError>
-    requires symbol { symbol < length chains.now.heads.items }
-    requires linked { AreLinked chains.now.heads.items chains.now.links.items }
+    requires symbol_lt_count { symbol < length chains.now.heads.items }
+    requires are_linked { AreLinked chains.now.heads.items chains.now.links.items }
     ensures { OnOk result
         ((statements : List ℕ) → IsChainOf chains.now symbol statements
-        → pairs.new.items ≡ pairs.old.items ++ map (λ j. (symbol, j)) statements) }
+        → by_symbol.new.items ≡ by_symbol.old.items ++ map (λ j. (symbol, j)) statements) }
 {
-    let mut number = chains.heads[symbol as usize];
-    while number > 0 {
-        let (statement, next) = chains.links[number - 1];
-        pairs.push((symbol, statement))?;
-        number = next;
+    let mut link = chains.heads[symbol as usize];
+    while link > 0 {
+        let (statement, next) = chains.links[link - 1];
+        by_symbol.push((symbol, statement))?;
+        link = next;
     }
     Ok(())
 }
 
-/// Returns each symbol with each `$d` that has it, in ascending order.
+/// Returns for each symbol and each `$d` that has it the two, the symbol first, in ascending order.
 pub(crate) fn pairs_by_symbol<A: Allocator + Copy>(
     alloc: A,
     statements: &Statements<A>,
@@ -141,9 +143,9 @@ pub(crate) fn pairs_by_symbol<A: Allocator + Copy>(
         ≡ has_symbol statements.now.list x j) }
 {
     let chains = chains_of(alloc, statements)?;
-    let mut pairs = Vec::with_capacity(alloc, chains.links.len())?;
+    let mut by_symbol = Vec::with_capacity(alloc, chains.links.len())?;
     for symbol in 0..statements.symbol_count() {
-        add_chain(&chains, symbol, &mut pairs)?;
+        add_chain(&chains, symbol, &mut by_symbol)?;
     }
-    Ok(pairs)
+    Ok(by_symbol)
 }

@@ -1,7 +1,6 @@
 //! The mandatory pairs of disjoint variables of assertions.
 
-ghost use Rattle.std.specs.Prelude.{◌≡◌, ◌<◌, ◌&&◌, ◌||◌, ℕ, OnOk, IfOk, length, get_or};
-ghost use Rattle.std.specs.Prelude.{map};
+ghost use Rattle.std.specs.Prelude.{◌≡◌, ◌<◌, ◌&&◌, ◌||◌, ℕ, OnOk, IfOk, length, get_or, map};
 ghost use Rattle.std.specs.List.{list_any};
 ghost use Rattle.mm_spec.specs.Derivation.{is_member, pair};
 ghost use Rattle.mm_spec.specs.Frame.{mandatory_variables, mandatory_pairs};
@@ -24,7 +23,7 @@ fn add_later_pairs<A: Allocator>(
     pairs: &mut Vec<(u32, u32), A>,
 ) -> Result<(), AllocError>
     requires rising { AreRising by_statement.now }
-    requires index { index < length by_statement.now }
+    requires index_lt_length { index < length by_statement.now }
     ensures { OnOk result
         ((x y : ℕ)
         → has_pair pairs.new.items x y
@@ -40,7 +39,7 @@ fn add_later_pairs<A: Allocator>(
 }
 
 /// Appends all pairs of variables that are in the same statement, the lower variable first.
-/// `by_statement` has statements, each paired with variables that it has.
+/// `by_statement` has pairs of a statement and a variable that it has.
 fn add_together<A: Allocator>(
     by_statement: &[(u32, u32)],
     pairs: &mut Vec<(u32, u32), A>,
@@ -58,25 +57,25 @@ fn add_together<A: Allocator>(
     Ok(())
 }
 
-/// Appends the `$d` that are active at the statement `at`, each paired with those of the symbols
-/// that it has.
+/// Appends each `$d` that is active at the statement `at`, paired with each of the symbols that it
+/// has: the `$d` first.
 fn add_all_active<A: Allocator>(
     blocks: &Blocks<A>,
     disjoint_index: &DisjointIndex<A>,
     symbols: &[Sym],
     at: u32,
-    into: &mut Vec<(u32, u32), A>,
+    by_statement: &mut Vec<(u32, u32), A>,
 ) -> Result<(), AllocError>
     requires ordered { IsOrdered blocks.now disjoint_index.now }
     ensures { OnOk result
         ((j y : ℕ)
-        → has_pair into.new.items j y
-        ≡ (has_pair into.old.items j y
+        → has_pair by_statement.new.items j y
+        ≡ (has_pair by_statement.old.items j y
         || (is_member symbols.now y
-        && (has_pair disjoint_index.now.pairs y j && is_active_local blocks.now j at)))) }
+        && (has_pair disjoint_index.now.by_symbol y j && is_active_local blocks.now j at)))) }
 {
     for symbol in symbols {
-        add_active(blocks, disjoint_index, *symbol, at, into)?;
+        add_active(blocks, disjoint_index, *symbol, at, by_statement)?;
     }
     Ok(())
 }
@@ -108,9 +107,9 @@ pub(crate) fn mandatory_pairs<A: Allocator + Copy>(
     variables_by_statement: &mut Vec<(u32, u32), A>,
     pairs_by_statement: &mut Vec<(u32, u32), A>,
 ) -> Result<Vec<(Sym, Sym), A>, AllocError>
-    requires sources { AreSources sources.now }
-    requires assertion { assertion < length sources.now.statements.now.list }
-    requires variables { (x : ℕ)
+    requires are_sources { AreSources sources.now }
+    requires assertion_lt_length { assertion < length sources.now.statements.now.list }
+    requires are_mandatory { (x : ℕ)
         → is_member variables.now x
         ≡ is_member (mandatory_variables sources.now.statements.now.list assertion) x }
     ensures { IfOk result

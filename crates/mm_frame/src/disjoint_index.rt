@@ -3,8 +3,7 @@
 ghost use Rattle.std.specs.Prelude.{◌≡◌, ◌<◌, ◌+◌, ◌-◌, ◌&&◌, ℕ, IfOk};
 ghost use Rattle.std.specs.Prelude.{length, get_or, nat_eq, nat_le};
 ghost use Rattle.mm_outline.specs.Blocks.{end_of};
-ghost use Rattle.mm_database.specs.DisjointIndex.{HaveBlocks, AreSkips};
-ghost use Rattle.mm_database.specs.DisjointIndex.{IsDisjointIndex};
+ghost use Rattle.mm_database.specs.DisjointIndex.{HaveBlocks, AreSkips, IsDisjointIndex};
 ghost use Rattle.mm_database.specs.Pairs.{has_pair, AreRising};
 ghost use Rattle.mm_database.specs.Starts.{AreStarts};
 
@@ -18,7 +17,7 @@ use std::alloc::{AllocError, Allocator};
 /// Sorts the pairs, and removes duplicates.
 pub(crate) fn sort_and_dedup_pairs<A: Allocator>(pairs: &mut Vec<(u32, u32), A>)
     ensures rising { AreRising pairs.new.items }
-    ensures same { (x y : ℕ) → has_pair pairs.new.items x y ≡ has_pair pairs.old.items x y }
+    ensures members_stay { (x y : ℕ) → has_pair pairs.new.items x y ≡ has_pair pairs.old.items x y }
 {
     pairs.sort_unstable();
     pairs.dedup();
@@ -26,9 +25,9 @@ pub(crate) fn sort_and_dedup_pairs<A: Allocator>(pairs: &mut Vec<(u32, u32), A>)
 
 /// Whether `pair` has the symbol of the pair `covering`, and a block that ends no later.
 fn is_covered<A: Allocator>(blocks: &Blocks<A>, pair: (u32, u32), covering: (u32, u32)) -> bool
-    requires pair { (pair.1 < length blocks.now.block_of)
+    requires pair_has_block { (pair.1 < length blocks.now.block_of)
         × (get_or blocks.now.block_of pair.1 0 < length blocks.now.ends) }
-    requires covering { (covering.1 < length blocks.now.block_of)
+    requires covering_has_block { (covering.1 < length blocks.now.block_of)
         × (get_or blocks.now.block_of covering.1 0 < length blocks.now.ends) }
     ensures { result
         ≡ (nat_eq pair.0 covering.0
@@ -41,15 +40,17 @@ fn is_covered<A: Allocator>(blocks: &Blocks<A>, pair: (u32, u32), covering: (u32
 fn skips_of<A: Allocator + Copy>(
     alloc: A,
     blocks: &Blocks<A>,
-    pairs: &[(u32, u32)],
+    by_symbol: &[(u32, u32)],
 ) -> Result<Vec<usize, A>, AllocError>
-    requires known { HaveBlocks blocks.now pairs.now }
-    ensures { IfOk result (λ v. AreSkips blocks.now pairs.now v.items) }
+    requires all_have_blocks { HaveBlocks blocks.now by_symbol.now }
+    ensures { IfOk result (λ v. AreSkips blocks.now by_symbol.now v.items) }
 {
     let mut skips = Vec::new(alloc);
-    for index in 0..pairs.len() {
+    for index in 0..by_symbol.len() {
         let mut covered_from = index;
-        while covered_from > 0 && is_covered(blocks, pairs[covered_from - 1], pairs[index]) {
+        while covered_from > 0
+            && is_covered(blocks, by_symbol[covered_from - 1], by_symbol[index])
+        {
             covered_from = skips[covered_from - 1];
         }
         skips.push(covered_from)?;
@@ -60,14 +61,14 @@ fn skips_of<A: Allocator + Copy>(
 /// Returns for each symbol up to the last that has pairs the number of pairs of symbols before it.
 fn starts_of<A: Allocator + Copy>(
     alloc: A,
-    pairs: &[(u32, u32)],
+    by_symbol: &[(u32, u32)],
 ) -> Result<Vec<usize, A>, AllocError>
-    requires { AreRising pairs.now }
-    ensures { IfOk result (λ v. AreStarts pairs.now v.items) }
+    requires { AreRising by_symbol.now }
+    ensures { IfOk result (λ v. AreStarts by_symbol.now v.items) }
 {
     let mut starts = Vec::new(alloc);
-    for index in 0..pairs.len() {
-        while starts.len() <= pairs[index].0 as usize {
+    for index in 0..by_symbol.len() {
+        while starts.len() <= by_symbol[index].0 as usize {
             starts.push(index)?;
         }
     }
@@ -82,8 +83,8 @@ pub(crate) fn disjoint_index_of<A: Allocator + Copy>(
     ensures { IfOk result
         (λ m. IsDisjointIndex statements.now.list statements.now.blocks m) }
 {
-    let pairs = pairs_by_symbol(alloc, statements)?;
-    let skips = skips_of(alloc, statements.blocks(), &pairs)?;
-    let starts = starts_of(alloc, &pairs)?;
-    Ok(DisjointIndex::new(pairs, skips, starts))
+    let by_symbol = pairs_by_symbol(alloc, statements)?;
+    let skips = skips_of(alloc, statements.blocks(), &by_symbol)?;
+    let starts = starts_of(alloc, &by_symbol)?;
+    Ok(DisjointIndex::new(by_symbol, skips, starts))
 }

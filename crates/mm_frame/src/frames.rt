@@ -23,8 +23,8 @@ use std::alloc::{AllocError, Allocator};
 
 /// Returns a list that has `value` the given number of times.
 fn filled<A: Allocator + Copy>(alloc: A, value: u32, count: u32) -> Result<Vec<u32, A>, AllocError>
-    ensures count { IfOk result (λ v. length v.items ≡ count) }
-    ensures each { IfOk result (λ v. (i : ℕ) → i < count → slice_index v.items i ≡ value) }
+    ensures length_is { IfOk result (λ v. length v.items ≡ count) }
+    ensures each_is_value { IfOk result (λ v. (i : ℕ) → i < count → slice_index v.items i ≡ value) }
 {
     vec![in alloc; value; count as usize]
 }
@@ -35,9 +35,9 @@ fn set_last_float<A: Allocator>(
     statement: u32,
     last_floats: &mut Vec<u32, A>,
 )
-    requires sound { IsSound statements.now.list }
-    requires statement { statement < length statements.now.list }
-    requires last_floats { AreLastFloats statements.now.list statement last_floats.old.items }
+    requires is_sound { IsSound statements.now.list }
+    requires statement_lt_length { statement < length statements.now.list }
+    requires are_last_floats { AreLastFloats statements.now.list statement last_floats.old.items }
     ensures { AreLastFloats statements.now.list (statement + 1) last_floats.new.items }
 {
     if let Some(variable) = statements.typed_variable(statement) {
@@ -52,7 +52,7 @@ struct Scratch<A: Allocator> {
     /// The mandatory variables.
     variables: Vec<Sym, A>,
     /// The mandatory hypotheses.
-    hyps: Vec<u32, A>,
+    hypotheses: Vec<u32, A>,
     /// The active `$d` of the mandatory variables, each paired with those of them that it has.
     variables_by_statement: Vec<(u32, u32), A>,
     /// The pairs of mandatory variables that are together in one of these `$d`.
@@ -65,7 +65,7 @@ impl<A: Allocator> Drop for Scratch<A> {
         let Self {
             stamps: _,
             variables: _,
-            hyps: _,
+            hypotheses: _,
             variables_by_statement: _,
             pairs_by_statement: _,
         } = self;
@@ -89,14 +89,14 @@ fn frame_of<A: Allocator + Copy>(
     assertion: u32,
     scratch: &mut Scratch<A>,
 ) -> Result<Frame<A>, AllocError>
-    requires sources { AreSources sources.now }
-    requires assertion { assertion < length sources.now.statements.now.list }
-    requires ready { AreReady sources.now.statements.now.list assertion last_floats.now
+    requires are_sources { AreSources sources.now }
+    requires assertion_lt_length { assertion < length sources.now.statements.now.list }
+    requires are_ready { AreReady sources.now.statements.now.list assertion last_floats.now
         scratch.old.stamps.items }
-    ensures stamps { OnOk result
+    ensures are_fresh { OnOk result
         (IsFresh (length (symbol_names sources.now.statements.now.list)) (assertion + 1)
         scratch.new.stamps.items) }
-    ensures frame { IfOk result
+    ensures frame_is { IfOk result
         (λ f. mandatory_in f ≡ mandatory_at sources.now.statements.now.list assertion) }
 {
     list_hypotheses(
@@ -105,9 +105,9 @@ fn frame_of<A: Allocator + Copy>(
         assertion,
         &mut scratch.stamps,
         &mut scratch.variables,
-        &mut scratch.hyps,
+        &mut scratch.hypotheses,
     )?;
-    let hyps = copied(alloc, &scratch.hyps)?;
+    let hypotheses = copied(alloc, &scratch.hypotheses)?;
     let pairs = mandatory_pairs(
         alloc,
         sources,
@@ -116,7 +116,10 @@ fn frame_of<A: Allocator + Copy>(
         &mut scratch.variables_by_statement,
         &mut scratch.pairs_by_statement,
     )?;
-    Ok(Frame { hyps, pairs })
+    Ok(Frame {
+        hyps: hypotheses,
+        pairs,
+    })
 }
 
 /// Adds a statement, with its frame if it is an assertion.
@@ -128,15 +131,16 @@ fn add_frame<A: Allocator + Copy>(
     scratch: &mut Scratch<A>,
     frames: &mut Frames<A>,
 ) -> Result<(), AllocError>
-    requires sources { AreSources sources.now }
-    requires statement { statement < length sources.now.statements.now.list }
-    requires ready { AreReady sources.now.statements.now.list statement last_floats.now
+    requires are_sources { AreSources sources.now }
+    requires statement_lt_length { statement < length sources.now.statements.now.list }
+    requires are_ready { AreReady sources.now.statements.now.list statement last_floats.now
         scratch.old.stamps.items }
-    requires frames { frames.old ≡ frames_before sources.now.statements.now.list statement }
-    ensures stamps { OnOk result
+    requires are_frames_before { frames.old
+        ≡ frames_before sources.now.statements.now.list statement }
+    ensures are_fresh { OnOk result
         (IsFresh (length (symbol_names sources.now.statements.now.list)) (statement + 1)
         scratch.new.stamps.items) }
-    ensures frames { OnOk result
+    ensures frame_is_added { OnOk result
         (frames.new ≡ frames_before sources.now.statements.now.list (statement + 1)) }
 {
     if sources.statements.is_assertion(statement) {
@@ -168,7 +172,7 @@ pub(crate) fn frames_of<A: Allocator + Copy>(
     let mut scratch = Scratch {
         stamps: filled(alloc, 0, statements.symbol_count())?,
         variables: Vec::new(alloc),
-        hyps: Vec::new(alloc),
+        hypotheses: Vec::new(alloc),
         variables_by_statement: Vec::new(alloc),
         pairs_by_statement: Vec::new(alloc),
     };

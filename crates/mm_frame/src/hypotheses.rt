@@ -26,13 +26,13 @@ fn add_variable<A: Allocator>(
     stamps: &mut Vec<u32, A>,
     variables: &mut Vec<Sym, A>,
 ) -> Result<(), AllocError>
-    requires symbol { symbol < length (symbol_names statements.now.list) }
-    requires stamps { AreStamps
+    requires symbol_lt_count { symbol < length (symbol_names statements.now.list) }
+    requires are_stamps { AreStamps
         (length (symbol_names statements.now.list)) stamp stamps.old.items variables.old.items }
-    ensures stamps { OnOk result
+    ensures are_stamps { OnOk result
         (AreStamps (length (symbol_names statements.now.list)) stamp stamps.new.items
         variables.new.items) }
-    ensures variables { OnOk result
+    ensures variable_is_added { OnOk result
         ((x : ℕ)
         → is_member variables.new.items x
         ≡ (is_member variables.old.items x ||
@@ -56,13 +56,14 @@ fn add_variables<A: Allocator>(
     stamps: &mut Vec<u32, A>,
     variables: &mut Vec<Sym, A>,
 ) -> Result<(), AllocError>
-    requires symbols { All (λ s. s < length (symbol_names statements.now.list)) symbols.now }
-    requires stamps { AreStamps
+    requires symbols_lt_count { All
+        (λ s. s < length (symbol_names statements.now.list)) symbols.now }
+    requires are_stamps { AreStamps
         (length (symbol_names statements.now.list)) stamp stamps.old.items variables.old.items }
-    ensures stamps { OnOk result
+    ensures are_stamps { OnOk result
         (AreStamps (length (symbol_names statements.now.list)) stamp stamps.new.items
         variables.new.items) }
-    ensures variables { OnOk result
+    ensures variables_are_added { OnOk result
         ((x : ℕ)
         → is_member variables.new.items x
         ≡ (is_member variables.old.items x
@@ -83,17 +84,17 @@ fn list_mandatory_variables<A: Allocator>(
     stamps: &mut Vec<u32, A>,
     variables: &mut Vec<Sym, A>,
 ) -> Result<(), AllocError>
-    requires few { length statements.now.list < 2 ^ 31 }
-    requires assertion { assertion < length statements.now.list }
-    requires essentials { (i : ℕ)
+    requires few_statements { length statements.now.list < 2 ^ 31 }
+    requires assertion_lt_length { assertion < length statements.now.list }
+    requires are_active { (i : ℕ)
         → is_member essentials.now i
         ≡ is_member (active_of is_essential statements.now.list assertion) i }
-    requires fresh { IsFresh
+    requires are_fresh { IsFresh
         (length (symbol_names statements.now.list)) assertion stamps.old.items }
-    ensures stamps { OnOk result
+    ensures are_stamps { OnOk result
         (AreStamps (length (symbol_names statements.now.list))
         (assertion + 1) stamps.new.items variables.new.items) }
-    ensures variables { OnOk result
+    ensures are_mandatory { OnOk result
         ((x : ℕ)
         → is_member variables.new.items x
         ≡ is_member (mandatory_variables statements.now.list assertion) x) }
@@ -124,22 +125,23 @@ fn add_floats<A: Allocator>(
     last_floats: &[u32],
     at: u32,
     variables: &[Sym],
-    hyps: &mut Vec<u32, A>,
+    hypotheses: &mut Vec<u32, A>,
 ) -> Result<(), AllocError>
-    requires at { at ≤ length statements.now.list }
-    requires last_floats { AreLastFloats statements.now.list at last_floats.now }
-    requires variables { All (λ s. s < length (symbol_names statements.now.list)) variables.now }
+    requires at_le_length { at ≤ length statements.now.list }
+    requires are_last_floats { AreLastFloats statements.now.list at last_floats.now }
+    requires variables_lt_count { All
+        (λ s. s < length (symbol_names statements.now.list)) variables.now }
     ensures { OnOk result
         ((j : ℕ)
-        → is_member hyps.new.items j
-        ≡ (is_member hyps.old.items j
+        → is_member hypotheses.new.items j
+        ≡ (is_member hypotheses.old.items j
         || list_any (is_float_of statements.now.list at last_floats.now j) variables.now)) }
 {
     for symbol in variables {
         let floating = last_floats[symbol.number() as usize];
         if floating != NEVER {
             if statements.is_open_at(floating, at) {
-                hyps.push(floating)?;
+                hypotheses.push(floating)?;
             }
         }
     }
@@ -149,13 +151,13 @@ fn add_floats<A: Allocator>(
 /// Sorts the numbers in ascending order, and removes duplicates.
 fn sort_and_dedup_numbers<A: Allocator>(numbers: &mut Vec<u32, A>)
     ensures rising { IsStrictlyIncreasing numbers.new.items }
-    ensures same { (a : ℕ) → is_member numbers.new.items a ≡ is_member numbers.old.items a }
+    ensures members_stay { (a : ℕ) → is_member numbers.new.items a ≡ is_member numbers.old.items a }
 {
     numbers.sort_unstable();
     numbers.dedup();
 }
 
-/// Lists the mandatory hypotheses of an assertion in `hyps` and its mandatory variables in
+/// Lists the mandatory hypotheses of an assertion in `hypotheses` and its mandatory variables in
 /// `variables`, and marks these variables. Replaces what the two lists have.
 pub(crate) fn list_hypotheses<A: Allocator>(
     sources: &FrameSources<A>,
@@ -163,26 +165,26 @@ pub(crate) fn list_hypotheses<A: Allocator>(
     assertion: u32,
     stamps: &mut Vec<u32, A>,
     variables: &mut Vec<Sym, A>,
-    hyps: &mut Vec<u32, A>,
+    hypotheses: &mut Vec<u32, A>,
 ) -> Result<(), AllocError>
-    requires sources { AreSources sources.now }
-    requires assertion { assertion < length sources.now.statements.now.list }
-    requires ready { AreReady sources.now.statements.now.list assertion last_floats.now
+    requires are_sources { AreSources sources.now }
+    requires assertion_lt_length { assertion < length sources.now.statements.now.list }
+    requires are_ready { AreReady sources.now.statements.now.list assertion last_floats.now
         stamps.old.items }
-    ensures stamps { OnOk result
+    ensures are_stamps { OnOk result
         (AreStamps (length (symbol_names sources.now.statements.now.list))
         (assertion + 1) stamps.new.items variables.new.items) }
-    ensures variables { OnOk result
+    ensures variables_are_mandatory { OnOk result
         ((x : ℕ)
         → is_member variables.new.items x
         ≡ is_member (mandatory_variables sources.now.statements.now.list assertion) x) }
-    ensures hyps { OnOk result
-        (hyps.new.items ≡ mandatory_hypotheses sources.now.statements.now.list assertion) }
+    ensures hypotheses_are_mandatory { OnOk result
+        (hypotheses.new.items ≡ mandatory_hypotheses sources.now.statements.now.list assertion) }
 {
     let statements = sources.statements;
-    active_essentials(statements, sources.essentials, assertion, hyps)?;
-    list_mandatory_variables(statements, hyps, assertion, stamps, variables)?;
-    add_floats(statements, last_floats, assertion, variables, hyps)?;
-    sort_and_dedup_numbers(hyps);
+    active_essentials(statements, sources.essentials, assertion, hypotheses)?;
+    list_mandatory_variables(statements, hypotheses, assertion, stamps, variables)?;
+    add_floats(statements, last_floats, assertion, variables, hypotheses)?;
+    sort_and_dedup_numbers(hypotheses);
     Ok(())
 }

@@ -8,8 +8,7 @@ essential_is_cited db t a cites_a = (
   cites_a.0,
   cites_a.1,
   cites_a.2,
-  (node_label_iff_member db cites_a.1 a).1 (node_label_is_member db true cites_a.1
-      a cites_a.3),
+  (node_label_iff_member db cites_a.1 a).1 (node_label_is_member db true cites_a.1 a cites_a.3),
 )
 
 pub each_label_is_cited : EachLabelIsCited
@@ -19,7 +18,6 @@ each_label_is_cited db t a = (
     is_label_of_proof.0,
     is_label_of_proof.1,
     is_label_of_proof.2,
-    (node_label_iff_member db
-        is_label_of_proof.1 a).1 is_label_of_proof.3,
+    (node_label_iff_member db is_label_of_proof.1 a).1 is_label_of_proof.3,
   ),
 )

@@ -1,22 +1,23 @@
 -- The stack is exact in both directions, and the labels determine the forest.
 use Rattle.std.proofs.Common.{◌≡◌, ℕ, suc, ◌+◌, ◌-◌, true, List, [], ◌∷◌, ◌++◌}
 use Rattle.std.proofs.Common.{map, length, take, drop, Option, Some, None, Ok, Err, nat_le}
-use Rattle.std.proofs.Common.{sym, ap, ap₂, ◌∙◌, subst, append-nil, arith, ◌↔◌, le-leb}
+use Rattle.std.proofs.Common.{sym, ap, ap₂, ◌∙◌, subst, append-nil, arith, le-leb}
 use Rattle.std.specs.List.{list_all}
 use Rattle.std.proofs.lemmas.Bool.{false_from_ne_true, lt-leb}
-use Rattle.mm_spec.specs.Derivation.{Formula, Rule, hypothesis, assertion, Context, Substitution}
+use Rattle.mm_spec.specs.Derivation.{Formula, Referent, hypothesis, assertion, Context}
+use Rattle.mm_spec.specs.Derivation.{Substitution}
 use Rattle.mm_spec.specs.Derivation.{substitute, are_all_disjoint, Trees, none, formulas, postfix}
 use Rattle.mm_spec.specs.Derivation.{AreDerivations}
 use Rattle.mm_spec.specs.Limits.{formula_limit}
 use Rattle.mm_spec.specs.Valid.{Reason, too_few, unmatched, not_disjoint, too_long, Fails}
 use Rattle.mm_spec.proofs.UnifyLaw.{tested_equal_are_equal, found_gives_formula}
 use Rattle.mm_spec.proofs.UnifyLaw.{found_keeps_disjoint}
-use Rattle.mm_spec.specs.Laws.Stack.{substitution_from, IsCompleteRule, step, apply, unless_failed}
+use Rattle.mm_spec.specs.Laws.Stack.{substitution_from, IsCompleteReferent, label_entries, apply}
+use Rattle.mm_spec.specs.Laws.Stack.{unless_failed}
 use Rattle.mm_spec.specs.Laws.Stack.{unless_too_long}
 use Rattle.mm_spec.proofs.MachineLaw.{proceed, run, AreGood, forest_is_run}
 use Rattle.mm_spec.proofs.MachineLaw.{good_append_is_good_parts, found_matches_if_any}
-use Rattle.mm_spec.proofs.MachineLaw.{run_has_outcome}
-use Rattle.mm_spec.proofs.MachineLaw.{RunOutcome, StoppedRun}
+use Rattle.mm_spec.proofs.MachineLaw.{StoppedRun}
 
 -- the labels are the postfix list of a forest of derivations
 abbrev pub IsPostfixOfForest : Context → List ℕ → Type 0
@@ -24,9 +25,9 @@ IsPostfixOfForest c labels = (forest : Trees) × AreDerivations c forest × (pos
 
 module _ (c : Context) where
   -- a step that fails stops the run, for that reason
-  pub step_stops_if_fails : (r : Option Rule) (es : List Formula) (reason : Reason)
-      → IsCompleteRule c r
-      → Fails c r es reason → step c r es ≡ Err reason
+  pub step_stops_if_fails : (r : Option Referent) (es : List Formula) (reason : Reason)
+      → IsCompleteReferent c r
+      → Fails c r es reason → label_entries c r es ≡ Err reason
   step_stops_if_fails None es too_few is_complete fails = absurd fails
   step_stops_if_fails None es unmatched is_complete fails = absurd fails
   step_stops_if_fails None es not_disjoint is_complete fails = absurd fails
@@ -67,8 +68,7 @@ module _ (c : Context) where
       (nat_le (length (substitute c σ a.formula)) formula_limit)
       (take n es ++ substitute c σ a.formula ∷ []))
       (le-leb (length a.hypotheses) (length es) fails.1)
-      (found_matches_if_any c a ps fails.0 is_complete
-      fails.2)
+      (found_matches_if_any c a ps fails.0 is_complete fails.2)
       ∙ ap (λ k. unless_failed true true k
       (nat_le (length (substitute c σ a.formula)) formula_limit)
       (take n es ++ substitute c σ a.formula ∷ [])) (disjoint_tests_equal
@@ -94,8 +94,7 @@ module _ (c : Context) where
       (nat_le (length (substitute c σ a.formula)) formula_limit)
       (take n es ++ substitute c σ a.formula ∷ []))
       (le-leb (length a.hypotheses) (length es) fails.1)
-      (found_matches_if_any c a ps fails.0 is_complete
-      fails.2)
+      (found_matches_if_any c a ps fails.0 is_complete fails.2)
       ∙ ap₂ (λ k s. unless_failed true true k s (take n es ++ substitute c σ a.formula ∷ []))
       (disjoint_tests_equal ∙ fails.3)
       (ap (λ f. nat_le (length f) formula_limit) formulas_equal ∙ lt-leb _ _ fails.4)
@@ -108,20 +107,6 @@ module _ (c : Context) where
       in
       ap (λ x. run c 0 x []) (sym labels_are ∙ sym (append-nil (postfix forest)))
       ∙ forest_is_run c forest derives postfix_is_good 0 [] []
-
-  -- a run over the labels succeeds exactly if they are the postfix list of a forest of derivations
-  pub run_succeeds_exactly_on_forests : (ls : List ℕ) → AreGood c ls
-      → IsPostfixOfForest c ls ↔ ((out : List Formula) × (run c 0 ls [] ≡ Ok out))
-  run_succeeds_exactly_on_forests ls are_good = (
-    λ is_postfix. (
-      formulas is_postfix.0,
-      run_of_forest ls are_good is_postfix.0 is_postfix.1
-          is_postfix.2,
-    ),
-    λ runs. let outcome = subst (RunOutcome c none ls) runs.1
-        (run_has_outcome c ls none 0 tt are_good) in
-        (outcome.0, outcome.1, outcome.2),
-  )
 
   -- a run stops exactly where a label fails after a forest of derivations, and that tells the place
   -- and the reason
@@ -146,7 +131,7 @@ module _ (c : Context) where
       stopped.after) []
       ∙ ap (λ r. proceed r (0 + length (postfix stopped.reached))
       (run c (suc (0 + length (postfix stopped.reached))) stopped.after))
-      (step_stops_if_fails (c.rule stopped.label) (formulas stopped.reached) reason
+      (step_stops_if_fails (c.referent stopped.label) (formulas stopped.reached) reason
       parts_are_good.1.0 stopped.fails)
       ∙ ap (λ index. Err (record { at = index; reason = reason })) indices_equal
 

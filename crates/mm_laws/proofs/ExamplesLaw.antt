@@ -14,7 +14,7 @@ use Rattle.mm_spec.specs.Frame.{symbol_names, frame_at}
 use Rattle.mm_spec.specs.Steps.{label, placed}
 use Rattle.mm_spec.specs.Citation.{context_at, steps_at, IsValid}
 use Rattle.mm_spec.specs.Report.{cells, report, citation_report, line, refusal}
-use Rattle.mm_spec.specs.Request.{Request, plain}
+use Rattle.mm_spec.specs.Request.{Request, without_options}
 use Rattle.mm_spec.specs.declared.Form.{Form}
 use Rattle.mm_spec.specs.declared.Form.TheVariants.{One, Two}
 use Rattle.mm_laws.proofs.ReaderLaw.{lexed, statements}
@@ -179,7 +179,7 @@ refusal_in_line_2 = refl
 
 -- the request of all sections, with the matrix in this form
 abbrev all_sections : Form → Request
-all_sections form = record plain { form = form }
+all_sections form = record without_options { form = form }
 
 report_of_wi2 : report (all_sections One) None (codes "wi" ∷ codes "ax-1" ∷ [])
     (record { label = codes "wi2"; marks = true ∷ false ∷ [] } ∷ [])

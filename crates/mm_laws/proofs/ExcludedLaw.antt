@@ -1,76 +1,60 @@
 -- Steps of which one fails have no derivation.
-use Rattle.std.proofs.Common.{◌≡◌, ℕ, List, [], ◌∷◌, ◌++◌, refl, sym, ap, ◌∙◌, subst, append-nil}
+use Rattle.std.proofs.Common.{◌≡◌, ℕ, List, [], ◌∷◌, ◌++◌, refl, ap, ◌∙◌, subst}
 use Rattle.std.proofs.Common.{append_assoc}
 use Rattle.mm_spec.specs.Derivation.{Context, formulas, postfix}
 use Rattle.mm_spec.specs.Steps.{Step, label, marked}
-use Rattle.mm_spec.specs.Valid.{Reason, StepFails, Adds, Plain}
+use Rattle.mm_spec.specs.Valid.{Reason, StepFails, Expands}
 use Rattle.mm_spec.specs.Laws.Complete.{HasCompleteFrame}
 use Rattle.mm_spec.proofs.MachineLaw.{AreGood}
 use Rattle.mm_spec.proofs.StepsLaw.{forest_labels_are_good, StoppedSteps}
-use Rattle.mm_spec.proofs.CheckedLaw.{plain_lists_are_equal}
+use Rattle.mm_spec.proofs.CheckedLaw.{expansion_grows, expansions_are_equal}
 use Rattle.mm_laws.proofs.ExactLaw.{IsPostfixOfForest, stopped_no_forest}
 
-module _ (c : Context) (all_complete : (l : ℕ) → HasCompleteFrame c (c.rule l)) where
-  -- the plain list only grows
-  adds_at_end : (lists : List (List ℕ)) (labels : List ℕ) (s : Step) (new_labels : List ℕ)
-      → Adds c lists labels s new_labels → (added : List ℕ) × (new_labels ≡ labels ++ added)
-  adds_at_end lists labels (label l) new_labels adds = (l ∷ [], adds)
-  adds_at_end lists labels (marked j) new_labels adds = (adds.1, adds.4)
-
-  plain_extends : (steps : List Step) (lists : List (List ℕ)) (labels all_labels : List ℕ)
-      → Plain c lists labels steps all_labels → (added : List ℕ) × (all_labels ≡ labels ++ added)
-  plain_extends [] lists labels all_labels plain = ([], plain ∙ sym (append-nil labels))
-  plain_extends (s ∷ steps) lists labels all_labels plain =
-      let extended = adds_at_end lists labels s plain.0 plain.1 in
-      let extended_again = plain_extends steps (lists ++ plain.0 ∷ []) plain.0 all_labels plain.2 in (
-        extended.0 ++ extended_again.0,
-        extended_again.1 ∙ ap (λ z. z ++ extended_again.0) extended.1
-            ∙ append_assoc labels extended.0 extended_again.0,
-      )
-
-  -- the plain list of a front
-  plain_splits : (front steps : List Step) (lists : List (List ℕ)) (labels all_labels : List ℕ)
-      → Plain c lists labels (front ++ steps) all_labels
-      → (mid : List ℕ) × (later_lists : List (List ℕ)) × Plain c lists labels front mid
-      × Plain c later_lists mid steps all_labels
-  plain_splits [] steps lists labels all_labels plain = (labels, lists, refl, plain)
-  plain_splits (s ∷ front) steps lists labels all_labels plain =
-      let rest_splits = plain_splits front steps (lists ++ plain.0 ∷ []) plain.0 all_labels plain.2
-      in
-      (rest_splits.0, rest_splits.1, (plain.0, plain.1, rest_splits.2), rest_splits.3)
+module _ (c : Context) (all_complete : (l : ℕ) → HasCompleteFrame c (c.referent l)) where
+  -- the expansion of a front
+  expansion_splits : (front steps : List Step) (lists : List (List ℕ)) (labels all_labels : List ℕ)
+      → Expands c lists labels (front ++ steps) all_labels
+      → (mid : List ℕ) × (later_lists : List (List ℕ)) × Expands c lists labels front mid
+      × Expands c later_lists mid steps all_labels
+  expansion_splits [] steps lists labels all_labels expands = (labels, lists, refl, expands)
+  expansion_splits (s ∷ front) steps lists labels all_labels expands =
+      let rest_splits =
+      expansion_splits front steps (lists ++ expands.0 ∷ []) expands.0 all_labels expands.2 in
+      (rest_splits.0, rest_splits.1, (expands.0, expands.1, rest_splits.2), rest_splits.3)
 
   -- a step that fails leaves no forest for the whole
   pub excludes : (steps : List Step) (reason : Reason) (all_labels : List ℕ)
-      → StoppedSteps c [] [] steps reason → Plain c [] [] steps all_labels
+      → StoppedSteps c [] [] steps reason → Expands c [] [] steps all_labels
       → ¬ IsPostfixOfForest c all_labels
-  excludes steps reason all_labels stopped plain forest = by_step stopped.first stopped.fails
-      plain_parts.3
+  excludes steps reason all_labels stopped expands forest = excluded_by_step stopped.failing
+      stopped.fails
+      split.3
     where
-      plain_parts : (mid : List ℕ) × (later_lists : List (List ℕ)) × Plain c [] [] stopped.before
+      split : (mid : List ℕ) × (later_lists : List (List ℕ)) × Expands c [] [] stopped.before
           mid
-          × Plain c later_lists mid (stopped.first ∷ stopped.after) all_labels
-      plain_parts =
-          plain_splits stopped.before (stopped.first ∷ stopped.after) [] [] all_labels
-          (subst (λ x. Plain c [] [] x all_labels) stopped.splits plain)
+          × Expands c later_lists mid (stopped.failing ∷ stopped.after) all_labels
+      split =
+          expansion_splits stopped.before (stopped.failing ∷ stopped.after) [] [] all_labels
+          (subst (λ x. Expands c [] [] x all_labels) stopped.splits expands)
 
-      by_step : (first_step : Step) → StepFails c first_step (formulas stopped.forest) reason
-          → Plain c plain_parts.1 plain_parts.0 (first_step ∷ stopped.after) all_labels → ⊥
-      by_step (marked j) fails plain_of_rest = fails
-      by_step (label l) fails plain_of_rest =
-          let extension = plain_extends stopped.after (plain_parts.1 ++ plain_of_rest.0 ∷ [])
-          plain_of_rest.0 all_labels plain_of_rest.2 in
-          let all_labels_are : all_labels ≡ plain_parts.0 ++ l ∷ extension.0 =
-          extension.1 ∙ ap (λ z. z ++ extension.0) plain_of_rest.1
-          ∙ append_assoc plain_parts.0 (l ∷ []) extension.0 in
-          let labels_are : postfix stopped.forest ≡ plain_parts.0 =
+      excluded_by_step : (first_step : Step) → StepFails c first_step (formulas stopped.forest) reason
+          → Expands c split.1 split.0 (first_step ∷ stopped.after) all_labels → ⊥
+      excluded_by_step (marked j) fails rest_expansion = fails
+      excluded_by_step (label l) fails rest_expansion =
+          let extension = expansion_grows c stopped.after (split.1 ++ rest_expansion.0 ∷ [])
+          rest_expansion.0 all_labels rest_expansion.2 in
+          let all_labels_are : all_labels ≡ split.0 ++ l ∷ extension.0 =
+          extension.1 ∙ ap (λ z. z ++ extension.0) rest_expansion.1
+          ∙ append_assoc split.0 (l ∷ []) extension.0 in
+          let labels_are : postfix stopped.forest ≡ split.0 =
           stopped.labels_are
-          ∙ plain_lists_are_equal c all_complete stopped.before [] [] stopped.labels plain_parts.0
-          stopped.plain
-          plain_parts.2 in
+          ∙ expansions_are_equal c all_complete stopped.before [] [] stopped.labels split.0
+          stopped.expansion
+          split.2 in
           stopped_no_forest c all_labels reason
           (subst (AreGood c) forest.2 (forest_labels_are_good c all_complete forest.0 forest.1))
           (record {
-            before = plain_parts.0;
+            before = split.0;
             label = l;
             after = extension.0;
             splits = all_labels_are;

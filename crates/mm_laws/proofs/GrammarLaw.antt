@@ -18,7 +18,8 @@ use Rattle.mm_spec.specs.Readings.{Reading, reading, with_tokens, bytes_of}
 use Rattle.mm_spec.specs.Laws.Readings.{append_reading}
 use Rattle.mm_laws.specs.Grammar.{Lexeme, Single, Comment, LastComment, IsLexeme, IsLastComment}
 use Rattle.mm_laws.specs.Grammar.{AreCommentWords}
-use Rattle.mm_laws.specs.Grammar.{words_in, words_in_last_comment, tokens_in, IsWellBegun, IsFirstFaultyWord}
+use Rattle.mm_laws.specs.Grammar.{words_in, words_in_last_comment, tokens_in, IsWellBegun}
+use Rattle.mm_laws.specs.Grammar.{IsFirstFaultyWord}
 use Rattle.mm_laws.specs.Grammar.{IsReading}
 use Rattle.mm_spec.proofs.ReadingsLaw.{reading_opening, reading_closing, reading_comment}
 use Rattle.mm_spec.proofs.ReadingsLaw.{reading_faulty, reading_end, reading_of_token}
@@ -55,12 +56,12 @@ closing_is_no_comment_word word closes = rw (dollar_and_byte 0x29 word closes) r
 
 comment_word_is_no_closing : (word : List ℕ) → is_comment_word word ≡ true
     → closes_comment word ≡ false
-comment_word_is_no_closing word is_comment = by_closes (closes_comment word) refl
+comment_word_is_no_closing word is_comment = not_closing_by_test (closes_comment word) refl
   where
-    by_closes : (b : Bool) → closes_comment word ≡ b → closes_comment word ≡ false
-    by_closes true closes = absurd (true≢false (sym is_comment
+    not_closing_by_test : (b : Bool) → closes_comment word ≡ b → closes_comment word ≡ false
+    not_closing_by_test true closes = absurd (true≢false (sym is_comment
         ∙ closing_is_no_comment_word word closes))
-    by_closes false no_closing = no_closing
+    not_closing_by_test false no_closing = no_closing
 
 -- the role that a word of each class has
 role_is_token : (word : List ℕ) → is_token word ≡ true → role_of false word ≡ roles.Token
@@ -92,24 +93,26 @@ data RoleInside (word : List ℕ) : Type 0 where
 
 role_outside : (word : List ℕ) → RoleOutside word
 unfolding role_of
-role_outside word = by_tests (is_token word) (opens_comment word) refl refl
+role_outside word = role_outside_by_tests (is_token word) (opens_comment word) refl refl
   where
-    by_tests : (a b : Bool) → is_token word ≡ a → opens_comment word ≡ b → RoleOutside word
-    by_tests true b is_token_word opens = token is_token_word (rw is_token_word refl)
-    by_tests false true not_token opens = opening opens (rw (not_token, opens) refl)
-    by_tests false false not_token no_opening = RoleOutside.neither (rw (not_token, no_opening)
-        refl)
+    role_outside_by_tests : (a b : Bool) → is_token word ≡ a → opens_comment word ≡ b
+        → RoleOutside word
+    role_outside_by_tests true b is_token_word opens = token is_token_word (rw is_token_word refl)
+    role_outside_by_tests false true not_token opens = opening opens (rw (not_token, opens) refl)
+    role_outside_by_tests false false not_token no_opening = RoleOutside.neither
+        (rw (not_token, no_opening) refl)
 
 role_inside : (word : List ℕ) → RoleInside word
 unfolding role_of
-role_inside word = by_tests (closes_comment word) (is_comment_word word) refl refl
+role_inside word = role_inside_by_tests (closes_comment word) (is_comment_word word) refl refl
   where
-    by_tests : (a b : Bool) → closes_comment word ≡ a → is_comment_word word ≡ b → RoleInside word
-    by_tests true b closes is_comment = closing closes (rw closes refl)
-    by_tests false true no_closing is_comment = comment is_comment (rw (no_closing, is_comment)
-        refl)
-    by_tests false false no_closing not_comment = RoleInside.neither (rw (no_closing, not_comment)
-        refl)
+    role_inside_by_tests : (a b : Bool) → closes_comment word ≡ a → is_comment_word word ≡ b
+        → RoleInside word
+    role_inside_by_tests true b closes is_comment = closing closes (rw closes refl)
+    role_inside_by_tests false true no_closing is_comment = comment is_comment
+        (rw (no_closing, is_comment) refl)
+    role_inside_by_tests false false no_closing not_comment = RoleInside.neither
+        (rw (no_closing, not_comment) refl)
 
 -- ---- a well-begun row is read as its tokens and its open comment
 
@@ -137,13 +140,17 @@ reading_lexemes text (Comment o ws c ∷ lexemes) (is_lexeme, are_lexemes) =
 reading_last_comment : (text : List ℕ) (last_comment : LastComment)
     → IsLastComment text last_comment
     → reading text None (words_in_last_comment last_comment)
-    ≡ record { tokens = []; fault = None; open_comment = option_map (λ p. p.0.start) last_comment }
+    ≡ record {
+      tokens = [];
+      fault = None;
+      open_comment = option_map (λ c. c.opening.start) last_comment;
+    }
 reading_last_comment text None is_last_comment = reading_end text None
-reading_last_comment text (Some (o, ws)) is_last_comment =
-    reading_opening text None o ws (role_is_opening _ is_last_comment.0)
-    ∙ ap (reading text (Some o.start)) (sym (append-nil ws))
-    ∙ reading_comment_words text o.start ws [] is_last_comment.1
-    ∙ reading_end text (Some o.start)
+reading_last_comment text (Some c) is_last_comment =
+    reading_opening text None c.opening c.words (role_is_opening _ is_last_comment.0)
+    ∙ ap (reading text (Some c.opening.start)) (sym (append-nil c.words))
+    ∙ reading_comment_words text c.opening.start c.words [] is_last_comment.1
+    ∙ reading_end text (Some c.opening.start)
 
 pub IsWellBegun_reading : (text : List ℕ) (ws ts : List Word) (c : Option ℕ)
     → IsWellBegun text ws ts c
@@ -209,7 +216,7 @@ both_are_begun text [] = record {
       (sym (reading_end text (Some o.start)))
       (λ _. record {
         lexemes = [];
-        last_comment = Some (o, us);
+        last_comment = Some (record { opening = o; words = us });
         are_lexemes = tt;
         is_last_comment = (opens, are_comment_words);
         words_are = ap (λ (vs : List Word). o ∷ vs) (append-nil us);
@@ -218,30 +225,30 @@ both_are_begun text [] = record {
       });
 }
 both_are_begun text (w ∷ ws) = record {
-  outside_comment = by_role_outside (role_outside (bytes_of text w)) (both_are_begun text ws);
+  outside_comment = begun_by_role_outside (role_outside (bytes_of text w)) (both_are_begun text ws);
   inside_comment =
-      λ o us opens are_comment_words. by_role_inside o us opens are_comment_words (role_inside
+      λ o us opens are_comment_words. begun_by_role_inside o us opens are_comment_words (role_inside
       (bytes_of text w))
       (both_are_begun text ws);
 }
   where
-    by_role_outside : RoleOutside (bytes_of text w) → BothAreBegun text ws
+    begun_by_role_outside : RoleOutside (bytes_of text w) → BothAreBegun text ws
         → IsBegunIfFaultless text (w ∷ ws) (reading text None (w ∷ ws))
-    by_role_outside (token is_token_word role) later_are_begun =
+    begun_by_role_outside (token is_token_word role) later_are_begun =
         subst (IsBegunIfFaultless text (w ∷ ws)) (sym (reading_of_token text None w ws role))
         (λ no_fault. IsWellBegun_cons text (Single w) ws _ _ is_token_word
         (later_are_begun.outside_comment no_fault))
-    by_role_outside (opening opens role) later_are_begun =
+    begun_by_role_outside (opening opens role) later_are_begun =
         subst (IsBegunIfFaultless text (w ∷ ws)) (sym (reading_opening text None w ws role))
         (later_are_begun.inside_comment w [] opens tt)
-    by_role_outside (RoleOutside.neither role) later_are_begun =
+    begun_by_role_outside (RoleOutside.neither role) later_are_begun =
         subst (IsBegunIfFaultless text (w ∷ ws)) (sym (reading_faulty text None w ws role))
         (λ no_fault. absurd cc)
 
-    by_role_inside : (o : Word) (us : List Word) → opens_comment (bytes_of text o) ≡ true
+    begun_by_role_inside : (o : Word) (us : List Word) → opens_comment (bytes_of text o) ≡ true
         → AreCommentWords text us → RoleInside (bytes_of text w) → BothAreBegun text ws →
         IsBegunIfFaultless text (o ∷ (us ++ w ∷ ws)) (reading text (Some o.start) (w ∷ ws))
-    by_role_inside o us opens are_comment_words (closing closes role) later_are_begun =
+    begun_by_role_inside o us opens are_comment_words (closing closes role) later_are_begun =
         subst (IsBegunIfFaultless text (o ∷ (us ++ w ∷ ws)))
         (sym (reading_closing text (Some o.start) w ws role))
         (λ no_fault. subst
@@ -249,7 +256,7 @@ both_are_begun text (w ∷ ws) = record {
         (reading text None ws).open_comment) (append_assoc us (w ∷ []) ws)
         (IsWellBegun_cons text (Comment o us w) ws _ _ (opens, are_comment_words, closes)
         (later_are_begun.outside_comment no_fault)))
-    by_role_inside o us opens are_comment_words (comment is_comment role) later_are_begun =
+    begun_by_role_inside o us opens are_comment_words (comment is_comment role) later_are_begun =
         subst (IsBegunIfFaultless text (o ∷ (us ++ w ∷ ws)))
         (sym (reading_comment text (Some o.start) w ws role))
         (subst (λ (vs : List Word). IsBegunIfFaultless text (o ∷ vs)
@@ -257,7 +264,7 @@ both_are_begun text (w ∷ ws) = record {
         (append_assoc us (w ∷ []) ws)
         (later_are_begun.inside_comment o (us ++ w ∷ []) opens (AreCommentWords_push text us w
         are_comment_words is_comment)))
-    by_role_inside o us opens are_comment_words (RoleInside.neither role) later_are_begun =
+    begun_by_role_inside o us opens are_comment_words (RoleInside.neither role) later_are_begun =
         subst (IsBegunIfFaultless text (o ∷ (us ++ w ∷ ws)))
         (sym (reading_faulty text (Some o.start) w ws role))
         (λ no_fault. absurd cc)
@@ -298,12 +305,12 @@ reading_is_split : (text : List ℕ) (c : Option ℕ) (ws : List Word) (f : Faul
 reading_is_split text c [] f = subst (IsSplitIfFault text c [] f) (sym (reading_end text c)) (λ
     no_fault. absurd cc)
 reading_is_split text c (x ∷ xs) f =
-    by_role (role_of (is_some c) (bytes_of text x)) refl (λ d. reading_is_split text d xs f)
+    split_by_role (role_of (is_some c) (bytes_of text x)) refl (λ d. reading_is_split text d xs f)
   where
-    by_role : (r : Role) → role_of (is_some c) (bytes_of text x) ≡ r
+    split_by_role : (r : Role) → role_of (is_some c) (bytes_of text x) ≡ r
         → ((d : Option ℕ) → IsSplitIfFault text d xs f (reading text d xs))
         → IsSplitIfFault text c (x ∷ xs) f (reading text c (x ∷ xs))
-    by_role roles.Token role_is later_is_split =
+    split_by_role roles.Token role_is later_is_split =
         subst (IsSplitIfFault text c (x ∷ xs) f) (sym (reading_of_token text c x xs role_is)) (λ
         has_fault.
         let split = later_is_split c has_fault in record {
@@ -316,20 +323,20 @@ reading_is_split text c (x ∷ xs) f =
           role_is_faulty = split.role_is_faulty;
           fault_is = split.fault_is;
         })
-    by_role roles.Opening role_is later_is_split =
+    split_by_role roles.Opening role_is later_is_split =
         subst (IsSplitIfFault text c (x ∷ xs) f) (sym (reading_opening text c x xs role_is))
         (λ has_fault. split_cons text c (Some x.start) x xs f _ (λ us. reading_opening text c x us
         role_is)
         (later_is_split (Some x.start) has_fault))
-    by_role roles.Closing role_is later_is_split =
+    split_by_role roles.Closing role_is later_is_split =
         subst (IsSplitIfFault text c (x ∷ xs) f) (sym (reading_closing text c x xs role_is))
         (λ has_fault. split_cons text c None x xs f _ (λ us. reading_closing text c x us role_is)
         (later_is_split None has_fault))
-    by_role roles.Comment role_is later_is_split =
+    split_by_role roles.Comment role_is later_is_split =
         subst (IsSplitIfFault text c (x ∷ xs) f) (sym (reading_comment text c x xs role_is))
         (λ has_fault. split_cons text c c x xs f _ (λ us. reading_comment text c x us role_is)
         (later_is_split c has_fault))
-    by_role roles.Faulty role_is later_is_split =
+    split_by_role roles.Faulty role_is later_is_split =
         subst (IsSplitIfFault text c (x ∷ xs) f) (sym (reading_faulty text c x xs role_is)) (λ
         has_fault.
         record {

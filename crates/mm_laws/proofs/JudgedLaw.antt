@@ -8,13 +8,13 @@ use Rattle.mm_spec.specs.declared.Fault.{Fault}
 use Rattle.mm_spec.specs.Derivation.{Formula, Context, Trees, none, more, tree, formulas, postfix}
 use Rattle.mm_spec.specs.Derivation.{AreDerivations}
 use Rattle.mm_spec.specs.Steps.{Step, PlacedStep}
-use Rattle.mm_spec.specs.Valid.{code_of, Plain, IsPlain, Derives, StepFault, ProofEndFault}
+use Rattle.mm_spec.specs.Valid.{code_of, Expands, ExpandTo, Derives, StepFault, ProofEndFault}
 use Rattle.mm_spec.specs.Valid.{IsEndCode}
 use Rattle.mm_spec.proofs.MachineLaw.{RunFailure}
 use Rattle.mm_spec.proofs.StepsLaw.{run_steps, StoppedSteps, StepsOutcome, steps_have_outcome}
 use Rattle.mm_spec.specs.Laws.Stack.{AreGoodSteps}
 use Rattle.mm_spec.specs.Laws.Complete.{HasCompleteFrame}
-use Rattle.mm_spec.proofs.CheckedLaw.{same_labels_same_forest, plain_lists_are_equal}
+use Rattle.mm_spec.proofs.CheckedLaw.{same_labels_same_forest, expansions_are_equal}
 use Rattle.mm_laws.proofs.ExcludedLaw.{excludes}
 use Rattle.mm_spec.specs.declared.Code.TheVariants.{NotOneEntry, OtherFormula}
 
@@ -60,7 +60,7 @@ placed_split (s ∷ steps_before) steps_after step (p ∷ ps) steps_are =
       front_is = ap₂ (λ x y. x ∷ y) (ap (head_of_steps s) steps_are) split.front_is;
     }
 
-module _ (c : Context) (all_complete : (l : ℕ) → HasCompleteFrame c (c.rule l))
+module _ (c : Context) (all_complete : (l : ℕ) → HasCompleteFrame c (c.referent l))
     (ps : List PlacedStep)
     (formula : Formula) (end : ℕ) where
   -- a derivation of the formula, the fault of a step, or the fault of the end
@@ -71,100 +71,101 @@ module _ (c : Context) (all_complete : (l : ℕ) → HasCompleteFrame c (c.rule 
 
   -- if no step fails: the one entry is the formula, or the end has a fault
   verdict_at_end : (forest : Trees) → AreDerivations c forest
-      → IsPlain c (steps_of ps) (postfix forest)
+      → ExpandTo c (steps_of ps) (postfix forest)
       → Verdict
-  verdict_at_end none derives is_plain =
+  verdict_at_end none derives expansion =
       end_fault (fault end NotOneEntry)
       (record {
         forest = none;
         derivations = derives;
-        plain = is_plain;
+        expansion = expansion;
         code = NotOneEntry;
         fails = refl;
-        is = refl;
+        fault_is = refl;
       })
-  verdict_at_end (more (more ts k h bs) l g cs) derives is_plain =
+  verdict_at_end (more (more ts k h bs) l g cs) derives expansion =
       end_fault (fault end NotOneEntry)
       (record {
         forest = more (more ts k h bs) l g cs;
         derivations = derives;
-        plain = is_plain;
+        expansion = expansion;
         code = NotOneEntry;
         fails = not_one_entry (formulas ts) h g;
-        is = refl;
+        fault_is = refl;
       })
     where
       not_one_entry : (xs : List Formula) (h g : Formula)
-          → IsEndCode c ((xs ++ h ∷ []) ++ g ∷ []) formula NotOneEntry
+          → IsEndCode ((xs ++ h ∷ []) ++ g ∷ []) formula NotOneEntry
       not_one_entry [] h g = refl
       not_one_entry (x ∷ []) h g = refl
       not_one_entry (x ∷ y ∷ xs) h g = refl
-  verdict_at_end (more none l g cs) derives is_plain = by_formula (bytes_eq g formula) refl
+  verdict_at_end (more none l g cs) derives expansion = verdict_by_formula (bytes_eq g formula) refl
     where
-      by_formula : (b : Bool) → bytes_eq g formula ≡ b → Verdict
-      by_formula true formulas_equal =
+      verdict_by_formula : (b : Bool) → bytes_eq g formula ≡ b → Verdict
+      verdict_by_formula true formulas_equal =
           valid (more none l g cs) (
             l,
             cs,
             ap (λ z. tree l z cs) ((bytes_eq-Decides g formula).0 formulas_equal),
             derives,
-            is_plain,
+            expansion,
           )
-      by_formula false formulas_differ =
+      verdict_by_formula false formulas_differ =
           end_fault (fault end OtherFormula)
           (record {
             forest = more none l g cs;
             derivations = derives;
-            plain = is_plain;
+            expansion = expansion;
             code = OtherFormula;
             fails = (
               (λ equal. true≢false (sym ((bytes_eq-Decides g formula).1 equal)
                   ∙ formulas_differ)),
               refl,
             );
-            is = refl;
+            fault_is = refl;
           })
 
   -- steps that are good have one of the three
   pub verdict : AreGoodSteps c 0 (steps_of ps) → Verdict
   verdict are_good =
-      by_result (run_steps c [] (steps_of ps) [])
+      verdict_by_result (run_steps c [] (steps_of ps) [])
       (steps_have_outcome c (steps_of ps) [] [] none tt tt are_good)
     where
-      by_result : (r : Result (List Formula) RunFailure) → StepsOutcome c [] [] (steps_of ps) r
+      verdict_by_result : (r : Result (List Formula) RunFailure)
+          → StepsOutcome c [] [] (steps_of ps) r
           → Verdict
-      by_result (Ok out) outcome =
-          verdict_at_end outcome.2 outcome.3 (subst (λ x. Plain c [] [] (steps_of ps) x) (sym
+      verdict_by_result (Ok out) outcome =
+          verdict_at_end outcome.2 outcome.3 (subst (λ x. Expands c [] [] (steps_of ps) x) (sym
           outcome.4) outcome.1)
-      by_result (Err e) outcome =
-          let split = placed_split outcome.before outcome.after outcome.first ps outcome.splits in
+      verdict_by_result (Err e) outcome =
+          let split = placed_split outcome.before outcome.after outcome.failing ps outcome.splits in
           step_fault (fault split.place (code_of e.reason))
           (record {
             before = split.front;
-            first = record { at = split.place; step = outcome.first };
+            failing = record { at = split.place; step = outcome.failing };
             after = split.back;
             splits = split.steps_are;
             forest = outcome.forest;
             derivations = outcome.derivations;
-            plain =
-                subst (λ x. Plain c [] [] x (postfix outcome.forest)) (sym split.front_is)
-                (subst (λ x. Plain c [] [] outcome.before x)
-                (sym outcome.labels_are) outcome.plain);
+            expansion =
+                subst (λ x. Expands c [] [] x (postfix outcome.forest)) (sym split.front_is)
+                (subst (λ x. Expands c [] [] outcome.before x)
+                (sym outcome.labels_are) outcome.expansion);
             reason = e.reason;
             fails = outcome.fails;
-            is = refl;
+            fault_is = refl;
           })
 
   pub stopped_steps : (f : Fault) → (step_fault_of_ps : StepFault c ps f)
       → StoppedSteps c [] [] (steps_of ps) step_fault_of_ps.reason
   stopped_steps f step_fault_of_ps = record {
     before = steps_of step_fault_of_ps.before;
-    first = step_fault_of_ps.first.step;
+    failing = step_fault_of_ps.failing.step;
     after = steps_of step_fault_of_ps.after;
     splits = ap steps_of step_fault_of_ps.splits ∙ map_append step_fault_of_ps.before
-        step_fault_of_ps.first step_fault_of_ps.after;
+        step_fault_of_ps.failing step_fault_of_ps.after;
     labels = postfix step_fault_of_ps.forest;
-    plain = step_fault_of_ps.plain;
+    expansion = step_fault_of_ps.expansion;
     forest = step_fault_of_ps.forest;
     derivations = step_fault_of_ps.derivations;
     labels_are = refl;
@@ -187,7 +188,7 @@ module _ (c : Context) (all_complete : (l : ℕ) → HasCompleteFrame c (c.rule 
   pub no_both_faults : (f g : Fault) → StepFault c ps f → ¬ ProofEndFault c ps formula end g
   no_both_faults f g step_fault_of_ps end_fault_of_ps =
       excludes c all_complete (steps_of ps) step_fault_of_ps.reason (postfix end_fault_of_ps.forest)
-      (stopped_steps f step_fault_of_ps) end_fault_of_ps.plain
+      (stopped_steps f step_fault_of_ps) end_fault_of_ps.expansion
       (end_fault_of_ps.forest, end_fault_of_ps.derivations, refl)
 
   pub no_end_fault : (d : Trees) → Derives c (steps_of ps) formula d → (f : Fault)
@@ -196,9 +197,9 @@ module _ (c : Context) (all_complete : (l : ℕ) → HasCompleteFrame c (c.rule 
       let forests_equal : end_fault_of_ps.forest ≡ d =
       same_labels_same_forest c all_complete end_fault_of_ps.forest d end_fault_of_ps.derivations
       derives.3
-      (plain_lists_are_equal c all_complete (steps_of ps) [] [] (postfix end_fault_of_ps.forest)
-      (postfix d) end_fault_of_ps.plain derives.4) in
+      (expansions_are_equal c all_complete (steps_of ps) [] [] (postfix end_fault_of_ps.forest)
+      (postfix d) end_fault_of_ps.expansion derives.4) in
       let formula_is_only_entry : formulas end_fault_of_ps.forest
       ≡ formula ∷ [] = ap formulas forests_equal ∙ ap formulas derives.2 in
-      (subst (λ x. IsEndCode c x formula end_fault_of_ps.code) formula_is_only_entry
+      (subst (λ x. IsEndCode x formula end_fault_of_ps.code) formula_is_only_entry
       end_fault_of_ps.fails).0 refl

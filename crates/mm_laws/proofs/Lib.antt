@@ -5,7 +5,7 @@
 -- (`ExcludedLaw.antt`), `no_both_faults`, `proof_fault_is_unique` and `output_is_unique_for_text`
 -- (`OneOutputLaw.antt`). Letters have `spelled_items_are_unique` (`SpellingLaw.antt`).
 -- `variables_are_typed_where_read` and
--- `variables_are_mandatory_where_read` (`TypedLaw.antt`) are about frames. `valid_on_the_meaning`
+-- `variables_are_mandatory_where_read` (`TypedLaw.antt`) are about frames. `valid_iff_proved`
 -- (`MeaningLaw.antt`) combines the laws on well formed proofs and on what steps are. What is said
 -- of each place of what was read (`WhereRead`) is proved of the statements as they count, with open
 -- theorems as axioms and without: by `frames_are_complete` (`ReadLaw.antt`), by `labels_differ`

@@ -21,7 +21,7 @@ use Rattle.mm_laws.specs.Laws.BareSteps.{bare_steps}
 use Rattle.mm_laws.specs.Laws.NamedSteps.{StepsAreNamed, StepsAreLabels}
 use Rattle.mm_laws.specs.Laws.WellFormed.{CompressedIsExact, NormalIsExact}
 use Rattle.mm_laws.specs.Laws.Meaning.{SaysCompressed, SaysNormal, Says}
-use Rattle.mm_laws.specs.Laws.Meaning.{IsProved, ValidOnTheMeaning}
+use Rattle.mm_laws.specs.Laws.Meaning.{IsProved, ValidIsProved}
 use Rattle.mm_spec.proofs.FindsLaw.{equal_bytes_equal_words}
 use Rattle.mm_laws.proofs.SpelledStepsLaw.{steps_are_named, steps_are_labels_where_read}
 use Rattle.mm_laws.proofs.UniqueStepsLaw.{named_steps_are_unique}
@@ -48,27 +48,27 @@ module _ (db : List Statement) (k : ℕ) where
   abbrev IsLabelStep : Token → Step → Type 0
   IsLabelStep u s = (j : ℕ) × (s ≡ label j) × IsUsable db k u.word j
 
-  abbrev IsPlainWord : Token → Type 0
-  IsPlainWord u = (u.word ≢ codes "?") × ((j : ℕ) × IsUsable db k u.word j)
+  abbrev IsUsableWord : Token → Type 0
+  IsUsableWord u = (u.word ≢ codes "?") × ((j : ℕ) × IsUsable db k u.word j)
 
-  says_label_steps : (ts : List Token) (ss : List Step) → AllByRecursion IsPlainWord ts
+  says_label_steps : (ts : List Token) (ss : List Step) → AllByRecursion IsUsableWord ts
       → AllZip IsLabelStep ts ss → SaysNormal db k ts ss
-  says_label_steps [] [] are_plain are_label_steps = tt
-  says_label_steps [] (s ∷ ss) are_plain are_label_steps = absurd are_label_steps
-  says_label_steps (t ∷ ts) [] are_plain are_label_steps = absurd are_label_steps
-  says_label_steps (t ∷ ts) (s ∷ ss) are_plain are_label_steps = (
+  says_label_steps [] [] are_usable are_label_steps = tt
+  says_label_steps [] (s ∷ ss) are_usable are_label_steps = absurd are_label_steps
+  says_label_steps (t ∷ ts) [] are_usable are_label_steps = absurd are_label_steps
+  says_label_steps (t ∷ ts) (s ∷ ss) are_usable are_label_steps = (
     (
-      are_plain.0.0,
+      are_usable.0.0,
       are_label_steps.0,
     ),
-    says_label_steps ts ss are_plain.1 are_label_steps.1,
+    says_label_steps ts ss are_usable.1 are_label_steps.1,
   )
 
-  words_are_plain : (ts : List Token) (ss : List Step) → SaysNormal db k ts ss
-      → AllByRecursion IsPlainWord ts
-  words_are_plain [] ss says_steps = tt
-  words_are_plain (t ∷ ts) [] says_steps = absurd says_steps
-  words_are_plain (t ∷ ts) (s ∷ ss) says_steps = (
+  words_are_usable : (ts : List Token) (ss : List Step) → SaysNormal db k ts ss
+      → AllByRecursion IsUsableWord ts
+  words_are_usable [] ss says_steps = tt
+  words_are_usable (t ∷ ts) [] says_steps = absurd says_steps
+  words_are_usable (t ∷ ts) (s ∷ ss) says_steps = (
     (
       says_steps.0.0,
       (
@@ -76,7 +76,7 @@ module _ (db : List Statement) (k : ℕ) where
         says_steps.0.1.2,
       ),
     ),
-    words_are_plain ts ss says_steps.1,
+    words_are_usable ts ss says_steps.1,
   )
 
   label_steps_are_unique : (ts : List Token) (ss other_steps : List Step) → SaysNormal db k ts ss
@@ -123,8 +123,7 @@ module _ (db : List Statement) (k : ℕ) where
                 record {
                   is_well_spelled = well_spelled;
                   js = named.0;
-                  labels_name_js
-                      = named.1;
+                  labels_name_js = named.1;
                   are_steps = named.2;
                 },
               ),
@@ -169,7 +168,7 @@ module _ (db : List Statement) (k : ℕ) where
         steps_are_read : (ss : List Step) → SaysNormal db k (t ∷ ts) ss → HasDerivation ss
             → IsReadAndDerived end (t ∷ ts)
         steps_are_read ss says_steps has_derivation =
-            let no_faults = (normal_exact end t ts no_bracket).1 (words_are_plain (t ∷ ts) ss
+            let no_faults = (normal_exact end t ts no_bracket).1 (words_are_usable (t ∷ ts) ss
             says_steps) in
             let steps_equal =
             label_steps_are_unique (t ∷ ts) ss (bare_steps db k (t ∷ ts)) says_steps (are_labels end
@@ -190,25 +189,24 @@ module _ (db : List Statement) (k : ℕ) where
         no_empty_proof : reading_faults db k end [] ≡ [] → SaysDerivation []
         no_empty_proof no_faults = absurd (cc)
     read_exactly_if_said end (t ∷ ts) =
-        by_bracket (bytes_eq t.word (codes "(")) refl (compressed_read_if_said end t ts)
+        goal_by_bracket (bytes_eq t.word (codes "(")) refl (compressed_read_if_said end t ts)
         (normal_read_if_said end t ts)
       where
         Goal : Type 0
         Goal = IsReadAndDerived end (t ∷ ts) ↔ SaysDerivation (t ∷ ts)
 
-        by_bracket : (b : Bool)
+        goal_by_bracket : (b : Bool)
             → bytes_eq t.word (codes "(") ≡ b → (t.word ≡ codes "(" → Goal)
             → (t.word ≢ codes "(" → Goal) → Goal
-        by_bracket true is_bracket compressed_case normal_case =
-            compressed_case (equal_bytes_equal_words t.word
-            (codes "(") is_bracket)
-        by_bracket false not_bracket compressed_case normal_case =
+        goal_by_bracket true is_bracket compressed_case normal_case =
+            compressed_case (equal_bytes_equal_words t.word (codes "(") is_bracket)
+        goal_by_bracket false not_bracket compressed_case normal_case =
             normal_case (λ is_bracket_word. true≢false (sym ((bytes_eq-Decides t.word (codes "(")).1
             is_bracket_word) ∙ not_bracket))
 
-    valid_if_proved_and_back : ValidOnTheMeaning db k
+    valid_if_proved_and_back : ValidIsProved db k
     valid_if_proved_and_back is_theorem_k =
-        let read_iff_said = by_statement (slice_get db k) is_theorem_k in (
+        let read_iff_said = meaning_by_statement (slice_get db k) is_theorem_k in (
           valid_is_proved
               read_iff_said.0,
           proved_is_valid read_iff_said.1,
@@ -229,11 +227,13 @@ module _ (db : List Statement) (k : ℕ) where
         statement_if_any : Option Statement → List Statement
         statement_if_any o = elim o [ None ↦ [] | Some s ↦ s ∷ [] ]
 
-        by_statement : (o : Option Statement) → list_any is_theorem (statement_if_any o) ≡ true
+        meaning_by_statement : (o : Option Statement) → list_any is_theorem (statement_if_any o)
+            ≡ true
             → IsValidProof o ↔ SaysDerivation (words o)
-        by_statement None is_theorem_o = absurd (true≢false (sym is_theorem_o))
-        by_statement (Some (provable l p xs e ps d)) is_theorem_o = read_exactly_if_said d ps
-        by_statement (Some _) is_theorem_o = absurd (true≢false (sym is_theorem_o))
+        meaning_by_statement None is_theorem_o = absurd (true≢false (sym is_theorem_o))
+        meaning_by_statement (Some (provable l p xs e ps d)) is_theorem_o = read_exactly_if_said d
+            ps
+        meaning_by_statement (Some _) is_theorem_o = absurd (true≢false (sym is_theorem_o))
 
         valid_is_proved : (IsValidProof (slice_get db k) → SaysDerivation (words (slice_get db k)))
             → IsValid db k
@@ -262,8 +262,8 @@ module _ (db : List Statement) (k : ℕ) where
               is_read.1.1,
             )
 
-pub valid_on_the_meaning : WhereRead ValidOnTheMeaning
-valid_on_the_meaning len x db fault is_read with_open k =
+pub valid_iff_proved : WhereRead ValidIsProved
+valid_iff_proved len x db fault is_read with_open k =
     let are_named = steps_are_named len x db fault is_read with_open k in
     let are_labels = steps_are_labels_where_read len x db fault is_read with_open k in
     valid_if_proved_and_back (counted with_open db) k are_named are_labels (compressed_is_exact len

@@ -21,8 +21,7 @@ power_of_push : (es : List ℕ) (b : ℕ) → 5 ^ length (es ++ b ∷ []) ≡ 5 
 power_of_push es b =
     let length_is : length (es ++ b ∷ []) ≡ suc (length es) = omega (
       arith,
-      length-append es (b ∷
-          []),
+      length-append es (b ∷ []),
     ) in
     ap (λ i. 5 ^ i) length_is ∙ pow-succ' 5 (length es)
 
@@ -68,8 +67,7 @@ early_digit_of_remainder : (k : ℕ) → IsEarlyDigit (84 + suc (k % 5)) (suc (k
 early_digit_of_remainder k = record {
   digit_ge_1 = omega arith;
   digit_le_5 = omega arith;
-  letter_is
-      = refl;
+  letter_is = refl;
 }
 
 early_letters_exist : (fuel n : ℕ) → n < fuel → (es : List ℕ) × AreEarlyDigits es n
@@ -112,12 +110,12 @@ letters_exist (suc k) n_ge_1 =
 
 empty_or_last : (xs : List ℕ) → (xs ≡ []) ⊎ ((ys : List ℕ) × (y : ℕ) × (xs ≡ ys ++ y ∷ []))
 empty_or_last [] = inl refl
-empty_or_last (x ∷ xs) = by_rest (empty_or_last xs)
+empty_or_last (x ∷ xs) = split_by_rest (empty_or_last xs)
   where
-    by_rest : (xs ≡ []) ⊎ ((ys : List ℕ) × (y : ℕ) × (xs ≡ ys ++ y ∷ []))
+    split_by_rest : (xs ≡ []) ⊎ ((ys : List ℕ) × (y : ℕ) × (xs ≡ ys ++ y ∷ []))
         → (x ∷ xs ≡ []) ⊎ ((ys : List ℕ) × (y : ℕ) × (x ∷ xs ≡ ys ++ y ∷ []))
-    by_rest (inl rest_is_nil) = inr ([], x, ap (λ zs. x ∷ zs) rest_is_nil)
-    by_rest (inr rest_splits) = inr (
+    split_by_rest (inl rest_is_nil) = inr ([], x, ap (λ zs. x ∷ zs) rest_is_nil)
+    split_by_rest (inr rest_splits) = inr (
       x ∷ rest_splits.0,
       rest_splits.1,
       ap (λ zs. x ∷ zs)
@@ -129,30 +127,31 @@ early_letters_are_unique : (fuel n : ℕ) (es fs : List ℕ) → n < fuel → Ar
     → es ≡ fs
 early_letters_are_unique zero n es fs n_lt_fuel es_are_digits fs_are_digits = absurd (omega arith)
 early_letters_are_unique (suc fuel) n es fs n_lt_fuel es_are_digits fs_are_digits =
-    by_last_letters (empty_or_last es) (empty_or_last fs) (λ m gs hs m_lt_fuel.
+    es_is_fs (empty_or_last es) (empty_or_last fs) (λ m gs hs m_lt_fuel.
     early_letters_are_unique fuel m gs hs m_lt_fuel)
   where
-    by_last_letters : (es ≡ []) ⊎ ((ys : List ℕ) × (y : ℕ) × (es ≡ ys ++ y ∷ []))
+    es_is_fs : (es ≡ []) ⊎ ((ys : List ℕ) × (y : ℕ) × (es ≡ ys ++ y ∷ []))
         → (fs ≡ []) ⊎ ((ys : List ℕ) × (y : ℕ) × (fs ≡ ys ++ y ∷ []))
         → ((m : ℕ) (gs hs : List ℕ) → m < fuel → AreEarlyDigits gs m → AreEarlyDigits hs m
         → gs ≡ hs)
         → es ≡ fs
-    by_last_letters (inl es_is_nil) (inl fs_is_nil) unique_for_less = es_is_nil ∙ sym fs_is_nil
-    by_last_letters (inl es_is_nil) (inr fs_splits) unique_for_less =
+    es_is_fs (inl es_is_nil) (inl fs_is_nil) unique_for_less = es_is_nil
+        ∙ sym fs_is_nil
+    es_is_fs (inl es_is_nil) (inr fs_splits) unique_for_less =
         let n_is_0 : n ≡ 0 = subst (λ xs. AreEarlyDigits xs n) es_is_nil es_are_digits in
         let digits_split = early_digits_split fs_splits.0 fs_splits.1 n (subst (λ xs. AreEarlyDigits
         xs n) fs_splits.2 fs_are_digits) in
         let digit_ge_1 = digits_split.3.digit_ge_1 in
         let n_is = digits_split.4 in
         absurd (omega arith)
-    by_last_letters (inr es_splits) (inl fs_is_nil) unique_for_less =
+    es_is_fs (inr es_splits) (inl fs_is_nil) unique_for_less =
         let n_is_0 : n ≡ 0 = subst (λ xs. AreEarlyDigits xs n) fs_is_nil fs_are_digits in
         let digits_split = early_digits_split es_splits.0 es_splits.1 n (subst (λ xs. AreEarlyDigits
         xs n) es_splits.2 es_are_digits) in
         let digit_ge_1 = digits_split.3.digit_ge_1 in
         let n_is = digits_split.4 in
         absurd (omega arith)
-    by_last_letters (inr es_splits) (inr fs_splits) unique_for_less =
+    es_is_fs (inr es_splits) (inr fs_splits) unique_for_less =
         let es_digits_split = early_digits_split es_splits.0 es_splits.1 n (subst (λ xs.
         AreEarlyDigits xs n) es_splits.2 es_are_digits) in
         let fs_digits_split = early_digits_split fs_splits.0 fs_splits.1 n (subst (λ xs.
@@ -209,8 +208,7 @@ book_numbers = (
     early = letters_from 0 (codes "U");
     last = record {
       at = 0;
-      byte
-          = 65;
+      byte = 65;
     };
   })
       (refl, tt) refl,
@@ -218,8 +216,7 @@ book_numbers = (
     early = letters_from 0 (codes "Y");
     last = record {
       at = 0;
-      byte
-          = 84;
+      byte = 84;
     };
   })
       (refl, tt) refl,
@@ -227,8 +224,7 @@ book_numbers = (
     early = letters_from 0 (codes "UU");
     last = record {
       at = 0;
-      byte
-          = 65;
+      byte = 65;
     };
   })
       (refl, (refl, tt)) refl,
@@ -236,8 +232,7 @@ book_numbers = (
     early = letters_from 0 (codes "YY");
     last = record {
       at = 0;
-      byte
-          = 84;
+      byte = 84;
     };
   })
       (refl, (refl, tt)) refl,

@@ -13,11 +13,12 @@ use Rattle.mm_spec.specs.Statement.{Statement, spelling_of, BeginStatements, IsB
 use Rattle.mm_spec.specs.Statement.{AreLongestStatements}
 use Rattle.mm_spec.specs.Statement.{FileEndFault, shape_code, is_closing, is_opening}
 use Rattle.mm_spec.specs.Lawful.{least, scope_fault}
-use Rattle.mm_spec.specs.Derivation.{Formula, Context, Rule, hypothesis, assertion, Trees, formulas}
+use Rattle.mm_spec.specs.Derivation.{Formula, Context, Referent, hypothesis, assertion, Trees}
+use Rattle.mm_spec.specs.Derivation.{formulas}
 use Rattle.mm_spec.specs.Derivation.{postfix, AreDerivations, is_member}
 use Rattle.mm_spec.specs.Steps.{Step, label, marked, PlacedStep}
 use Rattle.mm_spec.specs.Valid as proof
-use Rattle.mm_spec.specs.Valid.{Reason, code_of, Fails, StepFails, StepFault, IsPlain, IsEndCode}
+use Rattle.mm_spec.specs.Valid.{Reason, code_of, Fails, StepFails, StepFault, ExpandTo, IsEndCode}
 use Rattle.mm_spec.specs.Citation.{context_at, steps_at, reading_faults_at, IsValid, RestsOn}
 use Rattle.mm_spec.specs.Frame.{formula_at}
 use Rattle.mm_spec.specs.Report.{Row, CitingRow, report, citation_report, refusal}
@@ -29,15 +30,16 @@ use Rattle.mm_spec.specs.declared.Code.{Code}
 use Rattle.mm_spec.specs.Lexed.{LexedText, lexed_of}
 use Rattle.mm_spec.specs.Output.{TextFault, StopsReading, IsRead, ProofFault, proof_end}
 use Rattle.mm_spec.specs.Output.{is_theorem_at, AllAreValid, FirstProofFault, FirstFault}
-use Rattle.mm_spec.specs.Output.{HasNoFault, theorems, columns, open_columns, label_at, IsRowOf}
+use Rattle.mm_spec.specs.Output.{HasNoFault, theorems, columns, open_theorem_count, label_at}
+use Rattle.mm_spec.specs.Output.{IsRowOf}
 use Rattle.mm_spec.specs.Output.{AreCited, IsCitingRowOf, IsReportOf, IsOutput}
-use Rattle.mm_spec.specs.Laws.Stack.{IsCompleteRule}
+use Rattle.mm_spec.specs.Laws.Stack.{IsCompleteReferent}
 use Rattle.mm_laws.proofs.ExactLaw.{step_stops_if_fails}
 use Rattle.mm_spec.specs.Laws.Complete.{HasCompleteFrame, AreComplete}
 use Rattle.mm_spec.specs.Opened.{counted}
 use Rattle.mm_spec.proofs.CompleteLaw.{reads_complete}
 use Rattle.mm_spec.proofs.OpenedLaw.{counted_complete}
-use Rattle.mm_spec.proofs.CheckedLaw.{same_labels_same_forest, plain_lists_are_equal}
+use Rattle.mm_spec.proofs.CheckedLaw.{same_labels_same_forest, expansions_are_equal}
 use Rattle.mm_laws.proofs.ExcludedLaw.{excludes}
 use Rattle.mm_laws.proofs.JudgedLaw.{stopped_steps, no_step_fault, no_end_fault, no_both_faults}
 use Rattle.mm_spec.proofs.LongestLaw.{longest_is_what_is_read}
@@ -64,13 +66,11 @@ unfolding head_or tail_of
 splits_of [] [] us vs x y lists_equal = inl (refl, ap (head_or x) lists_equal)
 splits_of [] (b ∷ ys) us vs x y lists_equal = inr (inl (
   ys,
-  ap (λ z. z ∷ ys) (sym (ap (head_or x)
-      lists_equal)),
+  ap (λ z. z ∷ ys) (sym (ap (head_or x) lists_equal)),
 ))
 splits_of (a ∷ xs) [] us vs x y lists_equal = inr (inr (
   xs,
-  ap (λ z. z ∷ xs) (ap (head_or y)
-      lists_equal),
+  ap (λ z. z ∷ xs) (ap (head_or y) lists_equal),
 ))
 splits_of (a ∷ xs) (b ∷ ys) us vs x y lists_equal = with_first (splits_of xs ys us vs x y (ap
     tail_of lists_equal))
@@ -96,23 +96,24 @@ splits_of (a ∷ xs) (b ∷ ys) us vs x y lists_equal = with_first (splits_of xs
 
 -- ---- faults of steps and of the end
 
-module _ (c : Context) (all_complete : (l : ℕ) → HasCompleteFrame c (c.rule l)) where
-  rule_is_complete : (r : Option Rule) (es : List Formula) (a : Reason) → HasCompleteFrame c r
+module _ (c : Context) (all_complete : (l : ℕ) → HasCompleteFrame c (c.referent l)) where
+  referent_is_complete : (r : Option Referent) (es : List Formula) (a : Reason)
+      → HasCompleteFrame c r
       → Fails c r es a
-      → IsCompleteRule c r
-  rule_is_complete None es a frame_is_complete fails = none_never_fails a fails
+      → IsCompleteReferent c r
+  referent_is_complete None es a frame_is_complete fails = none_never_fails a fails
     where
       none_never_fails : (a : Reason) → Fails c None es a → ⊥
       none_never_fails _ fails = fails
-  rule_is_complete (Some (hypothesis g)) es a frame_is_complete fails = tt
-  rule_is_complete (Some (assertion g)) es a frame_is_complete fails = frame_is_complete
+  referent_is_complete (Some (hypothesis g)) es a frame_is_complete fails = tt
+  referent_is_complete (Some (assertion g)) es a frame_is_complete fails = frame_is_complete
 
   reason_is_unique : (s : Step) (es : List Formula) (a b : Reason) → StepFails c s es a
       → StepFails c s es b → a ≡ b
   reason_is_unique (label l) es a b fails_by_a fails_by_b =
-      let is_complete = rule_is_complete (c.rule l) es a (all_complete l) fails_by_a in
-      let errors_equal : Err a ≡ Err b = sym (step_stops_if_fails c (c.rule l) es a is_complete
-      fails_by_a) ∙ step_stops_if_fails c (c.rule l) es b is_complete fails_by_b in
+      let is_complete = referent_is_complete (c.referent l) es a (all_complete l) fails_by_a in
+      let errors_equal : Err a ≡ Err b = sym (step_stops_if_fails c (c.referent l) es a is_complete
+      fails_by_a) ∙ step_stops_if_fails c (c.referent l) es b is_complete fails_by_b in
       cc
   reason_is_unique (marked j) es a b fails_by_a fails_by_b = absurd fails_by_a
 
@@ -120,24 +121,24 @@ module _ (c : Context) (all_complete : (l : ℕ) → HasCompleteFrame c (c.rule 
   no_later_fault : (ps : List PlacedStep) (f : Fault) (step_fault : StepFault c ps f) (forest :
       Trees)
       → (steps_before zs : List PlacedStep)
-      → AreDerivations c forest → IsPlain c (map (λ p. p.step) steps_before) (postfix forest)
-      → steps_before ≡ step_fault.before ++ step_fault.first ∷ zs → ⊥
-  no_later_fault ps f step_fault forest steps_before zs derives is_plain steps_are =
+      → AreDerivations c forest → ExpandTo c (map (λ p. p.step) steps_before) (postfix forest)
+      → steps_before ≡ step_fault.before ++ step_fault.failing ∷ zs → ⊥
+  no_later_fault ps f step_fault forest steps_before zs derives expansion steps_are =
       let fault_before : StepFault c steps_before f =
       record {
         before = step_fault.before;
-        first = step_fault.first;
+        failing = step_fault.failing;
         after = zs;
         splits = steps_are;
         forest = step_fault.forest;
         derivations = step_fault.derivations;
-        plain = step_fault.plain;
+        expansion = step_fault.expansion;
         reason = step_fault.reason;
         fails = step_fault.fails;
-        is = step_fault.is;
+        fault_is = step_fault.fault_is;
       } in
       excludes c all_complete (map (λ p. p.step) steps_before) step_fault.reason (postfix forest)
-      (stopped_steps c all_complete steps_before [] 0 f fault_before) is_plain (
+      (stopped_steps c all_complete steps_before [] 0 f fault_before) expansion (
         forest,
         derives,
         refl,
@@ -147,38 +148,39 @@ module _ (c : Context) (all_complete : (l : ℕ) → HasCompleteFrame c (c.rule 
       → StepFault c ps g
       → f ≡ g
   step_fault_is_unique ps f g faults_f faults_g =
-      by_split (splits_of faults_f.before faults_g.before faults_f.after faults_g.after
-      faults_f.first faults_g.first
+      faults_equal_by_split (splits_of faults_f.before faults_g.before faults_f.after faults_g.after
+      faults_f.failing faults_g.failing
       (sym faults_f.splits ∙ faults_g.splits))
     where
-      by_split : Splits faults_f.before faults_f.first faults_g.before faults_g.first → f ≡ g
-      by_split (inl splits_equal) =
-          let is_plain = subst (λ x. IsPlain c (map (λ p. p.step) x) (postfix faults_f.forest))
-          splits_equal.0 faults_f.plain in
+      faults_equal_by_split
+          : Splits faults_f.before faults_f.failing faults_g.before faults_g.failing → f ≡ g
+      faults_equal_by_split (inl splits_equal) =
+          let expansion = subst (λ x. ExpandTo c (map (λ p. p.step) x) (postfix faults_f.forest))
+          splits_equal.0 faults_f.expansion in
           let forests_equal : faults_f.forest ≡ faults_g.forest =
           same_labels_same_forest c all_complete faults_f.forest faults_g.forest
           faults_f.derivations
           faults_g.derivations
-          (plain_lists_are_equal c all_complete (map (λ p. p.step) faults_g.before) [] [] (postfix
+          (expansions_are_equal c all_complete (map (λ p. p.step) faults_g.before) [] [] (postfix
           faults_f.forest)
-          (postfix faults_g.forest) is_plain faults_g.plain) in
+          (postfix faults_g.forest) expansion faults_g.expansion) in
           let fails_by_reason =
           subst (λ x. StepFails c x.step (formulas faults_g.forest) faults_f.reason) splits_equal.1
-          (subst (λ r. StepFails c faults_f.first.step (formulas r) faults_f.reason) forests_equal
+          (subst (λ r. StepFails c faults_f.failing.step (formulas r) faults_f.reason) forests_equal
           faults_f.fails) in
-          faults_f.is ∙ ap₂ (λ p r. fault p.at (code_of r)) splits_equal.1
-          (reason_is_unique faults_g.first.step (formulas faults_g.forest) faults_f.reason
+          faults_f.fault_is ∙ ap₂ (λ p r. fault p.at (code_of r)) splits_equal.1
+          (reason_is_unique faults_g.failing.step (formulas faults_g.forest) faults_f.reason
           faults_g.reason fails_by_reason faults_g.fails)
-          ∙ sym faults_g.is
-      by_split (inr (inl is_longer)) =
+          ∙ sym faults_g.fault_is
+      faults_equal_by_split (inr (inl is_longer)) =
           absurd (no_later_fault ps f faults_f faults_g.forest faults_g.before is_longer.0
-          faults_g.derivations faults_g.plain is_longer.1)
-      by_split (inr (inr is_longer)) =
+          faults_g.derivations faults_g.expansion is_longer.1)
+      faults_equal_by_split (inr (inr is_longer)) =
           absurd (no_later_fault ps g faults_g faults_f.forest faults_f.before is_longer.0
-          faults_f.derivations faults_f.plain is_longer.1)
+          faults_f.derivations faults_f.expansion is_longer.1)
 
-  code_is_unique : (xs : List Formula) (formula : Formula) (a b : Code) → IsEndCode c xs formula a
-      → IsEndCode c xs formula b → a ≡ b
+  code_is_unique : (xs : List Formula) (formula : Formula) (a b : Code) → IsEndCode xs formula a
+      → IsEndCode xs formula b → a ≡ b
   code_is_unique [] formula a b is_code_a is_code_b = is_code_a ∙ sym is_code_b
   code_is_unique (g ∷ []) formula a b is_code_a is_code_b = is_code_a.1 ∙ sym is_code_b.1
   code_is_unique (g ∷ e ∷ xs) formula a b is_code_a is_code_b = is_code_a ∙ sym is_code_b
@@ -189,13 +191,13 @@ module _ (c : Context) (all_complete : (l : ℕ) → HasCompleteFrame c (c.rule 
       let forests_equal : faults_f.forest ≡ faults_g.forest =
       same_labels_same_forest c all_complete faults_f.forest faults_g.forest faults_f.derivations
       faults_g.derivations
-      (plain_lists_are_equal c all_complete (map (λ p. p.step) ps) [] [] (postfix faults_f.forest)
-      (postfix faults_g.forest) faults_f.plain faults_g.plain) in
-      faults_f.is ∙ ap (fault end)
+      (expansions_are_equal c all_complete (map (λ p. p.step) ps) [] [] (postfix faults_f.forest)
+      (postfix faults_g.forest) faults_f.expansion faults_g.expansion) in
+      faults_f.fault_is ∙ ap (fault end)
       (code_is_unique (formulas faults_g.forest) formula faults_f.code faults_g.code
-      (subst (λ r. IsEndCode c (formulas r) formula faults_f.code) forests_equal faults_f.fails)
+      (subst (λ r. IsEndCode (formulas r) formula faults_f.code) forests_equal faults_f.fails)
       faults_g.fails)
-      ∙ sym faults_g.is
+      ∙ sym faults_g.fault_is
 
 nil_has_no_least : (fs : List Fault) (f : Fault) → fs ≡ [] → least fs ≡ Some f → ⊥
 nil_has_no_least fs f fs_is_nil least_is_f = let none_is_some : None
@@ -211,35 +213,36 @@ module _ (db : List Statement) (all_complete : AreComplete db) where
       (reading_faults_at db k) f faults_g.0 faults_f)
   proof_fault_is_unique k end f g (inr faults_f) (inl faults_g) = absurd (nil_has_no_least
       (reading_faults_at db k) g faults_f.0 faults_g)
-  proof_fault_is_unique k end f g (inr faults_f) (inr faults_g) = by_kinds faults_f.1 faults_g.1
+  proof_fault_is_unique k end f g (inr faults_f) (inr faults_g) = faults_equal_by_kinds faults_f.1
+      faults_g.1
     where
-      by_kinds : StepFault (context_at db k) (steps_at db k) f
+      faults_equal_by_kinds : StepFault (context_at db k) (steps_at db k) f
           ⊎ proof.ProofEndFault (context_at db k) (steps_at db k) (formula_at db k) end f
           → StepFault (context_at db k) (steps_at db k) g
           ⊎ proof.ProofEndFault (context_at db k) (steps_at db k) (formula_at db k) end g → f ≡ g
-      by_kinds (inl of_f) (inl of_g) =
+      faults_equal_by_kinds (inl of_f) (inl of_g) =
           step_fault_is_unique (context_at db k) (all_complete k) (steps_at db k) f g of_f of_g
-      by_kinds (inl of_f) (inr of_g) =
+      faults_equal_by_kinds (inl of_f) (inr of_g) =
           absurd (no_both_faults (context_at db k) (all_complete k) (steps_at db k)
           (formula_at db k) end f g of_f of_g)
-      by_kinds (inr of_f) (inl of_g) =
+      faults_equal_by_kinds (inr of_f) (inl of_g) =
           absurd (no_both_faults (context_at db k) (all_complete k) (steps_at db k)
           (formula_at db k) end g f of_g of_f)
-      by_kinds (inr of_f) (inr of_g) =
+      faults_equal_by_kinds (inr of_f) (inr of_g) =
           end_fault_is_unique (context_at db k) (all_complete k) (steps_at db k)
           (formula_at db k) end f g of_f of_g
 
   pub valid_has_no_fault : (k end : ℕ) (f : Fault) → IsValid db k → ProofFault db k end f → ⊥
   valid_has_no_fault k end f is_valid (inl has_fault) = nil_has_no_least (reading_faults_at db k) f
       is_valid.0 has_fault
-  valid_has_no_fault k end f is_valid (inr has_fault) = by_kind has_fault.1
+  valid_has_no_fault k end f is_valid (inr has_fault) = no_fault_by_kind has_fault.1
     where
-      by_kind : StepFault (context_at db k) (steps_at db k) f
+      no_fault_by_kind : StepFault (context_at db k) (steps_at db k) f
           ⊎ proof.ProofEndFault (context_at db k) (steps_at db k) (formula_at db k) end f → ⊥
-      by_kind (inl of_step) =
+      no_fault_by_kind (inl of_step) =
           no_step_fault (context_at db k) (all_complete k) (steps_at db k)
           (formula_at db k) end is_valid.1 is_valid.2 f of_step
-      by_kind (inr of_end) =
+      no_fault_by_kind (inr of_end) =
           no_end_fault (context_at db k) (all_complete k) (steps_at db k)
           (formula_at db k) end is_valid.1 is_valid.2 f of_end
 
@@ -252,17 +255,18 @@ module _ (db : List Statement) (all_complete : AreComplete db) where
   first_proof_fault_is_unique : (j k : ℕ) (f g : Fault) → FirstProofFault db j f
       → FirstProofFault db k g
       → f ≡ g
-  first_proof_fault_is_unique j k f g is_first_f is_first_g = by_order (cases_order j k)
+  first_proof_fault_is_unique j k f g is_first_f is_first_g =
+      faults_equal_by_order (cases_order j k)
     where
-      by_order : (j ≡ k) ⊎ ((j < k) ⊎ (k < j)) → f ≡ g
-      by_order (inl j_is_k) =
+      faults_equal_by_order : (j ≡ k) ⊎ ((j < k) ⊎ (k < j)) → f ≡ g
+      faults_equal_by_order (inl j_is_k) =
           proof_fault_is_unique k (proof_end (slice_get db k)) f g
           (subst (λ n. ProofFault db n (proof_end (slice_get db n)) f) j_is_k is_first_f.2)
           is_first_g.2
-      by_order (inr (inl j_lt_k)) = absurd (no_first_fault_is_earlier j k f g j_lt_k is_first_f
-          is_first_g)
-      by_order (inr (inr k_lt_j)) = absurd (no_first_fault_is_earlier k j g f k_lt_j is_first_g
-          is_first_f)
+      faults_equal_by_order (inr (inl j_lt_k)) = absurd
+          (no_first_fault_is_earlier j k f g j_lt_k is_first_f is_first_g)
+      faults_equal_by_order (inr (inr k_lt_j)) = absurd
+          (no_first_fault_is_earlier k j g f k_lt_j is_first_g is_first_f)
 
 -- ---- rows of marks
 
@@ -314,7 +318,8 @@ front_begins tokens_before zs x begins = (
 
 shape_fault_is_unique : (ts : List Token) (f g : Fault) → ShapeFault ts f → ShapeFault ts g → f ≡ g
 shape_fault_is_unique ts f g faults_f faults_g =
-    by_split (splits_of faults_f.before faults_g.before faults_f.after faults_g.after faults_f.first
+    faults_equal_by_split
+    (splits_of faults_f.before faults_g.before faults_f.after faults_g.after faults_f.first
     faults_g.first (sym faults_f.splits ∙ faults_g.splits))
   where
     HasShapeCode : List Token → Token → Fault → Type 0
@@ -336,15 +341,17 @@ shape_fault_is_unique ts f g faults_f faults_g =
     faults_equal tokens_before first_token (inr code_of_f) (inr code_of_g) = code_of_f.1
         ∙ sym code_of_g.1
 
-    by_split : Splits faults_f.before faults_f.first faults_g.before faults_g.first → f ≡ g
-    by_split (inl splits_equal) =
+    faults_equal_by_split : Splits faults_f.before faults_f.first faults_g.before faults_g.first
+        → f ≡ g
+    faults_equal_by_split (inl splits_equal) =
         faults_equal faults_g.before faults_g.first
         (subst (λ x. HasShapeCode faults_g.before x f) splits_equal.1
-        (subst (λ b. HasShapeCode b faults_f.first f) splits_equal.0 faults_f.code)) faults_g.code
-    by_split (inr (inl is_longer)) =
+        (subst (λ b. HasShapeCode b faults_f.first f) splits_equal.0 faults_f.fault_is))
+        faults_g.fault_is
+    faults_equal_by_split (inr (inl is_longer)) =
         absurd (faults_f.no_more (front_begins faults_f.before is_longer.0 faults_f.first (subst
         BeginStatements is_longer.1 faults_g.begins)))
-    by_split (inr (inr is_longer)) =
+    faults_equal_by_split (inr (inr is_longer)) =
         absurd (faults_g.no_more (front_begins faults_g.before is_longer.0 faults_g.first (subst
         BeginStatements is_longer.1 faults_f.begins)))
 
@@ -356,7 +363,8 @@ longest_statements_equal ts a b is_longest_a is_longest_b =
 
 file_end_fault_is_unique : (len : ℕ) (ts : List Token) (f g : Fault) → FileEndFault len ts f
     → FileEndFault len ts g → f ≡ g
-file_end_fault_is_unique len ts f g faults_f faults_g = by_kinds faults_f.code faults_g.code
+file_end_fault_is_unique len ts f g faults_f faults_g = faults_equal_by_kinds faults_f.fault_is
+    faults_g.fault_is
   where
     rests_equal : faults_f.are_statements.rest ≡ faults_g.are_statements.rest
     rests_equal =
@@ -369,7 +377,7 @@ file_end_fault_is_unique len ts f g faults_f faults_g = by_kinds faults_f.code f
         faults_f.are_statements.splits)
         ∙ faults_g.are_statements.splits)
 
-    by_kinds : ((faults_f.are_statements.rest ≢ []) × (f ≡ fault len OpenStatement))
+    faults_equal_by_kinds : ((faults_f.are_statements.rest ≢ []) × (f ≡ fault len OpenStatement))
         ⊎ ((faults_f.are_statements.rest ≡ [])
         × (count_by is_closing faults_f.statements < count_by is_opening faults_f.statements)
         × (f ≡ fault len OpenBlock))
@@ -378,10 +386,12 @@ file_end_fault_is_unique len ts f g faults_f faults_g = by_kinds faults_f.code f
         × (count_by is_closing faults_g.statements < count_by is_opening faults_g.statements)
         × (g ≡ fault len OpenBlock))
         → f ≡ g
-    by_kinds (inl code_of_f) (inl code_of_g) = code_of_f.1 ∙ sym code_of_g.1
-    by_kinds (inl code_of_f) (inr code_of_g) = absurd (code_of_f.0 (rests_equal ∙ code_of_g.0))
-    by_kinds (inr code_of_f) (inl code_of_g) = absurd (code_of_g.0 (sym rests_equal ∙ code_of_f.0))
-    by_kinds (inr code_of_f) (inr code_of_g) = code_of_f.2 ∙ sym code_of_g.2
+    faults_equal_by_kinds (inl code_of_f) (inl code_of_g) = code_of_f.1 ∙ sym code_of_g.1
+    faults_equal_by_kinds (inl code_of_f) (inr code_of_g) = absurd
+        (code_of_f.0 (rests_equal ∙ code_of_g.0))
+    faults_equal_by_kinds (inr code_of_f) (inl code_of_g) = absurd
+        (code_of_g.0 (sym rests_equal ∙ code_of_f.0))
+    faults_equal_by_kinds (inr code_of_f) (inr code_of_g) = code_of_f.2 ∙ sym code_of_g.2
 
 text_fault_is_unique : (len : ℕ) (ts : List Token) (o : Option Fault) (f g : Fault)
     → TextFault len (record { tokens = ts; fault = o }) f
@@ -460,13 +470,13 @@ no_reading_is_shorter len x a b f g reads_a reads_b s zs rest_is a_lt_b =
 reading_is_unique : (len : ℕ) (x : LexedText) (a b : List Statement) (f g : Option Fault)
     → IsRead len x a f → IsRead len x b g → (a ≡ b) × (f ≡ g)
 reading_is_unique len x a b f g reads_a reads_b =
-    by_front (fronts_of a b reads_a.rest reads_b.rest
+    both_equal_by_fronts (fronts_of a b reads_a.rest reads_b.rest
     (sym reads_a.splits ∙ longest_statements_equal x.tokens reads_a.statements reads_b.statements
     reads_a.are_statements
     reads_b.are_statements ∙ reads_b.splits))
   where
-    by_front : Fronts a reads_a.rest b reads_b.rest → (a ≡ b) × (f ≡ g)
-    by_front (inl fronts_equal) = (
+    both_equal_by_fronts : Fronts a reads_a.rest b reads_b.rest → (a ≡ b) × (f ≡ g)
+    both_equal_by_fronts (inl fronts_equal) = (
       fronts_equal.0,
       stopping_fault_is_unique len x reads_b.statements b reads_b.rest f g
           (subst (λ r. StopsReading len x r b reads_b.rest f)
@@ -477,9 +487,11 @@ reading_is_unique len x a b f g reads_a reads_b =
           reads_a.stops)))
           reads_b.stops,
     )
-    by_front (inr (inl is_shorter)) = absurd (no_reading_is_shorter len x a b f g reads_a reads_b
+    both_equal_by_fronts (inr (inl is_shorter)) = absurd
+        (no_reading_is_shorter len x a b f g reads_a reads_b
         is_shorter.0 is_shorter.1 is_shorter.2 is_shorter.3)
-    by_front (inr (inr is_shorter)) = absurd (no_reading_is_shorter len x b a g f reads_b reads_a
+    both_equal_by_fronts (inr (inr is_shorter)) = absurd
+        (no_reading_is_shorter len x b a g f reads_b reads_a
         is_shorter.0 is_shorter.1 is_shorter.2 is_shorter.3)
 
 -- ---- the output
@@ -518,19 +530,20 @@ module _ (len : ℕ) (x : LexedText) (with_open : Bool) where
   first_fault_is_unique f g faults_f faults_g =
       let readings_equal = reading_is_unique len x faults_f.0 faults_g.0 faults_f.1 faults_g.1
       faults_f.2 faults_g.2 in
-      by_causes
+      faults_equal_by_causes
       (subst (λ d. IsCauseOf d faults_g.1 f) readings_equal.0 (subst (λ o. IsCauseOf faults_f.0 o f)
       readings_equal.1 faults_f.3)) faults_g.3
     where
-      by_causes : IsCauseOf faults_g.0 faults_g.1 f → IsCauseOf faults_g.0 faults_g.1 g → f ≡ g
-      by_causes (inl causes_f) (inl causes_g) =
+      faults_equal_by_causes : IsCauseOf faults_g.0 faults_g.1 f → IsCauseOf faults_g.0 faults_g.1 g
+          → f ≡ g
+      faults_equal_by_causes (inl causes_f) (inl causes_g) =
           first_proof_fault_is_unique (counted with_open faults_g.0) (are_complete faults_g.0
           faults_g.1 faults_g.2) causes_f.0 causes_g.0 f g causes_f.1 causes_g.1
-      by_causes (inl causes_f) (inr causes_g) = absurd (fault_or_all_valid faults_g.0 faults_g.1
-          faults_g.2 causes_f.0 f causes_f.1 causes_g.0)
-      by_causes (inr causes_f) (inl causes_g) = absurd (fault_or_all_valid faults_g.0 faults_g.1
-          faults_g.2 causes_g.0 g causes_g.1 causes_f.0)
-      by_causes (inr causes_f) (inr causes_g) = let options_equal : Some f
+      faults_equal_by_causes (inl causes_f) (inr causes_g) = absurd
+          (fault_or_all_valid faults_g.0 faults_g.1 faults_g.2 causes_f.0 f causes_f.1 causes_g.0)
+      faults_equal_by_causes (inr causes_f) (inl causes_g) = absurd
+          (fault_or_all_valid faults_g.0 faults_g.1 faults_g.2 causes_g.0 g causes_g.1 causes_f.0)
+      faults_equal_by_causes (inr causes_f) (inr causes_g) = let options_equal : Some f
           ≡ Some g = sym causes_f.1 ∙ causes_g.1 in cc
 
   fault_or_none : (f : Fault) (db : List Statement) → FirstFault len x with_open f
@@ -539,13 +552,15 @@ module _ (len : ℕ) (x : LexedText) (with_open : Bool) where
   fault_or_none f db has_fault has_none =
       let readings_equal = reading_is_unique len x has_fault.0 db has_fault.1 None has_fault.2
       has_none.0 in
-      by_cause (subst (λ d. IsCauseOf d None f) readings_equal.0 (subst (λ o. IsCauseOf has_fault.0
+      no_fault_by_cause
+      (subst (λ d. IsCauseOf d None f) readings_equal.0 (subst (λ o. IsCauseOf has_fault.0
       o f) readings_equal.1 has_fault.3))
     where
-      by_cause : IsCauseOf db None f → ⊥
-      by_cause (inl is_cause) = fault_or_all_valid db None has_none.0 is_cause.0 f is_cause.1
+      no_fault_by_cause : IsCauseOf db None f → ⊥
+      no_fault_by_cause (inl is_cause) = fault_or_all_valid db None has_none.0 is_cause.0 f
+          is_cause.1
           has_none.1
-      by_cause (inr is_cause) = let none_is_some : None ≡ Some f = is_cause.1 in cc
+      no_fault_by_cause (inr is_cause) = let none_is_some : None ≡ Some f = is_cause.1 in cc
 
 -- ---- rows of citations
 
@@ -632,6 +647,6 @@ output_is_unique_for_text text request a b (inr is_output_a) (inr is_output_b) =
     (reading_is_unique (length text) (lexed_of text) is_output_a.0 is_output_b.0 None None
     is_output_a.1.0 is_output_b.1.0).0 in
     report_is_unique (counted request.with_open is_output_b.0)
-    (open_columns is_output_b.0 request) request request.choice a b
+    (open_theorem_count is_output_b.0 request) request request.choice a b
     (subst (λ d. IsReportOf request.choice (counted request.with_open d)
-    (open_columns d request) request a) databases_equal is_output_a.2) is_output_b.2
+    (open_theorem_count d request) request a) databases_equal is_output_a.2) is_output_b.2

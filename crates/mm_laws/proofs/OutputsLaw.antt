@@ -6,7 +6,7 @@ use Rattle.mm_spec.specs.Text.{token, fault}
 use Rattle.mm_spec.specs.Statement.{Statement, constants, axiomatic, opening, closing}
 use Rattle.mm_spec.specs.Lawful.{scope_fault}
 use Rattle.mm_spec.specs.Report.{line}
-use Rattle.mm_spec.specs.Request.{plain}
+use Rattle.mm_spec.specs.Request.{without_options}
 use Rattle.mm_spec.specs.Lexed.{lexed_of}
 use Rattle.mm_spec.specs.Output.{IsRead, AreValid, IsOutput}
 use Rattle.mm_spec.specs.declared.Code.TheVariants.{ConstantInBlock}
@@ -44,7 +44,7 @@ front_read = record {
   stops = ((λ e. cc), refl);
 }
 
-refused : IsOutput faulty plain (line (codes "refused 1:12 E11"))
+refused : IsOutput faulty without_options (line (codes "refused 1:12 E11"))
 unfolding digits
 refused =
     inl (
@@ -84,7 +84,7 @@ db_read = record {
   stops = no_text_fault 18 (lexed_of sound) refl;
 }
 
-reported : IsOutput sound plain
+reported : IsOutput sound without_options
     (flat_map line
     (codes "mmdepend 1" ∷ codes "axioms 1" ∷ codes "theorems 0" ∷ codes "matrix" ∷ codes "counts"
     ∷ codes "usage" ∷ codes "ax:0:" ∷ codes "end" ∷ []))

@@ -1,5 +1,5 @@
 -- What is said of the statements of a text as they count, and as they were read.
-use Rattle.std.proofs.Common.{ℕ, ◌<◌, false, List, length, Option, sym, ap, ◌∙◌}
+use Rattle.std.proofs.Common.{ℕ, ◌<◌, List, length, Option, sym, ap, ◌∙◌}
 use Rattle.mm_spec.specs.declared.Fault.{Fault}
 use Rattle.mm_spec.specs.Statement.{Statement}
 use Rattle.mm_spec.specs.Lawful.{scope_fault, IsLawful}
@@ -10,12 +10,6 @@ use Rattle.mm_laws.specs.Laws.Frames.{FramesAreComplete}
 use Rattle.mm_spec.proofs.CompleteLaw.{reads_complete}
 use Rattle.mm_spec.proofs.LocalLaw.{scope_fault_front}
 use Rattle.mm_spec.proofs.OpenedLaw.{counted_complete}
-
--- a law of the statements as they count is one of the statements as they were read
-pub law_as_read : (P : List Statement → ℕ → Type 0) → WhereRead P → (len : ℕ) (x : LexedText)
-    → (db : List Statement) (fault : Option Fault) → IsRead len x db fault → (k : ℕ) → P db k
-law_as_read P holds_where_read len x db fault is_read = holds_where_read len x db fault is_read
-    false
 
 -- each statement that was read is lawful
 pub read_statements_are_lawful : (len : ℕ) (x : LexedText) (db : List Statement) (fault : Option

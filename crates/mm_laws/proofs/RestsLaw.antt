@@ -76,7 +76,7 @@ exists_below_is_decided P (suc n) each_is_decided =
 module _ (db : List Statement) (by_essential : Bool) (all_complete : AreComplete db)
     (are_valid : AreValid db (length db)) where
   pub cites_is_decided : (t a : ℕ) → IsDecided (Cites db by_essential t a)
-  cites_is_decided t a = by_is_theorem (is_theorem_at db t) refl
+  cites_is_decided t a = decided_by_is_theorem (is_theorem_at db t) refl
     where
       if_valid : IsValid db t → IsDecided (Cites db by_essential t a)
       if_valid is_valid =
@@ -95,11 +95,12 @@ module _ (db : List Statement) (by_essential : Bool) (all_complete : AreComplete
             ),
           )
 
-      by_is_theorem : (b : Bool) → is_theorem_at db t ≡ b → IsDecided (Cites db by_essential t a)
-      by_is_theorem true is_theorem_t =
+      decided_by_is_theorem : (b : Bool) → is_theorem_at db t ≡ b
+          → IsDecided (Cites db by_essential t a)
+      decided_by_is_theorem true is_theorem_t =
           let found = passing_statement db is_theorem t is_theorem_t in
           if_valid (are_valid t (got_lt_length db t found.0 found.1) is_theorem_t)
-      by_is_theorem false not_theorem_t = (
+      decided_by_is_theorem false not_theorem_t = (
         false,
         (
           (λ is_true. absurd (true≢false (sym is_true))),

@@ -80,19 +80,19 @@ equal_if_same_members (x ∷ xs) (y ∷ ys) xs_rise ys_rise same_members =
         at_first_or_later (inr in_cs) = in_cs
 
     tails_have_same_members : (a : ℕ) → is_member xs a ≡ is_member ys a
-    tails_have_same_members a = by_members (is_member xs a) (is_member ys a) refl refl
+    tails_have_same_members a = same_by_membership (is_member xs a) (is_member ys a) refl refl
       where
-        by_members : (p q : Bool) → is_member xs a ≡ p → is_member ys a ≡ q
+        same_by_membership : (p q : Bool) → is_member xs a ≡ p → is_member ys a ≡ q
             → is_member xs a ≡ is_member ys a
-        by_members true q in_xs in_ys =
+        same_by_membership true q in_xs in_ys =
             in_xs ∙ sym (member_of_other_tail a x y xs ys heads_equal xs_rise in_xs
             (sym (same_members a) ∙ or_right (a == x) (is_member xs a) in_xs))
-        by_members false true not_in_xs in_ys =
+        same_by_membership false true not_in_xs in_ys =
             absurd (true≢false
             (sym (member_of_other_tail a y x ys xs (sym heads_equal) ys_rise in_ys
             (same_members a ∙ or_right (a == y) (is_member ys a) in_ys))
             ∙ not_in_xs))
-        by_members false false not_in_xs not_in_ys = not_in_xs ∙ sym not_in_ys
+        same_by_membership false false not_in_xs not_in_ys = not_in_xs ∙ sym not_in_ys
 
 cons_rises : (x : ℕ) (xs : List ℕ) → IsStrictlyIncreasing xs
     → ((a : ℕ) → is_member xs a ≡ true → x < a) → IsStrictlyIncreasing (x ∷ xs)
@@ -120,12 +120,12 @@ list_of P each_is_decided i zero = (
     ),
   ),
 )
-list_of P each_is_decided i (suc n) = by_decision (each_is_decided i) (list_of P each_is_decided
-    (suc i) n)
+list_of P each_is_decided i (suc n) = listed_by_decision (each_is_decided i)
+    (list_of P each_is_decided (suc i) n)
   where
-    by_decision : IsDecided (P i) → (xs : List ℕ) × IsListOf P (suc i) n xs
+    listed_by_decision : IsDecided (P i) → (xs : List ℕ) × IsListOf P (suc i) n xs
         → (xs : List ℕ) × IsListOf P i (suc n) xs
-    by_decision (false, decides_P) later_list = (
+    listed_by_decision (false, decides_P) later_list = (
       later_list.0,
       (
         later_list.1.0,
@@ -143,19 +143,19 @@ list_of P each_is_decided i (suc n) = by_decision (each_is_decided i) (list_of P
     )
       where
         i_lt_a : (a : ℕ) → (i ≤ a) × (a < i + suc n) × P a → suc i ≤ a
-        i_lt_a a in_range = by_equality (a == i) refl
+        i_lt_a a in_range = after_i_by_equality (a == i) refl
           where
-            by_equality : (b : Bool) → (a == i) ≡ b → suc i ≤ a
-            by_equality true a_is_i = absurd (true≢false (sym (decides_P.1 (subst P (eqb-true a i
-                a_is_i) in_range.2))))
-            by_equality false a_is_not_i = let i_le_a = in_range.0 in suc_i_le_a i_le_a
+            after_i_by_equality : (b : Bool) → (a == i) ≡ b → suc i ≤ a
+            after_i_by_equality true a_is_i = absurd
+                (true≢false (sym (decides_P.1 (subst P (eqb-true a i a_is_i) in_range.2))))
+            after_i_by_equality false a_is_not_i = let i_le_a = in_range.0 in suc_i_le_a i_le_a
               where
                 suc_i_le_a : i ≤ a → suc i ≤ a
                 suc_i_le_a i_le_a =
                     let a_differs : a ≡ i → ⊥ = λ a_equals_i. true≢false (sym (eq-eqb a i
                     a_equals_i) ∙ a_is_not_i) in
                     omega (arith, i_le_a, a_differs)
-    by_decision (true, decides_P) later_list = (
+    listed_by_decision (true, decides_P) later_list = (
       i ∷ later_list.0,
       (
         cons_rises i later_list.0 later_list.1.0
@@ -167,30 +167,30 @@ list_of P each_is_decided i (suc n) = by_decision (each_is_decided i) (list_of P
       where
         member_is_in_range : (a : ℕ) → is_member (i ∷ later_list.0) a ≡ true
             → (i ≤ a) × (a < i + suc n) × P a
-        member_is_in_range a is_member_a = by_equality (or_cases (a == i) (is_member later_list.0 a)
-            is_member_a)
+        member_is_in_range a is_member_a = in_range_by_equality
+            (or_cases (a == i) (is_member later_list.0 a) is_member_a)
           where
-            by_equality : ((a == i) ≡ true) ⊎ (is_member later_list.0 a ≡ true)
+            in_range_by_equality : ((a == i) ≡ true) ⊎ (is_member later_list.0 a ≡ true)
                 → (i ≤ a) × (a < i + suc n) × P a
-            by_equality (inl a_is_i) =
+            in_range_by_equality (inl a_is_i) =
                 let a_equals_i : a ≡ i = eqb-true a i a_is_i in (
                   omega (arith, a_equals_i),
                   omega (arith, a_equals_i),
                   subst P (sym a_equals_i)
                       (decides_P.0 refl),
                 )
-            by_equality (inr in_later_list) =
+            in_range_by_equality (inr in_later_list) =
                 let in_range = (later_list.1.1 a).0 in_later_list in let suc_i_le_a = in_range.0 in
                 let a_lt_end = in_range.1 in
                 (omega (arith, suc_i_le_a), omega (arith, a_lt_end), in_range.2)
 
         in_range_is_member : (a : ℕ) → (i ≤ a) × (a < i + suc n) × P a
             → is_member (i ∷ later_list.0) a ≡ true
-        in_range_is_member a in_range = by_equality (a == i) refl
+        in_range_is_member a in_range = member_by_equality (a == i) refl
           where
-            by_equality : (b : Bool) → (a == i) ≡ b → is_member (i ∷ later_list.0) a ≡ true
-            by_equality true a_is_i = or_left (a == i) (is_member later_list.0 a) a_is_i
-            by_equality false a_is_not_i =
+            member_by_equality : (b : Bool) → (a == i) ≡ b → is_member (i ∷ later_list.0) a ≡ true
+            member_by_equality true a_is_i = or_left (a == i) (is_member later_list.0 a) a_is_i
+            member_by_equality false a_is_not_i =
                 let a_differs : a ≡ i → ⊥ = λ a_equals_i. true≢false (sym (eq-eqb a i a_equals_i)
                 ∙ a_is_not_i) in
                 let i_le_a = in_range.0 in

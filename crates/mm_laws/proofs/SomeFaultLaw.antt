@@ -34,14 +34,14 @@ module _ (db : List Statement) (all_complete : AreComplete db) where
   pub are_valid_or_first_fault : (n : ℕ) → AreValid db n ⊎ ((k : ℕ) × (f : Fault) × FirstProofFault
       db k f)
   are_valid_or_first_fault zero = inl (λ j j_lt_0 is_theorem_j. absurd (omega arith))
-  are_valid_or_first_fault (suc n) = by_earlier_theorems (are_valid_or_first_fault n)
+  are_valid_or_first_fault (suc n) = judged_by_earlier_theorems (are_valid_or_first_fault n)
     where
-      by_verdict : AreValid db n → IsTrue (is_theorem_at db n)
+      judged_by_verdict : AreValid db n → IsTrue (is_theorem_at db n)
           → IsValid db n ⊎ ((f : Fault) × ProofFault db n (proof_end (slice_get db n)) f)
           → AreValid db (suc n) ⊎ ((k : ℕ) × (f : Fault) × FirstProofFault db k f)
-      by_verdict are_valid is_theorem_n (inl is_valid) = inl (valid_up_to_next n are_valid (λ
+      judged_by_verdict are_valid is_theorem_n (inl is_valid) = inl (valid_up_to_next n are_valid (λ
           is_theorem. is_valid))
-      by_verdict are_valid is_theorem_n (inr fault) = inr (
+      judged_by_verdict are_valid is_theorem_n (inr fault) = inr (
         n,
         fault.0,
         (
@@ -51,34 +51,36 @@ module _ (db : List Statement) (all_complete : AreComplete db) where
         ),
       )
 
-      by_is_theorem : AreValid db n → (b : Bool) → is_theorem_at db n ≡ b
+      judged_by_is_theorem : AreValid db n → (b : Bool) → is_theorem_at db n ≡ b
           → AreValid db (suc n) ⊎ ((k : ℕ) × (f : Fault) × FirstProofFault db k f)
-      by_is_theorem are_valid true is_theorem_n =
-          by_verdict are_valid is_theorem_n (is_valid_or_faulty db all_complete n (proof_end
+      judged_by_is_theorem are_valid true is_theorem_n =
+          judged_by_verdict are_valid is_theorem_n (is_valid_or_faulty db all_complete n (proof_end
           (slice_get db n)))
-      by_is_theorem are_valid false not_theorem_n = inl (valid_up_to_next n are_valid (λ is_theorem.
+      judged_by_is_theorem are_valid false not_theorem_n = inl
+          (valid_up_to_next n are_valid (λ is_theorem.
           absurd (true≢false (sym is_theorem ∙ not_theorem_n))))
 
-      by_earlier_theorems : AreValid db n ⊎ ((k : ℕ) × (f : Fault) × FirstProofFault db k f)
+      judged_by_earlier_theorems : AreValid db n ⊎ ((k : ℕ) × (f : Fault) × FirstProofFault db k f)
           → AreValid db (suc n) ⊎ ((k : ℕ) × (f : Fault) × FirstProofFault db k f)
-      by_earlier_theorems (inl are_valid) = by_is_theorem are_valid (is_theorem_at db n) refl
-      by_earlier_theorems (inr first_fault) = inr first_fault
+      judged_by_earlier_theorems (inl are_valid) = judged_by_is_theorem are_valid
+          (is_theorem_at db n) refl
+      judged_by_earlier_theorems (inr first_fault) = inr first_fault
 
 -- a text has a first fault, or none at all
 pub is_sound_or_faulty : (len : ℕ) (x : LexedText) (with_open : Bool)
     → IsSoundOrFaulty len x with_open
 is_sound_or_faulty len x with_open =
     let reading = is_readable len x in
-    by_reading reading.0 reading.1 reading.2
+    judged_by_reading reading.0 reading.1 reading.2
     (are_valid_or_first_fault (counted with_open reading.0)
     (counted_complete with_open reading.0 (reads_complete len x reading.0 reading.1 reading.2))
     (length (counted with_open reading.0)))
   where
-    by_reading : (db : List Statement) (o : Option Fault) → IsRead len x db o
+    judged_by_reading : (db : List Statement) (o : Option Fault) → IsRead len x db o
         → AllAreValid (counted with_open db)
         ⊎ ((k : ℕ) × (f : Fault) × FirstProofFault (counted with_open db) k f)
         → IsSoundOrFaulty len x with_open
-    by_reading db o is_read (inr first_fault) = inl (
+    judged_by_reading db o is_read (inr first_fault) = inl (
       first_fault.1,
       (
         db,
@@ -88,7 +90,7 @@ is_sound_or_faulty len x with_open =
             (first_fault.0, first_fault.2),
       ),
     )
-    by_reading db (Some f) is_read (inl are_valid) = inl (
+    judged_by_reading db (Some f) is_read (inl are_valid) = inl (
       f,
       (
         db,
@@ -100,4 +102,4 @@ is_sound_or_faulty len x with_open =
         ),
       ),
     )
-    by_reading db None is_read (inl are_valid) = inr (db, (is_read, are_valid))
+    judged_by_reading db None is_read (inl are_valid) = inr (db, (is_read, are_valid))

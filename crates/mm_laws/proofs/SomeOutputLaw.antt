@@ -7,7 +7,7 @@ use Rattle.mm_spec.specs.Request.{Request}
 use Rattle.mm_spec.specs.declared.Choice.{Choice}
 use Rattle.mm_spec.specs.declared.Choice.TheVariants.{All, Matrix, Counts, Usage, Citations}
 use Rattle.mm_spec.specs.Lexed.{LexedText, lexed_of}
-use Rattle.mm_spec.specs.Output.{theorems, AllAreValid, open_columns}
+use Rattle.mm_spec.specs.Output.{theorems, AllAreValid, open_theorem_count}
 use Rattle.mm_spec.specs.Output.{IsReportOf, IsOutput}
 use Rattle.mm_laws.specs.Laws.FirstFaults.{IsSoundOrFaulty}
 use Rattle.mm_laws.specs.Laws.Cells.{AreDecided}
@@ -89,6 +89,6 @@ output_exists_for_text text request =
         (reads_complete (length text) (lexed_of text) has_no_fault.0 None has_no_fault.1.0) in
         let report =
         report_exists (counted request.with_open has_no_fault.0)
-        (open_columns has_no_fault.0 request) request all_complete has_no_fault.1.1 request.choice
-        in
+        (open_theorem_count has_no_fault.0 request) request all_complete has_no_fault.1.1
+        request.choice in
         (report.0, inr (has_no_fault.0, has_no_fault.1, report.1))

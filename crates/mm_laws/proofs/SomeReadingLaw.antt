@@ -31,10 +31,10 @@ module _ (len : ℕ) (x : LexedText) where
   -- if the first statements of a text are lawful, the text has a reading
   read_from : (later db : List Statement) → statements_of x.tokens ≡ db ++ later
       → AreLawful (statements_of x.tokens) (length db) → IsReadable len x
-  read_from [] db statements_are are_lawful = by_text_fault (text_fault len x) refl
+  read_from [] db statements_are are_lawful = readable_by_text_fault (text_fault len x) refl
     where
-      by_text_fault : (o : Option Fault) → text_fault len x ≡ o → IsReadable len x
-      by_text_fault None no_text_fault_found = (
+      readable_by_text_fault : (o : Option Fault) → text_fault len x ≡ o → IsReadable len x
+      readable_by_text_fault None no_text_fault_found = (
         db,
         None,
         record {
@@ -46,7 +46,7 @@ module _ (len : ℕ) (x : LexedText) where
           stops = no_text_fault len x no_text_fault_found;
         },
       )
-      by_text_fault (Some f) text_fault_found = (
+      readable_by_text_fault (Some f) text_fault_found = (
         db,
         Some f,
         record {
@@ -59,18 +59,19 @@ module _ (len : ℕ) (x : LexedText) where
         },
       )
   read_from (s ∷ later) db statements_are are_lawful =
-      by_scope_fault (scope_fault (statements_of x.tokens) (length db)) refl
+      readable_by_scope_fault (scope_fault (statements_of x.tokens) (length db)) refl
       (λ is_lawful. read_from later (db ++ s ∷ []) (statements_are
       ∙ sym (append_assoc db (s ∷ []) later))
       (lawful_up_to_next (statements_of x.tokens) (length db) are_lawful is_lawful (length (db ++ s
       ∷ []))
       (length-append db (s ∷ []))))
     where
-      by_scope_fault : (o : Option Fault) → scope_fault (statements_of x.tokens) (length db) ≡ o
+      readable_by_scope_fault : (o : Option Fault)
+          → scope_fault (statements_of x.tokens) (length db) ≡ o
           → (scope_fault (statements_of x.tokens) (length db) ≡ None → IsReadable len x)
           → IsReadable len x
-      by_scope_fault None no_scope_fault later_is_read = later_is_read no_scope_fault
-      by_scope_fault (Some f) scope_fault_found of_the_rest = (
+      readable_by_scope_fault None no_scope_fault later_is_read = later_is_read no_scope_fault
+      readable_by_scope_fault (Some f) scope_fault_found of_the_rest = (
         db,
         Some f,
         record {

@@ -1,5 +1,5 @@
 -- The steps of a proof are what its numbers or its labels name.
-use Rattle.std.proofs.Common.{cond, ◌≡◌, ◌≢◌, ℕ, zero, suc, ◌+◌, ◌-◌, ◌*◌, ◌<◌, ◌≤◌, Bool, true}
+use Rattle.std.proofs.Common.{cond, ◌≡◌, ◌≢◌, ℕ, zero, suc, ◌+◌, ◌-◌, ◌<◌, ◌≤◌, Bool, true}
 use Rattle.std.proofs.Common.{false, ◌&&◌, ◌⊎◌, inl, inr, List, [], ◌∷◌, ◌++◌, map, length}
 use Rattle.std.proofs.Common.{flat_map, count_by, Option, Some, None, slice_get, nat_le, bytes_eq}
 use Rattle.std.proofs.Common.{codes, refl, sym, ap, ap₂, ◌∙◌, subst, true≢false, arith, leb-true}
@@ -11,9 +11,9 @@ use Rattle.std.proofs.lemmas.Slice.Eq.{bytes_eq-Decides}
 use Rattle.mm_spec.specs.Text.{Bytes, Token, fault, is_in}
 use Rattle.mm_spec.specs.declared.Fault.{Fault}
 use Rattle.mm_spec.specs.Statement.{Statement, floating, essential, axiomatic, provable, label_of}
-use Rattle.mm_spec.specs.Scope.{Names as KnownNames, names_before, depth, is_active, statement_at}
+use Rattle.mm_spec.specs.Scope.{Names as KnownNames, names_before, depth, active_at, statement_at}
 use Rattle.mm_spec.specs.Scope.{label_words}
-use Rattle.mm_spec.specs.Lawful.{floating_faults, formula_faults, scope_faults, least}
+use Rattle.mm_spec.specs.Lawful.{floating_faults, formula_faults, scope_faults}
 use Rattle.mm_spec.specs.Lawful.{IsLawful}
 use Rattle.mm_spec.specs.Lawful as lawful
 use Rattle.mm_spec.specs.Opened.{counted}
@@ -21,7 +21,8 @@ use Rattle.mm_spec.specs.Frame.{mandatory_hypotheses}
 use Rattle.mm_spec.specs.Steps.{Step, PlacedStep, placed, label, marked}
 use Rattle.mm_spec.specs.NormalProof.{is_labelled, usable, proof_label_faults, normal_faults}
 use Rattle.mm_spec.specs.NormalProof.{normal_steps}
-use Rattle.mm_spec.specs.CompressedProof.{bracketed, letters_of, Group, is_last, groups, value}
+use Rattle.mm_spec.specs.CompressedProof.{bracketed, letters_of, Group, is_last_letter, groups}
+use Rattle.mm_spec.specs.CompressedProof.{value}
 use Rattle.mm_spec.specs.CompressedProof.{starts_at, step_of, group_steps, letter_faults}
 use Rattle.mm_spec.specs.CompressedProof.{compressed_faults, compressed_steps}
 use Rattle.mm_spec.specs.Proof.{steps, reading_faults}
@@ -31,20 +32,21 @@ use Rattle.mm_laws.specs.Spelling.{Item, number, mark, is_number, is_mark_item, 
 use Rattle.mm_laws.specs.Spelling.{IsCompressed, IsMark, NamesStep, AreSteps, IsUsable}
 use Rattle.mm_laws.specs.Laws.Read.{WhereRead}
 use Rattle.mm_laws.specs.Laws.BareSteps.{bare_steps}
-use Rattle.mm_laws.specs.Laws.NamedSteps.{StepsAreNamed, NamedStepsAreUnique}
+use Rattle.mm_laws.specs.Laws.NamedSteps.{StepsAreNamed}
 use Rattle.mm_laws.specs.Laws.NamedSteps.{StepsAreLabels}
 use Rattle.mm_spec.specs.declared.Code.TheVariants.{UnusableLabel}
 use Rattle.mm_spec.specs.declared.Code.TheVariants.{IncompleteProof}
-use Rattle.mm_spec.proofs.FindsLaw.{equal_bytes_equal_words, passing_statement, got_lt_length}
+use Rattle.mm_spec.proofs.FindsLaw.{equal_bytes_equal_words, passing_statement}
 use Rattle.mm_spec.proofs.FindsLaw.{later_place_knows_declared}
-use Rattle.mm_spec.proofs.FaultlessLaw.{no_least_no_faults, both_are_empty, faultless_label_is_new}
+use Rattle.mm_spec.proofs.FaultlessLaw.{both_are_empty, faultless_label_is_new}
 use Rattle.mm_spec.proofs.OpenedLaw.{counted_any}
+use Rattle.mm_spec.proofs.CompleteLaw.{lawful_is_faultless}
+use Rattle.mm_spec.proofs.GoodStepsLaw.{group_value_is_positive}
+use Rattle.mm_spec.proofs.GroupsLaw.{AreFaultless}
 use Rattle.mm_spec.proofs.ListLaw.{got_none_is_past_end}
 use Rattle.mm_laws.proofs.ReadLaw.{read_statements_are_lawful}
-use Rattle.mm_laws.proofs.SpellingLaw.{bracketed_splits, AreFaultless, letters_are_faultless}
-use Rattle.mm_laws.proofs.SpellingLaw.{item_of}
-use Rattle.mm_laws.proofs.SpellingLaw.{groups_spell}
-use Rattle.mm_laws.proofs.SpellingLaw.{bytes_of_letters, spelled_items_are_unique}
+use Rattle.mm_laws.proofs.SpellingLaw.{bracketed_splits, letters_are_faultless, item_of}
+use Rattle.mm_laws.proofs.SpellingLaw.{groups_spell, bytes_of_letters, spelled_items_are_unique}
 
 -- ---- lists
 
@@ -52,14 +54,14 @@ get_append : {X : Type 0} (xs ys : List X) (n : ℕ) (x : X) → slice_get (xs +
     → (slice_get xs n ≡ Some x) ⊎ ((i : ℕ) × (n ≡ length xs + i) × (slice_get ys i ≡ Some x))
 get_append [] ys n x x_is_at_n = inr (n, omega arith, x_is_at_n)
 get_append (y ∷ xs) ys zero x x_is_at_n = inl x_is_at_n
-get_append (y ∷ xs) ys (suc n) x x_is_at_n = by_list (get_append xs ys n x x_is_at_n)
+get_append (y ∷ xs) ys (suc n) x x_is_at_n = found_by_list (get_append xs ys n x x_is_at_n)
   where
-    by_list : (slice_get xs n ≡ Some x)
+    found_by_list : (slice_get xs n ≡ Some x)
         ⊎ ((i : ℕ) × (n ≡ length xs + i) × (slice_get ys i ≡ Some x))
         → (slice_get xs n ≡ Some x)
         ⊎ ((i : ℕ) × (suc n ≡ suc (length xs) + i) × (slice_get ys i ≡ Some x))
-    by_list (inl in_xs) = inl in_xs
-    by_list (inr in_ys) = let n_is = in_ys.1 in inr (in_ys.0, omega arith, in_ys.2)
+    found_by_list (inl in_xs) = inl in_xs
+    found_by_list (inr in_ys) = let n_is = in_ys.1 in inr (in_ys.0, omega arith, in_ys.2)
 
 get_only : {X : Type 0} (y x : X) (i : ℕ) → slice_get (y ∷ []) i ≡ Some x → (i ≡ 0) × (y ≡ x)
 get_only y x zero x_is_at_i = (refl, cc)
@@ -218,7 +220,7 @@ module _ (hypotheses labels : List ℕ) where
       × NamesStep hypotheses labels items_before n s
   number_names_step items_before marks zero n_gt_0 n_le_count are_marks = absurd (omega arith)
   number_names_step items_before marks (suc n) n_gt_0 n_le_count are_marks =
-      by_label_or_mark (slice_get (hypotheses ++ labels) n) refl
+      named_by_label_or_mark (slice_get (hypotheses ++ labels) n) refl
       (slice_get marks (n - length (hypotheses ++ labels))) refl
     where
       step_by_meaning : Option ℕ → Option ℕ → List Step
@@ -237,13 +239,14 @@ module _ (hypotheses labels : List ℕ) where
         in_labels.2,
       )
 
-      by_label_or_mark : (a : Option ℕ) → slice_get (hypotheses ++ labels) n ≡ a → (b : Option ℕ)
+      named_by_label_or_mark : (a : Option ℕ) → slice_get (hypotheses ++ labels) n ≡ a
+          → (b : Option ℕ)
           → slice_get marks (n - length (hypotheses ++ labels)) ≡ b
           → (s : Step) × (step_by_meaning a b ≡ s ∷ [])
           × NamesStep hypotheses labels items_before (suc n) s
-      by_label_or_mark (Some j) is_label b at_mark =
+      named_by_label_or_mark (Some j) is_label b at_mark =
           (label j, refl, label_is_named j (get_append hypotheses labels n j is_label))
-      by_label_or_mark None not_label (Some i) is_mark =
+      named_by_label_or_mark None not_label (Some i) is_mark =
           let count_le_n = got_none_is_past_end (hypotheses ++ labels) n not_label in
           let counts_add = length-append hypotheses labels in (
             marked i,
@@ -255,7 +258,7 @@ module _ (hypotheses labels : List ℕ) where
                   (n - length (hypotheses ++ labels)) i is_mark,
             ),
           )
-      by_label_or_mark None not_label None not_mark =
+      named_by_label_or_mark None not_label None not_mark =
           let count_le_n = got_none_is_past_end (hypotheses ++ labels) n not_label in
           let marks_le_n = got_none_is_past_end marks
           (n - length (hypotheses ++ labels)) not_mark in
@@ -264,9 +267,6 @@ module _ (hypotheses labels : List ℕ) where
 
   abbrev steps_of : List PlacedStep → List Step
   steps_of ps = map (λ p. p.step) ps
-
-  value_gt_0 : (n b : ℕ) → 65 ≤ b → 0 < n * 20 + (b - 64)
-  value_gt_0 n b last_digit_ge = omega arith
 
   -- the steps of groups are what their items name
   steps_from_groups : (gs : List Group) (items_before : List Item) (marks : List ℕ) (count : ℕ)
@@ -298,8 +298,8 @@ module _ (hypotheses labels : List ℕ) where
       (let length_is = length-append marks ((count - 1) ∷ []) in
       omega arith) rest_is_faultless))
     where
-      item_by_letter : Bool → Item
-      item_by_letter b = elim b [ true ↦ number (value g) | false ↦ mark ]
+      item_if_number : Bool → Item
+      item_if_number b = elim b [ true ↦ number (value g) | false ↦ mark ]
 
       steps_from_group : Bool → List PlacedStep
       steps_from_group a = elim a [
@@ -318,26 +318,26 @@ module _ (hypotheses labels : List ℕ) where
           → AreFaultless (length hypotheses + length labels) (length marks + 1) count gs
           → AreStepsFrom (items_before ++ mark ∷ []) (map item_of gs)
           (steps_of (group_steps (hypotheses ++ labels) (marks ++ (count - 1) ∷ []) count gs)))
-          → AreStepsFrom items_before (item_by_letter (is_last g.last.byte) ∷ map item_of gs)
-          (steps_of (steps_from_group (is_last g.last.byte)))
+          → AreStepsFrom items_before (item_if_number (is_last_letter g.last.byte) ∷ map item_of gs)
+          (steps_of (steps_from_group (is_last_letter g.last.byte)))
       number_or_mark (inl is_number_group) after_number after_mark =
           let byte_ge_65 =
           leb-true 65 g.last.byte
           (and_parts (nat_le 65 g.last.byte) (nat_le g.last.byte 84) is_number_group.0).0 in
-          let named = number_names_step items_before marks (value g) (value_gt_0 _ g.last.byte
+          let named = number_names_step items_before marks (value g) (group_value_is_positive _ g.last.byte
           byte_ge_65) is_number_group.1 are_marks in
           let are_steps =
           steps_from_number items_before (map item_of gs)
           (steps_of (group_steps (hypotheses ++ labels) marks (count + 1) gs)) (value g) named.0
           named.2
           (after_number (value g) is_number_group.2) in
-          subst (λ b. AreStepsFrom items_before (item_by_letter b ∷ map item_of gs)
+          subst (λ b. AreStepsFrom items_before (item_if_number b ∷ map item_of gs)
           (steps_of (steps_from_group b))) (sym is_number_group.0)
           (subst (λ ss. AreStepsFrom items_before (number (value g) ∷ map item_of gs)
           (steps_of (map (placed (starts_at g)) ss
           ++ group_steps (hypotheses ++ labels) marks (count + 1) gs))) (sym named.1) are_steps)
       number_or_mark (inr is_mark_group) after_number after_mark =
-          subst (λ b. AreStepsFrom items_before (item_by_letter b ∷ map item_of gs)
+          subst (λ b. AreStepsFrom items_before (item_if_number b ∷ map item_of gs)
           (steps_of (steps_from_group b))) (sym is_mark_group.0)
           (steps_from_mark items_before (map item_of gs)
           (steps_of (group_steps (hypotheses ++ labels) (marks ++ (count - 1) ∷ []) count gs))
@@ -382,12 +382,12 @@ label_is_new n d _ w no_fault has_label = absurd (true≢false (sym has_label))
 
 label_is_word : (s : Statement) (w : Bytes) → is_labelled w s ≡ true
     → is_in w (label_words s) ≡ true
-label_is_word s w has_label = by_label (label_of s) has_label
+label_is_word s w has_label = word_by_label (label_of s) has_label
   where
-    by_label : (o : Option Token) → elim o [ None ↦ false | Some l ↦ bytes_eq l.word w ] ≡ true
+    word_by_label : (o : Option Token) → elim o [ None ↦ false | Some l ↦ bytes_eq l.word w ] ≡ true
         → is_in w (elim o [ None ↦ [] | Some l ↦ l.word ∷ [] ]) ≡ true
-    by_label None has_label = absurd (true≢false (sym has_label))
-    by_label (Some l) has_label =
+    word_by_label None has_label = absurd (true≢false (sym has_label))
+    word_by_label (Some l) has_label =
         or_left (bytes_eq w l.word) false
         ((bytes_eq-Decides w l.word).1 (sym (equal_bytes_equal_words l.word w has_label)))
 
@@ -397,10 +397,10 @@ at_most_one_in_range : (passes : ℕ → Bool) → ((i j : ℕ) → passes i ≡
     → (filter passes (range_with_len a n) ≡ [])
     ⊎ ((j : ℕ) × (filter passes (range_with_len a n) ≡ j ∷ []) × (passes j ≡ true) × (a ≤ j))
 at_most_one_in_range passes passes_once zero a = inl refl
-at_most_one_in_range passes passes_once (suc n) a = by_test (passes a) refl (at_most_one_in_range
-    passes passes_once n (a + 1))
+at_most_one_in_range passes passes_once (suc n) a = passing_by_test (passes a) refl
+    (at_most_one_in_range passes passes_once n (a + 1))
   where
-    by_test : (b : Bool) → passes a ≡ b
+    passing_by_test : (b : Bool) → passes a ≡ b
         → (filter passes (range_with_len (a + 1) n) ≡ [])
         ⊎ ((j : ℕ) × (filter passes (range_with_len (a + 1) n) ≡ j ∷ []) × (passes j ≡ true)
         × (a + 1 ≤ j))
@@ -412,16 +412,16 @@ at_most_one_in_range passes passes_once (suc n) a = by_test (passes a) refl (at_
         (filter passes (range_with_len (a + 1) n))
         ≡ j ∷ [])
         × (passes j ≡ true) × (a ≤ j))
-    by_test true passes_a (inl none_in_rest) = inr (
+    passing_by_test true passes_a (inl none_in_rest) = inr (
       a,
       ap (λ xs. a ∷ xs) none_in_rest,
       passes_a,
       omega arith,
     )
-    by_test true passes_a (inr one_in_rest) = let a_is_j = passes_once a one_in_rest.0 passes_a
-        one_in_rest.2 in let a_lt_j = one_in_rest.3 in absurd (omega arith)
-    by_test false not_a (inl none_in_rest) = inl none_in_rest
-    by_test false not_a (inr one_in_rest) = let a_lt_j = one_in_rest.3 in inr (
+    passing_by_test true passes_a (inr one_in_rest) = let a_is_j = passes_once a one_in_rest.0
+        passes_a one_in_rest.2 in let a_lt_j = one_in_rest.3 in absurd (omega arith)
+    passing_by_test false not_a (inl none_in_rest) = inl none_in_rest
+    passing_by_test false not_a (inr one_in_rest) = let a_lt_j = one_in_rest.3 in inr (
       one_in_rest.0,
       one_in_rest.1,
       one_in_rest.2,
@@ -436,34 +436,23 @@ abbrev pub LabelsDiffer : List Statement → Type 0
 LabelsDiffer db = (w : Bytes) (i j : ℕ) → HasLabel db w i → HasLabel db w j → i ≡ j
 
 module _ (db : List Statement) (are_lawful : (k : ℕ) → k < length db → IsLawful db k) where
-  statement_is_faultless : (k : ℕ) (s : Statement) → slice_get db k ≡ Some s
-      → scope_faults (names_before db k) (depth db k) s ≡ []
-  statement_is_faultless k s statement_is =
-      no_least_no_faults (scope_faults (names_before db k) (depth db k) s)
-      (sym (ap first_fault statement_is) ∙ are_lawful k (got_lt_length db k s statement_is))
-    where
-      first_fault : Option Statement → Option Fault
-      first_fault o =
-          elim o [ None ↦ None | Some s ↦ least (scope_faults (names_before db k) (depth db k) s) ]
-
   label_not_twice : (w : Bytes) (i j : ℕ) → i < j → HasLabel db w i → HasLabel db w j → ⊥
   label_not_twice w i j i_lt_j labels_i labels_j =
       let labelled_i = passing_statement db (is_labelled w) i labels_i in
       let labelled_j = passing_statement db (is_labelled w) j labels_j in
       let is_new : is_in w (names_before db j).labels ≡ false =
-      label_is_new (names_before db j) (depth db j) labelled_j.0 w (statement_is_faultless j
-      labelled_j.0 labelled_j.1) labelled_j.2 in
+      label_is_new (names_before db j) (depth db j) labelled_j.0 w
+      (lawful_is_faultless db are_lawful j labelled_j.0 labelled_j.1) labelled_j.2 in
       true≢false (sym (later_place_knows_declared label_words db j i labelled_i.0 w labelled_i.1
-      i_lt_j (label_is_word
-      labelled_i.0 w labelled_i.2)) ∙ is_new)
+      i_lt_j (label_is_word labelled_i.0 w labelled_i.2)) ∙ is_new)
 
   labels_are_distinct : LabelsDiffer db
-  labels_are_distinct w i j labels_i labels_j = by_order (cases_order i j)
+  labels_are_distinct w i j labels_i labels_j = i_is_j_by_order (cases_order i j)
     where
-      by_order : (i ≡ j) ⊎ ((i < j) ⊎ (j < i)) → i ≡ j
-      by_order (inl i_is_j) = i_is_j
-      by_order (inr (inl i_lt_j)) = absurd (label_not_twice w i j i_lt_j labels_i labels_j)
-      by_order (inr (inr j_lt_i)) = absurd (label_not_twice w j i j_lt_i labels_j labels_i)
+      i_is_j_by_order : (i ≡ j) ⊎ ((i < j) ⊎ (j < i)) → i ≡ j
+      i_is_j_by_order (inl i_is_j) = i_is_j
+      i_is_j_by_order (inr (inl i_lt_j)) = absurd (label_not_twice w i j i_lt_j labels_i labels_j)
+      i_is_j_by_order (inr (inr j_lt_i)) = absurd (label_not_twice w j i j_lt_i labels_j labels_i)
 
 -- the labels of what is read differ, as it counts
 pub labels_differ : (len : ℕ) (x : LexedText) (db : List Statement) (fault : Option Fault)
@@ -486,14 +475,14 @@ module _ (db : List Statement) (labels_differ : LabelsDiffer db) where
         at_most_once k 0)
       where
         is_usable_at : ℕ → Bool
-        is_usable_at j = is_active db j k && list_any (is_labelled t.word) (statement_at db j)
+        is_usable_at j = active_at db j k && list_any (is_labelled t.word) (statement_at db j)
 
         at_most_once : (i j : ℕ) → is_usable_at i ≡ true → is_usable_at j ≡ true → i ≡ j
         at_most_once i j is_usable_i is_usable_j =
             labels_differ t.word i j
-            (and_parts (is_active db i k) (list_any (is_labelled t.word) (statement_at db i))
+            (and_parts (active_at db i k) (list_any (is_labelled t.word) (statement_at db i))
             is_usable_i).1
-            (and_parts (is_active db j k) (list_any (is_labelled t.word) (statement_at db j))
+            (and_parts (active_at db j k) (list_any (is_labelled t.word) (statement_at db j))
             is_usable_j).1
 
         fault_of : List ℕ → List Fault
@@ -509,7 +498,7 @@ module _ (db : List Statement) (labels_differ : LabelsDiffer db) where
         none_or_one (inl none_is_usable) = absurd (not_none none_is_usable)
         none_or_one (inr one_is_usable) =
             let is_active_and_labelled =
-            and_parts (is_active db one_is_usable.0 k)
+            and_parts (active_at db one_is_usable.0 k)
             (list_any (is_labelled t.word) (statement_at db one_is_usable.0)) one_is_usable.2 in (
               one_is_usable.0,
               one_is_usable.1,
@@ -555,13 +544,13 @@ module _ (db : List Statement) (labels_differ : LabelsDiffer db) where
         let faults_of_ts : List Fault = flat_map (λ u. own_faults u (bytes_eq u.word (codes "?")))
         ts in
         ap₂ (λ xs ys. xs ++ ys)
-        (by_question_mark (bytes_eq t.word (codes "?")) (both_are_empty faults_of_t faults_of_ts
-        no_faults).0)
+        (no_label_faults_by_word (bytes_eq t.word (codes "?"))
+        (both_are_empty faults_of_t faults_of_ts no_faults).0)
         (labels_are_faultless ts (both_are_empty faults_of_t faults_of_ts no_faults).1)
       where
-        by_question_mark : (b : Bool) → own_faults t b ≡ [] → proof_label_faults db k t ≡ []
-        by_question_mark true no_fault = absurd (cc)
-        by_question_mark false no_fault = no_fault
+        no_label_faults_by_word : (b : Bool) → own_faults t b ≡ [] → proof_label_faults db k t ≡ []
+        no_label_faults_by_word true no_fault = absurd (cc)
+        no_label_faults_by_word false no_fault = no_fault
 
     steps_are_labels : (ts : List Token) → flat_map (proof_label_faults db k) ts ≡ []
         → AllZip (λ u s. (j : ℕ) × (s ≡ label j) × IsUsable db k u.word j) ts
@@ -586,8 +575,8 @@ module _ (db : List Statement) (labels_differ : LabelsDiffer db) where
         → t.word ≢ codes "("
         → AllZip (λ u s. (j : ℕ) × (s ≡ label j) × IsUsable db k u.word j) (t ∷ ts)
         (bare_steps db k (t ∷ ts))
-    normal_steps_are_labels end t ts no_faults no_bracket = by_bracket (bytes_eq t.word (codes "("))
-        refl no_faults
+    normal_steps_are_labels end t ts no_faults no_bracket = labels_by_bracket
+        (bytes_eq t.word (codes "(")) refl no_faults
       where
         faults : Bool → List Fault
         faults b =
@@ -603,14 +592,13 @@ module _ (db : List Statement) (labels_differ : LabelsDiffer db) where
               | false ↦ normal_steps db k (t ∷ ts)
             ]
 
-        by_bracket : (b : Bool) → bytes_eq t.word (codes "(") ≡ b → faults b ≡ []
+        labels_by_bracket : (b : Bool) → bytes_eq t.word (codes "(") ≡ b → faults b ≡ []
             → AllZip (λ u s. (j : ℕ) × (s ≡ label j) × IsUsable db k u.word j) (t ∷ ts)
             (map (λ p. p.step) (out b))
-        by_bracket true is_bracket no_faults =
-            absurd (no_bracket (equal_bytes_equal_words t.word (codes "(")
-            is_bracket))
-        by_bracket false not_bracket no_faults = steps_are_labels (t ∷ ts) (labels_are_faultless (t
-            ∷ ts) no_faults)
+        labels_by_bracket true is_bracket no_faults =
+            absurd (no_bracket (equal_bytes_equal_words t.word (codes "(") is_bracket))
+        labels_by_bracket false not_bracket no_faults = steps_are_labels (t ∷ ts)
+            (labels_are_faultless (t ∷ ts) no_faults)
 
     letters_name_steps : (end : ℕ) (labels letters : List Token) (items : List Item)
         → compressed_faults db k end (record { labels = labels; letters = Some letters }) ≡ []

@@ -1,29 +1,30 @@
--- Letters spell one row of items at most, and those of a proof without reading faults spell one.
-use Rattle.std.proofs.Common.{◌≡◌, ◌≢◌, ℕ, suc, ◌+◌, ◌-◌, ◌*◌, ◌^◌, ◌==◌, ◌<◌, ◌≤◌, Bool, true}
+-- Letters spell one list of items at most, and those of a proof without reading faults spell one.
+use Rattle.std.proofs.Common.{◌≡◌, ◌≢◌, ℕ, suc, ◌+◌, ◌-◌, ◌*◌, ◌^◌, ◌<◌, Bool, true}
 use Rattle.std.proofs.Common.{false, ◌⊎◌, inl, inr, List, [], ◌∷◌, ◌++◌, map, length, fold}
 use Rattle.std.proofs.Common.{flat_map, Option, Some, None, nat_le, nat_lt, bytes_eq, codes, refl}
-use Rattle.std.proofs.Common.{sym, ap, ap₂, ◌∙◌, subst, true≢false, arith, leb-true, ltb-false}
-use Rattle.std.proofs.Common.{eqb-true, append_assoc, append-nil}
+use Rattle.std.proofs.Common.{sym, ap, ap₂, ◌∙◌, subst, true≢false, arith, leb-true}
+use Rattle.std.proofs.Common.{append_assoc, append-nil}
 use Rattle.std.specs.List.{AllByRecursion}
 use Rattle.std.proofs.Math.Nat.{pow-succ'}
-use Rattle.std.proofs.lemmas.Bool.{and_parts, eqb-false}
+use Rattle.std.proofs.lemmas.Bool.{and_parts}
 use Rattle.std.proofs.lemmas.Slice.Eq.{bytes_eq-Decides}
 use Rattle.mm_spec.specs.Text.{Bytes, Token, fault}
 use Rattle.mm_spec.specs.declared.Fault.{Fault}
 use Rattle.mm_spec.specs.Statement.{Statement}
-use Rattle.mm_spec.specs.Lawful.{when, at}
+use Rattle.mm_spec.specs.Lawful.{when, faults_at}
 use Rattle.mm_spec.specs.Frame.{mandatory_hypotheses}
 use Rattle.mm_spec.specs.NormalProof.{proof_label_faults, normal_faults}
 use Rattle.mm_spec.specs.CompressedProof.{Compressed, bracketed, with_label, Letter, letters_from}
-use Rattle.mm_spec.specs.CompressedProof.{letters_of, Group, is_early, is_last, groups, value}
-use Rattle.mm_spec.specs.CompressedProof.{starts_at, group_faults, letter_faults, compressed_faults}
+use Rattle.mm_spec.specs.CompressedProof.{letters_of, Group, is_early_letter, is_last_letter}
+use Rattle.mm_spec.specs.CompressedProof.{groups, value}
+use Rattle.mm_spec.specs.CompressedProof.{group_faults, letter_faults, compressed_faults}
 use Rattle.mm_spec.specs.Proof.{reading_faults}
 use Rattle.mm_laws.specs.Spelling.{Item, number, mark, IsEarlyDigit, IsLastDigit, AreEarlyDigits}
 use Rattle.mm_laws.specs.Spelling.{AreLettersOf, IsSpelled, Spells, letters_in}
 use Rattle.mm_laws.specs.Laws.Letters.{PartsAreUnique, SpellingIsUnique, ProofsAreSpelled}
-use Rattle.mm_spec.specs.declared.Code.TheVariants.{OpenBrackets, OpenNumber, MarkBeforeStep}
-use Rattle.mm_spec.specs.declared.Code.TheVariants.{NumberTooLarge, IncompleteProof, BadLetter}
+use Rattle.mm_spec.specs.declared.Code.TheVariants.{OpenBrackets, OpenNumber}
 use Rattle.mm_spec.proofs.FindsLaw.{equal_bytes_equal_words}
+use Rattle.mm_spec.proofs.GroupsLaw.{AreFaultless, nil_if_not_positive, groups_are_faultless}
 use Rattle.mm_spec.proofs.FaultlessLaw.{both_are_empty, no_faults_no_codes, no_code_if_false}
 
 -- ---- one spelling
@@ -231,18 +232,17 @@ pub bracketed_splits : (labels : List Token) (closing : Token) (letters : List T
 bracketed_splits [] closing letters is_closing no_label_closes =
     ap (bracketed_by closing letters) ((bytes_eq-Decides closing.word (codes ")")).1 is_closing)
 bracketed_splits (t ∷ labels) closing letters is_closing no_label_closes =
-    by_bracket (bytes_eq t.word (codes ")")) refl (bracketed_splits labels closing letters
+    read_by_bracket (bytes_eq t.word (codes ")")) refl (bracketed_splits labels closing letters
     is_closing no_label_closes.1)
   where
-    by_bracket : (b : Bool) → bytes_eq t.word (codes ")") ≡ b
+    read_by_bracket : (b : Bool) → bytes_eq t.word (codes ")") ≡ b
         → bracketed (labels ++ closing ∷ letters)
         ≡ record { labels = labels; letters = Some letters }
         → bracketed_by t (labels ++ closing ∷ letters) b
         ≡ record { labels = t ∷ labels; letters = Some letters }
-    by_bracket true is_bracket rest_splits = absurd
-        (no_label_closes.0 (equal_bytes_equal_words t.word (codes ")")
-        is_bracket))
-    by_bracket false not_bracket rest_splits = ap (with_label t) rest_splits
+    read_by_bracket true is_bracket rest_splits = absurd
+        (no_label_closes.0 (equal_bytes_equal_words t.word (codes ")") is_bracket))
+    read_by_bracket false not_bracket rest_splits = ap (with_label t) rest_splits
 
 pub parts_are_unique : PartsAreUnique
 parts_are_unique ts labels letters other_labels other_letters is_compressed is_other_compressed =
@@ -274,14 +274,14 @@ pub bracket_parts_of : (ts letters : List Token) → (bracketed ts).letters ≡ 
     → BracketParts ts letters
 bracket_parts_of [] letters letters_are = absurd (cc)
 bracket_parts_of (t ∷ ts) letters letters_are =
-    by_bracket (bytes_eq t.word (codes ")")) refl letters_are (λ rest_letters_are. bracket_parts_of
-    ts letters rest_letters_are)
+    parts_by_bracket (bytes_eq t.word (codes ")")) refl letters_are
+    (λ rest_letters_are. bracket_parts_of ts letters rest_letters_are)
   where
-    by_bracket : (b : Bool) → bytes_eq t.word (codes ")") ≡ b
+    parts_by_bracket : (b : Bool) → bytes_eq t.word (codes ")") ≡ b
         → (bracketed_by t ts b).letters ≡ Some letters
         → ((bracketed ts).letters ≡ Some letters → BracketParts ts letters)
         → BracketParts (t ∷ ts) letters
-    by_bracket true is_bracket letters_are parts_of_rest =
+    parts_by_bracket true is_bracket letters_are parts_of_rest =
         let ts_is_letters : ts ≡ letters = cc in
         record {
           labels = [];
@@ -290,7 +290,7 @@ bracket_parts_of (t ∷ ts) letters letters_are =
           closing_is = equal_bytes_equal_words t.word (codes ")") is_bracket;
           no_label_closes = tt;
         }
-    by_bracket false not_bracket letters_are parts_of_rest =
+    parts_by_bracket false not_bracket letters_are parts_of_rest =
         let parts = parts_of_rest letters_are in
         record {
           labels = t ∷ parts.labels;
@@ -310,118 +310,19 @@ abbrev pub bytes_of : List Letter → List ℕ
 bytes_of xs = map (λ x. x.byte) xs
 
 abbrev pub AreEarly : List Letter → Type 0
-AreEarly xs = AllByRecursion (λ x. is_early x.byte ≡ true) xs
+AreEarly xs = AllByRecursion (λ x. is_early_letter x.byte ≡ true) xs
 
 abbrev pub item_of : Group → Item
-item_of g = elim (is_last g.last.byte) [ true ↦ number (value g) | false ↦ mark ]
+item_of g = elim (is_last_letter g.last.byte) [ true ↦ number (value g) | false ↦ mark ]
 
--- groups that have no fault
-abbrev pub AreFaultless : ℕ → ℕ → ℕ → List Group → Type 0
-AreFaultless label_count marks count [] = Unit {0}
-AreFaultless label_count marks count (g ∷ gs) =
-    ((is_last g.last.byte ≡ true) × (value g ≤ label_count + marks)
-    × AreFaultless label_count marks (count + 1) gs)
-    ⊎ ((is_last g.last.byte ≡ false) × (g.last.byte ≡ 90) × (g.early ≡ []) × (0 < count)
-    × AreFaultless label_count (marks + 1) count gs)
-
-nil_if_not_positive : (xs : List Letter) → nat_lt 0 (length xs) ≡ false → xs ≡ []
-nil_if_not_positive [] not_positive = refl
-nil_if_not_positive (x ∷ xs) not_positive = absurd (let length_le_0 = ltb-false 0 (length (x ∷ xs))
-    not_positive in omega arith)
-
-pub groups_are_faultless : (gs : List Group) (label_count marks count : ℕ)
-    → group_faults label_count marks count gs ≡ []
-    → AreFaultless label_count marks count gs
-groups_are_faultless [] label_count marks count no_faults = tt
-groups_are_faultless (g ∷ gs) label_count marks count no_faults =
-    by_letter (is_last g.last.byte) refl (g.last.byte == 90) refl no_faults
-    (λ rest_no_faults. groups_are_faultless gs label_count marks (count + 1) rest_no_faults)
-    (λ rest_no_faults. groups_are_faultless gs label_count (marks + 1) count rest_no_faults)
-  where
-    faults_of_group : Bool → Bool → List Fault
-    faults_of_group a b = elim a [
-      | true ↦ at (starts_at g) (when (nat_lt (label_count + marks) (value g)) NumberTooLarge)
-      | false ↦ elim b [
-        | true ↦ at g.last.at
-            (when (nat_lt 0 (length g.early)) OpenNumber ++ when (count == 0) MarkBeforeStep)
-        | false ↦ at g.last.at
-            (elim (g.last.byte == 63) [ true ↦ IncompleteProof ∷ [] | false ↦ BadLetter ∷ [] ])
-      ]
-    ]
-
-    faults_of_later_groups : Bool → List Fault
-    faults_of_later_groups b =
-        elim b [
-          | true ↦ group_faults label_count (marks + 1) count gs
-          | false ↦ group_faults label_count marks (count + 1) gs
-        ]
-
-    other_byte_is_fault : (b : Bool)
-        → ¬ (at g.last.at (elim b [ true ↦ IncompleteProof ∷ [] | false ↦ BadLetter ∷ [] ]) ≡ [])
-    other_byte_is_fault true is_nil = cc
-    other_byte_is_fault false is_nil = cc
-
-    by_letter : (a : Bool) → is_last g.last.byte ≡ a → (b : Bool) → (g.last.byte == 90) ≡ b
-        → faults_of_group a b ++ faults_of_later_groups b ≡ []
-        → (group_faults label_count marks (count + 1) gs ≡ []
-        → AreFaultless label_count marks (count + 1) gs)
-        → (group_faults label_count (marks + 1) count gs ≡ []
-        → AreFaultless label_count (marks + 1) count gs)
-        → AreFaultless label_count marks count (g ∷ gs)
-    by_letter true is_last_letter true is_mark no_faults after_number after_mark =
-        let byte_le_84 =
-        leb-true g.last.byte 84 (and_parts (nat_le 65 g.last.byte) (nat_le g.last.byte 84)
-        is_last_letter).1 in
-        let byte_is_90 = eqb-true g.last.byte 90 is_mark in
-        absurd (omega arith)
-    by_letter true is_last_letter false not_mark no_faults after_number after_mark =
-        let not_too_large =
-        no_code_if_false (nat_lt (label_count + marks) (value g)) NumberTooLarge
-        (no_faults_no_codes (starts_at g) (when
-        (nat_lt (label_count + marks) (value g)) NumberTooLarge)
-        (both_are_empty (faults_of_group true false) (faults_of_later_groups false) no_faults).0) in
-        inl (
-          is_last_letter,
-          ltb-false (label_count + marks) (value g) not_too_large,
-          after_number
-              (both_are_empty (faults_of_group true false)
-              (faults_of_later_groups false) no_faults).1,
-        )
-    by_letter false not_last_letter true is_mark no_faults after_number after_mark =
-        let no_faults_of_letter =
-        no_faults_no_codes g.last.at
-        (when (nat_lt 0 (length g.early)) OpenNumber ++ when (count == 0) MarkBeforeStep)
-        (both_are_empty (faults_of_group false true) (faults_of_later_groups true) no_faults).0 in
-        let no_open_number =
-        no_code_if_false (nat_lt 0 (length g.early)) OpenNumber
-        (both_are_empty (when (nat_lt 0 (length g.early)) OpenNumber)
-        (when (count == 0) MarkBeforeStep) no_faults_of_letter).0 in
-        let count_is_not_0 =
-        eqb-false count 0
-        (no_code_if_false (count == 0) MarkBeforeStep
-        (both_are_empty (when (nat_lt 0 (length g.early)) OpenNumber)
-        (when (count == 0) MarkBeforeStep) no_faults_of_letter).1) in
-        inr (
-          not_last_letter,
-          eqb-true g.last.byte 90 is_mark,
-          nil_if_not_positive g.early no_open_number,
-          omega arith,
-          after_mark
-              (both_are_empty (faults_of_group false true)
-              (faults_of_later_groups true) no_faults).1,
-        )
-    by_letter false not_last_letter false not_mark no_faults after_number after_mark =
-        absurd (other_byte_is_fault (g.last.byte == 63)
-        (both_are_empty (faults_of_group false false) (faults_of_later_groups false) no_faults).0)
-
-pub early_byte_is_digit : (b : ℕ) → is_early b ≡ true → IsEarlyDigit b (b - 84)
+pub early_byte_is_digit : (b : ℕ) → is_early_letter b ≡ true → IsEarlyDigit b (b - 84)
 early_byte_is_digit b is_early_byte =
     let bounds = and_parts (nat_le 85 b) (nat_le b 89) is_early_byte in
     let b_ge_85 = leb-true 85 b bounds.0 in
     let b_le_89 = leb-true b 89 bounds.1 in
     record { digit_ge_1 = omega arith; digit_le_5 = omega arith; letter_is = omega arith }
 
-last_byte_is_digit : (b : ℕ) → is_last b ≡ true → IsLastDigit b (b - 64)
+last_byte_is_digit : (b : ℕ) → is_last_letter b ≡ true → IsLastDigit b (b - 64)
 last_byte_is_digit b is_last_byte =
     let bounds = and_parts (nat_le 65 b) (nat_le b 84) is_last_byte in
     let b_ge_65 = leb-true 65 b bounds.0 in
@@ -445,7 +346,7 @@ early_value_exists (x ∷ xs) n are_early =
           (pow-succ' 5 (length (bytes_of xs))),
     )
 
-pub group_spells_its_value : (g : Group) → AreEarly g.early → is_last g.last.byte ≡ true
+pub group_spells_its_value : (g : Group) → AreEarly g.early → is_last_letter g.last.byte ≡ true
     → AreLettersOf (bytes_of g.early ++ g.last.byte ∷ []) (value g)
 group_spells_its_value g are_early is_last_byte =
     let early_value = early_value_exists g.early 0 are_early in
@@ -463,8 +364,8 @@ group_spells_its_value g are_early is_last_byte =
     }
 
 group_is_spelled : (g : Group) → AreEarly g.early
-    → (is_last g.last.byte ≡ true)
-    ⊎ ((is_last g.last.byte ≡ false) × (g.last.byte ≡ 90) × (g.early ≡ []))
+    → (is_last_letter g.last.byte ≡ true)
+    ⊎ ((is_last_letter g.last.byte ≡ false) × (g.last.byte ≡ 90) × (g.early ≡ []))
     → IsSpelled (bytes_of g.early ++ g.last.byte ∷ []) (item_of g)
 group_is_spelled g are_early (inl is_number) =
     subst (λ b. IsSpelled (bytes_of g.early ++ g.last.byte ∷ [])
@@ -475,7 +376,7 @@ group_is_spelled g are_early (inr is_mark) =
     (elim b [ true ↦ number (value g) | false ↦ mark ])) (sym is_mark.0)
     (ap₂ (λ xs b. bytes_of xs ++ b ∷ []) is_mark.2 is_mark.1)
 
-early_push : (early : List Letter) (x : Letter) → AreEarly early → is_early x.byte ≡ true
+early_push : (early : List Letter) (x : Letter) → AreEarly early → is_early_letter x.byte ≡ true
     → AreEarly (early ++ x ∷ [])
 early_push [] x are_early is_early_byte = (is_early_byte, tt)
 early_push (y ∷ early) x are_early is_early_byte = (
@@ -496,7 +397,7 @@ pub groups_spell : (xs early : List Letter) (label_count marks count : ℕ) → 
 groups_spell [] early label_count marks count are_early are_faultless none_left = append-nil
     (bytes_of early) ∙ ap bytes_of none_left
 groups_spell (x ∷ xs) early label_count marks count are_early are_faultless none_left =
-    by_is_early (is_early x.byte) refl are_faultless none_left
+    faultless_by_is_early (is_early_letter x.byte) refl are_faultless none_left
     (λ is_early_byte rest_is_faultless rest_none_left. subst (λ bs. Spells bs (map item_of (groups
     (early ++ x ∷ []) xs).0))
     (bytes_of_push early x (bytes_of xs))
@@ -546,9 +447,9 @@ groups_spell (x ∷ xs) early label_count marks count are_early are_faultless no
         )))
         (later_are_spelled (marks + 1) count group_is_faultless.4 none_left)
 
-    by_is_early : (b : Bool) → is_early x.byte ≡ b
+    faultless_by_is_early : (b : Bool) → is_early_letter x.byte ≡ b
         → AreFaultless label_count marks count (groups_by_early b).0 → (groups_by_early b).1 ≡ []
-        → (is_early x.byte ≡ true
+        → (is_early_letter x.byte ≡ true
         → AreFaultless label_count marks count (groups (early ++ x ∷ []) xs).0
         → (groups (early ++ x ∷ []) xs).1 ≡ []
         → Spells (bytes_of early ++ x.byte ∷ bytes_of xs)
@@ -556,9 +457,11 @@ groups_spell (x ∷ xs) early label_count marks count are_early are_faultless no
         → ((m c : ℕ) → AreFaultless label_count m c (groups [] xs).0 → (groups [] xs).1 ≡ []
         → Spells (bytes_of xs) (map item_of (groups [] xs).0))
         → Spells (bytes_of early ++ x.byte ∷ bytes_of xs) (map item_of (groups_by_early b).0)
-    by_is_early true is_early_byte are_faultless none_left run_is_spelled later_are_spelled =
+    faultless_by_is_early true is_early_byte are_faultless none_left run_is_spelled
+        later_are_spelled =
         run_is_spelled is_early_byte are_faultless none_left
-    by_is_early false not_early_byte are_faultless none_left run_is_spelled later_are_spelled =
+    faultless_by_is_early false not_early_byte are_faultless none_left run_is_spelled
+        later_are_spelled =
         at_last_letter are_faultless none_left later_are_spelled
 
 -- ---- the letters of a proof
@@ -591,13 +494,13 @@ letters_are_faultless label_count end (x ∷ xs) no_faults = record {
   has_faultless_groups =
       groups_are_faultless (groups [] (x ∷ xs)).0 label_count 0 0
       (both_are_empty (group_faults label_count 0 0 (groups [] (x ∷ xs)).0)
-      (at end (when (nat_lt 0 (length (groups [] (x ∷ xs)).1)) OpenNumber)) no_faults).0;
+      (faults_at end (when (nat_lt 0 (length (groups [] (x ∷ xs)).1)) OpenNumber)) no_faults).0;
   no_open_group =
       nil_if_not_positive (groups [] (x ∷ xs)).1
       (no_code_if_false (nat_lt 0 (length (groups [] (x ∷ xs)).1)) OpenNumber
       (no_faults_no_codes end (when (nat_lt 0 (length (groups [] (x ∷ xs)).1)) OpenNumber)
       (both_are_empty (group_faults label_count 0 0 (groups [] (x ∷ xs)).0)
-      (at end (when (nat_lt 0 (length (groups [] (x ∷ xs)).1)) OpenNumber)) no_faults).1));
+      (faults_at end (when (nat_lt 0 (length (groups [] (x ∷ xs)).1)) OpenNumber)) no_faults).1));
   has_letters = λ is_nil. cc;
 }
 
@@ -613,7 +516,7 @@ pub record IsFaultlessProof (db : List Statement) (k : ℕ) (ts : List Token) : 
 pub proof_is_faultless : (db : List Statement) (k end : ℕ) (t : Token) (ts : List Token)
     → t.word ≡ codes "(" → reading_faults db k end (t ∷ ts) ≡ [] → IsFaultlessProof db k ts
 proof_is_faultless db k end t ts is_opening no_faults =
-    by_letters (bracketed ts).letters refl
+    faultless_by_letters (bracketed ts).letters refl
     (both_are_empty (flat_map (proof_label_faults db k) (bracketed ts).labels)
     (faults_of_letters (bracketed ts).letters) compressed_faultless).1
   where
@@ -638,10 +541,11 @@ proof_is_faultless db k end t ts is_opening no_faults =
     compressed_faultless =
         ap faults_by_bracket (sym ((bytes_eq-Decides t.word (codes "(")).1 is_opening)) ∙ no_faults
 
-    by_letters : (o : Option (List Token)) → (bracketed ts).letters ≡ o → faults_of_letters o ≡ []
+    faultless_by_letters : (o : Option (List Token)) → (bracketed ts).letters ≡ o
+        → faults_of_letters o ≡ []
         → IsFaultlessProof db k ts
-    by_letters None letters_are no_letter_faults = absurd (cc)
-    by_letters (Some letters) letters_are no_letter_faults =
+    faultless_by_letters None letters_are no_letter_faults = absurd (cc)
+    faultless_by_letters (Some letters) letters_are no_letter_faults =
         record {
           letters = letters;
           letters_are = letters_are;

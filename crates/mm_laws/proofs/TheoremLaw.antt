@@ -12,7 +12,7 @@ use Rattle.mm_spec.specs.Output.{ProofFault}
 use Rattle.mm_laws.specs.Laws.Read.{WhereRead}
 use Rattle.mm_laws.specs.Laws.Derivations.{LabelsDetermine, ProofIsUnique}
 use Rattle.mm_laws.specs.Laws.Faults.{IsValidOrFaulty}
-use Rattle.mm_laws.specs.Laws.Faults.{IsNeverBoth, FaultIsUnique}
+use Rattle.mm_laws.specs.Laws.Faults.{ValidHasNoFault, FaultIsUnique}
 use Rattle.mm_spec.proofs.CheckedLaw.{same_labels_same_forest}
 use Rattle.mm_spec.proofs.CitedLaw.{two_proofs_are_equal}
 use Rattle.mm_spec.proofs.GoodStepsLaw.{faultless_steps_are_good}
@@ -22,33 +22,33 @@ use Rattle.mm_laws.proofs.OneOutputLaw.{proof_fault_is_unique, valid_has_no_faul
 
 -- some fault is the least
 some_fault_is_least : (f : Fault) (fs : List Fault) → (g : Fault) × (least (f ∷ fs) ≡ Some g)
-some_fault_is_least f fs = by_least (least fs)
+some_fault_is_least f fs = some_is_lesser (least fs)
   where
-    by_is_before : (g : Fault) (b : Bool)
+    one_is_chosen : (g : Fault) (b : Bool)
         → (h : Fault) × ◌≡◌ {A = Option Fault} (elim b [ true ↦ Some f | false ↦ Some g ]) (Some h)
-    by_is_before g true = (f, refl)
-    by_is_before g false = (g, refl)
+    one_is_chosen g true = (f, refl)
+    one_is_chosen g false = (g, refl)
 
-    by_least : (o : Option Fault) → (h : Fault) × (lesser f o ≡ Some h)
-    by_least None = (f, refl)
-    by_least (Some g) = by_is_before g (is_before f g)
+    some_is_lesser : (o : Option Fault) → (h : Fault) × (lesser f o ≡ Some h)
+    some_is_lesser None = (f, refl)
+    some_is_lesser (Some g) = one_is_chosen g (is_before f g)
 
 module _ (db : List Statement) (all_complete : AreComplete db) (k : ℕ) where
   pub is_valid_or_faulty : (end : ℕ) → IsValid db k ⊎ ((f : Fault) × ProofFault db k end f)
-  is_valid_or_faulty end = by_reading_faults (reading_faults_at db k) refl
+  is_valid_or_faulty end = judged_by_reading_faults (reading_faults_at db k) refl
     where
-      by_verdict : reading_faults_at db k ≡ []
+      judged_by_verdict : reading_faults_at db k ≡ []
           → Verdict (context_at db k) (all_complete k) (steps_at db k) (formula_at db k) end
           → IsValid db k ⊎ ((f : Fault) × ProofFault db k end f)
-      by_verdict no_reading_faults (valid d derives) = inl (no_reading_faults, d, derives)
-      by_verdict no_reading_faults (step_fault f is_step_fault) = inr (
+      judged_by_verdict no_reading_faults (valid d derives) = inl (no_reading_faults, d, derives)
+      judged_by_verdict no_reading_faults (step_fault f is_step_fault) = inr (
         f,
         inr (
           no_reading_faults,
           inl is_step_fault,
         ),
       )
-      by_verdict no_reading_faults (end_fault f is_end_fault) = inr (
+      judged_by_verdict no_reading_faults (end_fault f is_end_fault) = inr (
         f,
         inr (
           no_reading_faults,
@@ -57,20 +57,20 @@ module _ (db : List Statement) (all_complete : AreComplete db) (k : ℕ) where
         ),
       )
 
-      by_reading_faults : (fs : List Fault) → reading_faults_at db k ≡ fs
+      judged_by_reading_faults : (fs : List Fault) → reading_faults_at db k ≡ fs
           → IsValid db k ⊎ ((f : Fault) × ProofFault db k end f)
-      by_reading_faults [] no_reading_faults =
-          by_verdict no_reading_faults
+      judged_by_reading_faults [] no_reading_faults =
+          judged_by_verdict no_reading_faults
           (verdict (context_at db k) (all_complete k) (steps_at db k) (formula_at db k) end
           (faultless_steps_are_good db k (all_complete k) no_reading_faults))
-      by_reading_faults (f ∷ fs) reading_faults_are = let least_fault = some_fault_is_least f fs in
+      judged_by_reading_faults (f ∷ fs) reading_faults_are = let least_fault = some_fault_is_least f
+          fs in
           inr (least_fault.0, inl (ap least reading_faults_are ∙ least_fault.1))
 
 pub labels_determine_derivations : WhereRead LabelsDetermine
 labels_determine_derivations len x db fault is_read with_open k =
     same_labels_same_forest (context_at (counted with_open db) k)
-    (frames_are_complete len x db fault is_read
-    with_open k)
+    (frames_are_complete len x db fault is_read with_open k)
 
 pub proof_is_unique : WhereRead ProofIsUnique
 proof_is_unique len x db fault is_read with_open k = two_proofs_are_equal (counted with_open db)
@@ -81,8 +81,8 @@ theorem_is_valid_or_faulty len x db fault is_read with_open k is_theorem_k =
     is_valid_or_faulty (counted with_open db) (frames_are_complete len x db fault is_read with_open)
     k _
 
-pub theorem_is_never_both : WhereRead IsNeverBoth
-theorem_is_never_both len x db fault is_read with_open k f =
+pub valid_theorem_has_no_fault : WhereRead ValidHasNoFault
+valid_theorem_has_no_fault len x db fault is_read with_open k f =
     valid_has_no_fault (counted with_open db) (frames_are_complete len x db fault is_read with_open)
     k _ f
 

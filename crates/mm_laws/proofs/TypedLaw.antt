@@ -7,12 +7,12 @@ use Rattle.std.specs.List.{list_any}
 use Rattle.std.proofs.lemmas.Bool.{or_cases, or_left, or_right, and_parts, and_from}
 use Rattle.std.proofs.lemmas.List.Folds.{list_any-append}
 use Rattle.mm_spec.specs.Statement.{Statement, axiomatic, provable}
-use Rattle.mm_spec.specs.Scope.{is_active, active, statement_at}
+use Rattle.mm_spec.specs.Scope.{active_at, active, statement_at}
 use Rattle.mm_spec.specs.Opened.{counted}
 use Rattle.mm_spec.specs.Lawful.{IsLawful}
 use Rattle.mm_spec.specs.Frame.{symbol_names, formula_at, is_variable_number, is_floating}
 use Rattle.mm_spec.specs.Frame.{is_essential, active_of, mandatory_variables, mandatory_hypotheses}
-use Rattle.mm_spec.specs.Frame.{mandatory_pairs, pairs_of}
+use Rattle.mm_spec.specs.Frame.{mandatory_pairs, pairs_below}
 use Rattle.mm_spec.specs.Derivation.{Formula, Pair, is_member}
 use Rattle.mm_spec.specs.Citation.{is_assertion}
 use Rattle.mm_laws.specs.Laws.Read.{WhereRead}
@@ -72,7 +72,7 @@ module _ (db : List Statement) (are_lawful : (k : ℕ) → k < length db → IsL
   abbrev in_pairs : ℕ → Bool
   in_pairs x = list_any (in_pair x) (mandatory_pairs db k)
 
-  is_mandatory_hypothesis : (j : ℕ) → is_active db j k ≡ true → is_mandatory db k j ≡ true
+  is_mandatory_hypothesis : (j : ℕ) → active_at db j k ≡ true → is_mandatory db k j ≡ true
       → is_member (mandatory_hypotheses db k) j ≡ true
   is_mandatory_hypothesis j is_active_j is_mandatory_j =
       filter_member (is_mandatory db k) (active db k) j is_mandatory_j
@@ -100,7 +100,7 @@ module _ (db : List Statement) (are_lawful : (k : ℕ) → k < length db → IsL
       }
 
   -- a symbol of the formula of a mandatory hypothesis is one of the hypotheses' symbols
-  symbol_is_in_hypotheses : (x j : ℕ) → is_active db j k ≡ true → is_mandatory db k j ≡ true
+  symbol_is_in_hypotheses : (x j : ℕ) → active_at db j k ≡ true → is_mandatory db k j ≡ true
       → in_formula x j ≡ true → in_hypotheses x ≡ true
   symbol_is_in_hypotheses x j is_active_j is_mandatory_j x_is_in_formula =
       any_filter (is_mandatory db k) (in_formula x) (active db k)
@@ -122,7 +122,7 @@ module _ (db : List Statement) (are_lawful : (k : ℕ) → k < length db → IsL
       essential_symbols : List ℕ
       essential_symbols = flat_map (formula_at db) essentials
 
-      symbol_of_essential_is_in_hypotheses : (j : ℕ) → is_active db j k ≡ true
+      symbol_of_essential_is_in_hypotheses : (j : ℕ) → active_at db j k ≡ true
           → (is_essential_at j && in_formula x j) ≡ true → in_hypotheses x ≡ true
       symbol_of_essential_is_in_hypotheses j is_active_j is_essential_with_x =
           let parts = and_parts (is_essential_at j) (in_formula x j) is_essential_with_x in
@@ -152,7 +152,7 @@ module _ (db : List Statement) (are_lawful : (k : ℕ) → k < length db → IsL
       in_formula_or_rest (or_cases (in_formula x k) (in_hypotheses x || in_pairs x) is_in_frame_x)
     where
       all_pairs : List Pair
-      all_pairs = pairs_of (length (symbol_names db))
+      all_pairs = pairs_below (length (symbol_names db))
 
       pair_symbol_is_mandatory : (p : Pair) → is_mandatory_pair db k p ≡ true
           → ((x == p.low) ≡ true) ⊎ ((x == p.high) ≡ true) → IsMandatory x

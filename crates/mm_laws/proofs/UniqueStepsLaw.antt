@@ -129,8 +129,7 @@ number_at (number n ∷ items) (suc i) i_lt_count =
     let in_tail = number_at items i (omega (
       arith,
       i_lt_count,
-      count_append is_number (number n ∷
-          []) items,
+      count_append is_number (number n ∷ []) items,
     )) in
     let count_in_tail = in_tail.number_count_is in
     record {

@@ -31,19 +31,19 @@ with_proof p =
     (axioms_and_rule_text ++ codes "${ h $e |- p $. a1i $p |- ( q -> p ) $= " ++ p
     ++ codes " $. $}")
 
-abbrev plain_steps : List Statement → ℕ → List Step
-plain_steps db k = map (λ s. s.step) (steps_at db k)
+abbrev bare_steps_at : List Statement → ℕ → List Step
+bare_steps_at db k = map (λ s. s.step) (steps_at db k)
 
 -- in the text, the theorem is statement 13
 abbrev compressed_a1i : List Statement
 compressed_a1i = with_proof (codes "( wi ax-1 ax-mp ) ABADZCABEF")
 
-steps_compressed : plain_steps compressed_a1i 13
+steps_compressed : bare_steps_at compressed_a1i 13
     ≡ label 2 ∷ label 3 ∷ label 2 ∷ label 4 ∷ label 12 ∷ label 2 ∷ label 3 ∷ label 5 ∷ label 9 ∷ []
 unfolding statements
 steps_compressed = refl
 
-steps_marked : plain_steps (with_proof (codes "( wi ax-1 ax-mp ) ABADZZCABEFHG")) 13
+steps_marked : bare_steps_at (with_proof (codes "( wi ax-1 ax-mp ) ABADZZCABEFHG")) 13
     ≡ label 2 ∷ label 3 ∷ label 2 ∷ label 4 ∷ label 12 ∷ label 2 ∷ label 3 ∷ label 5 ∷ label 9
     ∷ marked 3 ∷ marked 3 ∷ []
 unfolding statements
@@ -99,13 +99,13 @@ not_disjoint_fault : StepFault (context_at faulty_db 10) (steps_at faulty_db 10)
 unfolding two_hypotheses identity statements
 not_disjoint_fault = record {
   before = placed 183 (label 2) ∷ placed 186 (label 3) ∷ [];
-  first = placed 189 (label 8);
+  failing = placed 189 (label 8);
   after = [];
   splits = refl;
   forest = two_hypotheses;
   derivations = ((tt, tt, (refl, refl, lit≤ tt)), tt, (refl, refl, lit≤ tt));
-  plain = (2 ∷ [], refl, (2 ∷ 3 ∷ [], refl, refl));
+  expansion = (2 ∷ [], refl, (2 ∷ 3 ∷ [], refl, refl));
   reason = not_disjoint;
   fails = (identity, lit≤ tt, refl, λ e. true≢false (sym e));
-  is = refl;
+  fault_is = refl;
 }

@@ -28,18 +28,18 @@ module _ (db : List Statement) (by_essential : Bool) (all_complete : AreComplete
 
   link_or_none : (t b : ℕ) → IsLink t b ⊎ (IsLink t b → ⊥)
   link_or_none t b =
-      by_citation (cites_is_decided db by_essential all_complete are_valid t b)
+      link_by_citation (cites_is_decided db by_essential all_complete are_valid t b)
       (list_any is_theorem (statement_at db b)) refl
     where
-      by_citation : IsDecided (Cites db by_essential t b) → (m : Bool)
+      link_by_citation : IsDecided (Cites db by_essential t b) → (m : Bool)
           → list_any is_theorem (statement_at db b) ≡ m → IsLink t b ⊎ (IsLink t b → ⊥)
-      by_citation citation false not_theorem_b = inr (λ is_link. true≢false (sym is_link.1
+      link_by_citation citation false not_theorem_b = inr (λ is_link. true≢false (sym is_link.1
           ∙ not_theorem_b))
-      by_citation (true, decides_citation) true is_theorem_b = inl (
+      link_by_citation (true, decides_citation) true is_theorem_b = inl (
         decides_citation.0 refl,
         is_theorem_b,
       )
-      by_citation (false, decides_citation) true is_theorem_b = inr (λ is_link. true≢false (sym
+      link_by_citation (false, decides_citation) true is_theorem_b = inr (λ is_link. true≢false (sym
           (decides_citation.1 is_link.0)))
 
   -- a longest chain from t whose first link is below n
@@ -53,7 +53,7 @@ module _ (db : List Statement) (by_essential : Bool) (all_complete : AreComplete
       → LongestBelow t n
   longest_below t zero have_waves_below = (0, tt, λ b b_lt_0. absurd (omega arith))
   longest_below t (suc n) have_waves_below =
-      by_link (link_or_none t n) (have_waves_below n (omega arith))
+      longest_by_link (link_or_none t n) (have_waves_below n (omega arith))
       (longest_below t n (λ b b_lt_n. have_waves_below b (omega arith)))
     where
       longest_without_link : (IsLink t n → ⊥) → (r : LongestBelow t n) → (b : ℕ) → b < suc n
@@ -97,12 +97,12 @@ module _ (db : List Statement) (by_essential : Bool) (all_complete : AreComplete
             (omega arith) b b_lt_suc_n b_is_link k is_chain (cases_eq b n),
       )
 
-      by_link : IsLink t n ⊎ (IsLink t n → ⊥) → (w : ℕ) × IsWave db by_essential n w
+      longest_by_link : IsLink t n ⊎ (IsLink t n → ⊥) → (w : ℕ) × IsWave db by_essential n w
           → LongestBelow t n
           → LongestBelow t (suc n)
-      by_link (inl is_link) wave longest = longest_with_link is_link wave longest (cases_lt wave.0
-          longest.0)
-      by_link (inr not_linked) wave longest = (
+      longest_by_link (inl is_link) wave longest = longest_with_link is_link wave longest
+          (cases_lt wave.0 longest.0)
+      longest_by_link (inr not_linked) wave longest = (
         longest.0,
         longest.1,
         λ b b_lt_suc_n is_link k is_chain. longest_without_link not_linked

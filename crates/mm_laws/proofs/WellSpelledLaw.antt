@@ -2,20 +2,21 @@
 use Rattle.std.proofs.Common.{cond, ◌≡◌, ◌≢◌, ℕ, zero, suc, ◌+◌, ◌-◌, ◌==◌, ◌<◌, ◌≤◌, Bool, true}
 use Rattle.std.proofs.Common.{false, ◌&&◌, ◌⊎◌, inl, inr, List, [], ◌∷◌, ◌++◌, map, length}
 use Rattle.std.proofs.Common.{flat_map, count_by, Some, nat_le, nat_lt, bytes_eq, codes, refl, sym}
-use Rattle.std.proofs.Common.{ap, ap₂, ◌∙◌, subst, true≢false, arith, leb-true, le-leb, ltb-true}
-use Rattle.std.proofs.Common.{eqb-true, eq-eqb, append_assoc, append-nil}
+use Rattle.std.proofs.Common.{ap, ap₂, ◌∙◌, subst, true≢false, arith, leb-true, le-leb}
+use Rattle.std.proofs.Common.{eq-eqb, append_assoc, append-nil}
 use Rattle.std.specs.List.{list_any, range_with_len, AllByRecursion, AllZip, filter}
-use Rattle.std.proofs.lemmas.Bool.{and_parts, and_from, cases_eq}
+use Rattle.std.proofs.lemmas.Bool.{and_parts, and_from, cases_eq, le-ltb, ne_eqb}
 use Rattle.std.proofs.lemmas.Slice.Eq.{bytes_eq-Decides}
 use Rattle.mm_spec.specs.Text.{Token, fault}
 use Rattle.mm_spec.specs.declared.Fault.{Fault}
 use Rattle.mm_spec.specs.Statement.{Statement}
-use Rattle.mm_spec.specs.Scope.{is_active, statement_at}
-use Rattle.mm_spec.specs.Lawful.{when, at}
+use Rattle.mm_spec.specs.Scope.{active_at, statement_at}
+use Rattle.mm_spec.specs.Lawful.{when, faults_at}
 use Rattle.mm_spec.specs.Opened.{counted}
 use Rattle.mm_spec.specs.Frame.{mandatory_hypotheses}
 use Rattle.mm_spec.specs.NormalProof.{is_labelled, usable, proof_label_faults, normal_faults}
-use Rattle.mm_spec.specs.CompressedProof.{bracketed, Letter, letters_of, Group, is_early, is_last}
+use Rattle.mm_spec.specs.CompressedProof.{bracketed, Letter, letters_of, Group, is_early_letter}
+use Rattle.mm_spec.specs.CompressedProof.{is_last_letter}
 use Rattle.mm_spec.specs.CompressedProof.{groups, value, starts_at, group_faults, letter_faults}
 use Rattle.mm_spec.specs.CompressedProof.{compressed_faults}
 use Rattle.mm_spec.specs.Proof.{reading_faults}
@@ -33,7 +34,8 @@ use Rattle.mm_laws.proofs.SpellingLaw.{group_spells_its_value, early_byte_is_dig
 use Rattle.mm_laws.proofs.SpellingLaw.{front_with_last_is_not_nil, bracket_parts_of}
 use Rattle.mm_laws.proofs.SpellingLaw.{bracketed_splits, bytes_of, AreEarly}
 use Rattle.mm_laws.proofs.SpellingLaw.{item_of}
-use Rattle.mm_laws.proofs.SpellingLaw.{AreFaultless, groups_spell, bytes_of_letters}
+use Rattle.mm_spec.proofs.GroupsLaw.{AreFaultless}
+use Rattle.mm_laws.proofs.SpellingLaw.{groups_spell, bytes_of_letters}
 use Rattle.mm_laws.proofs.SpellingLaw.{proof_is_faultless}
 use Rattle.mm_laws.proofs.SpelledStepsLaw.{count_append, LabelsDiffer, labels_differ}
 use Rattle.mm_laws.proofs.SpelledStepsLaw.{one_statement_is_usable, labels_are_usable, own_faults}
@@ -58,8 +60,8 @@ faultless_are_meaningful (g ∷ gs) label_count marks count are_faultless =
     (λ rest_is_faultless. faultless_are_meaningful gs label_count (marks + 1) count
     rest_is_faultless)
   where
-    item_by_letter : Bool → Item
-    item_by_letter b = elim b [ true ↦ number (value g) | false ↦ mark ]
+    item_if_number : Bool → Item
+    item_if_number b = elim b [ true ↦ number (value g) | false ↦ mark ]
 
     number_or_mark : AreFaultless label_count marks count (g ∷ gs)
         → (AreFaultless label_count marks (count + 1) gs
@@ -67,12 +69,12 @@ faultless_are_meaningful (g ∷ gs) label_count marks count are_faultless =
         → (AreFaultless label_count (marks + 1) count gs
         → AreMeaningful label_count (marks + 1) count (map item_of gs))
         → AreMeaningful label_count marks count
-        (item_by_letter (is_last g.last.byte) ∷ map item_of gs)
+        (item_if_number (is_last_letter g.last.byte) ∷ map item_of gs)
     number_or_mark (inl group_is_faultless) after_number after_mark =
-        subst (λ b. AreMeaningful label_count marks count (item_by_letter b ∷ map item_of gs))
+        subst (λ b. AreMeaningful label_count marks count (item_if_number b ∷ map item_of gs))
         (sym group_is_faultless.0) (group_is_faultless.1, after_number group_is_faultless.2)
     number_or_mark (inr group_is_faultless) after_number after_mark =
-        subst (λ b. AreMeaningful label_count marks count (item_by_letter b ∷ map item_of gs))
+        subst (λ b. AreMeaningful label_count marks count (item_if_number b ∷ map item_of gs))
         (sym group_is_faultless.0)
         (group_is_faultless.3, after_mark group_is_faultless.4)
 
@@ -172,27 +174,27 @@ meaningful_if_each_is (mark ∷ items) label_count marks count numbers_in_range 
 
 -- ---- groups of letters that spell items
 
-digit_is_early : (b d : ℕ) → IsEarlyDigit b d → is_early b ≡ true
+digit_is_early : (b d : ℕ) → IsEarlyDigit b d → is_early_letter b ≡ true
 digit_is_early b d is_early_digit =
     let digit_ge_1 = is_early_digit.digit_ge_1 in
     let digit_le_5 = is_early_digit.digit_le_5 in
     let letter_is = is_early_digit.letter_is in
     and_from (nat_le 85 b) (nat_le b 89) (le-leb 85 b (omega arith)) (le-leb b 89 (omega arith))
 
-digit_is_last : (b d : ℕ) → IsLastDigit b d → is_last b ≡ true
+digit_is_last : (b d : ℕ) → IsLastDigit b d → is_last_letter b ≡ true
 digit_is_last b d is_last_digit =
     let digit_ge_1 = is_last_digit.digit_ge_1 in
     let digit_le_20 = is_last_digit.digit_le_20 in
     let letter_is = is_last_digit.letter_is in
     and_from (nat_le 65 b) (nat_le b 84) (le-leb 65 b (omega arith)) (le-leb b 84 (omega arith))
 
-ending_byte_is_not_early : (b : ℕ) → EndsItem b → is_early b ≡ false
-ending_byte_is_not_early b ends_item = by_is_early (is_early b) refl
+ending_byte_is_not_early : (b : ℕ) → EndsItem b → is_early_letter b ≡ false
+ending_byte_is_not_early b ends_item = not_early_by_test (is_early_letter b) refl
   where
-    by_is_early : (x : Bool) → is_early b ≡ x → is_early b ≡ false
-    by_is_early true is_early_byte = absurd (no_early b (b - 84) ends_item (early_byte_is_digit b
-        is_early_byte))
-    by_is_early false not_early = not_early
+    not_early_by_test : (x : Bool) → is_early_letter b ≡ x → is_early_letter b ≡ false
+    not_early_by_test true is_early_byte = absurd
+        (no_early b (b - 84) ends_item (early_byte_is_digit b is_early_byte))
+    not_early_by_test false not_early = not_early
 
 letters_are_early : (xs : List Letter) (n : ℕ) → AreEarlyDigits (bytes_of xs) n → AreEarly xs
 letters_are_early [] n are_early_digits = tt
@@ -203,7 +205,7 @@ letters_are_early (x ∷ xs) n are_early_digits = (
 )
 
 group_of_run : (early front : List Letter) (x : Letter) (later : List Letter) → AreEarly front
-    → is_early x.byte ≡ false
+    → is_early_letter x.byte ≡ false
     → groups early (front ++ x ∷ later)
     ≡ (record { early = early ++ front; last = x } ∷ (groups [] later).0, (groups [] later).1)
 group_of_run early [] x later front_is_early not_early =
@@ -315,9 +317,9 @@ spelled_are_faultless (number n ∷ items) xs label_count marks count are_spelle
     letters_of_n.is_last_digit in
     let digit_le_20 = is_last_digit.digit_le_20 in
     let letter_is = is_last_digit.letter_is in
-    let not_early : is_early split.x.byte ≡ false = ending_byte_is_not_early split.x.byte (inl
-    (omega arith)) in
-    let is_last_byte : is_last split.x.byte ≡ true = digit_is_last split.x.byte
+    let not_early : is_early_letter split.x.byte ≡ false =
+    ending_byte_is_not_early split.x.byte (inl (omega arith)) in
+    let is_last_byte : is_last_letter split.x.byte ≡ true = digit_is_last split.x.byte
     letters_of_n.last_digit is_last_digit in
     let g : Group = record { early = split.front; last = split.x } in
     let value_spelled : AreLettersOf are_spelled.0 (value g) =
@@ -347,9 +349,9 @@ spelled_are_faultless (mark ∷ items) xs label_count marks count are_spelled ar
     let front_is_early : AreEarly split.front =
     letters_are_early split.front 0 (subst (λ bs. AreEarlyDigits bs 0) (sym split.front_bytes_are)
     refl) in
-    let not_early : is_early split.x.byte ≡ false = ending_byte_is_not_early split.x.byte (inr
-    (omega arith)) in
-    let not_last : is_last split.x.byte ≡ false = ap is_last byte_is in
+    let not_early : is_early_letter split.x.byte ≡ false =
+    ending_byte_is_not_early split.x.byte (inr (omega arith)) in
+    let not_last : is_last_letter split.x.byte ≡ false = ap is_last_letter byte_is in
     let later_groups =
     spelled_are_faultless items split.later label_count (marks + 1) count
     (subst (λ bs. Spells bs items) (sym split.later_bytes_are) are_spelled.4) are_meaningful.1 in
@@ -363,20 +365,6 @@ spelled_are_faultless (mark ∷ items) xs label_count marks count are_spelled ar
 
 -- ---- groups without faults
 
-less_is_false : (n m : ℕ) → n ≤ m → nat_lt m n ≡ false
-less_is_false n m n_le_m = by_less (nat_lt m n) refl
-  where
-    by_less : (b : Bool) → nat_lt m n ≡ b → nat_lt m n ≡ false
-    by_less true m_lt_n = absurd (let m_lt_n_holds = ltb-true m n m_lt_n in omega arith)
-    by_less false not_less = not_less
-
-equal_is_false : (m n : ℕ) → (m ≡ n → ⊥) → (m == n) ≡ false
-equal_is_false m n differ = by_equality (m == n) refl
-  where
-    by_equality : (b : Bool) → (m == n) ≡ b → (m == n) ≡ false
-    by_equality true are_equal = absurd (differ (eqb-true m n are_equal))
-    by_equality false not_equal = not_equal
-
 no_faults_of_faultless : (gs : List Group) (label_count marks count : ℕ)
     → AreFaultless label_count marks count gs
     → group_faults label_count marks count gs ≡ []
@@ -388,16 +376,17 @@ no_faults_of_faultless (g ∷ gs) label_count marks count are_faultless =
   where
     faults_without_number : Bool → List Fault
     faults_without_number b = elim b [
-      | true ↦ at g.last.at
+      | true ↦ faults_at g.last.at
           (when (nat_lt 0 (length g.early)) OpenNumber ++ when (count == 0) MarkBeforeStep)
-      | false ↦ at g.last.at
+      | false ↦ faults_at g.last.at
           (elim (g.last.byte == 63) [ true ↦ IncompleteProof ∷ [] | false ↦ BadLetter ∷ [] ])
     ]
 
     faults_of_group : Bool → Bool → List Fault
     faults_of_group a b =
         elim a [
-          | true ↦ at (starts_at g) (when (nat_lt (label_count + marks) (value g)) NumberTooLarge)
+          | true ↦ faults_at (starts_at g)
+              (when (nat_lt (label_count + marks) (value g)) NumberTooLarge)
           | false ↦ faults_without_number b
         ]
 
@@ -413,17 +402,17 @@ no_faults_of_faultless (g ∷ gs) label_count marks count are_faultless =
         → group_faults label_count marks (count + 1) gs ≡ [])
         → (AreFaultless label_count (marks + 1) count gs
         → group_faults label_count (marks + 1) count gs ≡ [])
-        → faults_of_group (is_last g.last.byte) (g.last.byte == 90)
+        → faults_of_group (is_last_letter g.last.byte) (g.last.byte == 90)
         ++ faults_of_later_groups (g.last.byte == 90) ≡ []
     number_or_mark (inl group_is_faultless) after_number after_mark =
         let byte_le_84 =
         leb-true g.last.byte 84 (and_parts (nat_le 65 g.last.byte) (nat_le g.last.byte 84)
         group_is_faultless.0).1 in
         let not_mark : (g.last.byte == 90) ≡ false =
-        equal_is_false g.last.byte 90 (λ byte_is_90. omega arith) in
+        ne_eqb g.last.byte 90 (λ byte_is_90. omega arith) in
         ap₂ (λ a b. faults_of_group a b ++ faults_of_later_groups b) group_is_faultless.0 not_mark
-        ∙ ap₂ (λ b ys. at (starts_at g) (when b NumberTooLarge) ++ ys)
-        (less_is_false (value g) (label_count + marks) group_is_faultless.1) (after_number
+        ∙ ap₂ (λ b ys. faults_at (starts_at g) (when b NumberTooLarge) ++ ys)
+        (le-ltb (label_count + marks) (value g) group_is_faultless.1) (after_number
         group_is_faultless.2)
     number_or_mark (inr group_is_faultless) after_number after_mark =
         let is_mark_letter : (g.last.byte == 90) ≡ true = eq-eqb g.last.byte 90 group_is_faultless.1
@@ -431,9 +420,9 @@ no_faults_of_faultless (g ∷ gs) label_count marks count are_faultless =
         let count_gt_0 = group_is_faultless.3 in
         ap₂ (λ a b. faults_of_group a b ++ faults_of_later_groups b) group_is_faultless.0
         is_mark_letter
-        ∙ ap₂ (λ (e : List Letter) (b : Bool). at g.last.at
+        ∙ ap₂ (λ (e : List Letter) (b : Bool). faults_at g.last.at
         (when (nat_lt 0 (length e)) OpenNumber ++ when b MarkBeforeStep)
-        ++ group_faults label_count (marks + 1) count gs) group_is_faultless.2 (equal_is_false count
+        ++ group_faults label_count (marks + 1) count gs) group_is_faultless.2 (ne_eqb count
         0 (λ count_is_0. omega arith))
         ∙ after_mark group_is_faultless.4
 
@@ -442,7 +431,8 @@ no_letter_faults : (label_count end : ℕ) (xs : List Letter) → xs ≢ []
     → letter_faults label_count end xs ≡ []
 no_letter_faults label_count end [] not_nil are_faultless_groups = absurd (not_nil refl)
 no_letter_faults label_count end (x ∷ xs) not_nil are_faultless_groups =
-    ap₂ (λ fs (open_ : List Letter). fs ++ at end (when (nat_lt 0 (length open_)) OpenNumber))
+    ap₂ (λ fs (open_ : List Letter). fs
+    ++ faults_at end (when (nat_lt 0 (length open_)) OpenNumber))
     (no_faults_of_faultless (groups [] (x ∷ xs)).0 label_count 0 0 are_faultless_groups.0)
     are_faultless_groups.1
 
@@ -452,38 +442,38 @@ filter_is_not_nil : (passes : ℕ → Bool) (n a j : ℕ) → a ≤ j → j < a 
     → filter passes (range_with_len a n) ≡ [] → ⊥
 filter_is_not_nil passes zero a j a_le_j j_lt_end passes_j is_nil = omega arith
 filter_is_not_nil passes (suc m) a j a_le_j j_lt_end passes_j is_nil =
-    by_test (passes a) refl is_nil (λ a_lt_j rest_is_nil. filter_is_not_nil passes m (a + 1) j
+    is_j_by_test (passes a) refl is_nil (λ a_lt_j rest_is_nil. filter_is_not_nil passes m (a + 1) j
     a_lt_j (omega arith) passes_j rest_is_nil)
     (cases_eq a j)
   where
-    by_test : (b : Bool) → passes a ≡ b
+    is_j_by_test : (b : Bool) → passes a ≡ b
         → ◌≡◌ {A = List ℕ}
         (cond b (a ∷ filter passes (range_with_len (a + 1) m))
         (filter passes (range_with_len (a + 1) m))) []
         → (a + 1 ≤ j → filter passes (range_with_len (a + 1) m) ≡ [] → ⊥) → (a ≡ j) ⊎ (a ≡ j → ⊥)
         → ⊥
-    by_test true passes_a is_nil rest_is_not_nil order = cc
-    by_test false not_a is_nil rest_is_not_nil (inl a_is_j) = true≢false (sym passes_j
+    is_j_by_test true passes_a is_nil rest_is_not_nil order = cc
+    is_j_by_test false not_a is_nil rest_is_not_nil (inl a_is_j) = true≢false (sym passes_j
         ∙ sym (ap passes a_is_j) ∙ not_a)
-    by_test false not_a is_nil rest_is_not_nil (inr a_is_not_j) = rest_is_not_nil (omega arith)
+    is_j_by_test false not_a is_nil rest_is_not_nil (inr a_is_not_j) = rest_is_not_nil (omega arith)
         is_nil
 
 usable_label_has_no_fault : (db : List Statement) (k : ℕ) (t : Token) (j : ℕ)
     → IsUsable db k t.word j
     → proof_label_faults db k t ≡ []
 usable_label_has_no_fault db k t j is_usable =
-    by_usable (usable db k t.word)
+    no_fault_if_usable (usable db k t.word)
     (λ is_nil. filter_is_not_nil
-    (λ i. is_active db i k && list_any (is_labelled t.word) (statement_at db i)) k 0 j (omega arith)
+    (λ i. active_at db i k && list_any (is_labelled t.word) (statement_at db i)) k 0 j (omega arith)
     (let j_lt_k = active_lt_place db j k is_usable.statement_is_active in omega arith)
-    (and_from (is_active db j k)
+    (and_from (active_at db j k)
     (list_any (is_labelled t.word) (statement_at db j)) is_usable.statement_is_active
     is_usable.statement_has_label) is_nil)
   where
-    by_usable : (js : List ℕ) → (js ≡ [] → ⊥)
+    no_fault_if_usable : (js : List ℕ) → (js ≡ [] → ⊥)
         → ◌≡◌ {A = List Fault} (elim js [ [] ↦ fault t.at UnusableLabel ∷ [] | j ∷ js ↦ [] ]) []
-    by_usable [] not_nil = absurd (not_nil refl)
-    by_usable (j ∷ js) not_nil = refl
+    no_fault_if_usable [] not_nil = absurd (not_nil refl)
+    no_fault_if_usable (j ∷ js) not_nil = refl
 
 usable_labels_have_no_fault : (db : List Statement) (k : ℕ) (ts : List Token)
     → AllByRecursion (λ t. (j : ℕ) × IsUsable db k t.word j) ts
@@ -623,71 +613,71 @@ module _ (db : List Statement) (differ : LabelsDiffer db) (k end : ℕ) where
           is_well_spelled.has_items (no_letters_no_items is_well_spelled.items (subst (λ xs. Spells
           (bytes_of xs) is_well_spelled.items) is_nil letters_spell))
 
-  abbrev IsPlainWord : Token → Type 0
-  IsPlainWord u = (u.word ≢ codes "?") × ((j : ℕ) × IsUsable db k u.word j)
+  abbrev IsUsableWord : Token → Type 0
+  IsUsableWord u = (u.word ≢ codes "?") × ((j : ℕ) × IsUsable db k u.word j)
 
   abbrev faults_of_word : Token → List Fault
   faults_of_word u = own_faults db differ k u (bytes_eq u.word (codes "?"))
 
-  read_are_plain_words : (ts : List Token) → flat_map faults_of_word ts ≡ []
-      → AllByRecursion IsPlainWord ts
-  read_are_plain_words [] no_faults = tt
-  read_are_plain_words (t ∷ ts) no_faults = (
-    by_question_mark (bytes_eq t.word (codes "?")) refl
+  read_are_usable_words : (ts : List Token) → flat_map faults_of_word ts ≡ []
+      → AllByRecursion IsUsableWord ts
+  read_are_usable_words [] no_faults = tt
+  read_are_usable_words (t ∷ ts) no_faults = (
+    usable_by_question_mark (bytes_eq t.word (codes "?")) refl
         (both_are_empty (faults_of_word t) (flat_map faults_of_word ts) no_faults).0,
-    read_are_plain_words ts
+    read_are_usable_words ts
         (both_are_empty (faults_of_word t) (flat_map faults_of_word ts) no_faults).1,
   )
     where
-      by_question_mark : (b : Bool) → bytes_eq t.word (codes "?") ≡ b
+      usable_by_question_mark : (b : Bool) → bytes_eq t.word (codes "?") ≡ b
           → own_faults db differ k t b ≡ []
-          → IsPlainWord t
-      by_question_mark true is_question_mark no_fault = absurd (cc)
-      by_question_mark false not_question_mark no_fault =
+          → IsUsableWord t
+      usable_by_question_mark true is_question_mark no_fault = absurd (cc)
+      usable_by_question_mark false not_question_mark no_fault =
           let usable_statement = one_statement_is_usable db differ k t no_fault in (
             (λ is_question_word. true≢false (sym ((bytes_eq-Decides t.word (codes "?")).1
                 is_question_word) ∙ not_question_mark)),
             (usable_statement.0, usable_statement.2),
           )
 
-  plain_words_are_read : (ts : List Token) → AllByRecursion IsPlainWord ts
+  usable_words_are_read : (ts : List Token) → AllByRecursion IsUsableWord ts
       → flat_map faults_of_word ts ≡ []
-  plain_words_are_read [] are_plain_words = refl
-  plain_words_are_read (t ∷ ts) are_plain_words =
-      ap₂ (λ xs ys. xs ++ ys) (by_question_mark (bytes_eq t.word (codes "?")) refl)
-      (plain_words_are_read ts are_plain_words.1)
+  usable_words_are_read [] are_usable_words = refl
+  usable_words_are_read (t ∷ ts) are_usable_words =
+      ap₂ (λ xs ys. xs ++ ys) (no_fault_by_question_mark (bytes_eq t.word (codes "?")) refl)
+      (usable_words_are_read ts are_usable_words.1)
     where
-      by_question_mark : (b : Bool) → bytes_eq t.word (codes "?") ≡ b
+      no_fault_by_question_mark : (b : Bool) → bytes_eq t.word (codes "?") ≡ b
           → own_faults db differ k t b ≡ []
-      by_question_mark true is_question_mark =
-          absurd (are_plain_words.0.0 (equal_bytes_equal_words t.word (codes
-          "?") is_question_mark))
-      by_question_mark false not_question_mark = usable_label_has_no_fault db k t
-          are_plain_words.0.1.0 are_plain_words.0.1.1
+      no_fault_by_question_mark true is_question_mark =
+          absurd
+          (are_usable_words.0.0 (equal_bytes_equal_words t.word (codes "?") is_question_mark))
+      no_fault_by_question_mark false not_question_mark = usable_label_has_no_fault db k t
+          are_usable_words.0.1.0 are_usable_words.0.1.1
 
   normal_faults_are : (t : Token) (ts : List Token) → t.word ≢ codes "("
       → reading_faults db k end (t ∷ ts) ≡ flat_map faults_of_word (t ∷ ts)
-  normal_faults_are t ts no_bracket = by_bracket (bytes_eq t.word (codes "(")) refl
+  normal_faults_are t ts no_bracket = faults_equal_by_bracket (bytes_eq t.word (codes "(")) refl
     where
-      by_bracket : (b : Bool) → bytes_eq t.word (codes "(") ≡ b
+      faults_equal_by_bracket : (b : Bool) → bytes_eq t.word (codes "(") ≡ b
           → ◌≡◌ {A = List Fault}
           (elim b [
             | true ↦ compressed_faults db k end (bracketed ts)
             | false ↦ normal_faults db k end (t ∷ ts)
           ]) (flat_map faults_of_word (t ∷ ts))
-      by_bracket true is_bracket = absurd (no_bracket
+      faults_equal_by_bracket true is_bracket = absurd (no_bracket
           (equal_bytes_equal_words t.word (codes "(") is_bracket))
-      by_bracket false not_bracket = refl
+      faults_equal_by_bracket false not_bracket = refl
 
 pub normal_is_exact : WhereRead NormalIsExact
 normal_is_exact len x db fault is_read with_open k end t ts no_bracket =
     let labels_are_distinct = labels_differ len x db fault is_read with_open in
     let faults_are = normal_faults_are (counted with_open db) labels_are_distinct k end t ts
     no_bracket in (
-      (λ no_faults. read_are_plain_words (counted with_open db) labels_are_distinct k end (t ∷ ts)
+      (λ no_faults. read_are_usable_words (counted with_open db) labels_are_distinct k end (t ∷ ts)
           (sym faults_are ∙ no_faults)),
-      λ are_plain_words. faults_are ∙ plain_words_are_read (counted with_open db)
-          labels_are_distinct k end (t ∷ ts) are_plain_words,
+      λ are_usable_words. faults_are ∙ usable_words_are_read (counted with_open db)
+          labels_are_distinct k end (t ∷ ts) are_usable_words,
     )
 
 pub compressed_is_exact : WhereRead CompressedIsExact

@@ -1,4 +1,4 @@
--- Rows of tokens and comments, as a grammar: what a reading of words stands for (Metamath book,
+-- Tokens and comments, as a grammar: what a reading of words stands for (Metamath book,
 -- "Preliminaries" and "Preprocessing").
 use Rattle.std.specs.Prelude.{◌≡◌, ℕ, List, [], ◌∷◌, ◌++◌, Option, Some, None, IsTrue, ⊤, is_some}
 use Rattle.std.specs.List.{flat_map, AllByRecursion}
@@ -10,12 +10,17 @@ use Rattle.mm_spec.specs.declared.Fault.{Fault}
 
 -- a token, or a comment: `$(`, words, `$)`
 pub data Lexeme : Type 0 where
-  Single : Word → Lexeme
-  Comment : Word → List Word → Word → Lexeme
+  Single : (token : Word) → Lexeme
+  Comment : (opening : Word) (words : List Word) (closing : Word) → Lexeme
 
--- a comment that is open at the end: `$(` and words, or none
+-- a comment that is open at the end: its `$(`, and the words after that
+pub record UnclosedComment : Type 0 where
+  pub opening : Word
+  pub words : List Word
+
+-- such a comment, or none
 abbrev pub LastComment : Type 0
-LastComment = Option (Word × List Word)
+LastComment = Option UnclosedComment
 
 -- each word is one that a comment may have
 abbrev pub AreCommentWords : List ℕ → List Word → Type 0
@@ -29,7 +34,8 @@ IsLexeme text (Comment o ws c) =
 
 abbrev pub IsLastComment : List ℕ → LastComment → Type 0
 IsLastComment text None = ⊤
-IsLastComment text (Some p) = IsTrue (opens_comment (bytes_of text p.0)) × AreCommentWords text p.1
+IsLastComment text (Some c) =
+    IsTrue (opens_comment (bytes_of text c.opening)) × AreCommentWords text c.words
 
 -- the words of a token or a comment, its `$(` and `$)` included
 abbrev pub words_in : Lexeme → List Word
@@ -38,14 +44,14 @@ words_in (Comment o ws c) = o ∷ (ws ++ c ∷ [])
 
 abbrev pub words_in_last_comment : LastComment → List Word
 words_in_last_comment None = []
-words_in_last_comment (Some p) = p.0 ∷ p.1
+words_in_last_comment (Some c) = c.opening ∷ c.words
 
 -- the tokens among them
 abbrev pub tokens_in : Lexeme → List Word
 tokens_in (Single w) = w ∷ []
 tokens_in (Comment o ws c) = []
 
--- The words are a row of tokens and comments, at the end of which a comment may be open. `tokens`
+-- The words are a list of tokens and comments, at the end of which a comment may be open. `tokens`
 -- are the tokens, and `open_comment` is the place where that comment begins, if there is one.
 pub record IsWellBegun (text : List ℕ) (ws : List Word) (tokens : List Word)
     (open_comment : Option ℕ) : Type 0 where
@@ -55,7 +61,7 @@ pub record IsWellBegun (text : List ℕ) (ws : List Word) (tokens : List Word)
   pub is_last_comment : IsLastComment text last_comment
   pub words_are : ws ≡ flat_map words_in lexemes ++ words_in_last_comment last_comment
   pub tokens_are : tokens ≡ flat_map tokens_in lexemes
-  pub comment_start_is : open_comment ≡ option_map (λ p. p.0.start) last_comment
+  pub comment_start_is : open_comment ≡ option_map (λ c. c.opening.start) last_comment
 
 -- w is the first word such that the words up to and including it aren't well begun: those before it
 -- are, with these tokens and this open comment, and with it they aren't.

@@ -5,9 +5,10 @@ use Rattle.std.specs.Prelude.{◌++◌, length, Some, slice_get, flat_map, count
 use Rattle.std.specs.List.{list_any, AllByRecursion}
 use Rattle.mm_spec.specs.Text.{Bytes, Token}
 use Rattle.mm_spec.specs.Statement.{Statement}
-use Rattle.mm_spec.specs.Scope.{is_active, statement_at}
+use Rattle.mm_spec.specs.Scope.{active_at, statement_at}
 use Rattle.mm_spec.specs.Frame.{mandatory_hypotheses}
 use Rattle.mm_spec.specs.NormalProof.{is_labelled}
+use Rattle.mm_spec.specs.CompressedProof.{mark_letter}
 use Rattle.mm_spec.specs.Steps.{Step, label, marked}
 
 -- ---- letters
@@ -49,10 +50,10 @@ pub record AreLettersOf (letters : List ℕ) (n : ℕ) : Type 0 where
   pub is_last_digit : IsLastDigit last_letter last_digit
   pub value_is : n ≡ early_value * 20 + last_digit
 
--- the letters of an item; `Z` is 90
+-- the letters of an item
 abbrev pub IsSpelled : List ℕ → Item → Type 0
 IsSpelled letters (number n) = AreLettersOf letters n
-IsSpelled letters mark = letters ≡ 90 ∷ []
+IsSpelled letters mark = letters ≡ mark_letter ∷ []
 
 -- the letters are those of the items, concatenated
 abbrev pub Spells : List ℕ → List Item → Type 0
@@ -113,9 +114,9 @@ pub record AreSteps (hypotheses labels : List ℕ) (items : List Item)
 
 -- j is the only statement that is active at k and has the label
 pub record IsUsable (db : List Statement) (k : ℕ) (w : Bytes) (j : ℕ) : Type 0 where
-  pub statement_is_active : IsTrue (is_active db j k)
+  pub statement_is_active : IsTrue (active_at db j k)
   pub statement_has_label : IsTrue (list_any (is_labelled w) (statement_at db j))
-  pub no_other_is_usable : (i : ℕ) → IsTrue (is_active db i k)
+  pub no_other_is_usable : (i : ℕ) → IsTrue (active_at db i k)
       → IsTrue (list_any (is_labelled w) (statement_at db i)) → i ≡ j
 
 -- ---- what is well formed

@@ -8,8 +8,8 @@
 //! that isn't true, and the prover refuses each, since the law's proof doesn't prove it: a premise
 //! says less, two arguments are exchanged, or a definition on which the law depends says something
 //! else. One, `open_theorems_left_out`, is true, but says less than the law. Each clause has one
-//! edit, named after the mistake. Each law's statement is in a file of its own, so that a change of
-//! one is tried without the others being read again. Small texts for which the definitions are
+//! edit, named after the mistake. The statements of the laws are in files of their own
+//! (`specs/Laws`), so that a change of one is tried without the others being read again. Small texts for which the definitions are
 //! worked out are in `proofs/` (`ExamplesLaw`, `VectorsLaw`, `OutputsLaw`).
 //!
 //! A law of what is read (`WhereRead`) holds of the statements as they count: with open theorems as
@@ -33,7 +33,7 @@ pub use cells::{cells_are_decided, theorems_have_one_wave};
 pub use citations::essential_citations_are_citations;
 pub use derivations::labels_determine_a_derivation;
 pub use frames::lawful_statements_have_complete_frames;
-pub use letters::{letters_spell_one_row, numbers_have_one_spelling};
+pub use letters::{letters_spell_one_list, numbers_have_one_spelling};
 pub use meaning::{valid_theorems_are_those_proved, well_formed_proofs_are_read};
 pub use outputs::{long_texts_have_one_output, output_exists, output_is_unique};
 pub use readings::{every_text_is_read, texts_are_sound_or_faulty};

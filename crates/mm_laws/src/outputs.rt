@@ -19,5 +19,5 @@ pub fn output_exists()
 /// these first ones are more than the limit.
 pub fn long_texts_have_one_output()
     ensures long_texts_are_refused { LongTextsAreRefused }
-    ensures front { FrontsDecide }
+    ensures fronts_decide { FrontsDecide }
 {}

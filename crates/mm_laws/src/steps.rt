@@ -6,7 +6,7 @@ ghost use Rattle.mm_laws.specs.Laws.NamedSteps.{StepsAreNamed, NamedStepsAreUniq
 /// The steps of a compressed proof are what its numbers name: hypotheses, labels in brackets, and
 /// marked steps. Those of a normal proof are its labels.
 pub fn steps_are_what_is_named()
-    ensures compressed { WhereRead StepsAreNamed }
+    ensures steps_are_named { WhereRead StepsAreNamed }
     ensures steps_are_unique { NamedStepsAreUnique }
-    ensures normal { WhereRead StepsAreLabels }
+    ensures steps_are_labels { WhereRead StepsAreLabels }
 {}

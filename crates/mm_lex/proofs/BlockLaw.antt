@@ -26,7 +26,7 @@ use Rattle.mm_spec.proofs.WordsLaw.{begins_word_boundary, begins_word_not_white}
 use Rattle.mm_spec.proofs.WordsLaw.{word_at_start_is_word}
 use Rattle.mm_spec.proofs.BitLaw.{shifted}
 use Rattle.mm_lex.specs.Plain.{plain_at, IsPlainWord}
-use Rattle.mm_lex.specs.Beginnings.{ArePlain, IsFirst, IsPassed}
+use Rattle.mm_lex.specs.Beginnings.{ArePlain, IsFirstWordStart, IsPassed}
 use Rattle.mm_lex.proofs.MaskLaw.{range_passes_test, one_bit_passes_test, empty_mask_has_none}
 use Rattle.mm_lex.proofs.MaskLaw.{zero_bit_fails_block_test, block_test_in_text, low_bits_are_kept}
 use Rattle.mm_lex.proofs.MaskLaw.{value_one_is_true, value_zero_is_false}
@@ -54,7 +54,7 @@ zero_bit_fails_test p bytes i i_lt_64 i_in_bytes m mask_is bit_is_zero =
 module _ (bytes : List ℕ) (white bad dollars : ℕ)
     (white_is : white ≡ mask is_white (take 64 bytes))
     (bad_is : bad ≡ mask is_bad (take 64 bytes))
-    (dollars_are : dollars ≡ mask (λ x. x == 36) (take 64 bytes)) where
+    (dollars_are : dollars ≡ mask (λ x. x == 0x24) (take 64 bytes)) where
   pub no_stop_is_not_white : (i : ℕ) → i < 64 → i < length bytes
       → bit_at (bit_or (bit_or white bad) dollars) i ≡ 0 → white_at bytes i ≡ false
   unfolding white_at
@@ -78,10 +78,10 @@ module _ (bytes : List ℕ) (white bad dollars : ℕ)
       both_are_zero (bit_at white i) (bit_at bad i)
       (sym (bit_at_or white bad i) ∙ not_class_nor_dollar.0) in
       plain_byte (is_white (get_or bytes i 0)) (is_printable (get_or bytes i 0))
-      (get_or bytes i 0 == 36)
+      (get_or bytes i 0 == 0x24)
       (zero_bit_fails_test is_white bytes i i_lt_64 i_in_bytes white white_is not_white_nor_bad.0)
       (zero_bit_fails_test is_bad bytes i i_lt_64 i_in_bytes bad bad_is not_white_nor_bad.1)
-      (zero_bit_fails_test (λ x. x == 36) bytes i i_lt_64 i_in_bytes dollars dollars_are
+      (zero_bit_fails_test (λ x. x == 0x24) bytes i i_lt_64 i_in_bytes dollars dollars_are
       not_class_nor_dollar.1)
 
 -- bytes after a place
@@ -95,7 +95,7 @@ pub plain_at_dropped : (text : List ℕ) (base i : ℕ)
     → plain_at (drop base text) i ≡ plain_at text (base + i)
 unfolding plain_at
 plain_at_dropped text base i =
-    ap (λ (b : ℕ). is_printable b && not (b == 36)) (get_or-drop base text i 0)
+    ap (λ (b : ℕ). is_printable b && not (b == 0x24)) (get_or-drop base text i 0)
 
 pub taken_dropped_is_all : (text : List ℕ) (base : ℕ)
     → take (length text - base) (drop base text) ≡ drop base text
@@ -386,7 +386,7 @@ module _ (text : List ℕ) (start end : ℕ) (begins : begins_word text start �
 
 -- the words that begin from the place `from` on are this one, and those that begin from `upto` on
 pub words_begin_with_found : (text : List ℕ) (w : Word) (from upto to : ℕ) → IsWord text w
-    → IsFirst text from to w.start → IsPassed text w.start upto
+    → IsFirstWordStart text from to w.start → IsPassed text w.start upto
     → words_between text from to ≡ w ∷ words_between text upto to
 words_begin_with_found text w from upto to is_word is_first is_passed =
     words_between_skip_to text from w.start to is_first.from_le_start
@@ -397,12 +397,13 @@ words_begin_with_found text w from upto to is_word is_first is_passed =
     (λ i from_le_i i_lt_start _. is_passed.none_between i (omega arith) i_lt_start))
 
 -- a word of plain bytes
-no_byte_no_dollar : (xs : List ℕ) → list_all (λ x. not (x == 36)) xs ≡ true → has_dollar xs ≡ false
+no_byte_no_dollar : (xs : List ℕ) → list_all (λ x. not (x == 0x24)) xs ≡ true → has_dollar xs
+    ≡ false
 no_byte_no_dollar [] no_byte_is_dollar = refl
 no_byte_no_dollar (x ∷ xs) no_byte_is_dollar =
     let first_and_later =
-    and_parts (not (x == 36)) (list_all (λ y. not (y == 36)) xs) no_byte_is_dollar in
-    rw (not-true (x == 36) first_and_later.0) (no_byte_no_dollar xs first_and_later.1)
+    and_parts (not (x == 0x24)) (list_all (λ y. not (y == 0x24)) xs) no_byte_is_dollar in
+    rw (not-true (x == 0x24) first_and_later.0) (no_byte_no_dollar xs first_and_later.1)
 
 pub plain_bytes_are_plain_word : (text : List ℕ) (start end : ℕ) → start ≤ end → end ≤ length text
     → ((i : ℕ) → start ≤ i → i < end → plain_at text i ≡ true)
@@ -414,7 +415,7 @@ plain_bytes_are_plain_word text start end start_le_end end_le_length each_is_pla
       (λ i start_le_i i_lt_end. (and_parts _ _ (each_is_plain i start_le_i (omega arith))).0);
   no_dollar =
       no_byte_no_dollar (take (end - start) (drop start text))
-      (range_passes_test (λ x. not (x == 36)) text start (end - start) (omega arith)
+      (range_passes_test (λ x. not (x == 0x24)) text start (end - start) (omega arith)
       (λ i start_le_i i_lt_end. (and_parts _ _ (each_is_plain i start_le_i (omega arith))).1));
 }
 
@@ -444,22 +445,22 @@ module _ (text : List ℕ) (from upto : ℕ) (place_is_in_text : upto < length t
       (λ k i_le_k k_lt_end. each_is_plain k (omega arith) (omega (arith, end_le_upto))
       (word_at_not_white text i k i_le_k k_lt_end))
 
--- what a block's masks tell of the bytes between two of its places
-module _ (text : List ℕ) (base white stops place special : ℕ) (white_lt_2_64 : white < 2 ^ 64)
+-- what a block's masks tell of the bytes between two of its bits
+module _ (text : List ℕ) (base white stops bit special : ℕ) (white_lt_2_64 : white < 2 ^ 64)
     (white_mask_is : white ≡ mask is_white (take 64 (drop base text)))
     (stops_tell_plain : (i : ℕ) → i < 64 → base + i < length text → bit_at stops i ≡ 0
     → plain_at text (base + i) ≡ true)
-    (no_stop_before_special : (i : ℕ) → place ≤ i → i < special
+    (no_stop_before_special : (i : ℕ) → bit ≤ i → i < special
     → bit_at (bit_and stops (bit_not w64 white)) i ≡ 0) where
-  unstopped_byte_is_plain : (i : ℕ) → place ≤ i → i < special → i < 64 → base + i < length text
+  unstopped_byte_is_plain : (i : ℕ) → bit ≤ i → i < special → i < 64 → base + i < length text
       → white_at text (base + i) ≡ false → plain_at text (base + i) ≡ true
-  unstopped_byte_is_plain i place_le_i i_lt_special i_lt_64 place_in_text not_white =
+  unstopped_byte_is_plain i bit_le_i i_lt_special i_lt_64 place_in_text not_white =
       let negated_bit_is : bit_at (bit_not w64 white) i ≡ 1 - bit_at white i =
       bit_at_not w64 white i white_lt_2_64 i_lt_64 in
       let no_stop_but_white : min (bit_at stops i) (1 - bit_at white i) ≡ 0 =
       ap (min (bit_at stops i)) (sym negated_bit_is)
       ∙ sym (bit_at_and stops (bit_not w64 white) i)
-      ∙ no_stop_before_special i place_le_i i_lt_special in
+      ∙ no_stop_before_special i bit_le_i i_lt_special in
       ⊎_elim {C = plain_at text (base + i) ≡ true}
       (λ bit_is_positive. absurd (true≢false
       (sym (one_bit_is_white text base white white_mask_is i i_lt_64
@@ -469,11 +470,11 @@ module _ (text : List ℕ) (base white stops place special : ℕ) (white_lt_2_64
       (cases_lt 0 (bit_at white i))
 
   pub skipped_words_are_plain : (end : ℕ) → end ≤ special → end < 64 → bit_at white end ≡ 1
-      → ArePlain text (base + place) (base + end)
+      → ArePlain text (base + bit) (base + end)
   skipped_words_are_plain end end_le_special end_lt_64 end_is_white =
       let white_at_end =
       one_bit_is_white text base white white_mask_is end end_lt_64 end_is_white in
-      plain_bytes_are_plain_words text (base + place) (base + end) white_at_end.0 white_at_end.1
+      plain_bytes_are_plain_words text (base + bit) (base + end) white_at_end.0 white_at_end.1
       (λ k start_le_k k_lt_end not_white.
       let place_is_k : base + (k - base) ≡ k = omega arith in
       subst (λ (i : ℕ). plain_at text i ≡ true) place_is_k

@@ -23,7 +23,7 @@ equal_cuts_are_cuts len count count_is_positive =
     i_is_cut
     (omega arith) in
     record {
-      places_rise = λ i i_is_cut.
+      places_are_sorted = λ i i_is_cut.
           let next_is_cut : i + 1 < count - 1 = omega (arith, i_is_cut, cut_count_is) in
           let product_le = mul-le-mul_left {m = i + 1} {n = i + 1 + 1} len (omega arith) in
           subst (λ x. x ≤ get_or (map cut_of (range_with_len 0 (count - 1))) (i + 1) 0)

@@ -4,7 +4,7 @@ use Rattle.std.proofs.Common.{Result, Ok, sym, ap, subst, ◌∙◌, ⊎_elim, a
 use Rattle.std.specs.Prelude.{IfOk}
 use Rattle.std.specs.List.{remove}
 use Rattle.std.specs.declared.alloc.AllocError.{AllocError}
-use Rattle.std.proofs.Math.Nat.{div-add-mod, mod-lt, le-div_iff_mul-le, mul-le-mul_right, add-mul}
+use Rattle.std.proofs.Math.Nat.{div-add-mod, mod-lt}
 use Rattle.std.proofs.Math.Nat.{zero-mul}
 use Rattle.std.proofs.lemmas.Bool.{cases_lt}
 use Rattle.std.proofs.lemmas.Grind.{get_or_default_zero}
@@ -24,9 +24,9 @@ module _ (text places : List ℕ) (cuts : IsCutText (cut_text places (length tex
       (λ count_le_i. rw (get_or_past places i (length text) count_le_i) (omega arith))
       (cases_lt i (length places))
 
-  pub cut_places_rise : (i : ℕ) → cut_place text places i ≤ cut_place text places (i + 1)
-  cut_places_rise zero = omega arith
-  cut_places_rise (suc i) =
+  pub cut_place_le_next : (i : ℕ) → cut_place text places i ≤ cut_place text places (i + 1)
+  cut_place_le_next zero = omega arith
+  cut_place_le_next (suc i) =
       let next_is_suc : suc i + 1 ≡ suc (suc i) = omega arith in
       let plus_one_is_suc : i + 1 ≡ suc i = omega arith in
       rw next_is_suc
@@ -34,7 +34,7 @@ module _ (text places : List ℕ) (cuts : IsCutText (cut_text places (length tex
       (λ next_lt_count. let i_lt_count : i < length places = omega (arith, next_lt_count) in
       let place_le_next : get_or places i 0 ≤ get_or places (suc i) 0 =
       subst (λ (n : ℕ). get_or places i 0 ≤ get_or places n 0) plus_one_is_suc
-      (cuts.places_rise i (omega (arith, next_lt_count))) in
+      (cuts.places_are_sorted i (omega (arith, next_lt_count))) in
       rw (
         get_or_default_zero places i (length text) i_lt_count,
         get_or_default_zero places (suc i)
@@ -64,19 +64,6 @@ module _ (n runs : ℕ) (runs_is_positive : 0 < runs) (runs_le_n : runs ≤ n) w
   last_run_ends_at_n =
       let remainder_lt_runs = mod-lt n runs_is_positive in
       omega (arith, remainder_lt_runs, runs_cover_pieces)
-
-  pub run_starts_rise : (i : ℕ) → run_start n runs i < run_start n runs (i + 1)
-  run_starts_rise i =
-      let quotient_is_positive : 1 ≤ n / runs =
-      (le-div_iff_mul-le runs_is_positive).1 (omega arith) in
-      let product_grows : (i + 1) * (n / runs) ≡ i * (n / runs) + 1 * (n / runs) =
-      add-mul i 1 (n / runs) in
-      omega (arith, quotient_is_positive, product_grows)
-
-  pub run_start_le_n : (i : ℕ) → i ≤ runs → run_start n runs i ≤ n
-  run_start_le_n i i_le_runs =
-      let product_le = mul-le-mul_right {m = i} {n = runs} (n / runs) i_le_runs in
-      omega (arith, product_le, runs_cover_pieces)
 
 -- the first runs make up whole, and these are the rest
 pub record IsJoinedSoFar (text places : List ℕ) (n runs : ℕ) (whole : Stretch)

@@ -186,13 +186,13 @@ append_reading_outside text ws p r later items reads_outside no_fault is_not_ope
     ∙ ap (with_tokens r.tokens) (reads_outside p)))
 
 pub append_reading_nil : (text : List ℕ) (r : Reading) → append_reading text r [] ≡ r
-append_reading_nil text r = nil_by_fault r.tokens r.fault r.open_comment
+append_reading_nil text r = appending_nil_by_fault r.tokens r.fault r.open_comment
   where
-    nil_by_fault : (ts : List Word) (f : Option Fault) (c : Option ℕ)
+    appending_nil_by_fault : (ts : List Word) (f : Option Fault) (c : Option ℕ)
         → append_reading text (record { tokens = ts; fault = f; open_comment = c }) []
         ≡ record { tokens = ts; fault = f; open_comment = c }
-    nil_by_fault ts None c = ap (with_tokens ts) (reading_end text c) ∙ rw append-nil refl
-    nil_by_fault ts (Some f) c = refl
+    appending_nil_by_fault ts None c = ap (with_tokens ts) (reading_end text c) ∙ rw append-nil refl
+    appending_nil_by_fault ts (Some f) c = refl
 
 -- one more word of those that are left
 

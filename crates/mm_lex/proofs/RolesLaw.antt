@@ -97,22 +97,23 @@ two_bytes (x ∷ []) length_is_two = absurd (omega (arith, length_is_two))
 two_bytes (x ∷ y ∷ []) length_is_two = refl
 two_bytes (x ∷ y ∷ z ∷ word) length_is_two = absurd (omega (arith, length_is_two))
 
-dollar_word_is_clean : (b : ℕ) (word : List ℕ) → is_clean (36 ∷ b ∷ []) ≡ true
+dollar_word_is_clean : (b : ℕ) (word : List ℕ) → is_clean (0x24 ∷ b ∷ []) ≡ true
     → is_dollar_and b word ≡ true
     → is_clean word ≡ true
 unfolding is_dollar_and
 dollar_word_is_clean b word is_clean_dollar is_dollar_b =
     let prefix_and_last =
-    and_parts (length word == 2 && get_or word 0 0 == 36) (get_or word 1 0 == b) is_dollar_b in
-    let length_and_first = and_parts (length word == 2) (get_or word 0 0 == 36) prefix_and_last.0 in
+    and_parts (length word == 2 && get_or word 0 0 == 0x24) (get_or word 1 0 == b) is_dollar_b in
+    let length_and_first = and_parts (length word == 2) (get_or word 0 0 == 0x24) prefix_and_last.0
+    in
     let word_is = two_bytes word (eqb-true (length word) 2 length_and_first.0) in
     subst (λ w. is_clean w ≡ true) (sym word_is)
     (subst (λ x. is_clean (x ∷ get_or word 1 0 ∷ []) ≡ true)
-    (sym (eqb-true (get_or word 0 0) 36 length_and_first.1))
-    (subst (λ y. is_clean (36 ∷ y ∷ []) ≡ true)
+    (sym (eqb-true (get_or word 0 0) 0x24 length_and_first.1))
+    (subst (λ y. is_clean (0x24 ∷ y ∷ []) ≡ true)
     (sym (eqb-true (get_or word 1 0) b prefix_and_last.1)) is_clean_dollar))
 
-clean_keywords : list_all (λ b. is_clean (36 ∷ b ∷ [])) (codes "cvfedap=.{}[]") ≡ true
+clean_keywords : list_all (λ b. is_clean (0x24 ∷ b ∷ [])) (codes "cvfedap=.{}[]") ≡ true
 unfolding is_clean is_printable
 clean_keywords = refl
 
@@ -125,15 +126,15 @@ unfolding is_keyword
 keyword_is_clean_word word is_keyword_w =
     clean_if_among (codes "cvfedap=.{}[]") keywords_are_clean is_keyword_w
   where
-    keywords_are_clean : list_all (λ b. is_clean (36 ∷ b ∷ [])) (codes "cvfedap=.{}[]") ≡ true
+    keywords_are_clean : list_all (λ b. is_clean (0x24 ∷ b ∷ [])) (codes "cvfedap=.{}[]") ≡ true
     keywords_are_clean = clean_keywords
 
-    clean_if_among : (bs : List ℕ) → list_all (λ b. is_clean (36 ∷ b ∷ [])) bs ≡ true
+    clean_if_among : (bs : List ℕ) → list_all (λ b. is_clean (0x24 ∷ b ∷ [])) bs ≡ true
         → list_any (λ b. is_dollar_and b word) bs ≡ true → is_clean word ≡ true
     clean_if_among [] each_is_clean word_is_keyword = absurd (cc)
     clean_if_among (b ∷ bs) each_is_clean word_is_keyword =
-        let first_and_later = and_parts (is_clean (36 ∷ b ∷ []))
-        (list_all (λ b. is_clean (36 ∷ b ∷ [])) bs) each_is_clean in
+        let first_and_later = and_parts (is_clean (0x24 ∷ b ∷ []))
+        (list_all (λ b. is_clean (0x24 ∷ b ∷ [])) bs) each_is_clean in
         elim (one_of_two_is_true (is_dollar_and b word) (list_any (λ b. is_dollar_and b word) bs)
         word_is_keyword) [
           | inl is_this ↦ dollar_word_is_clean b word first_and_later.0 is_this
@@ -145,17 +146,18 @@ token_test_is : (word : List ℕ)
     → (is_keyword word || (is_clean word && not (has_dollar word))) ≡ is_token word
 unfolding is_token
 token_test_is word =
-    equal_by_tests (is_keyword word) (is_clean word) (has_dollar word) (keyword_is_clean_word word)
+    conditions_agree (is_keyword word) (is_clean word) (has_dollar word)
+    (keyword_is_clean_word word)
   where
-    equal_by_tests : (k a d : Bool) → (k ≡ true → a ≡ true)
+    conditions_agree : (k a d : Bool) → (k ≡ true → a ≡ true)
         → (k || (a && not d)) ≡ (a && (not d || k))
-    equal_by_tests true true true keyword_is_clean = refl
-    equal_by_tests true true false keyword_is_clean = refl
-    equal_by_tests true false d keyword_is_clean =
+    conditions_agree true true true keyword_is_clean = refl
+    conditions_agree true true false keyword_is_clean = refl
+    conditions_agree true false d keyword_is_clean =
         let is_clean_k = keyword_is_clean refl in absurd (cc)
-    equal_by_tests false true true keyword_is_clean = refl
-    equal_by_tests false true false keyword_is_clean = refl
-    equal_by_tests false false d keyword_is_clean = refl
+    conditions_agree false true true keyword_is_clean = refl
+    conditions_agree false true false keyword_is_clean = refl
+    conditions_agree false false d keyword_is_clean = refl
 
 pub keyword_is_token : (word : List ℕ) → is_keyword word ≡ true → true ≡ is_token word
 keyword_is_token word is_keyword_w =

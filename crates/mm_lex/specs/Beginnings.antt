@@ -8,7 +8,7 @@ use Rattle.mm_lex.specs.Plain.{IsPlainWord}
 
 module _ (text : List ℕ) where
   -- the first place from `from` on, and before `to`, at which a word begins
-  pub record IsFirst (from to start : ℕ) : Type 0 where
+  pub record IsFirstWordStart (from to start : ℕ) : Type 0 where
     pub from_le_start : from ≤ start
     pub start_lt_to : start < to
     pub begins : begins_word text start ≡ true

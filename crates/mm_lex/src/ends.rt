@@ -16,7 +16,7 @@ fn first_white(text: &[u8], from: usize, to: usize) -> usize
     ensures from_le_place { from ≤ result }
     ensures place_le_to { result ≤ to }
     ensures no_white { NoWhite text.now from result }
-    ensures white { result < to → white_at text.now result ≡ true }
+    ensures ends_at_white { result < to → white_at text.now result ≡ true }
 {
     let mut place = from;
     while 64 <= to - place && classes_of(&text[place..]).white == 0 {
@@ -36,7 +36,7 @@ fn after_white(text: &[u8], from: usize, to: usize) -> usize
     ensures from_le_place { from ≤ result }
     ensures place_le_to { result ≤ to }
     ensures no_white { NoWhite text.now result to }
-    ensures white { (i : ℕ) → i + 1 ≡ result → from ≤ i → white_at text.now i ≡ true }
+    ensures begins_after_white { (i : ℕ) → i + 1 ≡ result → from ≤ i → white_at text.now i ≡ true }
 {
     let mut place = to;
     while 64 <= place - from && classes_of(&text[place - 64..]).white == 0 {

@@ -30,9 +30,9 @@ const BYTES_PER_TOKEN: usize = 8;
 
 /// The result for a text that is longer than the limit.
 fn lexed_too_long<A: Allocator>(alloc: A) -> Lexed<A>
-    ensures tokens { (text : List ℕ) → TEXT_LIMIT < length text
+    ensures tokens_are { (text : List ℕ) → TEXT_LIMIT < length text
         → result.tokens.items ≡ tokens_of text }
-    ensures fault { (text : List ℕ) → TEXT_LIMIT < length text
+    ensures fault_is { (text : List ℕ) → TEXT_LIMIT < length text
         → result.fault ≡ lexical_fault text }
 {
     Lexed {
@@ -53,9 +53,9 @@ pub fn lex<R: Threads + Sync, A: Allocator + Copy + Send + Sync>(
     text: &[u8],
     cuts: &Cuts<A>,
 ) -> Result<Lexed<A>, AllocError>
-    requires cuts { length text.now ≤ TEXT_LIMIT → cuts.now.len ≡ length text.now }
-    ensures tokens { IfOk result (λ lexed. lexed.tokens.items ≡ tokens_of text.now) }
-    ensures fault { IfOk result (λ lexed. lexed.fault ≡ lexical_fault text.now) }
+    requires cuts_fit_text { length text.now ≤ TEXT_LIMIT → cuts.now.len ≡ length text.now }
+    ensures tokens_are { IfOk result (λ lexed. lexed.tokens.items ≡ tokens_of text.now) }
+    ensures fault_is { IfOk result (λ lexed. lexed.fault ≡ lexical_fault text.now) }
 {
     if text.len() > TEXT_LIMIT {
         return Ok(lexed_too_long(alloc));
@@ -67,8 +67,8 @@ pub fn lex<R: Threads + Sync, A: Allocator + Copy + Send + Sync>(
 /// Splits a text into tokens, as [`lex`] does, on the calling thread alone, which reads the text as
 /// one piece. Fails only if out of memory.
 pub fn lex_alone<A: Allocator + Copy>(alloc: A, text: &[u8]) -> Result<Lexed<A>, AllocError>
-    ensures tokens { IfOk result (λ lexed. lexed.tokens.items ≡ tokens_of text.now) }
-    ensures fault { IfOk result (λ lexed. lexed.fault ≡ lexical_fault text.now) }
+    ensures tokens_are { IfOk result (λ lexed. lexed.tokens.items ≡ tokens_of text.now) }
+    ensures fault_is { IfOk result (λ lexed. lexed.fault ≡ lexical_fault text.now) }
 {
     if text.len() > TEXT_LIMIT {
         return Ok(lexed_too_long(alloc));

@@ -1,14 +1,14 @@
-//! The next and the last bit of a mask.
+//! The next and the last bit of a mask that is 1.
 
 ghost use Rattle.std.specs.Prelude.{◌≡◌, ◌<◌, ◌≤◌, ℕ};
 ghost use Rattle.std.specs.Int.{bit_at};
 
-/// The first place from `from` on whose bit is 1; 64 if there is none.
+/// The index of the first bit, from `from` on, that is 1; 64 if there is none.
 #[inline(always)]
 pub fn first_one(mask: u64, from: usize) -> usize
     requires { from < 64 }
-    ensures from_le_place { from ≤ result }
-    ensures place_le_64 { result ≤ 64 }
+    ensures from_le_index { from ≤ result }
+    ensures index_le_64 { result ≤ 64 }
     ensures zeros { (i : ℕ) → from ≤ i → i < result → bit_at mask i ≡ 0 }
     ensures one { result < 64 → bit_at mask result ≡ 1 }
 {
@@ -20,11 +20,11 @@ pub fn first_one(mask: u64, from: usize) -> usize
     }
 }
 
-/// The last place up to `upto` whose bit is 1; 0 if there is none.
+/// The index of the last bit, up to `upto`, that is 1; 0 if there is none.
 #[inline(always)]
 pub fn last_one(mask: u64, upto: usize) -> usize
     requires { upto < 64 }
-    ensures place_le_upto { result ≤ upto }
+    ensures index_le_upto { result ≤ upto }
     ensures one { 0 < result → bit_at mask result ≡ 1 }
 {
     let rest = mask << (63 - upto);

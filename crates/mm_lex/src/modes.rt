@@ -21,8 +21,11 @@ pub const NOT_KNOWN_PLAIN: bool = false;
 /// The comment that is open after a list of words: none, or one that began before them or in them.
 #[derive(Clone, Copy)]
 pub enum CommentState {
+    /// None is open.
     Nowhere,
+    /// It began before the words.
     Before,
+    /// It began at this place among them.
     At(u32),
 }
 

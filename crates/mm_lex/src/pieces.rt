@@ -121,9 +121,9 @@ impl<A: Allocator> Piece<A> {
     /// reading outside a comment.
     pub(crate) fn into_lexed(self) -> Lexed<A>
         requires { (text : List ℕ) × IsWholeText text self }
-        ensures tokens { (text : List ℕ) → IsWholeText text self
+        ensures tokens_are { (text : List ℕ) → IsWholeText text self
             → result.tokens.items ≡ tokens_of text }
-        ensures fault { (text : List ℕ) → IsWholeText text self
+        ensures fault_is { (text : List ℕ) → IsWholeText text self
             → result.fault ≡ lexical_fault text }
     {
         let reading = match self.between {
@@ -157,9 +157,9 @@ fn lex_between<A: Allocator + Copy>(
     requires head_le_tail { head_end ≤ tail_start }
     requires tail_le_length { tail_start ≤ length text.now }
     requires text_fits_limit { length text.now ≤ TEXT_LIMIT }
-    ensures head_end { IfOk result (λ between. between.head_end ≡ head_end) }
-    ensures tail_start { IfOk result (λ between. between.tail_start ≡ tail_start) }
-    ensures readings { IfOk result
+    ensures head_end_is { IfOk result (λ between. between.head_end ≡ head_end) }
+    ensures tail_start_is { IfOk result (λ between. between.tail_start ≡ tail_start) }
+    ensures are_readings { IfOk result
         (λ between. AreReadings text.now (words_between text.now head_end tail_start)
         (side between.outside) (side between.inside)) }
 {
@@ -199,9 +199,9 @@ pub(crate) fn lex_piece_with_room<A: Allocator + Copy>(
     requires from_le_to { from ≤ to }
     requires to_le_length { to ≤ length text.now }
     requires text_fits_limit { length text.now ≤ TEXT_LIMIT }
-    ensures from { IfOk result (λ piece. piece.from ≡ from) }
-    ensures to { IfOk result (λ piece. piece.to ≡ to) }
-    ensures summary { IfOk result (IsSummary text.now) }
+    ensures from_is { IfOk result (λ piece. piece.from ≡ from) }
+    ensures to_is { IfOk result (λ piece. piece.to ≡ to) }
+    ensures is_summary { IfOk result (IsSummary text.now) }
 {
     let between = match bounds(text, from, to) {
         None => None,
@@ -227,9 +227,9 @@ pub fn lex_piece<A: Allocator + Copy>(
     requires from_le_to { from ≤ to }
     requires to_le_length { to ≤ length text.now }
     requires text_fits_limit { length text.now ≤ TEXT_LIMIT }
-    ensures from { IfOk result (λ piece. piece.from ≡ from) }
-    ensures to { IfOk result (λ piece. piece.to ≡ to) }
-    ensures summary { IfOk result (IsSummary text.now) }
+    ensures from_is { IfOk result (λ piece. piece.from ≡ from) }
+    ensures to_is { IfOk result (λ piece. piece.to ≡ to) }
+    ensures is_summary { IfOk result (IsSummary text.now) }
 {
     // There is at least a byte between two words.
     lex_piece_with_room(alloc, text, from, to, (to - from) / 2 + 1)
@@ -243,9 +243,9 @@ fn join_between<A: Allocator + Copy>(
 ) -> Result<Between<A>, AllocError>
     requires head_end_le_length { after.head_end ≤ length text.now }
     requires text_fits_limit { length text.now ≤ TEXT_LIMIT }
-    ensures head_end { IfOk result (λ between. between.head_end ≡ before.head_end) }
-    ensures tail_start { IfOk result (λ between. between.tail_start ≡ after.tail_start) }
-    ensures readings { IfOk result
+    ensures head_end_is { IfOk result (λ between. between.head_end ≡ before.head_end) }
+    ensures tail_start_is { IfOk result (λ between. between.tail_start ≡ after.tail_start) }
+    ensures are_joined { IfOk result
         (λ between. IsJoined text.now (between_of before) (between_of after) (between_of between)) }
 {
     let mut outside = before.outside;
@@ -280,9 +280,9 @@ pub fn join<A: Allocator + Copy>(
     requires first_has_summary { IsSummary text.now first }
     requires second_has_summary { IsSummary text.now second }
     requires neighbours { first.to ≡ second.from }
-    ensures from { IfOk result (λ piece. piece.from ≡ first.from) }
-    ensures to { IfOk result (λ piece. piece.to ≡ second.to) }
-    ensures summary { IfOk result (IsSummary text.now) }
+    ensures from_is { IfOk result (λ piece. piece.from ≡ first.from) }
+    ensures to_is { IfOk result (λ piece. piece.to ≡ second.to) }
+    ensures is_summary { IfOk result (IsSummary text.now) }
 {
     let from = first.from;
     let to = second.to;

@@ -126,8 +126,8 @@ fn role_outside(word: &[u8]) -> Role
 
 /// The place of the first byte in the word that isn't printable.
 fn first_bad(word: &[u8]) -> Option<usize>
-    ensures value { result ≡ position (λ b. not (is_printable b)) word.now }
-    ensures within { IfSome result (λ i. i < length word.now) }
+    ensures is_position { result ≡ position (λ b. not (is_printable b)) word.now }
+    ensures is_within_word { IfSome result (λ i. i < length word.now) }
 {
     word.iter().position(|b| !is_printable(*b))
 }

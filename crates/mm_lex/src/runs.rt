@@ -45,7 +45,7 @@ fn read_run<A: Allocator + Copy>(
     after: usize,
 ) -> Result<Piece<A>, AllocError>
     requires text_fits_limit { length text.now ≤ TEXT_LIMIT }
-    requires cuts { IsCutText (cut_text places.now (length text.now)) }
+    requires are_cuts { IsCutText (cut_text places.now (length text.now)) }
     requires first_lt_after { first < after }
     requires after_le_count { after ≤ length places.now + 1 }
     ensures { IfOk result (IsRun text.now places.now first after) }
@@ -73,7 +73,7 @@ fn run_at<A: Allocator + Copy>(
     index: usize,
 ) -> Result<Piece<A>, AllocError>
     requires text_fits_limit { length text.now ≤ TEXT_LIMIT }
-    requires cuts { IsCutText (cut_text places.now (length text.now)) }
+    requires are_cuts { IsCutText (cut_text places.now (length text.now)) }
     requires runs_le_pieces { runs ≤ length places.now + 1 }
     requires index_lt_runs { index < runs }
     ensures { IfOk result (IsRunOf text.now places.now runs index) }
@@ -93,11 +93,11 @@ fn read_runs<R: Threads + Sync, A: Allocator + Copy + Send + Sync>(
     runs: usize,
 ) -> Result<Vec<Result<Piece<A>, AllocError>, A>, AllocError>
     requires text_fits_limit { length text.now ≤ TEXT_LIMIT }
-    requires cuts { IsCutText (cut_text places.now (length text.now)) }
+    requires are_cuts { IsCutText (cut_text places.now (length text.now)) }
     requires some_runs { 0 < runs }
     requires runs_le_pieces { runs ≤ length places.now + 1 }
-    ensures len { IfOk result (λ pieces. vec_len pieces ≡ runs) }
-    ensures each { IfOk result
+    ensures count_is_runs { IfOk result (λ pieces. vec_len pieces ≡ runs) }
+    ensures each_is_run { IfOk result
         (λ pieces. (i : ℕ) (d : Result Stretch AllocError)
         → i < runs
         → IfOk (slice_index_or pieces.items i d) (IsRunOf text.now places.now runs i)) }
@@ -118,10 +118,10 @@ pub fn read_text<R: Threads + Sync, A: Allocator + Copy + Send + Sync>(
     places: &[u32],
 ) -> Result<Piece<A>, AllocError>
     requires text_fits_limit { length text.now ≤ TEXT_LIMIT }
-    requires cuts { IsCutText (cut_text places.now (length text.now)) }
-    ensures from { IfOk result (λ piece. piece.from ≡ 0) }
-    ensures to { IfOk result (λ piece. piece.to ≡ length text.now) }
-    ensures summary { IfOk result (IsSummary text.now) }
+    requires are_cuts { IsCutText (cut_text places.now (length text.now)) }
+    ensures from_is { IfOk result (λ piece. piece.from ≡ 0) }
+    ensures to_is { IfOk result (λ piece. piece.to ≡ length text.now) }
+    ensures is_summary { IfOk result (IsSummary text.now) }
 {
     let runs = (places.len() + 1).min(MAX_RUNS);
     let mut pieces = read_runs(rt, alloc, text, places, runs)?;

@@ -10,7 +10,8 @@ ghost use Rattle.mm_spec.specs.Readings.{bytes_of};
 ghost use Rattle.mm_spec.specs.Words.{begins_word, white_at, words_between};
 ghost use Rattle.mm_spec.specs.Laws.Words.{IsWord};
 ghost use Rattle.mm_lex.specs.Plain.{plain_at, IsPlainWord};
-ghost use Rattle.mm_lex.specs.Beginnings.{ArePlain, IsFirst, IsTaken, IsPassed, IsWordFrom};
+ghost use Rattle.mm_lex.specs.Beginnings.{ArePlain, IsFirstWordStart, IsTaken, IsPassed};
+ghost use Rattle.mm_lex.specs.Beginnings.{IsWordFrom};
 
 use crate::masks::{first_one, last_one};
 use crate::{TEXT_LIMIT, Word};
@@ -19,8 +20,8 @@ use mm_bytes::{Classes, class_block, class_tail, dollars_block, dollars_tail, is
 /// The classes of the first 64 bytes, or of all if there are fewer.
 #[inline(always)]
 pub fn classes_of(bytes: &[u8]) -> Classes
-    ensures white { result.white ≡ mask is_white (take 64 bytes.now) }
-    ensures bad { result.bad ≡ mask is_bad (take 64 bytes.now) }
+    ensures white_is { result.white ≡ mask is_white (take 64 bytes.now) }
+    ensures bad_is { result.bad ≡ mask is_bad (take 64 bytes.now) }
 {
     match bytes.first_chunk::<64>() {
         Some(block) => class_block(block),
@@ -41,7 +42,7 @@ fn dollars_of(bytes: &[u8]) -> u64
 
 /// Masks with a bit for each of the first 64 bytes, or for each byte if there are fewer.
 #[derive(Clone, Copy)]
-struct Marks {
+struct Masks {
     /// White space.
     white: u64,
     /// White space, bad bytes and dollar signs: what ends a word, or keeps it from being plain.
@@ -49,16 +50,16 @@ struct Marks {
 }
 
 #[inline(always)]
-fn marks_of(bytes: &[u8]) -> Marks
-    ensures white { result.white ≡ mask is_white (take 64 bytes.now) }
-    ensures plain { (i : ℕ) → i < 64 → i < length bytes.now → bit_at result.stops i ≡ 0
+fn masks_of(bytes: &[u8]) -> Masks
+    ensures white_is { result.white ≡ mask is_white (take 64 bytes.now) }
+    ensures others_are_plain { (i : ℕ) → i < 64 → i < length bytes.now → bit_at result.stops i ≡ 0
         → plain_at bytes.now i ≡ true }
-    ensures not_white { (i : ℕ) → i < 64 → i < length bytes.now → bit_at result.stops i ≡ 0
+    ensures others_not_white { (i : ℕ) → i < 64 → i < length bytes.now → bit_at result.stops i ≡ 0
         → white_at bytes.now i ≡ false }
 {
     let classes = classes_of(bytes);
     let dollars = dollars_of(bytes);
-    Marks {
+    Masks {
         white: classes.white,
         stops: classes.white | classes.bad | dollars,
     }
@@ -103,9 +104,9 @@ pub struct WordScanner<'a> {
     ghost base_le_from: { base ≤ from },
     ghost from_le_block_end: { from ≤ base + 64 },
     ghost white_is: { white ≡ mask is_white (take 64 (drop base text.now)) },
-    ghost plain: { (i : ℕ) → i < 64 → base + i < length text.now → bit_at stops i ≡ 0
+    ghost others_are_plain: { (i : ℕ) → i < 64 → base + i < length text.now → bit_at stops i ≡ 0
         → plain_at text.now (base + i) ≡ true },
-    ghost not_white: { (i : ℕ) → i < 64 → base + i < length text.now → bit_at stops i ≡ 0
+    ghost others_not_white: { (i : ℕ) → i < 64 → base + i < length text.now → bit_at stops i ≡ 0
         → white_at text.now (base + i) ≡ false },
     ghost begins: { (i : ℕ) → i < 64 → base + i < length text.now → bit_at starts i ≡ 1
         → begins_word text.now (base + i) ≡ true },
@@ -125,36 +126,36 @@ impl<'a> WordScanner<'a> {
     /// The block that begins at `base`, with all words that begin in it.
     fn at(text: &'a [u8], base: usize) -> WordScanner<'a>
         requires { base ≤ length text.now }
-        ensures text { result.text.now ≡ text.now }
-        ensures base { result.base ≡ base }
-        ensures from { result.from ≡ base }
+        ensures text_is { result.text.now ≡ text.now }
+        ensures base_is { result.base ≡ base }
+        ensures from_is { result.from ≡ base }
     {
-        let marks = marks_of(&text[base..]);
+        let masks = masks_of(&text[base..]);
         WordScanner {
             text,
             from: base,
             base,
-            white: marks.white,
-            stops: marks.stops,
-            starts: starts_of(marks.white, may_begin(text, base)),
+            white: masks.white,
+            stops: masks.stops,
+            starts: starts_of(masks.white, may_begin(text, base)),
         }
     }
 
     /// The words of a text that begin at `from` or after it.
     pub fn new(text: &'a [u8], from: usize) -> WordScanner<'a>
         requires { from ≤ length text.now }
-        ensures text { result.text.now ≡ text.now }
-        ensures from { result.from ≡ from }
+        ensures text_is { result.text.now ≡ text.now }
+        ensures from_is { result.from ≡ from }
     {
-        let place = from % 64;
-        let block = WordScanner::at(text, from - place);
+        let bit = from % 64;
+        let block = WordScanner::at(text, from - bit);
         WordScanner {
             text: block.text,
             from,
             base: block.base,
             white: block.white,
             stops: block.stops,
-            starts: block.starts >> place << place,
+            starts: block.starts >> bit << bit,
         }
     }
 
@@ -162,9 +163,9 @@ impl<'a> WordScanner<'a> {
     #[inline(always)]
     fn next_block(&mut self)
         requires { self.old.base + 64 ≤ length self.old.text.now }
-        ensures text { self.new.text.now ≡ self.old.text.now }
-        ensures base { self.new.base ≡ self.old.base + 64 }
-        ensures from { self.new.from ≡ self.old.base + 64 }
+        ensures text_is { self.new.text.now ≡ self.old.text.now }
+        ensures base_is { self.new.base ≡ self.old.base + 64 }
+        ensures from_is { self.new.from ≡ self.old.base + 64 }
     {
         *self = WordScanner::at(self.text, self.base + 64);
     }
@@ -172,11 +173,12 @@ impl<'a> WordScanner<'a> {
     /// The word that begins at `start`, and the scanner from its end on. `start` is in the current
     /// block, and is the beginning that was taken last.
     fn word_from(self, start: usize) -> (WordScanner<'a>, FoundWord)
-        requires taken { IsTaken self.text.now self.base self.from start }
+        requires is_taken { IsTaken self.text.now self.base self.from start }
         requires text_fits_limit { length self.text.now ≤ TEXT_LIMIT }
-        ensures text { result.0.text.now ≡ self.entry.text.now }
+        ensures text_is { result.0.text.now ≡ self.entry.text.now }
         ensures onward { IsPassed self.entry.text.now start result.0.from }
-        ensures word { IsWordFrom self.entry.text.now start result.1.word result.1.is_plain }
+        ensures is_word_from { IsWordFrom self.entry.text.now start result.1.word
+            result.1.is_plain }
     {
         let len = self.text.len();
         let mut scanner = self;
@@ -200,12 +202,12 @@ impl<'a> WordScanner<'a> {
     fn next_start(&mut self, to: usize) -> Option<usize>
         requires to_le_length { to ≤ length self.old.text.now }
         requires text_fits_limit { length self.old.text.now ≤ TEXT_LIMIT }
-        ensures text { self.new.text.now ≡ self.old.text.now }
-        ensures first_beginning { MatchOption result
+        ensures text_is { self.new.text.now ≡ self.old.text.now }
+        ensures is_first { MatchOption result
             (words_between self.old.text.now self.old.from to ≡ [])
-            (IsFirst self.old.text.now self.old.from to) }
-        ensures done { IfNone result (words_between self.old.text.now self.new.from to ≡ []) }
-        ensures taken { IfSome result (IsTaken self.new.text.now self.new.base self.new.from) }
+            (IsFirstWordStart self.old.text.now self.old.from to) }
+        ensures none_left { IfNone result (words_between self.old.text.now self.new.from to ≡ []) }
+        ensures is_taken { IfSome result (IsTaken self.new.text.now self.new.base self.new.from) }
     {
         while self.starts == 0 {
             if to <= self.base + 64 {
@@ -213,12 +215,12 @@ impl<'a> WordScanner<'a> {
             }
             self.next_block();
         }
-        let place = self.starts.trailing_zeros() as usize;
-        let start = self.base + place;
+        let bit = self.starts.trailing_zeros() as usize;
+        let start = self.base + bit;
         if to <= start {
             return None;
         }
-        self.starts &= !(1 << place);
+        self.starts &= !(1 << bit);
         self.from = start + 1;
         Some(start)
     }
@@ -228,14 +230,14 @@ impl<'a> WordScanner<'a> {
     pub fn next_word(&mut self, to: usize) -> Option<FoundWord>
         requires to_le_length { to ≤ length self.old.text.now }
         requires text_fits_limit { length self.old.text.now ≤ TEXT_LIMIT }
-        ensures text { self.new.text.now ≡ self.old.text.now }
-        ensures words { MatchOption result
+        ensures text_is { self.new.text.now ≡ self.old.text.now }
+        ensures is_next_word { MatchOption result
             (words_between self.old.text.now self.old.from to ≡ [])
             (λ found. words_between self.old.text.now self.old.from to
             ≡ found.word ∷ words_between self.old.text.now self.new.from to) }
-        ensures done { IfNone result (words_between self.old.text.now self.new.from to ≡ []) }
-        ensures each { IfSome result (λ found. IsWord self.old.text.now found.word) }
-        ensures plain { IfSome result
+        ensures none_left { IfNone result (words_between self.old.text.now self.new.from to ≡ []) }
+        ensures found_is_word { IfSome result (λ found. IsWord self.old.text.now found.word) }
+        ensures plain_if_known { IfSome result
             (λ found. found.is_plain ≡ true → IsPlainWord (bytes_of self.old.text.now found.word)) }
         ensures onward { IfSome result (λ found. self.old.from < self.new.from) }
     {
@@ -260,15 +262,15 @@ impl<'a> WordScanner<'a> {
     /// are those that begin and end in the current block before its next `$` or bad byte.
     #[inline(always)]
     pub fn skip_plain(&mut self)
-        ensures text { self.new.text.now ≡ self.old.text.now }
+        ensures text_is { self.new.text.now ≡ self.old.text.now }
         ensures onward { self.old.from ≤ self.new.from }
-        ensures plain { ArePlain self.old.text.now self.old.from self.new.from }
+        ensures are_plain { ArePlain self.old.text.now self.old.from self.new.from }
     {
         if self.starts != 0 {
-            let place = self.starts.trailing_zeros() as usize;
-            let special = first_one(self.stops & !self.white, place);
+            let bit = self.starts.trailing_zeros() as usize;
+            let special = first_one(self.stops & !self.white, bit);
             let end = last_one(self.white, special.min(63));
-            if place < end {
+            if bit < end {
                 self.from = self.base + end;
                 self.starts = self.starts >> end << end;
             }

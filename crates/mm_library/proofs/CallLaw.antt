@@ -7,7 +7,7 @@ use Rattle.mm_spec.specs.Request.{Request}
 use Rattle.mm_spec.specs.Output.{IsOutput}
 use Rattle.mm_library.specs.Calls.{lengths_of}
 use Rattle.mm_library.specs.Calls.{Asks, Call, CallEnds, HasVerdict, Refuses, HasOutputs}
-use Rattle.mm_library.specs.Calls.{WritingEnds, status_number}
+use Rattle.mm_library.specs.Calls.{WritingEnds}
 use Rattle.mm_library.specs.declared.status.Status.{Status}
 use Rattle.mm_library.specs.declared.status.Status.TheVariants.{Accepted, Refused, TypecodeNotUtf8}
 use Rattle.mm_library.specs.declared.status.Status.TheVariants.{OutTooShort, RoomTooSmall}
@@ -21,26 +21,26 @@ pub writing_ends : (verdict : Status) (with_open : Bool) (requests : List Reques
     lengths out
 writing_ends verdict with_open requests text lengths out len has_verdict has_outputs lengths_sum_is
     =
-    by_length (nat_lt (length out) len) refl
+    status_ends (nat_lt (length out) len) refl
   where
-    by_verdict : (v : Status) → HasVerdict v text with_open → sum lengths ≤ length out
+    verdict_ends : (v : Status) → HasVerdict v text with_open → sum lengths ≤ length out
         → WritingEnds v with_open requests text lengths out
-    by_verdict Accepted has_verdict sum_le_length = (has_verdict, has_outputs, sum_le_length)
-    by_verdict Refused has_verdict sum_le_length = (has_verdict, has_outputs, sum_le_length)
-    by_verdict TypecodeNotUtf8 has_verdict sum_le_length = absurd has_verdict
-    by_verdict OutTooShort has_verdict sum_le_length = absurd has_verdict
-    by_verdict RoomTooSmall has_verdict sum_le_length = absurd has_verdict
-    by_verdict NoSuchRequest has_verdict sum_le_length = absurd has_verdict
+    verdict_ends Accepted has_verdict sum_le_length = (has_verdict, has_outputs, sum_le_length)
+    verdict_ends Refused has_verdict sum_le_length = (has_verdict, has_outputs, sum_le_length)
+    verdict_ends TypecodeNotUtf8 has_verdict sum_le_length = absurd has_verdict
+    verdict_ends OutTooShort has_verdict sum_le_length = absurd has_verdict
+    verdict_ends RoomTooSmall has_verdict sum_le_length = absurd has_verdict
+    verdict_ends NoSuchRequest has_verdict sum_le_length = absurd has_verdict
 
-    by_length : (b : Bool) → nat_lt (length out) len ≡ b
+    status_ends : (b : Bool) → nat_lt (length out) len ≡ b
         → WritingEnds (if b then OutTooShort else verdict) with_open requests text lengths out
-    by_length true out_is_shorter = (
+    status_ends true out_is_shorter = (
       has_outputs,
       (let length_lt_len = ltb-true (length out) len
           out_is_shorter in omega (arith, length_lt_len, lengths_sum_is)),
     )
-    by_length false out_is_not_shorter =
-        by_verdict verdict has_verdict (let len_le_length = ltb-false (length out) len
+    status_ends false out_is_not_shorter =
+        verdict_ends verdict has_verdict (let len_le_length = ltb-false (length out) len
         out_is_not_shorter in omega (arith, len_le_length, lengths_sum_is))
 
 -- where no output was written, the lengths add up to 0
@@ -128,15 +128,3 @@ ends_if_refused RoomTooSmall call requests_for text lengths out refuses lengths_
     refuses
 ends_if_refused NoSuchRequest call requests_for text lengths out refuses lengths_sum_is_0 =
     (refuses, lengths_sum_is_0)
-
--- a call that ends so returns the status's number
-pub number_is_told : (status : Status) (number : ℕ) (call : Call) (requests_for : Request
-    → List Request)
-    (text lengths out : List ℕ) → number ≡ status_number status
-    → CallEnds status call requests_for text lengths out
-    → (s : Status) × (number ≡ status_number s) × CallEnds s call requests_for text lengths out
-number_is_told status number call requests_for text lengths out number_is call_ends = (
-  status,
-  number_is,
-  call_ends,
-)

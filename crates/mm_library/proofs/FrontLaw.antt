@@ -11,15 +11,15 @@ use Rattle.std.proofs.lemmas.List.{take_all}
 pub put_behind : (n k : ℕ) (xs bs zs : List ℕ) → n < length xs
     → k ≡ min (length bs) (length xs - n) → length zs + (n + k) ≡ length xs
     → take (n + length bs) (take n xs ++ (take k bs ++ zs)) ≡ take (length xs) (take n xs ++ bs)
-put_behind n k xs bs zs n_lt_length k_is length_splits = by_room (cases_lt (length xs - n) (length
+put_behind n k xs bs zs n_lt_length k_is length_splits = front_is (cases_lt (length xs - n) (length
     bs))
   where
     front_length : length (take n xs) ≡ n
     front_length = length-take-le n xs (omega (arith, n_lt_length))
 
-    by_room : (length xs - n < length bs) ⊎ (length bs ≤ length xs - n)
+    front_is : (length xs - n < length bs) ⊎ (length bs ≤ length xs - n)
         → take (n + length bs) (take n xs ++ (take k bs ++ zs)) ≡ take (length xs) (take n xs ++ bs)
-    by_room (inl room_lt_length) =
+    front_is (inl room_lt_length) =
         let k_is_room : k ≡ length xs - n = omega (arith, k_is, room_lt_length) in
         let zs_is_nil : zs ≡ [] = nil_from_length zs (omega (
           arith,
@@ -47,7 +47,7 @@ put_behind n k xs bs zs n_lt_length k_is length_splits = by_room (cases_lt (leng
         ))
         ∙ sym (ap (λ (m : ℕ). take m (take n xs ++ bs)) length_is
         ∙ take-append-add (take n xs) bs k)
-    by_room (inr length_le_room) =
+    front_is (inr length_le_room) =
         let k_is_length : k ≡ length bs = omega (arith, k_is, length_le_room) in
         let taken_bytes_are : take k bs ≡ bs = take_all k bs (omega (arith, k_is_length)) in
         let put_length_is : length (take n xs ++ bs) ≡ n + length bs = length-append (take n xs) bs

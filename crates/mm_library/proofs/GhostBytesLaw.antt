@@ -10,11 +10,12 @@ use denote.Struct.Struct.{Struct, Shape, Struct-Makes}
 abbrev pub no_field : Shape
 no_field = record { name = []; args = []; types = []; fields = [] }
 
-abbrev pub Fields : RattleType
-Fields = Struct no_field
+abbrev pub GhostBytesFields : RattleType
+GhostBytesFields = Struct no_field
 
-pub fields_Makes : {M : Type 1} {𝓤 : Ura M} (𝓛 : Logic 𝓤) → Makes 𝓛 Fields (Is Fields)
-fields_Makes 𝓛 = Struct-Makes 𝓛 no_field tt
+pub ghost_bytes_make : {M : Type 1} {𝓤 : Ura M} (𝓛 : Logic 𝓤)
+    → Makes 𝓛 GhostBytesFields (Is GhostBytesFields)
+ghost_bytes_make 𝓛 = Struct-Makes 𝓛 no_field tt
 
-pub fields_are : Is Fields tt (vstruct vnil ∷ [])
-fields_are = (tt, (refl, tt))
+pub is_ghost_bytes : Is GhostBytesFields tt (vstruct vnil ∷ [])
+is_ghost_bytes = (tt, (refl, tt))

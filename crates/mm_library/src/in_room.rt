@@ -14,7 +14,7 @@ use std::mem::replace;
 
 /// The part of a text that is read: its beginning, up to one byte more than a text may have.
 fn read_part(text: &[u8]) -> &[u8]
-    ensures value { result.now ≡ take reading_limit text.now }
+    ensures part_is { result.now ≡ take reading_limit text.now }
     ensures length_le_limit { length result.now ≤ reading_limit }
 {
     &text[..(TEXT_LIMIT + 1).min(text.len())]
@@ -47,8 +47,8 @@ fn outputs_in_room(
     with_citations: bool,
     out: &mut [u8],
 ) -> (Status, usize, usize)
-    ensures room { (room.new.units ≡ room.old.units) ⊎ (room.new.units ≡ 0) }
-    ensures writes { WritingEnds result.0 request.now.with_open
+    ensures room_comes_back { (room.new.units ≡ room.old.units) ⊎ (room.new.units ≡ 0) }
+    ensures writes_outputs { WritingEnds result.0 request.now.with_open
         (requests_of with_citations request.now) (take reading_limit text.now)
         (lengths_of with_citations result.1 result.2) out.new }
 {
@@ -72,8 +72,8 @@ pub(crate) fn outputs_if_asked(
     with_citations: bool,
     out: &mut [u8],
 ) -> (Status, usize, usize)
-    ensures room { (room.new.units ≡ room.old.units) ⊎ (room.new.units ≡ 0) }
-    ensures ends { (call : Call) → IsAnswer call request.entry
+    ensures room_comes_back { (room.new.units ≡ room.old.units) ⊎ (room.new.units ≡ 0) }
+    ensures call_ends { (call : Call) → IsAnswer call request.entry
         → CallEnds result.0 call (requests_of with_citations) (take reading_limit text.now)
         (lengths_of with_citations result.1 result.2) out.new }
 {

@@ -1,7 +1,7 @@
 //! The proved core as a library for C: calls that work on the calling thread alone, in memory that
 //! the caller lends. It starts no thread, calls nothing of the caller's, and keeps nothing between
-//! calls. What C passes as a slice is a pointer, which isn't null and may be dangling if the length
-//! is 0, and a length in bytes.
+//! calls. C passes a slice as a pointer and a length in bytes. The pointer is never null; if the
+//! length is 0, it may be dangling.
 #![tactic(auto)]
 
 ghost use Rattle.std.specs.Prelude.{◌≡◌, ◌⊎◌, [], ◌∷◌, length, take};
@@ -61,8 +61,8 @@ pub extern "C" fn mmdepend_report(
     out: &mut [u8],
     written: &mut usize,
 ) -> u32
-    ensures room { (room.new.units ≡ room.old.units) ⊎ (room.new.units ≡ 0) }
-    ensures ends { (status : Status) × (result ≡ status_number status)
+    ensures room_comes_back { (room.new.units ≡ room.old.units) ⊎ (room.new.units ≡ 0) }
+    ensures call_ends { (status : Status) × (result ≡ status_number status)
         × CallEnds status (call_of has_only only.now choice form essential with_open)
         (λ request. request ∷ []) (take reading_limit text.now) (written.new ∷ []) out.new }
 {
@@ -91,8 +91,8 @@ pub extern "C" fn mmdepend_report_and_citations(
     report_len: &mut usize,
     citations_len: &mut usize,
 ) -> u32
-    ensures room { (room.new.units ≡ room.old.units) ⊎ (room.new.units ≡ 0) }
-    ensures ends { (status : Status) × (result ≡ status_number status)
+    ensures room_comes_back { (room.new.units ≡ room.old.units) ⊎ (room.new.units ≡ 0) }
+    ensures call_ends { (status : Status) × (result ≡ status_number status)
         × CallEnds status (call_of has_only only.now choice form essential with_open)
         (λ request. request ∷ citing request ∷ []) (take reading_limit text.now)
         (report_len.new ∷ citations_len.new ∷ []) out.new }

@@ -38,7 +38,7 @@ fn write_output<'a, A: Allocator + Copy>(
     judged: &JudgedText<'a, A>,
     to: &mut Front<'_>,
 ) -> Result<Status, NotWritten>
-    requires judged { IsJudgedText text.now request.now.essential request.now.with_open
+    requires is_judged { IsJudgedText text.now request.now.essential request.now.with_open
         judged.now }
     ensures name_stays { to.new.out.ghost_name ≡ to.old.out.ghost_name }
     ensures appends_output { IfOk result (λ status. HasVerdict status text.now request.now.with_open
@@ -63,7 +63,7 @@ fn write_outputs<'a, A: Allocator + Copy>(
     judged: &JudgedText<'a, A>,
     out: &mut [u8],
 ) -> (Status, usize, usize)
-    requires judged { IsJudgedText text.now request.now.essential request.now.with_open
+    requires is_judged { IsJudgedText text.now request.now.essential request.now.with_open
         judged.now }
     ensures { WritingEnds result.0 request.now.with_open
         (requests_of with_citations request.now) text.now

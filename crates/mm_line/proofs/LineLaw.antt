@@ -42,12 +42,12 @@ use Rattle.mm_spec.specs.declared.Choice.TheVariants.{All, Matrix, Counts, Usage
 use Rattle.mm_spec.specs.declared.Form.{Form}
 use Rattle.mm_spec.specs.declared.Form.TheVariants.{One, Two}
 use Rattle.mm_spec.specs.Derivation.{is_member}
-use Rattle.mm_line.specs.Lines.{IsCommand, IsReportRule, IsFormRule, IsFlag, IsAsking}
+use Rattle.mm_line.specs.Lines.{IsCommand, IsReportRule, IsFormRule, IsFlag, IsHelpOrVersion}
 use Rattle.mm_line.specs.Lines.{IsLineRefusal}
 use Rattle.mm_line.specs.Lines.{command_of, flag_rule, number_rule, only_rule, report_rule}
 use Rattle.mm_line.specs.Lines.{file_rule, form_rule, form_word, form_words, report_word}
 use Rattle.mm_line.specs.Lines.{report_words, AreReadAs}
-use Rattle.mm_line.specs.Found.{Finds, HasForm, HasNumber, HasReport, IsFor}
+use Rattle.mm_line.specs.Found.{Finds, HasForm, HasNumber, HasReport, IsRefusalOf}
 use Rattle.mm_line.proofs.EntryLaw.{Defaulted, default_is_read, empty_is_nil, rule_of_argument_is}
 use Rattle.mm_line.proofs.EntryLaw.{simple_leaves_out}
 use Rattle.mm_plan.specs.declared.Cutting.TheVariants.{Count}
@@ -118,26 +118,26 @@ command_app_is_simple_and_free app is_command_app =
     is_command_app.is_report
     is_command_app.is_form)
 
-asking_is_not_memory : (kind : ErrorKind) → IsAsking kind → kind ≡ OutOfMemory → ⊥
-asking_is_not_memory kind (inl is_asking) is_memory =
+help_is_not_memory : (kind : ErrorKind) → IsHelpOrVersion kind → kind ≡ OutOfMemory → ⊥
+help_is_not_memory kind (inl is_asking) is_memory =
     let kinds_equal : DisplayHelp ≡ OutOfMemory = sym is_asking ∙ is_memory in cc
-asking_is_not_memory kind (inr is_asking) is_memory =
+help_is_not_memory kind (inr is_asking) is_memory =
     let kinds_equal : DisplayVersion ≡ OutOfMemory = sym is_asking ∙ is_memory in cc
 
 pub refusal_is_line_refusal : (app : App) (words : List Text) (e : Error) (r : LineRefused)
     → IsCommand app
     → (takes app words ≡ true → kind_of e ≡ OutOfMemory)
-    → HasKind (fault_of app words) e → IsFor (kind_of e) r → IsLineRefusal words r
+    → HasKind (fault_of app words) e → IsRefusalOf (kind_of e) r → IsLineRefusal words r
 refusal_is_line_refusal app words e Memory app_is passes kind is_for = tt
 refusal_is_line_refusal app words e (Help text) app_is passes kind is_for =
     (app, app_is, not_taken (takes app words) refl, kind_of e, among_faults kind, is_for)
   where
     not_taken : (b : Bool) → takes app words ≡ b → b ≡ false
-    not_taken true test_is = absurd (asking_is_not_memory (kind_of e) is_for (passes test_is))
+    not_taken true test_is = absurd (help_is_not_memory (kind_of e) is_for (passes test_is))
     not_taken false test_is = refl
 
     among_faults : HasKind (fault_of app words) e → IsAmong (kind_of e) (fault_of app words)
-    among_faults (inl is_memory) = absurd (asking_is_not_memory (kind_of e) is_for is_memory)
+    among_faults (inl is_memory) = absurd (help_is_not_memory (kind_of e) is_for is_memory)
     among_faults (inr is_among) = is_among
 refusal_is_line_refusal app words e (Bad text) app_is passes kind is_for =
     (app, app_is, not_taken (takes app words) refl, kind_of e, among_faults kind, is_for.0)

@@ -13,7 +13,7 @@ use Rattle.mm_spec.specs.declared.Choice.{Choice}
 use Rattle.mm_spec.specs.declared.Form.{Form}
 use Rattle.mm_line.specs.declared.command_line.LineRefused.{LineRefused}
 use Rattle.mm_line.specs.declared.command_line.LineRefused.TheVariants.{Help, Bad, Memory}
-use Rattle.mm_line.specs.Lines.{IsCommand, IsAsking, report_word, form_word}
+use Rattle.mm_line.specs.Lines.{IsCommand, IsHelpOrVersion, report_word, form_word}
 
 -- the entry is read as a number from 1 to 64
 abbrev pub HasNumber : ArgMatches → Text → Type 0
@@ -41,7 +41,7 @@ pub record Finds (words : List Text) (m : ArgMatches) : Type 0 where
   pub form : HasForm m
 
 -- the refusal that an error of this kind leads to
-abbrev pub IsFor : ErrorKind → LineRefused → Type 0
-IsFor kind (Help text) = IsAsking kind
-IsFor kind (Bad text) = (¬ IsAsking kind) × (kind ≢ OutOfMemory)
-IsFor kind Memory = kind ≡ OutOfMemory
+abbrev pub IsRefusalOf : ErrorKind → LineRefused → Type 0
+IsRefusalOf kind (Help text) = IsHelpOrVersion kind
+IsRefusalOf kind (Bad text) = (¬ IsHelpOrVersion kind) × (kind ≢ OutOfMemory)
+IsRefusalOf kind Memory = kind ≡ OutOfMemory

@@ -160,11 +160,11 @@ AreRefusedFor words P =
     × IsAmong kind (fault_of app words) × P kind
 
 -- help or the version is requested
-abbrev pub IsAsking : ErrorKind → Type 0
-IsAsking kind = (kind ≡ DisplayHelp) ⊎ (kind ≡ DisplayVersion)
+abbrev pub IsHelpOrVersion : ErrorKind → Type 0
+IsHelpOrVersion kind = (kind ≡ DisplayHelp) ⊎ (kind ≡ DisplayVersion)
 
 -- Help or the version is requested, or the words have another fault. Nothing is said of `Memory`.
 abbrev pub IsLineRefusal : List Text → LineRefused → Type 0
-IsLineRefusal words (Help text) = AreRefusedFor words IsAsking
-IsLineRefusal words (Bad text) = AreRefusedFor words (λ kind. ¬ IsAsking kind)
+IsLineRefusal words (Help text) = AreRefusedFor words IsHelpOrVersion
+IsLineRefusal words (Bad text) = AreRefusedFor words (λ kind. ¬ IsHelpOrVersion kind)
 IsLineRefusal words Memory = ⊤

@@ -4,7 +4,7 @@ ghost use Rattle.std.specs.Prelude.{◌≡◌, ◌≤◌, IfOk, IfErr, Some, cod
 ghost use Rattle.std.specs.String.{string_bytes};
 ghost use Rattle.std.specs.Str.Parse.{digits_value, without_leading_plus};
 ghost use Rattle.clap.specs.Words.{app_of, first_value, found_of, kind_of, one_text, rule_of};
-ghost use Rattle.mm_line.specs.Found.{Finds, HasForm, HasNumber, HasReport, IsFor};
+ghost use Rattle.mm_line.specs.Found.{Finds, HasForm, HasNumber, HasReport, IsRefusalOf};
 ghost use Rattle.mm_line.specs.Lines.{IsCommand, IsFormRule, IsReportRule, IsLineRefusal};
 ghost use Rattle.mm_line.specs.Lines.{AreReadAs};
 ghost use Rattle.mm_line.specs.Lines.{file_rule, flag_rule, form_word, number_rule, only_rule};
@@ -132,7 +132,7 @@ fn command<'a>(alloc: Global) -> Result<Command<'a>, AllocError>
 
 /// Turns an error of clap into a refusal.
 fn refusal_of(alloc: Global, error: &Error) -> Result<LineRefused, AllocError>
-    ensures { IfOk result (IsFor (kind_of error.now)) }
+    ensures { IfOk result (IsRefusalOf (kind_of error.now)) }
 {
     let text = error.to_string(alloc)?;
     Ok(match error.kind() {
@@ -144,8 +144,8 @@ fn refusal_of(alloc: Global, error: &Error) -> Result<LineRefused, AllocError>
 
 /// What clap finds in the words.
 fn find_matches<'a, S: AsStr>(alloc: Global, words: &'a [S]) -> Result<ArgMatches<'a>, LineRefused>
-    ensures finds { IfOk result (λ m. Finds (map S.text words.entry.now) m) }
-    ensures refuses { IfErr result (λ e. IsLineRefusal (map S.text words.entry.now) e) }
+    ensures are_found { IfOk result (λ m. Finds (map S.text words.entry.now) m) }
+    ensures is_refused { IfErr result (λ e. IsLineRefusal (map S.text words.entry.now) e) }
 {
     match command(alloc)?.try_get_matches_from(words) {
         Ok(matches) => Ok(matches),
@@ -156,11 +156,11 @@ fn find_matches<'a, S: AsStr>(alloc: Global, words: &'a [S]) -> Result<ArgMatche
 /// The number that was given for an option, or its default.
 fn number_in(matches: &ArgMatches<'_>, option: &str) -> u32
     requires { HasNumber matches.now option.now }
-    ensures number { option_map (λ t. digits_value 10 (without_leading_plus t))
+    ensures is_number { option_map (λ t. digits_value 10 (without_leading_plus t))
         (one_text (found_of matches.now) option.now)
         ≡ Some result }
-    ensures least { 1 ≤ result }
-    ensures most { result ≤ 64 }
+    ensures number_ge_1 { 1 ≤ result }
+    ensures number_le_64 { result ≤ 64 }
 {
     match matches.get_one(option) {
         Some(number) => number,
@@ -212,8 +212,8 @@ fn text_in(
 /// help or the version is requested, `Bad` only if the command doesn't accept the words, and
 /// `Memory` only if out of memory.
 pub fn line<S: AsStr>(alloc: Global, words: &[S]) -> Result<Line, LineRefused>
-    ensures says { IfOk result (λ l. AreReadAs (map S.text words.now) l) }
-    ensures refuses { IfErr result (λ e. IsLineRefusal (map S.text words.now) e) }
+    ensures is_read { IfOk result (λ l. AreReadAs (map S.text words.now) l) }
+    ensures is_refused { IfErr result (λ e. IsLineRefusal (map S.text words.now) e) }
 {
     let matches = find_matches(alloc, words)?;
     let plan = Plan {

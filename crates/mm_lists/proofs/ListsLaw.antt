@@ -7,15 +7,15 @@ use Rattle.std.proofs.lemmas.List.{take-append-le, length-drop, length-take-le}
 use Rattle.std.proofs.lemmas.List.Sums.{sum_by-cons}
 use Rattle.std.proofs.lemmas.Grind.{get_or_default_zero}
 use Rattle.std.proofs.Math.Seq.{take-add, drop-drop, take-length}
-use Rattle.mm_lists.specs.Lists.{joined, cut, cut_at, with_end, AreEnds, ArePlaces, AreJoined}
+use Rattle.mm_lists.specs.Lists.{joined, cut, cut_at, with_end, AreEnds, AreBounds, AreJoined}
 
--- what stands between two places
+-- what stands between two bounds
 pub record IsPart {X : Type 0} (all : List X) (from to : ℕ) (part : List X) : Type 0 where
   pub from_le_to : from ≤ to
   pub to_le_length : to ≤ length all
   pub range_is_part : slice_range all from to ≡ part
 
--- ---- the places are within the one list, in order
+-- ---- the bounds are within the one list, in order
 
 from_le_last_end : (from : ℕ) (ends : List ℕ) (len : ℕ) → AreEnds from ends len → from ≤ len
 from_le_last_end from [] len are_ends = omega (arith, are_ends)
@@ -23,24 +23,24 @@ from_le_last_end from (e ∷ ends) len are_ends =
     let from_le_end = are_ends.0 in let end_le_len = from_le_last_end e ends len are_ends.1 in
     omega (arith, from_le_end, end_le_len)
 
-place_le_len : (from : ℕ) (ends : List ℕ) (len i : ℕ) → AreEnds from ends len → i ≤ length ends
+bound_le_len : (from : ℕ) (ends : List ℕ) (len i : ℕ) → AreEnds from ends len → i ≤ length ends
     → get_or (from ∷ ends) i 0 ≤ len
-place_le_len from ends len zero are_ends i_le_count = from_le_last_end from ends len are_ends
-place_le_len from [] len (suc i) are_ends i_le_count = absurd (omega arith)
-place_le_len from (e ∷ ends) len (suc i) are_ends i_le_count =
-    place_le_len e ends len i are_ends.1 (omega arith)
+bound_le_len from ends len zero are_ends i_le_count = from_le_last_end from ends len are_ends
+bound_le_len from [] len (suc i) are_ends i_le_count = absurd (omega arith)
+bound_le_len from (e ∷ ends) len (suc i) are_ends i_le_count =
+    bound_le_len e ends len i are_ends.1 (omega arith)
 
-places_rise : (from : ℕ) (ends : List ℕ) (len i j : ℕ) → AreEnds from ends len → i ≤ j
+bounds_are_sorted : (from : ℕ) (ends : List ℕ) (len i j : ℕ) → AreEnds from ends len → i ≤ j
     → j ≤ length ends → get_or (from ∷ ends) i 0 ≤ get_or (from ∷ ends) j 0
-places_rise from ends len zero zero are_ends i_le_j j_le_count = omega arith
-places_rise from [] len i (suc j) are_ends i_le_j j_le_count = absurd (omega arith)
-places_rise from (e ∷ ends) len zero (suc j) are_ends i_le_j j_le_count =
+bounds_are_sorted from ends len zero zero are_ends i_le_j j_le_count = omega arith
+bounds_are_sorted from [] len i (suc j) are_ends i_le_j j_le_count = absurd (omega arith)
+bounds_are_sorted from (e ∷ ends) len zero (suc j) are_ends i_le_j j_le_count =
     let from_le_end = are_ends.0 in
-    let end_le_later = places_rise e ends len 0 j are_ends.1 (omega arith) (omega arith) in
+    let end_le_later = bounds_are_sorted e ends len 0 j are_ends.1 (omega arith) (omega arith) in
     omega (arith, from_le_end, end_le_later)
-places_rise from ends len (suc i) zero are_ends i_le_j j_le_count = absurd (omega arith)
-places_rise from (e ∷ ends) len (suc i) (suc j) are_ends i_le_j j_le_count =
-    places_rise e ends len i j are_ends.1 (omega arith) (omega arith)
+bounds_are_sorted from ends len (suc i) zero are_ends i_le_j j_le_count = absurd (omega arith)
+bounds_are_sorted from (e ∷ ends) len (suc i) (suc j) are_ends i_le_j j_le_count =
+    bounds_are_sorted e ends len i j are_ends.1 (omega arith) (omega arith)
 
 -- ends of lists stay such with the end of one list more
 ends_with_one_more : (from : ℕ) (ends : List ℕ) (len added_length : ℕ) → AreEnds from ends len
@@ -85,101 +85,101 @@ module _ {X : Type 0} where
       empty_range all from from (omega arith)
   range_is_joined_lists from [] all i (suc j) are_ends i_le_j j_le_count = absurd (omega arith)
   range_is_joined_lists from (e ∷ ends) all zero (suc j) are_ends i_le_j j_le_count =
-      let same_difference : suc j - 0 ≡ suc (j - 0) = omega arith in
+      let differences_equal : suc j - 0 ≡ suc (j - 0) = omega arith in
       range_split all from e (get_or (e ∷ ends) j 0) are_ends.0
-      (places_rise e ends (length all) 0 j are_ends.1 (omega arith) (omega arith))
+      (bounds_are_sorted e ends (length all) 0 j are_ends.1 (omega arith) (omega arith))
       ∙ ap (λ l. slice_range all from e ++ l)
       (range_is_joined_lists e ends all 0 j are_ends.1 (omega arith) (omega arith))
-      ∙ sym (ap (λ n. joined (take n (cut_at from (e ∷ ends) all))) same_difference)
+      ∙ sym (ap (λ n. joined (take n (cut_at from (e ∷ ends) all))) differences_equal)
   range_is_joined_lists from ends all (suc i) zero are_ends i_le_j j_le_count = absurd (omega arith)
   range_is_joined_lists from (e ∷ ends) all (suc i) (suc j) are_ends i_le_j j_le_count =
-      let same_difference : suc j - suc i ≡ j - i = omega arith in
+      let differences_equal : suc j - suc i ≡ j - i = omega arith in
       range_is_joined_lists e ends all i j are_ends.1 (omega arith) (omega arith)
-      ∙ sym (ap (λ n. joined (take n (drop i (cut_at e ends all)))) same_difference)
+      ∙ sym (ap (λ n. joined (take n (drop i (cut_at e ends all)))) differences_equal)
 
-  pub next_place_exists : (places : List ℕ) (all : List X) (lists : List (List X))
-      → cut places all ≡ lists → (i : ℕ) → i < length lists → i + 1 < length places
-  next_place_exists [] all lists cut_is_lists i i_lt_count =
+  pub next_bound_exists : (bounds : List ℕ) (all : List X) (lists : List (List X))
+      → cut bounds all ≡ lists → (i : ℕ) → i < length lists → i + 1 < length bounds
+  next_bound_exists [] all lists cut_is_lists i i_lt_count =
       let counts_equal = ap length cut_is_lists in absurd (omega (arith, counts_equal, i_lt_count))
-  next_place_exists (from ∷ ends) all lists cut_is_lists i i_lt_count =
+  next_bound_exists (from ∷ ends) all lists cut_is_lists i i_lt_count =
       let counts_equal = ap length cut_is_lists in let count_is_ends = length_cut from ends all in
       omega (arith, counts_equal, count_is_ends, i_lt_count)
 
-  pub list_is_part : (places : List ℕ) (all : List X) (lists : List (List X))
-      → ArePlaces places (length all) → cut places all ≡ lists → (i from to : ℕ)
-      → i < length lists → from ≡ get_or places i from → to ≡ get_or places (i + 1) to
+  pub list_is_part : (bounds : List ℕ) (all : List X) (lists : List (List X))
+      → AreBounds bounds (length all) → cut bounds all ≡ lists → (i from to : ℕ)
+      → i < length lists → from ≡ get_or bounds i from → to ≡ get_or bounds (i + 1) to
       → IsPart all from to (get_or lists i [])
-  list_is_part [] all lists are_places cut_is_lists i from to i_lt_count is_from is_to =
+  list_is_part [] all lists are_bounds cut_is_lists i from to i_lt_count is_from is_to =
       let counts_equal = ap length cut_is_lists in absurd (omega (arith, counts_equal, i_lt_count))
-  list_is_part (first ∷ ends) all lists are_places cut_is_lists i from to i_lt_count is_from is_to =
-      let next_in_places = next_place_exists (first ∷ ends) all lists cut_is_lists i i_lt_count in
-      let from_is_place : from ≡ get_or (first ∷ ends) i 0 =
-      is_from ∙ get_or_default_zero (first ∷ ends) i from (omega (arith, next_in_places)) in
+  list_is_part (first ∷ ends) all lists are_bounds cut_is_lists i from to i_lt_count is_from is_to =
+      let next_in_bounds = next_bound_exists (first ∷ ends) all lists cut_is_lists i i_lt_count in
+      let from_is_bound : from ≡ get_or (first ∷ ends) i 0 =
+      is_from ∙ get_or_default_zero (first ∷ ends) i from (omega (arith, next_in_bounds)) in
       let next_is_suc : i + 1 ≡ suc i = omega arith in
       let to_is_end : to ≡ get_or ends i 0 =
-      is_to ∙ get_or_default_zero (first ∷ ends) (i + 1) to next_in_places
+      is_to ∙ get_or_default_zero (first ∷ ends) (i + 1) to next_in_bounds
       ∙ ap (λ n. get_or (first ∷ ends) n 0) next_is_suc in
       record {
         from_le_to =
-            let place_bound =
-            places_rise first ends (length all) i (suc i) are_places.1 (omega arith)
-            (omega (arith, next_in_places)) in
-            omega (arith, place_bound, from_is_place, to_is_end);
+            let bound_in_range =
+            bounds_are_sorted first ends (length all) i (suc i) are_bounds.1 (omega arith)
+            (omega (arith, next_in_bounds)) in
+            omega (arith, bound_in_range, from_is_bound, to_is_end);
         to_le_length =
-            let place_bound =
-            place_le_len first ends (length all) (suc i) are_places.1
-            (omega (arith, next_in_places)) in
-            omega (arith, place_bound, to_is_end);
+            let bound_in_range =
+            bound_le_len first ends (length all) (suc i) are_bounds.1
+            (omega (arith, next_in_bounds)) in
+            omega (arith, bound_in_range, to_is_end);
         range_is_part =
-            ap₂ (slice_range all) from_is_place to_is_end
-            ∙ range_is_list first ends all i (omega (arith, next_in_places))
+            ap₂ (slice_range all) from_is_bound to_is_end
+            ∙ range_is_list first ends all i (omega (arith, next_in_bounds))
             ∙ ap (λ (ls : List (List X)). get_or ls i []) cut_is_lists;
       }
 
-  pub place_exists : (places : List ℕ) (all : List X) (lists : List (List X))
-      → cut places all ≡ lists → (i j : ℕ) → i < j → j ≤ length lists → j < length places
-  place_exists places all lists cut_is_lists i zero i_lt_j j_le_count =
+  pub bound_exists : (bounds : List ℕ) (all : List X) (lists : List (List X))
+      → cut bounds all ≡ lists → (i j : ℕ) → i < j → j ≤ length lists → j < length bounds
+  bound_exists bounds all lists cut_is_lists i zero i_lt_j j_le_count =
       absurd (omega (arith, i_lt_j))
-  place_exists places all lists cut_is_lists i (suc j) i_lt_j j_le_count =
-      let j_in_places =
-      next_place_exists places all lists cut_is_lists j (omega (arith, j_le_count)) in
-      omega (arith, j_in_places)
+  bound_exists bounds all lists cut_is_lists i (suc j) i_lt_j j_le_count =
+      let j_in_bounds =
+      next_bound_exists bounds all lists cut_is_lists j (omega (arith, j_le_count)) in
+      omega (arith, j_in_bounds)
 
-  pub joined_lists_are_part : (places : List ℕ) (all : List X) (lists : List (List X))
-      → ArePlaces places (length all) → cut places all ≡ lists → (i j from to : ℕ) → i < j
-      → j ≤ length lists → from ≡ get_or places i from → to ≡ get_or places j to
+  pub joined_lists_are_part : (bounds : List ℕ) (all : List X) (lists : List (List X))
+      → AreBounds bounds (length all) → cut bounds all ≡ lists → (i j from to : ℕ) → i < j
+      → j ≤ length lists → from ≡ get_or bounds i from → to ≡ get_or bounds j to
       → IsPart all from to (joined (slice_range lists i j))
-  joined_lists_are_part [] all lists are_places cut_is_lists i j from to i_lt_j j_le_count is_from
+  joined_lists_are_part [] all lists are_bounds cut_is_lists i j from to i_lt_j j_le_count is_from
       is_to =
       let counts_equal = ap length cut_is_lists in
       absurd (omega (arith, counts_equal, i_lt_j, j_le_count))
-  joined_lists_are_part (first ∷ ends) all lists are_places cut_is_lists i j from to i_lt_j
+  joined_lists_are_part (first ∷ ends) all lists are_bounds cut_is_lists i j from to i_lt_j
       j_le_count is_from is_to =
-      let j_in_places = place_exists (first ∷ ends) all lists cut_is_lists i j i_lt_j j_le_count in
-      let from_is_place : from ≡ get_or (first ∷ ends) i 0 =
-      is_from ∙ get_or_default_zero (first ∷ ends) i from (omega (arith, j_in_places, i_lt_j)) in
-      let to_is_place : to ≡ get_or (first ∷ ends) j 0 =
-      is_to ∙ get_or_default_zero (first ∷ ends) j to j_in_places in
+      let j_in_bounds = bound_exists (first ∷ ends) all lists cut_is_lists i j i_lt_j j_le_count in
+      let from_is_bound : from ≡ get_or (first ∷ ends) i 0 =
+      is_from ∙ get_or_default_zero (first ∷ ends) i from (omega (arith, j_in_bounds, i_lt_j)) in
+      let to_is_bound : to ≡ get_or (first ∷ ends) j 0 =
+      is_to ∙ get_or_default_zero (first ∷ ends) j to j_in_bounds in
       record {
         from_le_to =
-            let place_bound =
-            places_rise first ends (length all) i j are_places.1 (omega (arith, i_lt_j))
-            (omega (arith, j_in_places)) in
-            omega (arith, place_bound, from_is_place, to_is_place);
+            let bound_in_range =
+            bounds_are_sorted first ends (length all) i j are_bounds.1 (omega (arith, i_lt_j))
+            (omega (arith, j_in_bounds)) in
+            omega (arith, bound_in_range, from_is_bound, to_is_bound);
         to_le_length =
-            let place_bound =
-            place_le_len first ends (length all) j are_places.1 (omega (arith, j_in_places)) in
-            omega (arith, place_bound, to_is_place);
+            let bound_in_range =
+            bound_le_len first ends (length all) j are_bounds.1 (omega (arith, j_in_bounds)) in
+            omega (arith, bound_in_range, to_is_bound);
         range_is_part =
-            ap₂ (slice_range all) from_is_place to_is_place
-            ∙ range_is_joined_lists first ends all i j are_places.1 (omega (arith, i_lt_j))
-            (omega (arith, j_in_places))
+            ap₂ (slice_range all) from_is_bound to_is_bound
+            ∙ range_is_joined_lists first ends all i j are_bounds.1 (omega (arith, i_lt_j))
+            (omega (arith, j_in_bounds))
             ∙ ap (λ (ls : List (List X)). joined (slice_range ls i j)) cut_is_lists;
       }
 
-  pub none_joined_at_one_place : (lists : List (List X)) (i : ℕ)
+  pub none_joined_at_one_bound : (lists : List (List X)) (i : ℕ)
       → [] ≡ joined (slice_range lists i i)
-  none_joined_at_one_place lists i =
+  none_joined_at_one_bound lists i =
       let no_length : i - i ≡ 0 = omega arith in
       sym (ap (λ n. joined (take n (drop i lists))) no_length)
 
@@ -188,19 +188,19 @@ module _ {X : Type 0} where
   range_of_first_part : (xs ys : List X) (a b : ℕ) → b ≤ length xs
       → slice_range (xs ++ ys) a b ≡ slice_range xs a b
   range_of_first_part xs ys zero b b_le_length =
-      let same_difference : b - 0 ≡ b = omega arith in
-      ap (λ n. take n (xs ++ ys)) same_difference ∙ take-append-le b xs ys b_le_length
-      ∙ sym (ap (λ n. take n xs) same_difference)
+      let differences_equal : b - 0 ≡ b = omega arith in
+      ap (λ n. take n (xs ++ ys)) differences_equal ∙ take-append-le b xs ys b_le_length
+      ∙ sym (ap (λ n. take n xs) differences_equal)
   range_of_first_part [] ys (suc a) b b_le_length =
       empty_range ([] ++ ys) (suc a) b (omega arith) ∙ sym (empty_range [] (suc a) b (omega arith))
   range_of_first_part (x ∷ xs) ys (suc a) zero b_le_length =
       empty_range ((x ∷ xs) ++ ys) (suc a) 0 (omega arith)
       ∙ sym (empty_range (x ∷ xs) (suc a) 0 (omega arith))
   range_of_first_part (x ∷ xs) ys (suc a) (suc b) b_le_length =
-      let same_difference : suc b - suc a ≡ b - a = omega arith in
-      ap (λ n. take n (drop a (xs ++ ys))) same_difference
+      let differences_equal : suc b - suc a ≡ b - a = omega arith in
+      ap (λ n. take n (drop a (xs ++ ys))) differences_equal
       ∙ range_of_first_part xs ys a b (omega arith)
-      ∙ sym (ap (λ n. take n (drop a xs)) same_difference)
+      ∙ sym (ap (λ n. take n (drop a xs)) differences_equal)
 
   range_of_second_part : (xs ys : List X)
       → slice_range (xs ++ ys) (length xs) (length xs + length ys) ≡ ys
@@ -224,39 +224,39 @@ module _ {X : Type 0} where
       (range_of_first_part xs ys from e (from_le_last_end e ends (length xs) are_ends.1))
       (cut_with_one_more e ends xs ys are_ends.1)
 
-  pub joined_with_one_more : (lists : List (List X)) (list all : List X) (places : List ℕ)
-      → AreJoined lists all places
-      → AreJoined (lists ++ list ∷ []) (all ++ list) (with_end places (length (all ++ list)))
-  joined_with_one_more lists list all places joined_before =
+  pub joined_with_one_more : (lists : List (List X)) (list all : List X) (bounds : List ℕ)
+      → AreJoined lists all bounds
+      → AreJoined (lists ++ list ∷ []) (all ++ list) (with_end bounds (length (all ++ list)))
+  joined_with_one_more lists list all bounds joined_before =
       rw (length-append all list)
-      (joined_by_places places joined_before.are_places joined_before.cut_is_lists)
+      (joined_by_bounds bounds joined_before.are_bounds joined_before.cut_is_lists)
     where
-      joined_by_places : (places : List ℕ) → ArePlaces places (length all) → cut places all ≡ lists
+      joined_by_bounds : (bounds : List ℕ) → AreBounds bounds (length all) → cut bounds all ≡ lists
           → AreJoined (lists ++ list ∷ []) (all ++ list)
-          (with_end places (length all + length list))
-      joined_by_places [] are_places cut_is_lists = record {
-        are_places =
+          (with_end bounds (length all + length list))
+      joined_by_bounds [] are_bounds cut_is_lists = record {
+        are_bounds =
             rw (length-append all list)
-            (refl, ends_with_one_more 0 [] (length all) (length list) are_places);
+            (refl, ends_with_one_more 0 [] (length all) (length list) are_bounds);
         cut_is_lists =
-            cut_with_one_more 0 [] all list are_places ∙ ap (λ ls. ls ++ list ∷ []) cut_is_lists;
+            cut_with_one_more 0 [] all list are_bounds ∙ ap (λ ls. ls ++ list ∷ []) cut_is_lists;
       }
-      joined_by_places (first ∷ ends) are_places cut_is_lists = record {
-        are_places =
+      joined_by_bounds (first ∷ ends) are_bounds cut_is_lists = record {
+        are_bounds =
             rw (length-append all list)
-            (are_places.0, ends_with_one_more first ends (length all) (length list) are_places.1);
+            (are_bounds.0, ends_with_one_more first ends (length all) (length list) are_bounds.1);
         cut_is_lists =
-            cut_with_one_more first ends all list are_places.1
+            cut_with_one_more first ends all list are_bounds.1
             ∙ ap (λ ls. ls ++ list ∷ []) cut_is_lists;
       }
 
   -- no lists
-  pub none_joined : (all : List X) (places : List ℕ) → all ≡ [] → places ≡ []
-      → AreJoined [] all places
-  none_joined all places all_is_empty places_are_empty =
-      rw (all_is_empty, places_are_empty) (record { are_places = refl; cut_is_lists = refl })
+  pub none_joined : (all : List X) (bounds : List ℕ) → all ≡ [] → bounds ≡ []
+      → AreJoined [] all bounds
+  none_joined all bounds all_is_empty bounds_are_empty =
+      rw (all_is_empty, bounds_are_empty) (record { are_bounds = refl; cut_is_lists = refl })
 
-  -- ---- how many elements there are together, after the place where the first list begins
+  -- ---- how many elements there are together, after the bound where the first list begins
 
   counted_items_are_all : (from : ℕ) (ends : List ℕ) (all : List X) → AreEnds from ends (length all)
       → from + sum_by length (cut_at from ends all) ≡ length all
@@ -271,18 +271,18 @@ module _ {X : Type 0} where
       let from_le_end = are_ends.0 in
       omega (arith, rest_is_counted, first_length, lengths_add, from_le_end)
 
-  pub item_count_is_sum : (places : List ℕ) (all : List X) → ArePlaces places (length all)
-      → length all ≡ sum_by length (cut places all)
-  item_count_is_sum [] all are_places = sym are_places
-  item_count_is_sum (first ∷ ends) all are_places =
-      let ends_count_items = counted_items_are_all first ends all are_places.1 in
-      let first_is_zero = are_places.0 in omega (arith, ends_count_items, first_is_zero)
+  pub item_count_is_sum : (bounds : List ℕ) (all : List X) → AreBounds bounds (length all)
+      → length all ≡ sum_by length (cut bounds all)
+  item_count_is_sum [] all are_bounds = sym are_bounds
+  item_count_is_sum (first ∷ ends) all are_bounds =
+      let ends_count_items = counted_items_are_all first ends all are_bounds.1 in
+      let first_is_zero = are_bounds.0 in omega (arith, ends_count_items, first_is_zero)
 
 -- what has been joined of all elements
 pub taken_joined_are_all_joined : {X Y : Type 0} (f : Y → List X) (ys : List Y) (i : ℕ)
     (all : List X)
-    → (places : List ℕ) → length ys ≤ i → AreJoined (map f (take i ys)) all places
-    → AreJoined (map f ys) all places
-taken_joined_are_all_joined f ys i all places length_le_i taken_are_joined =
-    subst (λ (zs : List _). AreJoined (map f zs) all places) (take_all i ys length_le_i)
+    → (bounds : List ℕ) → length ys ≤ i → AreJoined (map f (take i ys)) all bounds
+    → AreJoined (map f ys) all bounds
+taken_joined_are_all_joined f ys i all bounds length_le_i taken_are_joined =
+    subst (λ (zs : List _). AreJoined (map f zs) all bounds) (take_all i ys length_le_i)
     taken_are_joined

@@ -2,18 +2,18 @@
 
 ghost use Rattle.std.specs.Prelude.{◌≡◌, ◌<◌, ◌≤◌, ◌^◌, ◌++◌, ◌∷◌, [], OnOk, OnErr, length};
 ghost use Rattle.std.specs.Prelude.{slice_index_or, slice_range, sum_by};
-ghost use Rattle.mm_lists.specs.Lists.{cut, joined, with_end, ArePlaces};
+ghost use Rattle.mm_lists.specs.Lists.{cut, joined, with_end, AreBounds};
 
 use std::alloc::{AllocError, Allocator};
 use std::marker::Model;
 
-/// A growing row of lists. They are concatenated into one, so a short list costs no allocation of
-/// its own. `places` is a 0 and then the index in `items` at which each list ends: so the place at
-/// a list's index is where it begins, and the next place is where it ends. As long as there are no
-/// lists, `places` may be empty: the 0 comes with the first of them. A place has 32 bits.
+/// A growing list of lists. They are concatenated into one, so a short list costs no allocation of
+/// its own. `bounds` is a 0 and then the index in `items` at which each list ends: so the bound at
+/// a list's index is where it begins, and the next bound is where it ends. As long as there are no
+/// lists, `bounds` may be empty: the 0 comes with the first of them. A bound has 32 bits.
 pub struct Lists<T, A: Allocator> {
     items: Vec<T, A>,
-    places: Vec<u32, A>,
+    bounds: Vec<u32, A>,
 }
 
 /// Dropped in one call: docs/PROOFS.md, "What a check costs".
@@ -21,44 +21,45 @@ impl<T: Drop, A: Allocator> Drop for Lists<T, A> {
     fn drop(self) {
         let Self {
             items: _,
-            places: _,
+            bounds: _,
         } = self;
     }
 }
 
 impl<T, A: Allocator> Model for Lists<T, A> {
     ghost use Rattle.std.specs.Prelude.{List, length};
-    ghost use Rattle.mm_lists.specs.Lists.{cut, ArePlaces};
+    ghost use Rattle.mm_lists.specs.Lists.{cut, AreBounds};
 
     ghost Value = { List (List T) };
 
-    ghost view = { λ l. cut l.places.items l.items.items };
+    ghost view = { λ l. cut l.bounds.items l.items.items };
 
-    ghost invariant = { λ l. ArePlaces l.places.items (length l.items.items) };
+    ghost invariant = { λ l. AreBounds l.bounds.items (length l.items.items) };
 }
 
-/// Appends to `places` that a list ends where these elements do, and if it is the first one, that
-/// it begins at 0. Fails only if out of memory, or of places, and then changes nothing.
+/// Appends to `bounds` that a list ends where these elements do, and if it is the first one, that
+/// it begins at 0. Fails only if out of memory, or if there are 2^32 elements or more, and then
+/// changes nothing.
 pub fn end_list<T, A: Allocator>(
     items: &Vec<T, A>,
-    places: &mut Vec<u32, A>,
+    bounds: &mut Vec<u32, A>,
 ) -> Result<(), AllocError>
-    ensures ok { OnOk result
-        (places.new.items ≡ with_end places.old.items (length items.now.items)) }
-    ensures err { OnErr result (places.new.items ≡ places.old.items) }
+    ensures bound_is_added { OnOk result
+        (bounds.new.items ≡ with_end bounds.old.items (length items.now.items)) }
+    ensures bounds_unchanged { OnErr result (bounds.new.items ≡ bounds.old.items) }
 {
     let Ok(end) = u32::try_from(items.len()) else {
         return Err(AllocError);
     };
-    if places.is_empty() {
-        places.extend_from_slice(&[0, end])?;
+    if bounds.is_empty() {
+        bounds.extend_from_slice(&[0, end])?;
     } else {
-        places.push(end)?;
+        bounds.push(end)?;
     }
     Ok(())
 }
 
-/// The elements from place `from` up to, but not including, place `to`.
+/// The elements from index `from` up to, but not including, index `to`.
 #[inline(always)]
 fn items_between<T, A: Allocator>(items: &Vec<T, A>, from: usize, to: usize) -> &[T]
     requires from_le_to { from ≤ to }
@@ -77,7 +78,7 @@ impl<T, A: Allocator> Lists<T, A> {
     {
         Lists {
             items: Vec::new(alloc),
-            places: Vec::new(alloc),
+            bounds: Vec::new(alloc),
         }
     }
 
@@ -94,19 +95,19 @@ impl<T, A: Allocator> Lists<T, A> {
             Ok(()) => {}
             Err(_) => {}
         }
-        match lists.places.reserve(list_count.saturating_add(1)) {
+        match lists.bounds.reserve(list_count.saturating_add(1)) {
             Ok(()) => {}
             Err(_) => {}
         }
         lists
     }
 
-    /// The lists whose ends [`end_list`] noted in `places`.
-    pub fn from_ends(items: Vec<T, A>, places: Vec<u32, A>) -> Self
-        requires { ArePlaces places.items (length items.items) }
-        ensures { result ≡ cut places.items items.items }
+    /// The lists whose ends [`end_list`] noted in `bounds`.
+    pub fn from_ends(items: Vec<T, A>, bounds: Vec<u32, A>) -> Self
+        requires { AreBounds bounds.items (length items.items) }
+        ensures { result ≡ cut bounds.items items.items }
     {
-        Lists { items, places }
+        Lists { items, bounds }
     }
 
     /// How many elements the lists have together.
@@ -116,16 +117,17 @@ impl<T, A: Allocator> Lists<T, A> {
         self.items.len()
     }
 
-    /// Appends a list. Fails only if out of memory, or of places, and then changes nothing.
+    /// Appends a list. Fails only if out of memory, or if there are then 2^32 elements or more, and
+    /// then changes nothing.
     pub fn push(&mut self, list: &[T]) -> Result<(), AllocError>
     where
         T: Copy,
-        ensures ok { OnOk result (self.new ≡ self.old ++ list.now ∷ []) }
-        ensures err { OnErr result (self.new ≡ self.old) }
+        ensures list_is_added { OnOk result (self.new ≡ self.old ++ list.now ∷ []) }
+        ensures lists_unchanged { OnErr result (self.new ≡ self.old) }
     {
         let before = self.items.len();
         self.items.extend_from_slice(list)?;
-        match end_list(&self.items, &mut self.places) {
+        match end_list(&self.items, &mut self.bounds) {
             Ok(()) => Ok(()),
             Err(_) => {
                 self.items.truncate(before);
@@ -142,8 +144,8 @@ impl<T, A: Allocator> Lists<T, A> {
         ensures length_lt_2_32 { length result.now < 2 ^ 32 }
     {
         // The end is read first: the test that its index is in range is one for the beginning too.
-        let end = self.places[index + 1] as usize;
-        items_between(&self.items, self.places[index] as usize, end)
+        let end = self.bounds[index + 1] as usize;
+        items_between(&self.items, self.bounds[index] as usize, end)
     }
 
     /// The lists with indices from `from` up to, but not including, `to`, joined into one.
@@ -152,14 +154,14 @@ impl<T, A: Allocator> Lists<T, A> {
         requires to_le_count { to ≤ length self.now }
         ensures { result.now ≡ joined (slice_range self.now from to) }
     {
-        // Where there are no lists yet, there may be no places.
+        // Where there are no lists yet, there may be no bounds.
         if from == to {
             return &[];
         }
         items_between(
             &self.items,
-            self.places[from] as usize,
-            self.places[to] as usize,
+            self.bounds[from] as usize,
+            self.bounds[to] as usize,
         )
     }
 }

@@ -14,8 +14,8 @@ use Rattle.mm_spec.specs.Valid.{too_long}
 use Rattle.mm_spec.specs.Frame.{is_variable_number, formula_at, frame_at}
 use Rattle.mm_spec.specs.Citation.{context_at}
 use Rattle.mm_spec.specs.Laws.Stack.{substitution_from, are_equal, unless_failed, unless_too_long}
-use Rattle.mm_spec.specs.Laws.Stack.{apply, step}
-use Rattle.mm_rule.specs.declared.rule.RuleSymbol.TheVariants.{Constant, Variable}
+use Rattle.mm_spec.specs.Laws.Stack.{apply, label_entries}
+use Rattle.mm_rule.specs.declared.rule.RulePart.TheVariants.{Constant, Variable}
 use Rattle.mm_rule.specs.Rule.{floating_index, parts_of, IsVariableBelow, CompiledRule, IsCompiled}
 use Rattle.mm_machine.specs.State.{applied}
 use Rattle.mm_machine.proofs.RuleTestLaw.{length_all_parts}
@@ -27,15 +27,15 @@ empty_of_length_0 (x ∷ xs) length_is_0 = absurd (omega (arith, length_is_0))
 no_pairs : (ps : List (ℕ × ℕ)) → All (λ (p : ℕ × ℕ). (p.0 < 0) × (p.1 < 0)) ps → length ps ≡ 0
 no_pairs [] all_below_0 = refl
 no_pairs (p ∷ ps) all_below_0 =
-    absurd (let number_lt_0 = (recursion_from_All (λ (p : ℕ × ℕ). (p.0 < 0) × (p.1 < 0)) (p ∷ ps)
+    absurd (let index_lt_0 = (recursion_from_All (λ (p : ℕ × ℕ). (p.0 < 0) × (p.1 < 0)) (p ∷ ps)
     all_below_0).0.0 in
-    omega (arith, number_lt_0))
+    omega (arith, index_lt_0))
 
 -- a frame without hypotheses and pairs, whose formula has no variables
 module _ (c : Context) (a : Frame) (hypotheses_are_nil : a.hypotheses
     ≡ []) (pairs_are_nil : a.pairs ≡ [])
     (formula_stays : (σ : Substitution) → substitute c σ a.formula ≡ a.formula) where
-  step_alone : (es : List Formula) → step c (Some (assertion a)) es
+  step_alone : (es : List Formula) → label_entries c (Some (assertion a)) es
       ≡ unless_too_long (nat_le (length a.formula) formula_limit) (es ++ a.formula ∷ [])
   step_alone es =
       let length_hypotheses_is_0 : length a.hypotheses ≡ 0 = ap length hypotheses_are_nil in
@@ -54,18 +54,18 @@ module _ (c : Context) (a : Frame) (hypotheses_are_nil : a.hypotheses
       ∙ ap (λ f. unless_too_long (nat_le (length f) formula_limit) (es ++ f ∷ [])) (formula_stays σ)
 
 module _ (db : List Statement) (t : ℕ) (hs : List Formula) (σ : Substitution) where
-  no_variables : (f : Formula) → AllByRecursion (IsVariableBelow 0) (parts_of db hs f)
+  formula_stays_itself : (f : Formula) → AllByRecursion (IsVariableBelow 0) (parts_of db hs f)
       → substitute (context_at db t) σ f ≡ f
-  no_variables [] variables_below_0 = refl
-  no_variables (s ∷ f) variables_below_0 =
-      ap₂ (λ u v. u ++ v) (by_is_variable (is_variable_number db s) variables_below_0.0)
-      (no_variables f variables_below_0.1)
+  formula_stays_itself [] variables_below_0 = refl
+  formula_stays_itself (s ∷ f) variables_below_0 =
+      ap₂ (λ u v. u ++ v) (symbol_stays (is_variable_number db s) variables_below_0.0)
+      (formula_stays_itself f variables_below_0.1)
     where
-      by_is_variable : (v : Bool) → IsVariableBelow 0 (cond v (Variable (floating_index db hs s))
+      symbol_stays : (v : Bool) → IsVariableBelow 0 (cond v (Variable (floating_index db hs s))
           (Constant s))
           → cond v (σ s) (s ∷ []) ≡ s ∷ []
-      by_is_variable true variable_below_0 = absurd (omega (arith, variable_below_0))
-      by_is_variable false variable_below_0 = refl
+      symbol_stays true variable_below_0 = absurd (omega (arith, variable_below_0))
+      symbol_stays false variable_below_0 = refl
 
 module _ (db : List Statement) (t : ℕ) (c : CompiledRule) (rule : IsCompiled db c)
     (length_is_0 : length c.hypotheses ≡ 0) where
@@ -92,7 +92,8 @@ module _ (db : List Statement) (t : ℕ) (c : CompiledRule) (rule : IsCompiled d
   pairs_are =
       let length_pairs_is_0 =
       no_pairs c.pairs
-      (subst (λ n. All (λ (p : ℕ × ℕ). (p.0 < n) × (p.1 < n)) c.pairs) length_is_0 rule.pairs_in) in
+      (subst (λ n. All (λ (p : ℕ × ℕ). (p.0 < n) × (p.1 < n)) c.pairs) length_is_0
+      rule.pairs_in_range) in
       let pair_counts_equal : length c.pairs ≡ length frame.pairs =
       ap length rule.pairs_are
       ∙ length-map {B = ℕ × ℕ} frame.pairs
@@ -106,13 +107,13 @@ module _ (db : List Statement) (t : ℕ) (c : CompiledRule) (rule : IsCompiled d
   symbols_are_constants =
       recursion_from_All (IsVariableBelow 0) (parts_of db frame.hypotheses f)
       (subst (All (IsVariableBelow 0)) rule.formula_is
-      (subst (λ n. All (IsVariableBelow n) c.formula) length_is_0 rule.formula_in))
+      (subst (λ n. All (IsVariableBelow n) c.formula) length_is_0 rule.formula_in_range))
 
   applied_pushes_formula : (es : List Formula) → applied db t c.assertion es
       ≡ unless_too_long (nat_le (length f) formula_limit) (es ++ f ∷ [])
   applied_pushes_formula es =
       step_alone (context_at db t) frame hypotheses_are pairs_are
-      (λ σ. no_variables db t frame.hypotheses σ f symbols_are_constants) es
+      (λ σ. formula_stays_itself db t frame.hypotheses σ f symbols_are_constants) es
 
   pub applied_alone_is_ok : (es : List Formula) → length f ≤ formula_limit
       → applied db t c.assertion es ≡ Ok (es ++ f ∷ [])

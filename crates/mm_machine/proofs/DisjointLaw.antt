@@ -20,8 +20,7 @@ module _ (db : List Statement) (t : ℕ) (ps : List (ℕ × ℕ)) (pairs_are_dis
   pub either_disjoint : (a b : ℕ) → HasPair ps a b ⊎ HasPair ps b a → Disjoint a b
   either_disjoint a b (inl pair_is_there) = pair_of_cache_is_disjoint a b pair_is_there
   either_disjoint a b (inr pair_is_there) = are_disjoint_symmetric db t b a
-      (pair_of_cache_is_disjoint b a
-      pair_is_there)
+      (pair_of_cache_is_disjoint b a pair_is_there)
 
   pub insert_keeps_disjoint : (a b : ℕ) (qs : List (ℕ × ℕ)) → Disjoint a b → MayInsertPair ps a b qs
       → AreDisjointAt db t qs

@@ -6,13 +6,14 @@ use Rattle.std.proofs.lemmas.List.{drop_more, drop_all, drop-drop}
 use Rattle.mm_spec.specs.Laws.Stack.{are_equal}
 use Rattle.mm_rule.specs.declared.rule.Hypothesis.{Hypothesis}
 use Rattle.mm_rule.specs.declared.rule.Hypothesis.TheVariants.{Floating, Essential}
-use Rattle.mm_rule.specs.declared.rule.RuleSymbol.{RuleSymbol}
-use Rattle.mm_rule.specs.Rule.{part_count, hypothesis_parts, all_parts, total_part_count}
+use Rattle.mm_rule.specs.declared.rule.RulePart.{RulePart}
+use Rattle.mm_rule.specs.Rule.{stored_part_count, hypothesis_parts, all_parts}
+use Rattle.mm_rule.specs.Rule.{total_stored_part_count}
 use Rattle.mm_machine.specs.declared.arena.Span.{Span}
 use Rattle.mm_machine.specs.Arena.{Arena, no_symbols, without_first, span_formula}
 use Rattle.mm_machine.specs.Replaced.{replaced}
 
-module _ (xs : Arena) (es : List Span) (parts : List RuleSymbol) (hs : List Hypothesis) where
+module _ (xs : Arena) (es : List Span) (parts : List RulePart) (hs : List Hypothesis) where
   -- whether the entries from index `j` on are what the hypotheses require; the parts that are kept
   -- for these begin at `part_index`
   abbrev pub fit_from : ℕ → ℕ → Bool
@@ -31,7 +32,7 @@ module _ (xs : Arena) (es : List Span) (parts : List RuleSymbol) (hs : List Hypo
   -- `next_part_index`
   pub record IsTested (j part_index : ℕ) (h : Hypothesis) (is_fitting : Bool) (next_part_index : ℕ)
       : Type 0 where
-    pub next_part_index_is : next_part_index ≡ part_index + part_count h
+    pub next_part_index_is : next_part_index ≡ part_index + stored_part_count h
     pub is_fitting_is : is_fitting
         ≡ bytes_eq (span_formula xs (get_or es j no_symbols))
         (replaced xs es (hypothesis_parts (drop part_index parts) j h))
@@ -82,17 +83,17 @@ module _ (xs : Arena) (es : List Span) (parts : List RuleSymbol) (hs : List Hypo
           (replaced xs es (hypothesis_parts (drop part_index parts) j h))
           && are_equal (map (span_formula xs) (drop (j + 1) es))
           (map (replaced xs es) (all_parts u n (drop (j + 1) hs))))
-          (drop-drop (part_count h) part_index parts ∙ ap (λ n. drop n parts) (sym
+          (drop-drop (stored_part_count h) part_index parts ∙ ap (λ n. drop n parts) (sym
           tested.next_part_index_is))
           next_j_is_next_j
           ∙ ap (λ b. b && fit_from (j + 1) next_part_index) (sym tested.is_fitting_is)
 
-      pub part_count_stays : part_index + total_part_count (drop j hs) ≡ length parts
-          → next_part_index + total_part_count (drop (j + 1) hs) ≡ length parts
+      pub part_count_stays : part_index + total_stored_part_count (drop j hs) ≡ length parts
+          → next_part_index + total_stored_part_count (drop (j + 1) hs) ≡ length parts
       part_count_stays part_count_is =
-          let part_count_splits : total_part_count (drop j hs)
-          ≡ part_count h + total_part_count (drop (j + 1) hs) =
-          ap total_part_count drop_hs_is in
+          let part_count_splits : total_stored_part_count (drop j hs)
+          ≡ stored_part_count h + total_stored_part_count (drop (j + 1) hs) =
+          ap total_stored_part_count drop_hs_is in
           let index_is_next = tested.next_part_index_is in omega (
             arith,
             part_count_splits,

@@ -18,7 +18,7 @@ use Rattle.mm_machine.specs.Arena.{arena, symbols_of, span, no_symbols, span_for
 use Rattle.mm_machine.specs.State.{span_formulas, appended_span, Follow, first_unmarked, IsStack}
 use Rattle.mm_machine.specs.State.{IsStackOf}
 use Rattle.mm_machine.specs.State.{IsMarkedEntry}
-use Rattle.mm_machine.specs.State.{Moves}
+use Rattle.mm_machine.specs.State.{MovesFormulas}
 use Rattle.mm_machine.proofs.GrowLaw.{Stays, all_stay, all_in_if_stay, formulas_equal_if_stay}
 use Rattle.mm_machine.proofs.GrowLaw.{stays_with_more_unmarked}
 use Rattle.mm_machine.proofs.GrowLaw.{stays_with_more_marked}
@@ -39,51 +39,51 @@ begin_by_store p e es to = elim p [ Unmarked ↦ e.start | Marked ↦ first_unma
 start_is_first_unmarked : (from : ℕ) (es : List Span) (to : ℕ) → Follow from es to → from
     ≡ first_unmarked es to
 start_is_first_unmarked from [] to follows = follows
-start_is_first_unmarked from (e ∷ es) to follows = by_store e.store (start_is_first_unmarked from es
+start_is_first_unmarked from (e ∷ es) to follows = is_first e.store (start_is_first_unmarked from es
     to) follows
   where
-    by_store : (p : Store) → (Follow from es to → from ≡ first_unmarked es to)
+    is_first : (p : Store) → (Follow from es to → from ≡ first_unmarked es to)
         → FollowByStore p e from es to
         → from ≡ begin_by_store p e es to
-    by_store Unmarked holds_for_rest follows = sym follows.0
-    by_store Marked holds_for_rest follows = holds_for_rest follows
+    is_first Unmarked holds_for_rest follows = sym follows.0
+    is_first Marked holds_for_rest follows = holds_for_rest follows
 
 front_follows : (from : ℕ) (xs ys : List Span) (to : ℕ) → Follow from (xs ++ ys) to
     → Follow from xs (first_unmarked ys to)
 front_follows from [] ys to follows = start_is_first_unmarked from ys to follows
-front_follows from (e ∷ xs) ys to follows = by_store e.store (λ f. front_follows f xs ys to) follows
+front_follows from (e ∷ xs) ys to follows = front_is e.store (λ f. front_follows f xs ys to) follows
   where
-    by_store : (p : Store) → ((f : ℕ) → Follow f (xs ++ ys) to → Follow f xs (first_unmarked ys to))
+    front_is : (p : Store) → ((f : ℕ) → Follow f (xs ++ ys) to → Follow f xs (first_unmarked ys to))
         → FollowByStore p e from (xs ++ ys) to → FollowByStore p e from xs (first_unmarked ys to)
-    by_store Unmarked holds_for_rest follows = (
+    front_is Unmarked holds_for_rest follows = (
       follows.0,
       follows.1,
       holds_for_rest e.end
           follows.2,
     )
-    by_store Marked holds_for_rest follows = holds_for_rest from follows
+    front_is Marked holds_for_rest follows = holds_for_rest from follows
 
 rest_follows : (from : ℕ) (xs ys : List Span) (to : ℕ) → Follow from (xs ++ ys) to
     → Follow (first_unmarked ys to) ys to
 rest_follows from [] ys to follows = subst (λ n. Follow n ys to) (start_is_first_unmarked from ys to
     follows) follows
-rest_follows from (e ∷ xs) ys to follows = by_store e.store (λ f. rest_follows f xs ys to) follows
+rest_follows from (e ∷ xs) ys to follows = rest_is e.store (λ f. rest_follows f xs ys to) follows
   where
-    by_store : (p : Store) → ((f : ℕ) → Follow f (xs ++ ys) to
+    rest_is : (p : Store) → ((f : ℕ) → Follow f (xs ++ ys) to
         → Follow (first_unmarked ys to) ys to)
         → FollowByStore p e from (xs ++ ys) to → Follow (first_unmarked ys to) ys to
-    by_store Unmarked holds_for_rest follows = holds_for_rest e.end follows.2
-    by_store Marked holds_for_rest follows = holds_for_rest from follows
+    rest_is Unmarked holds_for_rest follows = holds_for_rest e.end follows.2
+    rest_is Marked holds_for_rest follows = holds_for_rest from follows
 
 follow_rises : (from : ℕ) (es : List Span) (to : ℕ) → Follow from es to → from ≤ to
 follow_rises from [] to follows = let from_is_to : from ≡ to = follows in omega (arith, from_is_to)
-follow_rises from (e ∷ es) to follows = by_store e.store (λ f. follow_rises f es to) follows
+follow_rises from (e ∷ es) to follows = rises e.store (λ f. follow_rises f es to) follows
   where
-    by_store : (p : Store) → ((f : ℕ) → Follow f es to → f ≤ to) → FollowByStore p e from es to
+    rises : (p : Store) → ((f : ℕ) → Follow f es to → f ≤ to) → FollowByStore p e from es to
         → from ≤ to
-    by_store Unmarked holds_for_rest follows = let from_le_end = follows.1 in let end_le_to =
+    rises Unmarked holds_for_rest follows = let from_le_end = follows.1 in let end_le_to =
         holds_for_rest e.end follows.2 in omega (arith, from_le_end, end_le_to)
-    by_store Marked holds_for_rest follows = holds_for_rest from follows
+    rises Marked holds_for_rest follows = holds_for_rest from follows
 
 pub unmarked_follows : (from : ℕ) (es : List Span) (to n : ℕ) → to ≤ n → Follow from es to
     → Follow from (es ++ span Unmarked to n ∷ []) n
@@ -93,18 +93,18 @@ unmarked_follows from [] to n to_le_n follows =
       (let from_le_n : from ≤ n = omega (arith, from_is_to, to_le_n) in from_le_n),
       refl,
     )
-unmarked_follows from (e ∷ es) to n to_le_n follows = by_store e.store
+unmarked_follows from (e ∷ es) to n to_le_n follows = with_new e.store
     (λ f. unmarked_follows f es to n to_le_n) follows
   where
-    by_store : (p : Store) → ((f : ℕ) → Follow f es to → Follow f (es ++ span Unmarked to n ∷ []) n)
+    with_new : (p : Store) → ((f : ℕ) → Follow f es to → Follow f (es ++ span Unmarked to n ∷ []) n)
         → FollowByStore p e from es to → FollowByStore p e from (es ++ span Unmarked to n ∷ []) n
-    by_store Unmarked holds_for_rest follows = (
+    with_new Unmarked holds_for_rest follows = (
       follows.0,
       follows.1,
       holds_for_rest e.end
           follows.2,
     )
-    by_store Marked holds_for_rest follows = holds_for_rest from follows
+    with_new Marked holds_for_rest follows = holds_for_rest from follows
 
 marked_follows_by_store : (p : Store) (e : Span) (from : ℕ) (es : List Span) (to : ℕ) → p ≡ Marked
     → Follow from es to → FollowByStore p e from es to
@@ -115,19 +115,19 @@ pub marked_follows : (from : ℕ) (es : List Span) (to : ℕ) (e : Span) → e.s
     → Follow from es to → Follow from (es ++ e ∷ []) to
 marked_follows from [] to e e_is_marked follows = marked_follows_by_store e.store e from [] to
     e_is_marked follows
-marked_follows from (x ∷ es) to e e_is_marked follows = by_store x.store (λ f. marked_follows f es
+marked_follows from (x ∷ es) to e e_is_marked follows = with_e x.store (λ f. marked_follows f es
     to e e_is_marked) follows
   where
-    by_store : (p : Store) → ((f : ℕ) → Follow f es to → Follow f (es ++ e ∷ []) to)
+    with_e : (p : Store) → ((f : ℕ) → Follow f es to → Follow f (es ++ e ∷ []) to)
         → FollowByStore p x from es to
         → FollowByStore p x from (es ++ e ∷ []) to
-    by_store Unmarked holds_for_rest follows = (
+    with_e Unmarked holds_for_rest follows = (
       follows.0,
       follows.1,
       holds_for_rest x.end
           follows.2,
     )
-    by_store Marked holds_for_rest follows = holds_for_rest from follows
+    with_e Marked holds_for_rest follows = holds_for_rest from follows
 
 -- what the unmarked formulas of the entries don't reach can go
 all_stay_in_cut : (unmarked marked : List ℕ) (from : ℕ) (es : List Span) (n : ℕ)
@@ -136,7 +136,7 @@ all_stay_in_cut : (unmarked marked : List ℕ) (from : ℕ) (es : List Span) (n 
     → AllByRecursion (Stays (arena unmarked marked) (arena (take n unmarked) marked)) es
 all_stay_in_cut unmarked marked from [] n n_le_length_unmarked follows all_in = tt
 all_stay_in_cut unmarked marked from (e ∷ es) n n_le_length_unmarked follows all_in =
-    by_store e.store e.start e.end all_in.0.start_le_end all_in.0.end_le_length
+    all_stay e.store e.start e.end all_in.0.start_le_end all_in.0.end_le_length
     (λ f tail_follows. all_stay_in_cut unmarked marked f es n n_le_length_unmarked tail_follows
     all_in.1)
     (λ f tail_follows. follow_rises f es n tail_follows) follows
@@ -155,13 +155,13 @@ all_stay_in_cut unmarked marked from (e ∷ es) n n_le_length_unmarked follows a
               ∙ ap (λ z. span_formula (arena z marked) (span p s t)) (take-append-drop n unmarked);
         }
 
-    by_store : (p : Store) (s t : ℕ) → s ≤ t → t ≤ length (symbols_of (arena unmarked marked) p)
+    all_stay : (p : Store) (s t : ℕ) → s ≤ t → t ≤ length (symbols_of (arena unmarked marked) p)
         → ((f : ℕ) → Follow f es n
         → AllByRecursion (Stays (arena unmarked marked) (arena (take n unmarked) marked)) es)
         → ((f : ℕ) → Follow f es n → f ≤ n) → FollowByStore p (span p s t) from es n
         → AllByRecursion (Stays (arena unmarked marked) (arena (take n unmarked) marked))
         (span p s t ∷ es)
-    by_store Unmarked s t s_le_t t_le_length holds_for_rest rest_rises follows =
+    all_stay Unmarked s t s_le_t t_le_length holds_for_rest rest_rises follows =
         let t_le_n = rest_rises t follows.2 in (
           span_stays Unmarked s t s_le_t (omega (
             arith,
@@ -173,7 +173,7 @@ all_stay_in_cut unmarked marked from (e ∷ es) n n_le_length_unmarked follows a
           holds_for_rest
               t follows.2,
         )
-    by_store Marked s t s_le_t t_le_length holds_for_rest rest_rises follows = (
+    all_stay Marked s t s_le_t t_le_length holds_for_rest rest_rises follows = (
       span_stays Marked s
           t s_le_t t_le_length,
       holds_for_rest from follows,
@@ -358,7 +358,7 @@ pub record IsMoved (unmarked marked : List ℕ) (es : List Span) (unmarked' mark
   pub is_stack : IsStack unmarked' marked' es'
   pub formulas_stay : span_formulas (arena unmarked' marked') es'
       ≡ span_formulas (arena unmarked marked) es
-  pub moves_symbols : Moves unmarked marked unmarked' marked'
+  pub moves_symbols : MovesFormulas unmarked marked unmarked' marked'
   pub is_marked : IsMarkedEntry marked' m
   pub is_top_formula : span_formula (arena [] marked') m ≡ top (span_formulas (arena unmarked
       marked) es)
@@ -494,7 +494,7 @@ module _ (unmarked marked : List ℕ) (es : List Span) (last_index : ℕ) (e : S
         (new_entry_formula ∙ moved_symbols_are)
         ∙ sym formulas_split_before_last
 
-    top_moves : Moves unmarked marked cut_unmarked (marked ++ moved_symbols)
+    top_moves : MovesFormulas unmarked marked cut_unmarked (marked ++ moved_symbols)
     top_moves = record {
       moved_symbols = moved_symbols;
       marked_is = refl;
@@ -521,7 +521,7 @@ module _ (unmarked marked : List ℕ) (es : List Span) (last_index : ℕ) (e : S
         })
 
 -- nothing moves
-pub nothing_moves : (unmarked marked : List ℕ) → Moves unmarked marked unmarked marked
+pub nothing_moves : (unmarked marked : List ℕ) → MovesFormulas unmarked marked unmarked marked
 nothing_moves unmarked marked =
     record {
       moved_symbols = [];

@@ -3,14 +3,14 @@ use Rattle.std.proofs.Common.{◌≡◌, ℕ, zero, suc, ◌-◌, ◌<◌, ◌�
 use Rattle.std.proofs.Common.{drop, get_or, slice_range, refl, sym, ap, ap₂, ◌∙◌, subst, arith, All}
 use Rattle.std.proofs.Common.{length-append}
 use Rattle.std.specs.List.{AllByRecursion}
-use Rattle.std.proofs.lemmas.List.{drop_at, take_all, take_at}
+use Rattle.std.proofs.lemmas.List.{drop_at, take_all}
 use Rattle.std.proofs.lemmas.List.Elements.{All-from_recursion, recursion_from_All, All-weaker}
 use Rattle.std.proofs.lemmas.List.Elements.{All-take, All-append, All-drop, All-nil, All-get_or}
 use Rattle.mm_machine.specs.declared.arena.Span.{Span}
 use Rattle.mm_machine.specs.declared.arena.Store.{Store}
 use Rattle.mm_machine.specs.declared.arena.Store.TheVariants.{Unmarked, Marked}
-use Rattle.mm_rule.specs.declared.rule.RuleSymbol.{RuleSymbol}
-use Rattle.mm_rule.specs.declared.rule.RuleSymbol.TheVariants.{Constant, Variable}
+use Rattle.mm_rule.specs.declared.rule.RulePart.{RulePart}
+use Rattle.mm_rule.specs.declared.rule.RulePart.TheVariants.{Constant, Variable}
 use Rattle.mm_machine.specs.Arena.{Arena, arena, symbols_of, span, no_symbols, without_first}
 use Rattle.mm_machine.specs.Arena.{span_formula}
 use Rattle.mm_machine.specs.Arena.{IsIn}
@@ -53,20 +53,18 @@ pub formulas_equal_if_stay : (a b : Arena) (es : List Span) → AllByRecursion (
     → span_formulas b es ≡ span_formulas a es
 formulas_equal_if_stay a b [] all_stay_by_recursion = refl
 formulas_equal_if_stay a b (e ∷ es) all_stay_by_recursion = ap₂ (λ u us. u ∷ us)
-    all_stay_by_recursion.0.formulas_equal
-    (formulas_equal_if_stay a b es all_stay_by_recursion.1)
+    all_stay_by_recursion.0.formulas_equal (formulas_equal_if_stay a b es all_stay_by_recursion.1)
 
 -- added symbols of unmarked formulas
 pub stays_with_more_unmarked : (unmarked marked added : List ℕ) (e : Span)
     → IsIn (arena unmarked marked) e
     → Stays (arena unmarked marked) (arena (unmarked ++ added) marked) e
-stays_with_more_unmarked unmarked marked added e is_in = by_store e.store e.start e.end
-    is_in.start_le_end
-    is_in.end_le_length
+stays_with_more_unmarked unmarked marked added e is_in = stays e.store e.start e.end
+    is_in.start_le_end is_in.end_le_length
   where
-    by_store : (p : Store) (s t : ℕ) → s ≤ t → t ≤ length (symbols_of (arena unmarked marked) p)
+    stays : (p : Store) (s t : ℕ) → s ≤ t → t ≤ length (symbols_of (arena unmarked marked) p)
         → Stays (arena unmarked marked) (arena (unmarked ++ added) marked) (span p s t)
-    by_store Unmarked s t start_le_end end_le_length =
+    stays Unmarked s t start_le_end end_le_length =
         record {
           is_in = record {
             start_le_end = start_le_end;
@@ -78,7 +76,7 @@ stays_with_more_unmarked unmarked marked added e is_in = by_store e.store e.star
           };
           formulas_equal = stretch_of_longer_list unmarked added s t start_le_end end_le_length;
         }
-    by_store Marked s t start_le_end end_le_length = record {
+    stays Marked s t start_le_end end_le_length = record {
       is_in = record {
         start_le_end =
             start_le_end;
@@ -91,12 +89,12 @@ stays_with_more_unmarked unmarked marked added e is_in = by_store e.store e.star
 pub stays_with_more_marked : (unmarked marked added : List ℕ) (e : Span)
     → IsIn (arena unmarked marked) e
     → Stays (arena unmarked marked) (arena unmarked (marked ++ added)) e
-stays_with_more_marked unmarked marked added e is_in = by_store e.store e.start e.end
+stays_with_more_marked unmarked marked added e is_in = stays e.store e.start e.end
     is_in.start_le_end is_in.end_le_length
   where
-    by_store : (p : Store) (s t : ℕ) → s ≤ t → t ≤ length (symbols_of (arena unmarked marked) p)
+    stays : (p : Store) (s t : ℕ) → s ≤ t → t ≤ length (symbols_of (arena unmarked marked) p)
         → Stays (arena unmarked marked) (arena unmarked (marked ++ added)) (span p s t)
-    by_store Unmarked s t start_le_end end_le_length = record {
+    stays Unmarked s t start_le_end end_le_length = record {
       is_in = record {
         start_le_end =
             start_le_end;
@@ -104,7 +102,7 @@ stays_with_more_marked unmarked marked added e is_in = by_store e.store e.start 
       };
       formulas_equal = refl;
     }
-    by_store Marked s t start_le_end end_le_length =
+    stays Marked s t start_le_end end_le_length =
         record {
           is_in = record {
             start_le_end = start_le_end;
@@ -120,11 +118,11 @@ stays_with_more_marked unmarked marked added e is_in = by_store e.store e.start 
 -- an entry of a marked formula, whatever the unmarked ones are
 pub marked_entry_is_in : (unmarked marked : List ℕ) (e : Span) → IsMarkedEntry marked e
     → IsIn (arena unmarked marked) e
-marked_entry_is_in unmarked marked e is_marked_entry = by_store e.store is_marked_entry.is_in_marked
+marked_entry_is_in unmarked marked e is_marked_entry = lies_in e.store is_marked_entry.is_in_marked
   where
-    by_store : (p : Store) → p ≡ Marked → IsIn (arena unmarked marked) (span p e.start e.end)
-    by_store Unmarked p_is_marked = absurd (cc)
-    by_store Marked p_is_marked = record {
+    lies_in : (p : Store) → p ≡ Marked → IsIn (arena unmarked marked) (span p e.start e.end)
+    lies_in Unmarked p_is_marked = absurd (cc)
+    lies_in Marked p_is_marked = record {
       start_le_end = is_marked_entry.start_le_end;
       end_le_length = is_marked_entry.end_le_length;
     }
@@ -132,14 +130,14 @@ marked_entry_is_in unmarked marked e is_marked_entry = by_store e.store is_marke
 pub marked_entry_formulas_equal : (unmarked unmarked' marked : List ℕ) (e : Span)
     → IsMarkedEntry marked e
     → span_formula (arena unmarked marked) e ≡ span_formula (arena unmarked' marked) e
-marked_entry_formulas_equal unmarked unmarked' marked e is_marked_entry = by_store e.store
+marked_entry_formulas_equal unmarked unmarked' marked e is_marked_entry = formulas_equal e.store
     is_marked_entry.is_in_marked
   where
-    by_store : (p : Store) → p ≡ Marked
+    formulas_equal : (p : Store) → p ≡ Marked
         → span_formula (arena unmarked marked) (span p e.start e.end)
         ≡ span_formula (arena unmarked' marked) (span p e.start e.end)
-    by_store Unmarked p_is_marked = absurd (cc)
-    by_store Marked p_is_marked = refl
+    formulas_equal Unmarked p_is_marked = absurd (cc)
+    formulas_equal Marked p_is_marked = refl
 
 pub marked_entries_are_in : (unmarked marked : List ℕ) (es : List Span)
     → All (IsMarkedEntry marked) es
@@ -168,8 +166,7 @@ formula_of_appended unmarked marked f =
     (omega (arith, length-append unmarked f))
 
 pub appended_is_in : (unmarked marked f : List ℕ) → IsIn (arena (unmarked ++ f) marked)
-    (appended_span
-    unmarked f)
+    (appended_span unmarked f)
 appended_is_in unmarked marked f = record {
   start_le_end = omega (arith, length-append unmarked f);
   end_le_length = omega
@@ -199,31 +196,25 @@ formula_in_range n a e unmarked_in_range marked_in_range =
     list_in_range Marked = marked_in_range
 
 -- what parts say is of symbols of the database
-pub replaced_in_range : (n : ℕ) (a : Arena) (es : List Span) (f : List RuleSymbol)
+pub replaced_in_range : (n : ℕ) (a : Arena) (es : List Span) (f : List RulePart)
     → All (λ s. s < n) a.unmarked
     → All (λ s. s < n) a.marked → All (IsConstantBelow n) f → All (λ s. s < n) (replaced a es f)
-replaced_in_range n a es f unmarked_in_range marked_in_range parts_in_range = symbol_by_symbol f
+replaced_in_range n a es f unmarked_in_range marked_in_range parts_in_range = all_in_range f
     (recursion_from_All (IsConstantBelow n) f parts_in_range)
   where
-    part_in_range : (p : RuleSymbol) → IsConstantBelow n p → All (λ s. s < n) (replaced_part a es p)
+    part_in_range : (p : RulePart) → IsConstantBelow n p → All (λ s. s < n) (replaced_part a es p)
     part_in_range (Variable j) part_is_below = formula_in_range n a (without_first (get_or es j
         no_symbols))
         unmarked_in_range marked_in_range
     part_in_range (Constant s) part_is_below = All-from_recursion (λ s. s < n) (s ∷ [])
         (part_is_below, tt)
 
-    symbol_by_symbol : (f : List RuleSymbol) → AllByRecursion (IsConstantBelow n) f
+    all_in_range : (f : List RulePart) → AllByRecursion (IsConstantBelow n) f
         → All (λ s. s < n) (replaced a es f)
-    symbol_by_symbol [] parts_are_below = All-nil (λ s. s < n)
-    symbol_by_symbol (p ∷ f) parts_are_below = All-append (λ s. s < n) _ _ (part_in_range p
-        parts_are_below.0) (symbol_by_symbol
+    all_in_range [] parts_are_below = All-nil (λ s. s < n)
+    all_in_range (p ∷ f) parts_are_below = All-append (λ s. s < n) _ _ (part_in_range p
+        parts_are_below.0) (all_in_range
         f parts_are_below.1)
-
--- a table written back
-pub take_written_back : {X : Type 0} (new_table old_table : List X) (n : ℕ) → length new_table ≡ n
-    → take n (new_table ++ drop (length new_table) old_table) ≡ new_table
-take_written_back new_table old_table n length_is_n = take_at new_table (drop (length new_table)
-    old_table) n length_is_n
 
 -- a stretch of entries that are in the arena
 pub slice_entries_are_in : (a : Arena) (es : List Span) (start end : ℕ) → All (IsIn a) es
@@ -240,12 +231,11 @@ replacement_is_in a es j e entries_in j_lt_length e_is_without_first =
     j_lt_length entries_in in
     subst (IsIn a) (sym e_is_without_first) (record {
       start_le_end = omega arith;
-      end_le_length =
-          entry_is_in.end_le_length;
+      end_le_length = entry_is_in.end_le_length;
     })
 
-pub variable_replacement_is_in : (a : Arena) (es : List Span) (parts : List RuleSymbol) (i : ℕ) (p :
-    RuleSymbol)
+pub variable_replacement_is_in : (a : Arena) (es : List Span) (parts : List RulePart) (i : ℕ) (p :
+    RulePart)
     (j : ℕ)
     → (e : Span) → All (IsIn a) es → All (IsVariableBelow (length es)) parts → i < length parts
     → p ≡ get_or parts i p → p ≡ Variable j → e ≡ without_first (get_or es j no_symbols) → IsIn a e

@@ -4,12 +4,12 @@ use Rattle.std.proofs.Common.{◌++◌, ap, ◌∙◌, arith, length-append, app
 use Rattle.std.proofs.lemmas.List.{take_more}
 use Rattle.std.proofs.lemmas.List.Concat.{flat_map-append}
 use Rattle.mm_machine.specs.declared.arena.Span.{Span}
-use Rattle.mm_rule.specs.declared.rule.RuleSymbol.{RuleSymbol}
+use Rattle.mm_rule.specs.declared.rule.RulePart.{RulePart}
 use Rattle.mm_machine.specs.Arena.{Arena}
 use Rattle.mm_machine.specs.Replaced.{replaced_part, replaced}
 
 module _ (a : Arena) (es : List Span) where
-  pub front_and_part_le_replaced : (f : List RuleSymbol) (i : ℕ) (p : RuleSymbol) (u : List ℕ)
+  pub front_and_part_le_replaced : (f : List RulePart) (i : ℕ) (p : RulePart) (u : List ℕ)
       → i < length f
       → get_or f i p ≡ p
       → replaced_part a es p ≡ u
@@ -30,7 +30,7 @@ module _ (a : Arena) (es : List Span) where
             (replaced a es (take i f)),
       )
 
-  pub replaced_take_suc : (f : List RuleSymbol) (i : ℕ) (d : RuleSymbol) → i < length f
+  pub replaced_take_suc : (f : List RulePart) (i : ℕ) (d : RulePart) → i < length f
       → replaced a es (take (i + 1) f)
       ≡ replaced a es (take i f) ++ replaced_part a es (get_or f i d)
   replaced_take_suc f i d i_lt_length =

@@ -4,7 +4,7 @@ use Rattle.std.proofs.lemmas.List.Elements.{All-push, All-append}
 use Rattle.mm_spec.specs.Derivation.{Formula}
 use Rattle.mm_machine.specs.declared.arena.Span.{Span}
 use Rattle.mm_machine.specs.Arena.{arena, span_formula}
-use Rattle.mm_machine.specs.State.{span_formulas, IsStack, IsMarkedEntry, IsMachine, Moves}
+use Rattle.mm_machine.specs.State.{span_formulas, IsStack, IsMarkedEntry, IsMachine, MovesFormulas}
 use Rattle.mm_machine.proofs.GrowLaw.{all_stay, formulas_equal_if_stay, stays_with_more_marked}
 use Rattle.mm_machine.proofs.GrowLaw.{marked_entries_are_in}
 use Rattle.mm_machine.proofs.GrowLaw.{marked_entries_stay_marked}
@@ -15,7 +15,7 @@ pub moved_machine : (unmarked marked : List ℕ) (es : List Span) (marks : List 
     (marked_spans : List Span)
     → (symbol_count : ℕ) (unmarked' marked' : List ℕ) (es' : List Span)
     → IsMachine unmarked marked es marks marked_spans symbol_count
-    → Moves unmarked marked unmarked' marked' → IsStack unmarked' marked' es'
+    → MovesFormulas unmarked marked unmarked' marked' → IsStack unmarked' marked' es'
     → IsMachine unmarked' marked' es' marks marked_spans symbol_count
 moved_machine unmarked marked es marks marked_spans symbol_count unmarked' marked' es'
     is_machine moves is_stack' =
@@ -79,7 +79,7 @@ machine_with_mark unmarked marked es marks marked_spans symbol_count e step is_m
 -- the formulas of the marked steps, and one more
 pub marked_spans_formulas : (unmarked marked unmarked' marked' : List ℕ) (marked_spans : List Span)
     (e : Span) (f : Formula)
-    → Moves unmarked marked unmarked' marked' → All (IsMarkedEntry marked) marked_spans
+    → MovesFormulas unmarked marked unmarked' marked' → All (IsMarkedEntry marked) marked_spans
     → span_formula (arena [] marked') e ≡ f
     → span_formulas (arena [] marked') (marked_spans ++ e ∷ [])
     ≡ span_formulas (arena [] marked) marked_spans ++ f ∷ []

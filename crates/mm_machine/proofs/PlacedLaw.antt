@@ -13,7 +13,7 @@ use Rattle.mm_spec.specs.Laws.Stack.{unless_too_long}
 use Rattle.mm_machine.specs.declared.arena.Span.{Span}
 use Rattle.mm_machine.specs.declared.reason.Reason.{Reason}
 use Rattle.mm_machine.specs.declared.machine.StepRefused.{StepRefused}
-use Rattle.mm_rule.specs.declared.rule.RuleSymbol.{RuleSymbol}
+use Rattle.mm_rule.specs.declared.rule.RulePart.{RulePart}
 use Rattle.mm_rule.specs.Rule.{CompiledRule, IsCompiled, IsVariableBelow, IsConstantBelow}
 use Rattle.mm_machine.specs.Arena.{Arena, arena, AreEntries}
 use Rattle.mm_machine.specs.Replaced.{replaced}
@@ -26,7 +26,7 @@ use Rattle.mm_machine.proofs.GrowLaw.{replaced_in_range}
 
 -- ---- the formula
 
-module _ (unmarked marked : List ℕ) (stack : List Span) (below : ℕ) (parts : List RuleSymbol) where
+module _ (unmarked marked : List ℕ) (stack : List Span) (below : ℕ) (parts : List RulePart) where
   module _ (formula : Formula) (formula_is : formula ≡ replaced (arena unmarked marked) (drop below
       stack) parts)
     where
@@ -76,11 +76,11 @@ pub taken_length_le_limit : (n : ℕ) (xs : List ℕ) → n ≤ formula_limit
     → nat_le (length (take n xs)) formula_limit ≡ true
 taken_length_le_limit n xs n_le_limit = le-leb _ _ (omega (arith, n_le_limit, length-take n xs))
 
-pub has_entry_after : (a : Arena) (es : List Span) (below : ℕ) (parts : List RuleSymbol)
+pub has_entry_after : (a : Arena) (es : List Span) (below : ℕ) (parts : List RulePart)
     (out : List Formula)
     → entries_after a es below parts ≡ Ok out → 0 < length out
 has_entry_after a es below parts out entries_are =
-    by_length_test (nat_le (length (replaced a (drop below es) parts)) formula_limit) entries_are
+    out_has_entry (nat_le (length (replaced a (drop below es) parts)) formula_limit) entries_are
   where
     entries_below : List Formula
     entries_below = take below (span_formulas a es)
@@ -88,10 +88,10 @@ has_entry_after a es below parts out entries_are =
     formula : Formula
     formula = replaced a (drop below es) parts
 
-    by_length_test : (b : Bool) → unless_too_long b (entries_below ++ formula ∷ []) ≡ Ok out → 0
+    out_has_entry : (b : Bool) → unless_too_long b (entries_below ++ formula ∷ []) ≡ Ok out → 0
         < length out
-    by_length_test false ends_ok = absurd (cc)
-    by_length_test true ends_ok =
+    out_has_entry false ends_ok = absurd (cc)
+    out_has_entry true ends_ok =
         let out_is : entries_below ++ formula ∷ [] ≡ out = cc in
         let length_out = ap length out_is in omega (
           arith,
@@ -117,7 +117,7 @@ rule_test_by_values db t c unmarked unmarked' marked marked' stack stack' r unma
 
 module _ (db : List Statement) (t : ℕ) (c : CompiledRule) (unmarked marked marked' : List ℕ)
     (stack : List Span)
-    (below : ℕ) (parts : List RuleSymbol) (marked_equal : marked' ≡ marked) (parts_are : parts
+    (below : ℕ) (parts : List RulePart) (marked_equal : marked' ≡ marked) (parts_are : parts
     ≡ c.formula)
     (tested : TestsRule db t c (arena unmarked marked) stack (Ok below)) where
   applied_is : applied db t c.assertion (span_formulas (arena unmarked marked) stack)
@@ -164,12 +164,12 @@ module _ (db : List Statement) (t : ℕ) (c : CompiledRule) (unmarked marked mar
       let premise_counts_equal : length c.hypotheses ≡ length (drop below stack) =
       (let stack_count_is = tested.0 in omega (arith, stack_count_is, length-drop below stack)) in
       rw parts_are (subst (λ n. All (IsVariableBelow n) c.formula) premise_counts_equal
-      rule.formula_in)
+      rule.formula_in_range)
 
   pub rule_parts_in_range : IsCompiled db c → (symbol_count : ℕ) → symbol_count
       ≡ length (symbol_names db)
       → All (IsConstantBelow symbol_count) parts
-  rule_parts_in_range rule symbol_count count_is = rw (parts_are, count_is) rule.formula_known
+  rule_parts_in_range rule symbol_count count_is = rw (parts_are, count_is) rule.constants_in_range
 
 -- the answer of a step that changes the entries alone
 pub is_applied_if_kept : {T : Type 0} (db : List Statement) (t a : ℕ) (s s' : MachineState)
@@ -219,7 +219,7 @@ module _ (unmarked marked : List ℕ) (es : List Span) (marks : List ℕ) (marke
   stack_by_value marked' marked_equal = rw marked_equal is_machine.stack.is_stack
 
   -- after a step
-  pub machine_after_step : (parts : List RuleSymbol) (unmarked' marked' : List ℕ) (es' : List Span)
+  pub machine_after_step : (parts : List RulePart) (unmarked' marked' : List ℕ) (es' : List Span)
       → marked'
       ≡ marked
       → All (IsConstantBelow symbol_count) parts

@@ -14,13 +14,13 @@ use Rattle.mm_spec.specs.Laws.Stack.{substitution_from, tail, are_equal, apply, 
 use Rattle.mm_spec.specs.Laws.Complete.{IsBound, AreBound}
 use Rattle.mm_machine.specs.declared.arena.Span.{Span}
 use Rattle.mm_rule.specs.declared.rule.Hypothesis.{Hypothesis}
-use Rattle.mm_rule.specs.declared.rule.RuleSymbol.{RuleSymbol}
-use Rattle.mm_rule.specs.declared.rule.RuleSymbol.TheVariants.{Constant, Variable}
+use Rattle.mm_rule.specs.declared.rule.RulePart.{RulePart}
+use Rattle.mm_rule.specs.declared.rule.RulePart.TheVariants.{Constant, Variable}
 use Rattle.mm_spec.specs.Statement.{Statement}
 use Rattle.mm_spec.specs.Frame.{is_variable_number, frame_at}
 use Rattle.mm_spec.specs.Citation.{context_at}
 use Rattle.mm_machine.specs.Arena.{Arena, symbols_of, no_symbols, span_formula, IsIn}
-use Rattle.mm_rule.specs.Rule.{floating_index, parts_of, part_count, all_parts, CompiledRule}
+use Rattle.mm_rule.specs.Rule.{floating_index, parts_of, stored_part_count, all_parts, CompiledRule}
 use Rattle.mm_rule.specs.Rule.{IsCompiled}
 use Rattle.mm_machine.specs.Replaced.{replacement, replaced_part}
 use Rattle.mm_machine.specs.Replaced.{replaced}
@@ -59,14 +59,14 @@ module _ (db : List Statement) (t : ℕ) (hs : List Formula) (xs : Arena) (es : 
       → replaced xs es (parts_of db hs f) ≡ substitute (context_at db t) σ f
   replaced_is_substituted [] are_bound = refl
   replaced_is_substituted (s ∷ f) are_bound = ap₂ (λ u v. u ++ v)
-      (by_is_variable (is_variable_number db s) are_bound.0)
+      (symbol_is_substituted (is_variable_number db s) are_bound.0)
       (replaced_is_substituted f are_bound.1)
     where
-      by_is_variable : (v : Bool) → (IsTrue v → IsBound (context_at db t) hs s)
+      symbol_is_substituted : (v : Bool) → (IsTrue v → IsBound (context_at db t) hs s)
           → replaced_part xs es (cond v (Variable (floating_index db hs s)) (Constant s))
           ≡ cond v (σ s) (s ∷ [])
-      by_is_variable true bound_if_variable = replacement_is s (bound_if_variable refl)
-      by_is_variable false bound_if_variable = refl
+      symbol_is_substituted true bound_if_variable = replacement_is s (bound_if_variable refl)
+      symbol_is_substituted false bound_if_variable = refl
 
   pub all_replaced_are_substituted : (fs : List Formula)
       → AllByRecursion (AreBound (context_at db t) hs) fs
@@ -92,11 +92,11 @@ module _ (db : List Statement) (t : ℕ) (hs : List Formula) (xs : Arena) (es : 
       (replacement_is p.high all_bound.0.1))
       (pair_tests_equal pairs all_bound.1)
 
-pub length_all_parts : (parts : List RuleSymbol) (j : ℕ) (hypotheses : List Hypothesis)
+pub length_all_parts : (parts : List RulePart) (j : ℕ) (hypotheses : List Hypothesis)
     → length (all_parts parts j hypotheses) ≡ length hypotheses
 length_all_parts parts j [] = refl
 length_all_parts parts j (a ∷ hypotheses) =
-    ap suc (length_all_parts (drop (part_count a) parts) (suc j) hypotheses)
+    ap suc (length_all_parts (drop (stored_part_count a) parts) (suc j) hypotheses)
 
 map_drop : (xs : Arena) (n : ℕ) (es : List Span)
     → drop n (span_formulas xs es) ≡ span_formulas xs (drop n es)
@@ -150,17 +150,18 @@ applied_is_tested db t c xs stack premises rule hypotheses_le_stack premises_are
     let hypotheses_substituted : map (substitute (context_at db t) σ') hs
     ≡ map (replaced xs premises) (all_parts c.parts 0 c.hypotheses) = sym
     (all_replaced_are_substituted db t hs xs premises premises_in counts_equal hs
-    rule.complete.hypotheses)
+    rule.is_complete.hypotheses)
     ∙ ap (map (replaced xs premises)) (sym rule.hypotheses_are) in
     let b2_is_list_all : list_all (λ p. are_all_disjoint (context_at db t) (σ' p.low) (σ' p.high))
     a.pairs ≡ b2 =
-    sym (pair_tests_equal db t hs xs premises premises_in counts_equal a.pairs rule.complete.pairs)
+    sym (pair_tests_equal db t hs xs premises premises_in counts_equal a.pairs
+    rule.is_complete.pairs)
     ∙ ap (list_all (cache db t hs xs premises premises_in counts_equal)) (sym rule.pairs_are)
     ∙ sym b2_is in
     let formula_substituted : substitute (context_at db t) σ' a.formula
     ≡ replaced xs premises c.formula =
     sym (replaced_is_substituted db t hs xs premises premises_in counts_equal a.formula
-    rule.complete.formula)
+    rule.is_complete.formula)
     ∙ ap (replaced xs premises) (sym rule.formula_is) in
     ap₂ (λ b i. apply (context_at db t) a b (take i es) (drop i es)) has_enough_entries below_is
     ∙ ap (λ z. apply (context_at db t) a true (take m es) z)

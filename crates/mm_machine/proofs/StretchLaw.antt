@@ -6,7 +6,7 @@ use Rattle.std.proofs.Common.{length-drop, eqb-true, eq-eqb, min, ◌⊎◌, inl
 use Rattle.std.specs.List.{starts_with}
 use Rattle.std.proofs.lemmas.List.{drop-drop, drop_more, length-take-le}
 use Rattle.mm_machine.specs.declared.arena.Span.{Span}
-use Rattle.mm_rule.specs.declared.rule.RuleSymbol.{RuleSymbol}
+use Rattle.mm_rule.specs.declared.rule.RulePart.{RulePart}
 use Rattle.mm_machine.specs.Arena.{Arena, symbols_of, span_formula, IsIn}
 use Rattle.mm_machine.specs.Replaced.{replaced_part, replaced}
 use Rattle.mm_spec.specs.Laws.Stack.{tail}
@@ -69,13 +69,13 @@ length_formula a p is_in =
           p.store),
     ))
 
-module _ (symbols : Arena) (es : List Span) (xs : List ℕ) (w : List RuleSymbol) (i a e : ℕ)
+module _ (symbols : Arena) (es : List Span) (xs : List ℕ) (w : List RulePart) (i a e : ℕ)
     (i_lt_length : i < length w) where
   abbrev pub rest_is_wanted : ℕ → Bool
   rest_is_wanted n = bytes_eq (slice_range xs (a + n) e) (replaced symbols es (drop (i + 1) w))
 
   -- one part more
-  pub fit_splits : (p : RuleSymbol) (u : List ℕ) → get_or w i p ≡ p → replaced_part symbols es p ≡ u
+  pub fit_splits : (p : RulePart) (u : List ℕ) → get_or w i p ≡ p → replaced_part symbols es p ≡ u
       → bytes_eq (slice_range xs a e) (replaced symbols es (drop i w))
       ≡ (starts_with nat_eq (slice_range xs a e) u && rest_is_wanted (length u))
   fit_splits p u p_is_part u_replaces_p =
@@ -89,22 +89,15 @@ module _ (symbols : Arena) (es : List Span) (xs : List ℕ) (w : List RuleSymbol
 -- whether a stretch begins with one symbol
 pub begins_with_first : (xs : List ℕ) (a e s : ℕ) → a < e → e ≤ length xs
     → starts_with nat_eq (slice_range xs a e) (s ∷ []) ≡ nat_eq s (get_or xs a 0)
-begins_with_first xs a e s a_lt_e e_le_length_xs = by_first_symbol (e - a) (drop a xs)
-    (drop_more xs a 0 (omega arith))
-    (omega arith)
+begins_with_first xs a e s a_lt_e e_le_length_xs = begins_with_symbol (e - a) (drop a xs)
+    (drop_more xs a 0 (omega arith)) (omega arith)
   where
-    by_first_symbol : (n : ℕ) (ys : List ℕ) → ys ≡ get_or xs a 0 ∷ drop (a + 1) xs → 0 < n
+    begins_with_symbol : (n : ℕ) (ys : List ℕ) → ys ≡ get_or xs a 0 ∷ drop (a + 1) xs → 0 < n
         → starts_with nat_eq (take n ys) (s ∷ []) ≡ nat_eq s (get_or xs a 0)
-    by_first_symbol zero ys ys_is n_is_positive = absurd (omega arith)
-    by_first_symbol (suc n) ys ys_is n_is_positive =
+    begins_with_symbol zero ys ys_is n_is_positive = absurd (omega arith)
+    begins_with_symbol (suc n) ys ys_is n_is_positive =
         ap (λ z. starts_with nat_eq (take (suc n) z) (s ∷ [])) ys_is
         ∙ and-true (nat_eq s (get_or xs a 0))
-
-pub empty_begins_with_none : (xs : List ℕ) (a e s : ℕ) → e ≤ a
-    → starts_with nat_eq (slice_range xs a e) (s ∷ []) ≡ false
-empty_begins_with_none xs a e s e_le_a =
-    let difference_is_0 : e - a ≡ 0 = omega arith in ap (λ n. starts_with nat_eq (take n (drop a
-    xs)) (s ∷ [])) difference_is_0
 
 -- a stretch begins with a longer one never
 pub begins_with_length : (xs : List ℕ) (a e : ℕ) (u : List ℕ) → a ≤ e
@@ -126,18 +119,18 @@ begins_with_length xs a e u a_le_e begins_with_u =
 -- the entry without its first symbol
 pub formula_tail : (xs : List ℕ) (a e : ℕ) → a ≤ e
     → slice_range xs (min (a + 1) e) e ≡ tail (slice_range xs a e)
-formula_tail xs a e a_le_e = by_order (cases_lt a e)
+formula_tail xs a e a_le_e = tail_is (cases_lt a e)
   where
     tail_is_drop_1 : (zs : List ℕ) → tail zs ≡ drop 1 zs
     tail_is_drop_1 [] = refl
     tail_is_drop_1 (z ∷ zs) = refl
 
-    by_order : (a < e) ⊎ (e ≤ a) → slice_range xs (min (a + 1) e) e ≡ tail (slice_range xs a e)
-    by_order (inl a_lt_e) =
+    tail_is : (a < e) ⊎ (e ≤ a) → slice_range xs (min (a + 1) e) e ≡ tail (slice_range xs a e)
+    tail_is (inl a_lt_e) =
         let min_is : min (a + 1) e ≡ a + 1 = omega arith in
         ap (λ n. slice_range xs n e) min_is ∙ sym (drop_slice xs a e 1)
         ∙ sym (tail_is_drop_1 (slice_range xs a e))
-    by_order (inr e_le_a) =
+    tail_is (inr e_le_a) =
         let rest_is_empty : e - min (a + 1) e ≡ 0 = omega arith in
         let slice_is_empty : e - a ≡ 0 = omega arith in
         ap (λ n. take n (drop (min (a + 1) e) xs)) rest_is_empty
@@ -162,9 +155,3 @@ typed_test_is l a e t a_lt_e e_le_length =
     ap₂ (λ u n. bytes_eq u (t ∷ slice_range l n e)) (slice_is_cons l a e a_lt_e e_le_length) min_is
     ∙ ap (λ b. nat_eq (get_or l a 0) t && b) (bytes_eq_self (slice_range l (a + 1) e))
     ∙ and-true (nat_eq (get_or l a 0) t)
-
-pub empty_is_not_typed : (l : List ℕ) (a e t : ℕ) (u : List ℕ) → e ≤ a
-    → bytes_eq (slice_range l a e) (t ∷ u) ≡ false
-empty_is_not_typed l a e t u e_le_a =
-    let difference_is_0 : e - a ≡ 0 = omega arith in ap (λ n. bytes_eq (take n (drop a l)) (t ∷ u))
-    difference_is_0

@@ -13,6 +13,7 @@ pub record Arena : Type 0 where
 abbrev pub arena : List ℕ → List ℕ → Arena
 arena unmarked marked = record { unmarked = unmarked; marked = marked }
 
+-- the list of the arena that is called so
 abbrev pub symbols_of : Arena → Store → List ℕ
 symbols_of a Unmarked = a.unmarked
 symbols_of a Marked = a.marked
@@ -20,9 +21,11 @@ symbols_of a Marked = a.marked
 abbrev pub span : Store → ℕ → ℕ → Span
 span p s e = record { store = p; start = s; end = e }
 
+-- an entry of no symbols
 abbrev pub no_symbols : Span
 no_symbols = span Unmarked 0 0
 
+-- the formula of an entry
 abbrev pub span_formula : Arena → Span → Formula
 span_formula a e = slice_range (symbols_of a e.store) e.start e.end
 

@@ -7,14 +7,14 @@ use Rattle.mm_spec.specs.Limits.{formula_limit}
 use Rattle.mm_spec.specs.Valid.{Reason as SpecReason, too_few, unmatched, not_disjoint, too_long}
 use Rattle.mm_spec.specs.Frame.{frame_at}
 use Rattle.mm_spec.specs.Citation.{context_at}
-use Rattle.mm_spec.specs.Laws.Stack.{step, unless_too_long, top}
+use Rattle.mm_spec.specs.Laws.Stack.{label_entries, unless_too_long, top}
 use Rattle.mm_machine.specs.declared.arena.Span.{Span}
 use Rattle.mm_machine.specs.declared.reason.Reason.{Reason}
 use Rattle.mm_machine.specs.declared.reason.Reason.TheVariants.{TooFew, Unmatched, NotDisjoint}
 use Rattle.mm_machine.specs.declared.reason.Reason.TheVariants.{TooLong}
 use Rattle.mm_machine.specs.declared.arena.Store.TheVariants.{Unmarked, Marked}
 use Rattle.mm_machine.specs.Arena.{Arena, arena, span, span_formula, IsIn, IsArena}
-use Rattle.mm_rule.specs.declared.rule.RuleSymbol.{RuleSymbol}
+use Rattle.mm_rule.specs.declared.rule.RulePart.{RulePart}
 use Rattle.mm_rule.specs.Rule.{CompiledRule}
 use Rattle.mm_machine.specs.Replaced.{replaced}
 
@@ -43,6 +43,7 @@ Repeats j s t =
     (n : ℕ) × (n < length s.formulas) × (n < length s.marks) × (get_or s.marks n 0 ≡ j)
     × (t ≡ machine_state (s.stack ++ get_or s.formulas n [] ∷ []) s.marks s.formulas s.symbol_count)
 
+-- the formulas of the entries
 abbrev pub span_formulas : Arena → List Span → List Formula
 span_formulas a es = map (span_formula a) es
 
@@ -78,7 +79,7 @@ abbrev pub appended_span : List ℕ → Formula → Span
 appended_span unmarked f = span Unmarked (length unmarked) (length (unmarked ++ f))
 
 -- unmarked formulas were moved to the marked ones, and some were removed
-pub record Moves (unmarked marked unmarked' marked' : List ℕ) : Type 0 where
+pub record MovesFormulas (unmarked marked unmarked' marked' : List ℕ) : Type 0 where
   pub moved_symbols : List ℕ
   pub marked_is : marked' ≡ marked ++ moved_symbols
   pub symbols_in_range : (w : ℕ) → All (λ s. s < w) unmarked → All (λ s. s < w) moved_symbols
@@ -90,13 +91,13 @@ pub record IsMarkedEntry (marked : List ℕ) (e : Span) : Type 0 where
   pub start_le_end : e.start ≤ e.end
   pub end_le_length : e.end ≤ length marked
 
+-- no number is less than one before it
 abbrev pub IsRising : List ℕ → Type 0
-IsRising ns = (a b : ℕ) → a ≤ b → b < length ns → get_or ns a 0 ≤ get_or ns b 0
+IsRising ns = (i j : ℕ) → i ≤ j → j < length ns → get_or ns i 0 ≤ get_or ns j 0
 
 -- the entries are those of a machine for `symbol_count` symbols, and the lists fit together
 pub record IsMachine (unmarked marked : List ℕ) (es : List Span) (marks : List ℕ)
-    (marked_spans : List Span)
-    (symbol_count : ℕ) : Type 0 where
+    (marked_spans : List Span) (symbol_count : ℕ) : Type 0 where
   pub stack : IsStackOf symbol_count unmarked marked es
   pub spans_are_marked : All (IsMarkedEntry marked) marked_spans
   pub marks_rise : IsRising marks
@@ -110,11 +111,11 @@ reason_of TooLong = too_long
 
 -- the entries after the step of an assertion
 abbrev pub applied : List Statement → ℕ → ℕ → List Formula → Result (List Formula) SpecReason
-applied db t a es = step (context_at db t) (Some (assertion (frame_at db a))) es
+applied db t a es = label_entries (context_at db t) (Some (assertion (frame_at db a))) es
 
 -- The entries after a step that takes those from index `below` on as its premises, and pushes the
 -- parts with each variable replaced. It fails if that formula is too long.
-abbrev pub entries_after : Arena → List Span → ℕ → List RuleSymbol
+abbrev pub entries_after : Arena → List Span → ℕ → List RulePart
     → Result (List Formula) SpecReason
 entries_after a es below parts =
     unless_too_long (nat_le (length (replaced a (drop below es) parts)) formula_limit)

@@ -7,7 +7,7 @@ ghost use Rattle.mm_rule.specs.Rule.{IsVariableBelow};
 ghost use Rattle.mm_machine.specs.Replaced.{replaced};
 
 use mm_database::Sym;
-use mm_rule::{PackedSymbol, RuleSymbol};
+use mm_rule::{PackedPart, RulePart};
 use mm_spec::FORMULA_LIMIT;
 use std::alloc::{AllocError, Allocator};
 use std::marker::Model;
@@ -82,12 +82,12 @@ fn span_without_first(span: Span) -> Span
     }
 }
 
-/// What replaces the variable of the hypothesis with this number.
-pub fn replacement_of(premises: &[Span], number: u32) -> Span
-    requires { number < length premises.now }
-    ensures { result ≡ without_first (get_or premises.now number no_symbols) }
+/// What replaces the variable whose `$f` has this index among the hypotheses.
+pub fn replacement_of(premises: &[Span], floating_index: u32) -> Span
+    requires { floating_index < length premises.now }
+    ensures { result ≡ without_first (get_or premises.now floating_index no_symbols) }
 {
-    span_without_first(premises[number as usize])
+    span_without_first(premises[floating_index as usize])
 }
 
 /// Appends what replaces a variable to a list. A single symbol is pushed without a copy.
@@ -107,11 +107,11 @@ fn append_symbols<A: Allocator>(symbols: &[Sym], list: &mut Vec<Sym, A>) -> Resu
 pub fn build<A: Allocator>(
     symbols: &Symbols,
     premises: &[Span],
-    formula: &[PackedSymbol],
+    formula: &[PackedPart],
     list: &mut Vec<Sym, A>,
 ) -> Result<bool, AllocError>
-    requires premises { All (IsIn symbols.now) premises.now }
-    requires formula { All (IsVariableBelow (length premises.now)) formula.now }
+    requires premises_in_arena { All (IsIn symbols.now) premises.now }
+    requires variables_in_range { All (IsVariableBelow (length premises.now)) formula.now }
     ensures tells_length_le_limit { IfOk result
         (λ b. b ≡ nat_le (length (replaced symbols.now premises.now formula.now)) formula_limit) }
     ensures list_is_formula { IfOk result
@@ -119,14 +119,17 @@ pub fn build<A: Allocator>(
 {
     list.clear();
     for part in formula {
-        match part.symbol() {
-            RuleSymbol::Variable(number) => {
-                append_symbols(symbols.formula(replacement_of(premises, number)), list)?;
+        match part.unpack() {
+            RulePart::Variable(floating_index) => {
+                append_symbols(
+                    symbols.formula(replacement_of(premises, floating_index)),
+                    list,
+                )?;
                 if list.len() > FORMULA_LIMIT {
                     return Ok(false);
                 }
             }
-            RuleSymbol::Constant(symbol) => list.push(symbol)?,
+            RulePart::Constant(symbol) => list.push(symbol)?,
         }
     }
     Ok(list.len() <= FORMULA_LIMIT)

@@ -9,15 +9,15 @@ ghost use Rattle.mm_machine.specs.Replaced.{replaced};
 
 use crate::arena::{Span, Symbols, replacement_of};
 use mm_database::Sym;
-use mm_rule::{PackedSymbol, RuleSymbol};
+use mm_rule::{PackedPart, RulePart};
 use mm_spec::FORMULA_LIMIT;
 
 /// Writes a symbol at an index of a list.
 #[inline(always)]
 fn put_symbol(symbol: Sym, list: &mut [Sym], index: usize)
     requires { index < length list.old }
-    ensures same_length { length list.new ≡ length list.old }
-    ensures written { take (index + 1) list.new ≡ take index list.old ++ symbol ∷ [] }
+    ensures length_stays { length list.new ≡ length list.old }
+    ensures is_written { take (index + 1) list.new ≡ take index list.old ++ symbol ∷ [] }
 {
     list[index] = symbol;
 }
@@ -26,9 +26,9 @@ fn put_symbol(symbol: Sym, list: &mut [Sym], index: usize)
 #[inline(always)]
 fn put_two(symbols: &[Sym], list: &mut [Sym], index: usize)
     requires two_symbols { length symbols.now ≡ 2 }
-    requires room { index + 2 ≤ length list.old }
-    ensures same_length { length list.new ≡ length list.old }
-    ensures written { take (index + 2) list.new ≡ take index list.old ++ symbols.now }
+    requires fits { index + 2 ≤ length list.old }
+    ensures length_stays { length list.new ≡ length list.old }
+    ensures are_written { take (index + 2) list.new ≡ take index list.old ++ symbols.now }
 {
     put_symbol(symbols[0], list, index);
     put_symbol(symbols[1], list, index + 1);
@@ -39,23 +39,23 @@ fn put_two(symbols: &[Sym], list: &mut [Sym], index: usize)
 #[inline(always)]
 fn put_four(symbols: &[Sym], list: &mut [Sym], index: usize)
     requires four_symbols { length symbols.now ≡ 4 }
-    requires room { index + 4 ≤ length list.old }
-    ensures same_length { length list.new ≡ length list.old }
-    ensures written { take (index + 4) list.new ≡ take index list.old ++ symbols.now }
+    requires fits { index + 4 ≤ length list.old }
+    ensures length_stays { length list.new ≡ length list.old }
+    ensures are_written { take (index + 4) list.new ≡ take index list.old ++ symbols.now }
 {
-    let (first, second, third, last) = (symbols[0], symbols[1], symbols[2], symbols[3]);
+    let (first, second, third, fourth) = (symbols[0], symbols[1], symbols[2], symbols[3]);
     put_symbol(first, list, index);
     put_symbol(second, list, index + 1);
     put_symbol(third, list, index + 2);
-    put_symbol(last, list, index + 3);
+    put_symbol(fourth, list, index + 3);
 }
 
 /// Writes symbols from `index` on.
 #[inline(always)]
 fn put_all(symbols: &[Sym], list: &mut [Sym], index: usize)
     requires { index + length symbols.now ≤ length list.old }
-    ensures same_length { length list.new ≡ length list.old }
-    ensures written { take (index + length symbols.now) list.new
+    ensures length_stays { length list.new ≡ length list.old }
+    ensures are_written { take (index + length symbols.now) list.new
         ≡ take index list.old ++ symbols.now }
 {
     let end = index + symbols.len();
@@ -67,8 +67,8 @@ fn put_all(symbols: &[Sym], list: &mut [Sym], index: usize)
 #[inline(always)]
 fn put_width(symbols: &[Sym], list: &mut [Sym], index: usize)
     requires { index + length symbols.now ≤ length list.old }
-    ensures same_length { length list.new ≡ length list.old }
-    ensures written { take (index + length symbols.now) list.new
+    ensures length_stays { length list.new ≡ length list.old }
+    ensures are_written { take (index + length symbols.now) list.new
         ≡ take index list.old ++ symbols.now }
 {
     if symbols.len() == 2 {
@@ -90,9 +90,9 @@ fn put_width(symbols: &[Sym], list: &mut [Sym], index: usize)
 fn put_ends(symbols: &[Sym], list: &mut [Sym], index: usize, width: usize)
     requires width_le_count { width ≤ length symbols.now }
     requires count_le_double_width { length symbols.now ≤ 2 * width }
-    requires room { index + length symbols.now ≤ length list.old }
-    ensures same_length { length list.new ≡ length list.old }
-    ensures written { take (index + length symbols.now) list.new
+    requires fits { index + length symbols.now ≤ length list.old }
+    ensures length_stays { length list.new ≡ length list.old }
+    ensures are_written { take (index + length symbols.now) list.new
         ≡ take index list.old ++ symbols.now }
 {
     let left = symbols.len() - width;
@@ -104,8 +104,8 @@ fn put_ends(symbols: &[Sym], list: &mut [Sym], index: usize, width: usize)
 #[inline(always)]
 pub fn put_symbols(symbols: &[Sym], list: &mut [Sym], index: usize)
     requires { index + length symbols.now ≤ length list.old }
-    ensures same_length { length list.new ≡ length list.old }
-    ensures written { take (index + length symbols.now) list.new
+    ensures length_stays { length list.new ≡ length list.old }
+    ensures are_written { take (index + length symbols.now) list.new
         ≡ take index list.old ++ symbols.now }
 {
     let count = symbols.len();
@@ -130,23 +130,23 @@ pub fn put_symbols(symbols: &[Sym], list: &mut [Sym], index: usize)
 pub fn fill(
     symbols: &Symbols,
     premises: &[Span],
-    formula: &[PackedSymbol],
+    formula: &[PackedPart],
     list: &mut [Sym],
 ) -> Option<usize>
-    requires premises { All (IsIn symbols.now) premises.now }
-    requires formula { All (IsVariableBelow (length premises.now)) formula.now }
+    requires premises_in_arena { All (IsIn symbols.now) premises.now }
+    requires variables_in_range { All (IsVariableBelow (length premises.now)) formula.now }
     ensures count_le_length { IfSome result (λ n. n ≤ length list.new) }
     ensures count_le_limit { IfSome result (λ n. n ≤ formula_limit) }
-    ensures written { IfSome result
+    ensures formula_is_written { IfSome result
         (λ n. take n list.new ≡ replaced symbols.now premises.now formula.now) }
 {
     let mut written_count = 0;
     // How many elements of the list are left over, if each part that is to come takes one.
     let mut spare = list.len().checked_sub(formula.len())?;
     for part in formula {
-        match part.symbol() {
-            RuleSymbol::Variable(number) => {
-                let replacement = symbols.formula(replacement_of(premises, number));
+        match part.unpack() {
+            RulePart::Variable(floating_index) => {
+                let replacement = symbols.formula(replacement_of(premises, floating_index));
                 if replacement.len() > spare + 1 {
                     return None;
                 }
@@ -154,7 +154,7 @@ pub fn fill(
                 spare = spare + 1 - replacement.len();
                 written_count += replacement.len();
             }
-            RuleSymbol::Constant(symbol) => {
+            RulePart::Constant(symbol) => {
                 put_symbol(symbol, list, written_count);
                 written_count += 1;
             }

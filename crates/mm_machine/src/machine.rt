@@ -12,7 +12,8 @@ ghost use Rattle.mm_machine.specs.DisjointCache.{AreDisjointAt};
 ghost use Rattle.mm_machine.specs.State.{machine_state, with_mark, Repeats, span_formulas};
 ghost use Rattle.mm_machine.specs.State.{first_unmarked as first_unmarked_of, appended_span};
 ghost use Rattle.mm_machine.specs.State.{entries_after};
-ghost use Rattle.mm_machine.specs.State.{IsStack, IsStackOf, IsRising, IsMarkedEntry, Moves};
+ghost use Rattle.mm_machine.specs.State.{IsStack, IsStackOf, IsRising, IsMarkedEntry};
+ghost use Rattle.mm_machine.specs.State.{MovesFormulas};
 ghost use Rattle.mm_machine.specs.Applied.{IsRefusalOf, IsApplied};
 
 use crate::arena::{Span, Store, Symbols, build};
@@ -22,12 +23,12 @@ use crate::reason::Reason;
 use crate::rule_test::test_rule;
 use crate::symbol_list::SymbolList;
 use mm_database::{Database, Sym};
-use mm_rule::{PackedSymbol, Rule, empty, formula, put_number};
+use mm_rule::{PackedPart, Rule, empty, formula, put_number};
 use mm_spec::FORMULA_LIMIT;
 use std::alloc::{AllocError, Allocator};
 use std::marker::Model;
 
-/// The number of slots that say where marks are. The slot of a mark is its number modulo this.
+/// How many slots say where marks are. The slot of a mark is the index of its step modulo this.
 const MARK_SLOTS: usize = 4_096;
 
 /// The maximum number of symbols of a short formula.
@@ -96,22 +97,22 @@ impl<A: Allocator> Model for Machine<A> {
         m.marked_spans.items m.symbol_count };
 }
 
-/// The index of `number` among `numbers`, which are in ascending order: where the slots say, or
+/// The index of `mark` among `marks`, which are in ascending order: where the slots say, or
 /// otherwise by binary search.
-fn index_of_mark(numbers: &[usize], number: usize, slots: &[u32]) -> usize
-    requires numbers_rise { IsRising numbers.now }
-    requires has_number { Contains numbers.now number }
-    ensures index_lt_length { result < length numbers.now }
-    ensures finds_number { get_or numbers.now result 0 ≡ number }
+fn index_of_mark(marks: &[usize], mark: usize, slots: &[u32]) -> usize
+    requires marks_rise { IsRising marks.now }
+    requires has_mark { Contains marks.now mark }
+    ensures index_lt_length { result < length marks.now }
+    ensures finds_mark { get_or marks.now result 0 ≡ mark }
 {
-    let slot = number % MARK_SLOTS;
+    let slot = mark % MARK_SLOTS;
     if slot < slots.len() {
         let index = slots[slot] as usize;
-        if index < numbers.len() && numbers[index] == number {
+        if index < marks.len() && marks[index] == mark {
             return index;
         }
     }
-    match numbers.binary_search(&number) {
+    match marks.binary_search(&mark) {
         Ok(found) => found,
         Err(gap) => gap,
     }
@@ -156,11 +157,11 @@ impl<A: Allocator> Machine<A> {
     #[inline(always)]
     pub fn push(&mut self, formula: &[Sym]) -> Result<(), AllocError>
         requires { All (λ s. s < self.old.symbol_count) formula.now }
-        ensures ok { OnOk result
+        ensures pushes_formula { OnOk result
             (self.new
             ≡ machine_state (self.old.stack ++ formula.now ∷ []) self.old.marks self.old.formulas
             self.old.symbol_count) }
-        ensures symbol_count { self.new.symbol_count ≡ self.old.symbol_count }
+        ensures symbol_count_stays { self.new.symbol_count ≡ self.old.symbol_count }
     {
         push_unmarked(formula, &mut self.unmarked, &mut self.stack)
     }
@@ -168,8 +169,8 @@ impl<A: Allocator> Machine<A> {
     /// Pushes the formula of the earlier, marked step again.
     pub fn repeat(&mut self, step: u32) -> Result<(), AllocError>
         requires { Contains self.old.marks step }
-        ensures ok { OnOk result (Repeats step self.old self.new) }
-        ensures symbol_count { self.new.symbol_count ≡ self.old.symbol_count }
+        ensures repeats_step { OnOk result (Repeats step self.old self.new) }
+        ensures symbol_count_stays { self.new.symbol_count ≡ self.old.symbol_count }
     {
         let index = index_of_mark(&self.marks, step as usize, &self.slots);
         self.stack.push(self.marked_spans[index])?;
@@ -178,10 +179,10 @@ impl<A: Allocator> Machine<A> {
 
     /// Adds the top formula, with which this step ended, to those of the marked steps.
     pub fn mark(&mut self, step: usize) -> Result<(), AllocError>
-        requires entry { 0 < length self.old.stack }
+        requires has_entry { 0 < length self.old.stack }
         requires marks_lt_step { All (λ j. j < step) self.old.marks }
-        ensures ok { OnOk result (self.new ≡ with_mark true step self.old) }
-        ensures symbol_count { self.new.symbol_count ≡ self.old.symbol_count }
+        ensures marks_step { OnOk result (self.new ≡ with_mark true step self.old) }
+        ensures symbol_count_stays { self.new.symbol_count ≡ self.old.symbol_count }
     {
         let span = move_to_marked(&mut self.unmarked, &mut self.marked, &mut self.stack)?;
         self.marked_spans.push(span)?;
@@ -199,12 +200,12 @@ impl<A: Allocator> Machine<A> {
         rule: &Rule,
         cache: &mut DisjointCache<A>,
     ) -> Result<(), StepRefused>
-        requires theorem { theorem < length database.now.statements }
-        requires rule { IsCompiled database.now.statements rule.now }
-        requires symbol_count { self.old.symbol_count
+        requires theorem_lt_length { theorem < length database.now.statements }
+        requires is_compiled { IsCompiled database.now.statements rule.now }
+        requires symbol_count_is { self.old.symbol_count
             ≡ length (symbol_names database.now.statements) }
-        requires cache { AreDisjointAt database.now.statements theorem cache.old }
-        ensures cache { AreDisjointAt database.now.statements theorem cache.new }
+        requires cached_are_disjoint { AreDisjointAt database.now.statements theorem cache.old }
+        ensures cached_are_disjoint { AreDisjointAt database.now.statements theorem cache.new }
         ensures is_applied { IsApplied database.now.statements theorem rule.now.assertion self.old
             self.new
             result }
@@ -224,9 +225,9 @@ impl<A: Allocator> Machine<A> {
         _theorem: u32,
         rule: &Rule,
     ) -> Result<(), StepRefused>
-        requires rule { IsCompiled database.now.statements rule.now }
+        requires is_compiled { IsCompiled database.now.statements rule.now }
         requires no_hypotheses { length rule.now.hypotheses ≡ 0 }
-        requires symbol_count { self.old.symbol_count
+        requires symbol_count_is { self.old.symbol_count
             ≡ length (symbol_names database.now.statements) }
         ensures is_applied { IsApplied database.now.statements _theorem rule.now.assertion self.old
             self.new
@@ -251,12 +252,12 @@ impl<A: Allocator> Machine<A> {
         rule: &Rule,
         cache: &mut DisjointCache<A>,
     ) -> Result<(), StepRefused>
-        requires theorem { theorem < length database.now.statements }
-        requires rule { IsCompiled database.now.statements rule.now }
-        requires symbol_count { self.old.symbol_count
+        requires theorem_lt_length { theorem < length database.now.statements }
+        requires is_compiled { IsCompiled database.now.statements rule.now }
+        requires symbol_count_is { self.old.symbol_count
             ≡ length (symbol_names database.now.statements) }
-        requires cache { AreDisjointAt database.now.statements theorem cache.old }
-        ensures cache { AreDisjointAt database.now.statements theorem cache.new }
+        requires cached_are_disjoint { AreDisjointAt database.now.statements theorem cache.old }
+        ensures cached_are_disjoint { AreDisjointAt database.now.statements theorem cache.new }
         ensures is_applied { IsApplied database.now.statements theorem rule.now.assertion self.old
             self.new
             result }
@@ -303,11 +304,11 @@ fn push_unmarked<A: Allocator>(
     unmarked: &mut SymbolList<A>,
     stack: &mut Vec<Span, A>,
 ) -> Result<(), AllocError>
-    ensures unmarked { OnOk result (unmarked.new ≡ unmarked.old ++ formula.now) }
-    ensures stack { OnOk result
+    ensures appends_symbols { OnOk result (unmarked.new ≡ unmarked.old ++ formula.now) }
+    ensures pushes_entry { OnOk result
         (stack.new.items ≡ stack.old.items ++ appended_span unmarked.old formula.now ∷ []) }
-    ensures same_unmarked { OnErr result (unmarked.new ≡ unmarked.old) }
-    ensures same_stack { OnErr result (stack.new.items ≡ stack.old.items) }
+    ensures unmarked_stays_if_err { OnErr result (unmarked.new ≡ unmarked.old) }
+    ensures stack_stays_if_err { OnErr result (stack.new.items ≡ stack.old.items) }
 {
     let start = unmarked.len();
     unmarked.append(formula)?;
@@ -342,8 +343,8 @@ fn first_unmarked(stack: &[Span], end: usize) -> usize
 /// `unmarked`.
 fn remove_from<A: Allocator>(below: usize, unmarked: &mut SymbolList<A>, stack: &mut Vec<Span, A>)
     requires { below ≤ vec_len stack.old }
-    ensures stack { stack.new.items ≡ take below stack.old.items }
-    ensures unmarked { unmarked.new
+    ensures entries_are_removed { stack.new.items ≡ take below stack.old.items }
+    ensures symbols_are_removed { unmarked.new
         ≡ take (first_unmarked_of (drop below stack.old.items) (length unmarked.old)) unmarked.old }
 {
     let end = first_unmarked(&stack[below..], unmarked.len());
@@ -357,19 +358,19 @@ fn move_to_marked<A: Allocator>(
     marked: &mut SymbolList<A>,
     stack: &mut Vec<Span, A>,
 ) -> Result<Span, AllocError>
-    requires entry { 0 < length stack.old.items }
-    requires stack { IsStack unmarked.old marked.old stack.old.items }
-    ensures stack { IsStack unmarked.new marked.new stack.new.items }
-    ensures formulas { span_formulas (arena unmarked.new marked.new) stack.new.items
+    requires has_entry { 0 < length stack.old.items }
+    requires is_stack { IsStack unmarked.old marked.old stack.old.items }
+    ensures is_stack { IsStack unmarked.new marked.new stack.new.items }
+    ensures formulas_stay { span_formulas (arena unmarked.new marked.new) stack.new.items
         ≡ span_formulas (arena unmarked.old marked.old) stack.old.items }
-    ensures moves_symbols { Moves unmarked.old marked.old unmarked.new marked.new }
-    ensures entry_is { IfOk result
+    ensures moves_symbols { MovesFormulas unmarked.old marked.old unmarked.new marked.new }
+    ensures returns_top_formula { IfOk result
         (λ e. IsMarkedEntry marked.new e
         × (span_formula (arena [] marked.new) e
         ≡ top (span_formulas (arena unmarked.old marked.old) stack.old.items))) }
 {
-    let last = stack.len() - 1;
-    let entry = stack[last];
+    let top_index = stack.len() - 1;
+    let entry = stack[top_index];
     match entry.store {
         Store::Marked => Ok(entry),
         Store::Unmarked => {
@@ -381,7 +382,7 @@ fn move_to_marked<A: Allocator>(
                 start,
                 end: marked.len(),
             };
-            stack[last] = moved;
+            stack[top_index] = moved;
             Ok(moved)
         }
     }
@@ -392,23 +393,24 @@ fn move_to_marked<A: Allocator>(
 #[inline(always)]
 fn replace_by_formula<A: Allocator>(
     below: usize,
-    formula: &[PackedSymbol],
+    formula: &[PackedPart],
     unmarked: &mut SymbolList<A>,
     marked: &[Sym],
     stack: &mut Vec<Span, A>,
     short: &mut [Sym],
     long: &mut Vec<Sym, A>,
 ) -> Result<(), StepRefused>
-    requires below { below ≤ vec_len stack.old }
-    requires formula { All (IsVariableBelow (length (drop below stack.old.items))) formula.now }
-    requires stack { IsStack unmarked.old marked.now stack.old.items }
-    ensures stack { (w : ℕ) → All (IsConstantBelow w) formula.now
+    requires below_le_length { below ≤ vec_len stack.old }
+    requires variables_in_range { All (IsVariableBelow (length (drop below stack.old.items)))
+        formula.now }
+    requires is_stack { IsStack unmarked.old marked.now stack.old.items }
+    ensures stays_stack { (w : ℕ) → All (IsConstantBelow w) formula.now
         → IsStackOf w unmarked.old marked.now stack.old.items
         → IsStackOf w unmarked.new marked.now stack.new.items }
-    ensures entries { OnOk result
+    ensures entries_are { OnOk result
         (entries_after (arena unmarked.old marked.now) stack.old.items below formula.now
         ≡ Ok (span_formulas (arena unmarked.new marked.now) stack.new.items)) }
-    ensures refused { IfErr result
+    ensures refusal_is_right { IfErr result
         (λ e. IsRefusalOf e
         (entries_after (arena unmarked.old marked.now) stack.old.items below formula.now)) }
 {
@@ -429,22 +431,23 @@ fn replace_by_formula<A: Allocator>(
 #[inline(never)]
 fn replace_by_long_formula<A: Allocator>(
     below: usize,
-    formula: &[PackedSymbol],
+    formula: &[PackedPart],
     unmarked: &mut SymbolList<A>,
     marked: &[Sym],
     stack: &mut Vec<Span, A>,
     long: &mut Vec<Sym, A>,
 ) -> Result<(), StepRefused>
-    requires below { below ≤ vec_len stack.old }
-    requires formula { All (IsVariableBelow (length (drop below stack.old.items))) formula.now }
-    requires stack { IsStack unmarked.old marked.now stack.old.items }
-    ensures stack { (w : ℕ) → All (IsConstantBelow w) formula.now
+    requires below_le_length { below ≤ vec_len stack.old }
+    requires variables_in_range { All (IsVariableBelow (length (drop below stack.old.items)))
+        formula.now }
+    requires is_stack { IsStack unmarked.old marked.now stack.old.items }
+    ensures stays_stack { (w : ℕ) → All (IsConstantBelow w) formula.now
         → IsStackOf w unmarked.old marked.now stack.old.items
         → IsStackOf w unmarked.new marked.now stack.new.items }
-    ensures entries { OnOk result
+    ensures entries_are { OnOk result
         (entries_after (arena unmarked.old marked.now) stack.old.items below formula.now
         ≡ Ok (span_formulas (arena unmarked.new marked.now) stack.new.items)) }
-    ensures refused { IfErr result
+    ensures refusal_is_right { IfErr result
         (λ e. IsRefusalOf e
         (entries_after (arena unmarked.old marked.now) stack.old.items below formula.now)) }
 {
@@ -472,11 +475,11 @@ fn replace_from<A: Allocator>(
     stack: &mut Vec<Span, A>,
 ) -> Result<(), AllocError>
     requires { below ≤ vec_len stack.old }
-    ensures stack { (w : ℕ) (marked : List ℕ) → All (λ s. s < w) formula.now
+    ensures stays_stack { (w : ℕ) (marked : List ℕ) → All (λ s. s < w) formula.now
         → IsStackOf w unmarked.old marked stack.old.items
         → IsStackOf w unmarked.new marked stack.new.items }
-    ensures formulas { OnOk result ((marked : List ℕ) → IsStack unmarked.old marked stack.old.items
-        → span_formulas (arena unmarked.new marked) stack.new.items
+    ensures formulas_are { OnOk result ((marked : List ℕ) → IsStack unmarked.old marked
+        stack.old.items → span_formulas (arena unmarked.new marked) stack.new.items
         ≡ take below (span_formulas (arena unmarked.old marked) stack.old.items)
         ++ formula.now ∷ []) }
 {

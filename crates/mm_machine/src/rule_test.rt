@@ -18,7 +18,8 @@ ghost use Rattle.mm_machine.specs.Arena.{
   AreEntries,
 };
 ghost use Rattle.mm_machine.specs.DisjointCache.{AreDisjointAt};
-ghost use Rattle.mm_rule.specs.Rule.{IsVariableBelow, IsCompiled, all_parts, total_part_count};
+ghost use Rattle.mm_rule.specs.Rule.{IsVariableBelow, IsCompiled, all_parts};
+ghost use Rattle.mm_rule.specs.Rule.{total_stored_part_count};
 ghost use Rattle.mm_machine.specs.Replaced.{replacement, replaced};
 ghost use Rattle.mm_machine.specs.State.{TestsRule};
 
@@ -26,7 +27,7 @@ use crate::arena::{Span, Store, Symbols, replacement_of};
 use crate::disjoint_cache::DisjointCache;
 use crate::reason::Reason;
 use mm_database::{Database, Sym};
-use mm_rule::{Hypothesis, PackedSymbol, Rule, RuleSymbol};
+use mm_rule::{Hypothesis, PackedPart, Rule, RulePart};
 use std::alloc::Allocator;
 
 /// Whether the stretch of list `store` from index `from` to index `to` begins with the formula of
@@ -34,8 +35,8 @@ use std::alloc::Allocator;
 fn begins_with(symbols: &Symbols, store: Store, from: usize, to: usize, span: Span) -> bool
     requires from_le_to { from ≤ to }
     requires to_le_length { to ≤ length (symbols_of symbols.now store) }
-    requires span { IsIn symbols.now span }
-    ensures value { result
+    requires span_in_arena { IsIn symbols.now span }
+    ensures { result
         ≡ starts_with nat_eq (slice_range (symbols_of symbols.now store) from to)
         (span_formula symbols.now span) }
 {
@@ -47,41 +48,41 @@ fn begins_with(symbols: &Symbols, store: Store, from: usize, to: usize, span: Sp
 fn is_wanted_formula(
     symbols: &Symbols,
     premises: &[Span],
-    wanted: &[PackedSymbol],
+    wanted: &[PackedPart],
     premise: Span,
 ) -> bool
-    requires premises { All (IsIn symbols.now) premises.now }
-    requires wanted { All (IsVariableBelow (length premises.now)) wanted.now }
-    requires premise { IsIn symbols.now premise }
+    requires premises_in_arena { All (IsIn symbols.now) premises.now }
+    requires variables_in_range { All (IsVariableBelow (length premises.now)) wanted.now }
+    requires premise_in_arena { IsIn symbols.now premise }
     ensures { result
         ≡ bytes_eq (span_formula symbols.now premise)
         (replaced symbols.now premises.now wanted.now) }
 {
     let list = symbols.list(premise.store);
-    let mut at = premise.start;
+    let mut index = premise.start;
     for part in wanted {
-        match part.symbol() {
-            RuleSymbol::Variable(number) => {
-                let span = replacement_of(premises, number);
-                if !begins_with(symbols, premise.store, at, premise.end, span) {
+        match part.unpack() {
+            RulePart::Variable(floating_index) => {
+                let span = replacement_of(premises, floating_index);
+                if !begins_with(symbols, premise.store, index, premise.end, span) {
                     return false;
                 }
-                at += span.end - span.start;
+                index += span.end - span.start;
             }
-            RuleSymbol::Constant(symbol) => {
-                if at >= premise.end || list[at] != symbol {
+            RulePart::Constant(symbol) => {
+                if index >= premise.end || list[index] != symbol {
                     return false;
                 }
-                at += 1;
+                index += 1;
             }
         }
     }
-    at == premise.end
+    index == premise.end
 }
 
 /// Whether an entry begins with the typecode.
 fn is_typed(symbols: &Symbols, typecode: Sym, premise: Span) -> bool
-    requires premise { IsIn symbols.now premise }
+    requires premise_in_arena { IsIn symbols.now premise }
     ensures { result
         ≡ bytes_eq (span_formula symbols.now premise)
         (typecode ∷ span_formula symbols.now (without_first premise)) }
@@ -92,10 +93,10 @@ fn is_typed(symbols: &Symbols, typecode: Sym, premise: Span) -> bool
 /// Whether each entry is what its hypothesis requires, with the variables replaced.
 #[inline(always)]
 fn premises_match(symbols: &Symbols, rule: &Rule, premises: &[Span]) -> bool
-    requires premises { All (IsIn symbols.now) premises.now }
-    requires count { length premises.now ≡ length rule.now.hypotheses }
-    requires part_count_is { total_part_count rule.now.hypotheses ≡ length rule.now.parts }
-    requires parts { All (IsVariableBelow (length premises.now)) rule.now.parts }
+    requires premises_in_arena { All (IsIn symbols.now) premises.now }
+    requires premise_count_is { length premises.now ≡ length rule.now.hypotheses }
+    requires part_count_is { total_stored_part_count rule.now.hypotheses ≡ length rule.now.parts }
+    requires variables_in_range { All (IsVariableBelow (length premises.now)) rule.now.parts }
     ensures { result
         ≡ are_equal (map (span_formula symbols.now) premises.now)
         (map (replaced symbols.now premises.now) (all_parts rule.now.parts 0 rule.now.hypotheses)) }
@@ -127,13 +128,13 @@ fn are_disjoint<A: Allocator>(
     second: Sym,
     cache: &mut DisjointCache<A>,
 ) -> bool
-    requires theorem { theorem < length database.now.statements }
-    requires first { first < length (symbol_names database.now.statements) }
-    requires second { second < length (symbol_names database.now.statements) }
-    requires cache { AreDisjointAt database.now.statements theorem cache.old }
-    ensures value { result
+    requires theorem_lt_length { theorem < length database.now.statements }
+    requires first_is_symbol { first < length (symbol_names database.now.statements) }
+    requires second_is_symbol { second < length (symbol_names database.now.statements) }
+    requires cached_are_disjoint { AreDisjointAt database.now.statements theorem cache.old }
+    ensures tells_disjoint { result
         ≡ disjoint_pair (context_at database.now.statements theorem) first second }
-    ensures cache { AreDisjointAt database.now.statements theorem cache.new }
+    ensures cached_are_disjoint { AreDisjointAt database.now.statements theorem cache.new }
 {
     if cache.has(first, second) {
         return true;
@@ -152,9 +153,9 @@ fn are_disjoint_in_database<A: Allocator>(
     first: Sym,
     second: Sym,
 ) -> bool
-    requires theorem { theorem < length database.now.statements }
-    requires first { first < length (symbol_names database.now.statements) }
-    requires second { second < length (symbol_names database.now.statements) }
+    requires theorem_lt_length { theorem < length database.now.statements }
+    requires first_is_symbol { first < length (symbol_names database.now.statements) }
+    requires second_is_symbol { second < length (symbol_names database.now.statements) }
     ensures { result ≡ disjoint_pair (context_at database.now.statements theorem) first second }
 {
     !(database.is_variable(first) && database.is_variable(second))
@@ -169,14 +170,14 @@ fn is_disjoint_from<A: Allocator>(
     others: &[Sym],
     cache: &mut DisjointCache<A>,
 ) -> bool
-    requires theorem { theorem < length database.now.statements }
-    requires symbol { symbol < length (symbol_names database.now.statements) }
-    requires others { All (λ symbol. symbol < length (symbol_names database.now.statements))
-        others.now }
-    requires cache { AreDisjointAt database.now.statements theorem cache.old }
-    ensures value { result
+    requires theorem_lt_length { theorem < length database.now.statements }
+    requires is_symbol { symbol < length (symbol_names database.now.statements) }
+    requires others_are_symbols { All (λ symbol. symbol < length (symbol_names
+        database.now.statements)) others.now }
+    requires cached_are_disjoint { AreDisjointAt database.now.statements theorem cache.old }
+    ensures tells_disjoint { result
         ≡ disjoint_symbol (context_at database.now.statements theorem) symbol others.now }
-    ensures cache { AreDisjointAt database.now.statements theorem cache.new }
+    ensures cached_are_disjoint { AreDisjointAt database.now.statements theorem cache.new }
 {
     if !database.is_variable(symbol) {
         return true;
@@ -197,15 +198,15 @@ fn are_all_disjoint<A: Allocator>(
     second: &[Sym],
     cache: &mut DisjointCache<A>,
 ) -> bool
-    requires theorem { theorem < length database.now.statements }
-    requires first { All (λ symbol. symbol < length (symbol_names database.now.statements))
-        first.now }
-    requires second { All (λ symbol. symbol < length (symbol_names database.now.statements))
-        second.now }
-    requires cache { AreDisjointAt database.now.statements theorem cache.old }
-    ensures value { result
+    requires theorem_lt_length { theorem < length database.now.statements }
+    requires first_are_symbols { All (λ symbol. symbol < length (symbol_names
+        database.now.statements)) first.now }
+    requires second_are_symbols { All (λ symbol. symbol < length (symbol_names
+        database.now.statements)) second.now }
+    requires cached_are_disjoint { AreDisjointAt database.now.statements theorem cache.old }
+    ensures tells_disjoint { result
         ≡ disjoint_lists (context_at database.now.statements theorem) first.now second.now }
-    ensures cache { AreDisjointAt database.now.statements theorem cache.new }
+    ensures cached_are_disjoint { AreDisjointAt database.now.statements theorem cache.new }
 {
     for symbol in first {
         if !is_disjoint_from(database, theorem, *symbol, second, cache) {
@@ -225,18 +226,18 @@ fn pairs_are_disjoint<A: Allocator>(
     pairs: &[(u32, u32)],
     cache: &mut DisjointCache<A>,
 ) -> bool
-    requires theorem { theorem < length database.now.statements }
-    requires premises { AreEntries (length (symbol_names database.now.statements)) symbols.now
+    requires theorem_lt_length { theorem < length database.now.statements }
+    requires are_entries { AreEntries (length (symbol_names database.now.statements)) symbols.now
         premises.now }
-    requires pairs { All
+    requires pairs_in_range { All
         (λ (p : ℕ × ℕ). (p.0 < length premises.now) × (p.1 < length premises.now)) pairs.now }
-    requires cache { AreDisjointAt database.now.statements theorem cache.old }
-    ensures value { result
+    requires cached_are_disjoint { AreDisjointAt database.now.statements theorem cache.old }
+    ensures tells_disjoint { result
         ≡ list_all
         (λ (p : ℕ × ℕ). disjoint_lists (context_at database.now.statements theorem)
         (replacement symbols.now premises.now p.0) (replacement symbols.now premises.now p.1))
         pairs.now }
-    ensures cache { AreDisjointAt database.now.statements theorem cache.new }
+    ensures cached_are_disjoint { AreDisjointAt database.now.statements theorem cache.new }
 {
     for pair in pairs {
         let first = symbols.formula(replacement_of(premises, pair.0));
@@ -259,13 +260,13 @@ pub fn test_rule<A: Allocator>(
     stack: &[Span],
     cache: &mut DisjointCache<A>,
 ) -> Result<usize, Reason>
-    requires theorem { theorem < length database.now.statements }
-    requires rule { IsCompiled database.now.statements rule.now }
-    requires stack { AreEntries (length (symbol_names database.now.statements)) symbols.now
+    requires theorem_lt_length { theorem < length database.now.statements }
+    requires is_compiled { IsCompiled database.now.statements rule.now }
+    requires are_entries { AreEntries (length (symbol_names database.now.statements)) symbols.now
         stack.now }
-    requires cache { AreDisjointAt database.now.statements theorem cache.old }
-    ensures cache { AreDisjointAt database.now.statements theorem cache.new }
-    ensures judged { TestsRule database.now.statements theorem rule.now
+    requires cached_are_disjoint { AreDisjointAt database.now.statements theorem cache.old }
+    ensures cached_are_disjoint { AreDisjointAt database.now.statements theorem cache.new }
+    ensures tests_rule { TestsRule database.now.statements theorem rule.now
         symbols.now stack.now result }
 {
     let hypotheses = rule.hypotheses();

@@ -42,9 +42,9 @@ fn make_room<A: Allocator>(
     more: usize,
 ) -> Result<(), AllocError>
     requires { count ≤ vec_len buffer.old }
-    ensures room { OnOk result (count + more ≤ vec_len buffer.new) }
+    ensures has_room { OnOk result (count + more ≤ vec_len buffer.new) }
     ensures length_grows { vec_len buffer.old ≤ vec_len buffer.new }
-    ensures same_symbols { take count buffer.new.items ≡ take count buffer.old.items }
+    ensures symbols_stay { take count buffer.new.items ≡ take count buffer.old.items }
 {
     match count.checked_add(more) {
         None => Err(AllocError),

@@ -1,19 +1,19 @@
 -- The ends of blocks say where statements are active.
-use Rattle.std.proofs.Common.{◌≡◌, ◌≢◌, ℕ, zero, suc, ◌+◌, ◌-◌, ◌≤◌, ◌<◌, Bool, true, false, ◌&&◌}
+use Rattle.std.proofs.Common.{◌≡◌, ◌≢◌, ℕ, suc, ◌+◌, ◌-◌, ◌≤◌, ◌<◌, Bool, true, false, ◌&&◌}
 use Rattle.std.proofs.Common.{cond, List, [], ◌∷◌, ◌++◌, length, take, get_or, set, count_by}
 use Rattle.std.proofs.Common.{nat_le, ◌⊎◌, inl, inr, refl, sym, ap, ap₂, ◌∙◌, subst, arith}
 use Rattle.std.proofs.Common.{take_all, le_refl, length-append, le-leb}
 use Rattle.std.proofs.lemmas.Bool.{lt-leb, cases_lt, cases_eq}
-use Rattle.std.proofs.lemmas.List.{take-append-le, get_or_append_left, get_or-set_same}
+use Rattle.std.proofs.lemmas.List.{get_or_append_left, get_or-set_same}
 use Rattle.std.proofs.lemmas.List.{get_or-set_other, length-set, get_or-take, length-take-le}
 use Rattle.std.proofs.Math.Seq.{get_or-append_seam}
 use Rattle.std.specs.List.{list_all, range_with_len}
 use Rattle.mm_spec.specs.Statement.{Statement, is_opening, is_closing}
 use Rattle.mm_spec.specs.Scope.{depth, is_block_open}
 use Rattle.mm_spec.proofs.ActivityLaw.{is_block_open_one_later}
+use Rattle.mm_spec.proofs.LocalLaw.{depth_front, is_block_open_front}
 use Rattle.mm_spec.proofs.ShapeLaw.{count_of_list_and_last}
-use Rattle.mm_outline.specs.Blocks.{BlockLists, block_lists, never, innermost, end_of}
-use Rattle.mm_outline.specs.Blocks.{IsBlocks}
+use Rattle.mm_outline.specs.Blocks.{BlockLists, block_lists, never, innermost, end_of, IsBlocks}
 
 -- ---- what stays the same after one statement more
 
@@ -23,11 +23,6 @@ module _ (db : List Statement) (s : Statement) where
 
   length_more : length more ≡ length db + 1
   length_more = length-append db (s ∷ [])
-
-  pub depth_before_is_kept : (i : ℕ) → i ≤ length db → depth more i ≡ depth db i
-  depth_before_is_kept i i_le_length =
-      ap₂ (λ a b. a - b) (ap (count_by is_opening) (take-append-le i db (s ∷ []) i_le_length))
-      (ap (count_by is_closing) (take-append-le i db (s ∷ []) i_le_length))
 
   pub depth_at_end : depth db (length db) ≡ count_by is_opening db - count_by is_closing db
   depth_at_end =
@@ -44,22 +39,6 @@ module _ (db : List Statement) (s : Statement) where
       ∙ count_of_list_and_last is_opening db s)
       (ap (count_by is_closing) (take_all (length db + 1) more length_le)
       ∙ count_of_list_and_last is_closing db s)
-
-  equal_values_equal_tests : (d e : ℕ) (f g : ℕ → ℕ) (n a : ℕ) → d ≡ e
-      → ((i : ℕ) → i < a + n → f i ≡ g i)
-      → list_all (λ i. nat_le d (f i)) (range_with_len a n)
-      ≡ list_all (λ i. nat_le e (g i)) (range_with_len a n)
-  equal_values_equal_tests d e f g zero a d_eq_e values_equal = refl
-  equal_values_equal_tests d e f g (suc n) a d_eq_e values_equal =
-      ap₂ (λ x y. x && y) (ap₂ nat_le d_eq_e (values_equal a (omega arith)))
-      (equal_values_equal_tests d e f g n (a + 1) d_eq_e
-      (λ i i_lt_end. values_equal i (omega arith)))
-
-  pub open_before_is_kept : (j k : ℕ) → j < k → k ≤ length db
-      → is_block_open more j k ≡ is_block_open db j k
-  open_before_is_kept j k j_lt_k k_le_length =
-      equal_values_equal_tests (depth more j) (depth db j) (depth more) (depth db) (k - j) (j + 1)
-      (depth_before_is_kept j (omega arith)) (λ i i_lt_end. depth_before_is_kept i (omega arith))
 
   block_is_open_at_itself : (j : ℕ) → is_block_open more j j ≡ true
   block_is_open_at_itself j =
@@ -78,8 +57,8 @@ module _ (db : List Statement) (s : Statement) where
       ≡ (is_block_open more j (length db) && nat_le (depth more j) (depth more n))) suc_is_plus_one
       (is_block_open_one_later more j (length db) (omega arith))
       ∙ ap₂ (λ a b. a && nat_le b (depth more (length db + 1)))
-      (open_before_is_kept j (length db) j_lt_length (le_refl (length db)))
-      (depth_before_is_kept j (omega arith))
+      (is_block_open_front db (s ∷ []) j (length db) j_lt_length (le_refl (length db)))
+      (depth_front db (s ∷ []) j (omega arith))
 
   pub new_block_is_open : is_block_open more (length db) (length db + 1)
       ≡ nat_le (depth db (length db)) (depth more (length db + 1))
@@ -91,7 +70,7 @@ module _ (db : List Statement) (s : Statement) where
       suc_is_plus_one (is_block_open_one_later more (length db) (length db) (le_refl (length db)))
       ∙ ap₂ (λ a b. a && nat_le b (depth more (length db + 1)))
       (block_is_open_at_itself (length db))
-      (depth_before_is_kept (length db) (le_refl (length db)))
+      (depth_front db (s ∷ []) (length db) (le_refl (length db)))
 
 module _ (db : List Statement) (s : Statement) (b : BlockLists) (is_blocks : IsBlocks db b)
     (length_lt_never : length db < never) where
@@ -143,13 +122,13 @@ module _ (db : List Statement) (s : Statement) (b : BlockLists) (is_blocks : IsB
   -- what becomes of a statement's block
   module _ (ends opens : List ℕ) where
     abbrev IsOpen : ℕ → ℕ → Type 0
-    IsOpen block deep =
-        (get_or ends block 0 ≡ never) × (deep ≤ depth (more db s) (length db + 1))
-        × (get_or opens deep 0 ≡ block)
+    IsOpen block level =
+        (get_or ends block 0 ≡ never) × (level ≤ depth (more db s) (length db + 1))
+        × (get_or opens level 0 ≡ block)
 
     abbrev IsClosed : ℕ → ℕ → Type 0
-    IsClosed block deep =
-        (get_or ends block 0 ≡ length db) × (depth (more db s) (length db + 1) < deep)
+    IsClosed block level =
+        (get_or ends block 0 ≡ length db) × (depth (more db s) (length db + 1) < level)
 
     abbrev Becomes : ℕ → Type 0
     Becomes j =
@@ -225,7 +204,7 @@ module _ (db : List Statement) (s : Statement) (b : BlockLists) (is_blocks : IsB
         new_is_on_stack (inl is_open) is_unended =
             rw (
               length_more db s,
-              depth_before_is_kept db s (length db) (le_refl (length db)),
+              depth_front db (s ∷ []) (length db) (le_refl (length db)),
               new_block_of_is_innermost,
             )
             (is_open.1, is_open.2)
@@ -247,7 +226,7 @@ module _ (db : List Statement) (s : Statement) (b : BlockLists) (is_blocks : IsB
             on_stack_by_becomes (inl (was_unended, inl is_open)) is_unended =
                 rw (
                   length_more db s,
-                  depth_before_is_kept db s j (omega (arith, j_lt_length)),
+                  depth_front db (s ∷ []) j (omega (arith, j_lt_length)),
                   old_block_of_is_kept j
                       j_lt_length,
                 )
@@ -369,7 +348,7 @@ module _ (db : List Statement) (s : Statement) (b : BlockLists) (is_blocks : IsB
                 (sym k_is_end) (open_at_last (cases_lt j (length db)) k_is_end)
             open_by_order (inr k_le_old_length) =
                 let j_lt_length : j < length db = omega arith in
-                open_before_is_kept db s j k j_lt_k k_le_old_length
+                is_block_open_front db (s ∷ []) j k j_lt_k k_le_old_length
                 ∙ is_blocks.open_up_to_end j k j_lt_k k_le_old_length
                 ∙ open_up_to_old_end j_lt_length k_le_old_length
                 (grows.old_blocks_become j j_lt_length)

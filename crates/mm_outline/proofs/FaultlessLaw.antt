@@ -4,7 +4,7 @@ use Rattle.std.proofs.Common.{◌∷◌, ◌++◌, refl, true≢false}
 use Rattle.mm_spec.specs.Text.{Bytes, Token, is_in, words, fault}
 use Rattle.mm_spec.specs.declared.Fault.{Fault}
 use Rattle.mm_spec.specs.Scope.{Names}
-use Rattle.mm_spec.specs.Lawful.{at, at_each, when, constant_codes}
+use Rattle.mm_spec.specs.Lawful.{faults_at, faults_at_each, when, constant_codes}
 use Rattle.mm_spec.specs.Lawful.{variable_codes, floating_faults, is_typed, is_typed_otherwise}
 use Rattle.mm_spec.specs.declared.Code.TheVariants.{DeclaredBefore, BadFloating, TypedBefore}
 use Rattle.mm_spec.specs.declared.Code.TheVariants.{OtherTypecode, LabelIsSymbol}
@@ -18,7 +18,7 @@ neither_of_first_two true b c none_of_three = absurd (true≢false none_of_three
 
 module _ (n : Names) where
   -- a word of a `$c` is new
-  pub faultless_constant_is_new : (ts : List Token) → at_each (constant_codes n) [] ts ≡ []
+  pub faultless_constant_is_new : (ts : List Token) → faults_at_each (constant_codes n) [] ts ≡ []
       → (w : Bytes)
       → is_in w (words ts) ≡ true
       → (is_in w n.constants ≡ false) × (is_in w n.all_variables ≡ false)
@@ -33,7 +33,7 @@ module _ (n : Names) where
       (when (is_in w n.labels) LabelIsSymbol) no_codes_of_w.1).0)
 
   -- a word of a `$v` is no constant and no active variable
-  pub faultless_variable_is_new : (ts : List Token) → at_each (variable_codes n) [] ts ≡ []
+  pub faultless_variable_is_new : (ts : List Token) → faults_at_each (variable_codes n) [] ts ≡ []
       → (w : Bytes)
       → is_in w (words ts) ≡ true
       → (is_in w n.constants ≡ false) × (is_in w n.active_variables ≡ false)
@@ -58,7 +58,7 @@ module _ (n : Names) where
       codes : Bool → Bool → List Fault
       codes =
           λ a b. elim (a && b) [
-            | true ↦ at v.at
+            | true ↦ faults_at v.at
                 (when (is_typed n v.word) TypedBefore
                 ++ when (is_typed_otherwise n c.word v.word) OtherTypecode)
             | false ↦ fault keyword BadFloating ∷ []
@@ -81,8 +81,3 @@ module _ (n : Names) where
             no_code_if_false
                 (is_typed_otherwise n c.word v.word) OtherTypecode no_code_each.1,
           )
-
--- the lesser of two faults
-abbrev pub picked_fault : Bool → Fault → Fault → Fault
-picked_fault true f g = f
-picked_fault false f g = g

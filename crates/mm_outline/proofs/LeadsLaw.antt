@@ -1,17 +1,15 @@
 -- Progress goes on by one token.
 use Rattle.std.proofs.lemmas.Grind.{common_steps}
-use Rattle.std.proofs.Common.{arith}
+use Rattle.std.proofs.Common.{arith, ◌≡◌, ℕ, ◌+◌, ◌<◌, List, [], ◌∷◌, ◌++◌, length, drop, None}
 use Rattle.std.proofs.lemmas.Bool.Decides.{nat_tests}
-use Rattle.std.proofs.Common.{◌≡◌, ℕ, ◌+◌, ◌<◌, List, [], ◌∷◌, ◌++◌, length, drop, None, Some, refl}
-use Rattle.std.proofs.Common.{sym, ap, ◌∙◌, subst, add-one, drop-cons, append_assoc}
+use Rattle.std.proofs.Common.{Some, refl, sym, ap, ◌∙◌, subst, add-one, drop-cons, append_assoc}
 use Rattle.mm_spec.specs.Text.{Token, fault}
 use Rattle.mm_spec.specs.declared.Fault.{Fault}
 use Rattle.mm_spec.specs.Statement.{Statement, shape_code}
 use Rattle.mm_spec.specs.Laws.Table as table
 use Rattle.mm_spec.specs.Laws.Table.{Progress, start, statements_from, shape_fault_from}
-use Rattle.mm_spec.specs.Laws.Table.{progress_from, is_between_statements}
-use Rattle.mm_spec.specs.Laws.Table.{class, Transition, statements_after, shape_fault_after}
-use Rattle.mm_spec.specs.Laws.Table.{progress_after}
+use Rattle.mm_spec.specs.Laws.Table.{progress_from, is_between_statements, class, Transition}
+use Rattle.mm_spec.specs.Laws.Table.{statements_after, shape_fault_after, progress_after}
 use Rattle.mm_spec.specs.declared.Word.{Word}
 use Rattle.mm_outline.specs.Parts.{as_tokens, token_at, nth_word, progress}
 use Rattle.mm_outline.specs.NextStatement.{Leads, tokens_from, is_start}
@@ -19,7 +17,8 @@ use Rattle.mm_outline.specs.declared.parts.Part.{Part}
 use Rattle.mm_outline.specs.declared.parts.Part.TheVariants.{Start, Labelled, Words, Formula, Proof}
 
 pub nothing_read_leads_to_itself : (r : Progress) (us : List Token) → Leads r us [] r us
-nothing_read_leads_to_itself r us = record { statements = refl; stop = refl; rest = refl }
+nothing_read_leads_to_itself r us =
+    record { statements = refl; fault_stays = refl; progress_stays = refl }
 
 pub leads_one_after_other : {r q p : Progress} {us vs ws : List Token}
     {row later_row : List Statement}
@@ -100,7 +99,7 @@ module _ (text : List ℕ) (ws : List Word) (d from i : ℕ) (part : Part) where
             ∙ ap (statements_from (progress text ws d part i))
             (tokens_from_begin_with text ws i i_lt_length)
             ∙ stops.0,
-        has_gone.stop ∙ ap (shape_fault_from (progress text ws d part i))
+        has_gone.fault_stays ∙ ap (shape_fault_from (progress text ws d part i))
             (tokens_from_begin_with text ws i i_lt_length)
             ∙ stops.1
             ∙ ap (λ b. Some
@@ -117,8 +116,8 @@ module _ (text : List ℕ) (ws : List Word) (d from i : ℕ) (part : Part) where
       let no_tokens_left : tokens_from text ws i ≡ [] =
       ap (as_tokens text) (ap (λ k. drop k ws) i_is_length ∙ drop-all ws) in (
         has_gone.statements ∙ ap (statements_from (progress text ws d part i)) no_tokens_left,
-        has_gone.stop ∙ ap (shape_fault_from (progress text ws d part i)) no_tokens_left,
-        has_gone.rest ∙ ap (progress_from (progress text ws d part i)) no_tokens_left
+        has_gone.fault_stays ∙ ap (shape_fault_from (progress text ws d part i)) no_tokens_left,
+        has_gone.progress_stays ∙ ap (progress_from (progress text ws d part i)) no_tokens_left
             ∙ ap (progress text ws d part) i_is_length,
       )
     where

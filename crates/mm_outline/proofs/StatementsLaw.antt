@@ -7,14 +7,14 @@ use Rattle.mm_spec.specs.Scope.{statement_at}
 use Rattle.mm_spec.specs.declared.Word.{Word}
 use Rattle.mm_outline.specs.Parts.{statement_of}
 use Rattle.mm_outline.specs.Statements.{statements}
-use Rattle.mm_outline.proofs.ActiveLaw.{got_of_mapped}
+use Rattle.mm_outline.proofs.ActiveLaw.{get_of_map}
 use Rattle.mm_outline.specs.declared.parts.Outline.{Outline}
 
 module _ (text : List ℕ) (ws : List Word) where
   pub statement_of_outline_is : (os : List Outline) (k : ℕ) (d : Outline) → k < length os
       → slice_get (statements text ws os) k ≡ Some (statement_of text ws (get_or os k d))
   statement_of_outline_is os k d k_lt_length =
-      got_of_mapped (statement_of text ws) os k d k_lt_length
+      get_of_map (statement_of text ws) os k d k_lt_length
 
 -- a statement that is there stands below the length
 pub passing_lt_length : (p : Statement → Bool) (db : List Statement) (k : ℕ)

@@ -1,10 +1,9 @@
 -- The tokens of a text lie in it, rise, and are few; a text that is too long has none, and its
 -- lexical fault.
 use Rattle.std.proofs.lemmas.Grind.{common_steps}
-use Rattle.std.proofs.Common.{◌≡◌, ℕ, ◌-◌, ◌^◌, ◌<◌, ◌≤◌, ◌==◌, ◌||◌, ◌&&◌, Bool, true, false}
-use Rattle.std.proofs.Common.{not, List, [], ◌∷◌, length, map, drop, get_or, slice_index, codes}
-use Rattle.std.proofs.Common.{Option, None, Some, is_some, ◌⊎◌, inl, inr, refl, sym}
-use Rattle.std.proofs.Common.{ap, ◌∙◌, subst, arith}
+use Rattle.std.proofs.Common.{◌≡◌, ℕ, ◌-◌, ◌^◌, ◌<◌, ◌≤◌, ◌==◌, ◌||◌, ◌&&◌, Bool, true, false, not}
+use Rattle.std.proofs.Common.{List, [], ◌∷◌, length, map, drop, get_or, slice_index, codes, Option}
+use Rattle.std.proofs.Common.{None, Some, is_some, ◌⊎◌, inl, inr, refl, sym, ap, ◌∙◌, subst, arith}
 use Rattle.std.proofs.lemmas.Bool.{cases_lt}
 use Rattle.std.proofs.lemmas.List.{length-map, length-drop, length-take-le}
 use Rattle.std.proofs.lemmas.List.FromFn.{length-range_with_len}

@@ -14,18 +14,22 @@ pub record BlockLists : Type 0 where
   pub open_blocks : List ℕ
 
 abbrev pub block_lists : List ℕ → List ℕ → List ℕ → BlockLists
-block_lists block_of ends opens = record { block_of = block_of; ends = ends; open_blocks = opens }
+block_lists block_of ends open_blocks =
+    record { block_of = block_of; ends = ends; open_blocks = open_blocks }
 
 -- the end of a block that is still open: 2 ^ 32 - 1, the largest number of 32 bits
 abbrev pub never : ℕ
 never = 4294967295
 
+-- the blocks before the first statement: the outermost one alone, which is open
 abbrev pub no_blocks : BlockLists
 no_blocks = block_lists [] (never ∷ []) (0 ∷ [])
 
+-- the last of the open blocks
 abbrev pub innermost : List ℕ → ℕ
-innermost opens = slice_index opens (length opens - 1)
+innermost open_blocks = slice_index open_blocks (length open_blocks - 1)
 
+-- the blocks after one more statement, of this kind
 abbrev pub pushed : Kind → BlockLists → BlockLists
 pushed Open blocks =
     block_lists (blocks.block_of ++ innermost blocks.open_blocks ∷ []) (blocks.ends ++ never ∷ [])
@@ -38,6 +42,7 @@ pushed _ blocks =
     block_lists (blocks.block_of ++ innermost blocks.open_blocks ∷ []) blocks.ends
     blocks.open_blocks
 
+-- the end of the block of statement j: the statement that closes it
 abbrev pub end_of : BlockLists → ℕ → ℕ
 end_of blocks j = get_or blocks.ends (get_or blocks.block_of j 0) 0
 
@@ -45,6 +50,7 @@ abbrev pub is_never : Option ℕ → Bool
 is_never None = false
 is_never (Some e) = nat_eq e never
 
+-- the end of a block, if the block is known
 abbrev pub end_in : List ℕ → Option ℕ → Option ℕ
 end_in ends None = None
 end_in ends (Some block) = slice_get ends block
@@ -53,6 +59,7 @@ end_in ends (Some block) = slice_get ends block
 abbrev pub is_open_in : BlockLists → ℕ → Bool
 is_open_in blocks j = is_never (end_in blocks.ends (slice_get blocks.block_of j))
 
+-- these are the blocks of the statements
 pub record IsBlocks (db : List Statement) (blocks : BlockLists) : Type 0 where
   pub count : length blocks.block_of ≡ length db
   pub ends_le_statements : length blocks.ends ≤ length db + 1

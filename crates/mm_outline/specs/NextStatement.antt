@@ -12,25 +12,28 @@ use Rattle.mm_outline.specs.declared.parts.Part.TheVariants.{Start}
 use Rattle.mm_outline.specs.declared.parts.NextStatement.{NextStatement}
 use Rattle.mm_outline.specs.declared.parts.NextStatement.TheVariants.{Whole, Stopped, Ended}
 
--- Read from r on, the tokens us give the statements of row, and then what vs give read from q on.
-pub record Leads (r : Progress) (us : List Token) (row : List Statement) (q : Progress)
+-- Read from `before` on, the tokens us give the statements `found`, and then what the tokens vs
+-- give, read from `after` on.
+pub record Leads (before : Progress) (us : List Token) (found : List Statement) (after : Progress)
     (vs : List Token) : Type 0 where
-  pub statements : statements_from r us ≡ row ++ statements_from q vs
-  pub stop : shape_fault_from r us ≡ shape_fault_from q vs
-  pub rest : progress_from r us ≡ progress_from q vs
+  pub statements : statements_from before us ≡ found ++ statements_from after vs
+  pub fault_stays : shape_fault_from before us ≡ shape_fault_from after vs
+  pub progress_stays : progress_from before us ≡ progress_from after vs
 
--- the tokens from a place on
+-- the tokens from the index i on
 abbrev pub tokens_from : List ℕ → List Word → ℕ → List Token
 tokens_from text ws i = as_tokens text (drop i ws)
 
--- the tokens from `from` up to `end` spell one statement, after which `kind_depth` blocks are open
-pub record IsWhole (text : List ℕ) (ws : List Word) (d from kind_depth : ℕ) (s : Statement)
+-- the tokens from `from` up to `end` spell one statement; d blocks are open before it, and
+-- `new_depth` after it
+pub record IsWhole (text : List ℕ) (ws : List Word) (d from new_depth : ℕ) (s : Statement)
     (end : ℕ) : Type 0 where
   pub from_le_end : from ≤ end
   pub end_lt_count : end < length ws
-  pub leads : Leads (start d) (tokens_from text ws from) (s ∷ []) (start kind_depth)
+  pub leads : Leads (start d) (tokens_from text ws from) (s ∷ []) (start new_depth)
       (tokens_from text ws (end + 1))
 
+-- what is found from the token `from` on, where d blocks are open
 abbrev pub IsNextStatement : List ℕ → List Word → ℕ → ℕ → NextStatement → Type 0
 IsNextStatement text ws d from (Whole o) =
     IsOutline o × IsWhole text ws d from (depth_after o.kind d) (statement_of text ws o) o.end

@@ -19,6 +19,7 @@ use Rattle.mm_outline.specs.declared.parts.Part.TheVariants.{Start, Labelled, Wo
 use Rattle.mm_outline.specs.declared.parts.Transition.{Transition}
 use Rattle.mm_outline.specs.declared.parts.Transition.TheVariants.{Stop, Continue, Complete}
 
+-- the class of a token in the table of the laws
 abbrev pub class_of : Class → table.Class
 class_of Constant = table.constant_keyword
 class_of Variable = table.variable_keyword
@@ -45,6 +46,7 @@ token_of text w = token w.start (slice_range text w.start w.end)
 abbrev pub as_tokens : List ℕ → List Word → List Token
 as_tokens text ws = map (token_of text) ws
 
+-- the word with the index i, or an empty one past the end
 abbrev pub nth_word : List Word → ℕ → Word
 nth_word ws i = get_or ws i (record { start = 0; end = 0 })
 
@@ -68,6 +70,7 @@ is_labelled_kind kind.Axiom = true
 is_labelled_kind kind.Theorem = true
 is_labelled_kind _ = false
 
+-- one less, or 0 for 0
 abbrev pub one_less : ℕ → ℕ
 one_less zero = zero
 one_less (suc d) = d
@@ -87,7 +90,7 @@ module _ (text : List ℕ) (ws : List Word) where
   abbrev pub start_of : ℕ → ℕ
   start_of i = (nth_word ws i).start
 
-  -- the statement with these words and this end
+  -- the statement with the words xs, which ends at the place d; its keyword has the index k
   abbrev pub statement_with : Kind → ℕ → List Token → ℕ → Statement
   statement_with kind.Constants k xs d = statement.constants (start_of k) xs d
   statement_with kind.Variables k xs d = statement.variables (start_of k) xs d
@@ -99,10 +102,13 @@ module _ (text : List ℕ) (ws : List Word) where
   statement_with kind.Open k xs d = statement.opening (start_of k)
   statement_with kind.Close k xs d = statement.closing (start_of k)
 
+  -- the `$p` with the proof ps, which ends at the place d; k and e are the indices of its keyword
+  -- and its `$=`
   abbrev pub theorem_with : ℕ → ℕ → List Token → ℕ → Statement
   theorem_with k e ps d =
       statement.provable (label_before k) (start_of k) (between text ws (k + 1) e) (start_of e) ps d
 
+  -- the statement with a keyword at k, a `$=` or without one the end at e, and the end at d
   abbrev pub statement_between : Kind → ℕ → ℕ → ℕ → Statement
   statement_between kind.Theorem k e d = theorem_with k e (between text ws (e + 1) d) (start_of d)
   statement_between kind k e d = statement_with kind k (between text ws (k + 1) e) (start_of e)
@@ -120,6 +126,7 @@ module _ (text : List ℕ) (ws : List Word) where
       table.formula d (label_before k) (start_of k) (between text ws (k + 1) i)
   progress d (Proof k e) i = table.words d (theorem_with k e) (between text ws (e + 1) i)
 
+  -- the transition of the table for what token i does, where d blocks are open
   abbrev pub transition_of : ℕ → ℕ → Transition → table.Transition
   transition_of d i Stop = table.unexpected
   transition_of d i (Continue part) = table.continued (progress d part (i + 1))
@@ -137,41 +144,42 @@ HasWords kind.Open = ⊥
 HasWords kind.Close = ⊥
 HasWords _ = Unit {0}
 
+-- a statement that has a label has it before its keyword, which has this index
 abbrev pub HasLabel : Kind → ℕ → Type 0
-HasLabel kind.Floating k = 0 < k
-HasLabel kind.Essential k = 0 < k
-HasLabel kind.Axiom k = 0 < k
-HasLabel kind.Theorem k = 0 < k
-HasLabel _ k = Unit {0}
+HasLabel kind.Floating keyword = 0 < keyword
+HasLabel kind.Essential keyword = 0 < keyword
+HasLabel kind.Axiom keyword = 0 < keyword
+HasLabel kind.Theorem keyword = 0 < keyword
+HasLabel _ keyword = Unit {0}
 
 -- where the parts of a statement are, before token i
 abbrev pub IsPartBefore : Part → ℕ → Type 0
 IsPartBefore Start i = Unit {0}
-IsPartBefore (Labelled l) i = l + 1 ≡ i
-IsPartBefore (Words kind k) i = HasWords kind × HasLabel kind k × (k < i)
-IsPartBefore (Formula k) i = (0 < k) × (k < i)
-IsPartBefore (Proof k e) i = (0 < k) × (k < e) × (e < i)
+IsPartBefore (Labelled label) i = label + 1 ≡ i
+IsPartBefore (Words kind keyword) i = HasWords kind × HasLabel kind keyword × (keyword < i)
+IsPartBefore (Formula keyword) i = (0 < keyword) × (keyword < i)
+IsPartBefore (Proof keyword equals) i = (0 < keyword) × (keyword < equals) × (equals < i)
 
 -- a statement other than `${` and `$}` has its `$=`, or without one its end, after its keyword
 abbrev pub IsKeywordBefore : Kind → ℕ → ℕ → Type 0
-IsKeywordBefore kind.Open k m = Unit {0}
-IsKeywordBefore kind.Close k m = Unit {0}
-IsKeywordBefore _ k m = k < m
+IsKeywordBefore kind.Open keyword middle = Unit {0}
+IsKeywordBefore kind.Close keyword middle = Unit {0}
+IsKeywordBefore _ keyword middle = keyword < middle
 
 -- a `$p` has its `$=` before its last token, `${` and `$}` have one token, and the others have no
 -- `$=`
 abbrev pub HasEnd : Kind → ℕ → ℕ → ℕ → Type 0
-HasEnd kind.Theorem k m e = m < e
-HasEnd kind.Open k m e = (k ≡ m) × (m ≡ e)
-HasEnd kind.Close k m e = (k ≡ m) × (m ≡ e)
-HasEnd _ k m e = m ≡ e
+HasEnd kind.Theorem keyword middle end = middle < end
+HasEnd kind.Open keyword middle end = (keyword ≡ middle) × (middle ≡ end)
+HasEnd kind.Close keyword middle end = (keyword ≡ middle) × (middle ≡ end)
+HasEnd _ keyword middle end = middle ≡ end
 
 abbrev pub IsOutline : Outline → Type 0
 IsOutline o =
     HasLabel o.kind o.keyword × IsKeywordBefore o.kind o.keyword o.middle × (o.keyword ≤ o.middle)
     × (o.middle ≤ o.end) × HasEnd o.kind o.keyword o.middle o.end
 
--- what holds after a turn at token i
+-- what holds after a transition at token i
 abbrev pub IsTransitionAt : ℕ → Transition → Type 0
 IsTransitionAt i Stop = Unit {0}
 IsTransitionAt i (Continue part) = IsPartBefore part (i + 1)

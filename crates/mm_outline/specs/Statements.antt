@@ -13,22 +13,27 @@ use Rattle.mm_outline.specs.declared.parts.Part.{Part}
 use Rattle.mm_outline.specs.declared.parts.Part.TheVariants.{Start}
 use Rattle.mm_spec.specs.declared.Code.TheVariants.{OpenStatement, OpenBlock}
 
+-- a text as it is lexed: its tokens, and its lexical fault if there is one
 abbrev pub lexed : List ℕ → List Word → Option Fault → LexedText
 lexed text ws fault = record { tokens = as_tokens text ws; fault = fault }
 
+-- the statements with these outlines
 abbrev pub statements : List ℕ → List Word → List Outline → List Statement
 statements text ws os = map (statement_of text ws) os
 
+-- the fault at the end of a text of this length: the lexical one, or else that a statement or a
+-- block is open, by the part of a statement that has been read and the number of open blocks
 abbrev pub end_fault_of : Option Fault → ℕ → Part → ℕ → Option Fault
-end_fault_of (Some f) len part deep = Some f
+end_fault_of (Some f) len part d = Some f
 end_fault_of None len Start zero = None
 end_fault_of None len Start (suc d) = Some (fault len OpenBlock)
 end_fault_of None len _ d = Some (fault len OpenStatement)
 
-abbrev pub active_kind : Kind → Bool → Bool
-active_kind kind.Constants b = true
-active_kind kind.Axiom b = true
-active_kind kind.Theorem b = true
-active_kind kind.Open b = false
-active_kind kind.Close b = false
-active_kind _ b = b
+-- whether an earlier statement of a kind is active, by whether its block is open
+abbrev pub is_active_kind : Kind → Bool → Bool
+is_active_kind kind.Constants is_open = true
+is_active_kind kind.Axiom is_open = true
+is_active_kind kind.Theorem is_open = true
+is_active_kind kind.Open is_open = false
+is_active_kind kind.Close is_open = false
+is_active_kind _ is_open = is_open

@@ -9,6 +9,6 @@ abbrev pub typed_words : Statement → List Bytes
 typed_words s = map (λ t. t.variable) (typings_of s)
 
 module _ (db : List Statement) (f : Statement → List Bytes) (w : Bytes) where
-  -- whether statement j has the word
+  -- whether statement j has the word among those that f gives
   abbrev pub has_word : ℕ → Bool
   has_word j = is_in w (flat_map f (statement_at db j))

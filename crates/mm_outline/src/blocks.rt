@@ -64,9 +64,9 @@ impl<A: Allocator> Blocks<A> {
         requires blocks_lt_2_32 { length self.old.ends < 2 ^ 32 }
         ensures { OnOk result (self.new ≡ pushed kind self.old) }
     {
-        let top = self.open_blocks[self.open_blocks.len() - 1];
-        let number = self.block_of.len() as u32;
-        self.block_of.push(top)?;
+        let innermost = self.open_blocks[self.open_blocks.len() - 1];
+        let statement = self.block_of.len() as u32;
+        self.block_of.push(innermost)?;
         match kind {
             Kind::Open => {
                 let block = self.ends.len() as u32;
@@ -75,7 +75,7 @@ impl<A: Allocator> Blocks<A> {
             }
             Kind::Close => {
                 self.open_blocks.pop();
-                self.ends[top as usize] = number;
+                self.ends[innermost as usize] = statement;
             }
             _ => {}
         }

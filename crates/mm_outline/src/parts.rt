@@ -3,13 +3,11 @@
 ghost use Rattle.std.specs.Prelude.{◌≡◌, ◌<◌, ◌≤◌, ◌^◌, ℕ, length, false};
 ghost use Rattle.mm_spec.specs.Text.{fault, has_dollar, is_label as spec_is_label};
 ghost use Rattle.mm_spec.specs.Statement.{shape_code};
-ghost use Rattle.mm_outline.specs.NextStatement.{IsNextStatement};
-ghost use Rattle.mm_outline.specs.NextStatement.{is_start as spec_is_start};
+ghost use Rattle.mm_outline.specs.NextStatement.{IsNextStatement, is_start as spec_is_start};
 ghost use Rattle.mm_spec.specs.Laws.Table.{class, transition};
 ghost use Rattle.mm_outline.specs.Parts.{IsPartBefore, IsTransitionAt, IfAtStart, class_of};
-ghost use Rattle.mm_outline.specs.Parts.{outline, progress};
-ghost use Rattle.mm_outline.specs.Parts.{is_labelled_kind};
-ghost use Rattle.mm_outline.specs.Parts.{token_at, transition_of};
+ghost use Rattle.mm_outline.specs.Parts.{outline, progress, is_labelled_kind, token_at};
+ghost use Rattle.mm_outline.specs.Parts.{transition_of};
 ghost use Rattle.mm_outline.specs.declared.parts.Transition.TheVariants.{Complete};
 ghost use Rattle.mm_outline.specs.Passed.{ArePassed};
 ghost use Rattle.mm_outline.specs.Tokens.{AreTokens};
@@ -43,71 +41,79 @@ impl Kind {
     }
 }
 
-/// Where a statement is among the tokens: the numbers of its keyword, of its `$=` (if it has none,
-/// of its last token), and of its last token.
+/// Where a statement is among the tokens of a text, by the indices of tokens.
 #[derive(Clone, Copy)]
 pub struct Outline {
     pub kind: Kind,
     pub keyword: u32,
+    /// The `$=`, or the last token if the statement has no `$=`.
     pub middle: u32,
+    /// The last token.
     pub end: u32,
 }
 
-/// What has been read of a statement: nothing, the label, words after the keyword, words after the
-/// keyword of a `$p`, or words after its `$=`.
+/// What has been read of a statement. Each number is the index of a token.
 #[derive(Clone, Copy)]
 pub enum Part {
+    /// Nothing.
     Start,
+    /// The label.
     Labelled(u32),
+    /// The keyword of a statement other than a `$p`, and words after it.
     Words(Kind, u32),
+    /// The keyword of a `$p`, and words after it.
     Formula(u32),
+    /// The keyword of a `$p`, its `$=`, and words after that.
     Proof(u32, u32),
 }
 
 /// What a token does.
 #[derive(Clone, Copy)]
 pub enum Transition {
+    /// It isn't expected.
     Stop,
+    /// It is read, and the statement goes on.
     Continue(Part),
+    /// It ends the statement.
     Complete(Outline),
 }
 
-/// What a token of the class `class` does at `at`.
+/// What the token with the index `token_index` does, which has the class `class`.
 #[tactic(auto, using(crate::proofs::TurnsLaw::between_with_one_more))]
 fn transition_for(
     _text: &[u8],
     _tokens: &[Word],
-    deep: u32,
+    depth: u32,
     part: Part,
     class: Class,
     is_label: bool,
-    at: u32,
+    token_index: u32,
 ) -> Transition
-    requires at_lt_count { at < length _tokens.now }
-    requires part { IsPartBefore part at }
-    requires label { IfAtStart part
-        (is_label ≡ spec_is_label (token_at _text.now _tokens.now at).word) }
-    ensures transition_is { transition_of _text.now _tokens.now deep at result
-        ≡ transition (progress _text.now _tokens.now deep part at) (class_of class)
-        (token_at _text.now _tokens.now at) }
-    ensures holds { IsTransitionAt at result }
+    requires index_lt_count { token_index < length _tokens.now }
+    requires is_part_before { IsPartBefore part token_index }
+    requires label_is_told { IfAtStart part
+        (is_label ≡ spec_is_label (token_at _text.now _tokens.now token_index).word) }
+    ensures transition_is { transition_of _text.now _tokens.now depth token_index result
+        ≡ transition (progress _text.now _tokens.now depth part token_index) (class_of class)
+        (token_at _text.now _tokens.now token_index) }
+    ensures is_transition_at { IsTransitionAt token_index result }
 {
     match part {
         Part::Start => match class {
-            Class::Constant => Transition::Continue(Part::Words(Kind::Constants, at)),
-            Class::Variable => Transition::Continue(Part::Words(Kind::Variables, at)),
-            Class::Disjoint => Transition::Continue(Part::Words(Kind::Disjoint, at)),
-            Class::Open => one_token_statement(Kind::Open, at),
+            Class::Constant => Transition::Continue(Part::Words(Kind::Constants, token_index)),
+            Class::Variable => Transition::Continue(Part::Words(Kind::Variables, token_index)),
+            Class::Disjoint => Transition::Continue(Part::Words(Kind::Disjoint, token_index)),
+            Class::Open => one_token_statement(Kind::Open, token_index),
             Class::Close => {
-                if deep > 0 {
-                    one_token_statement(Kind::Close, at)
+                if depth > 0 {
+                    one_token_statement(Kind::Close, token_index)
                 } else {
                     Transition::Stop
                 }
             }
             Class::Plain => {
                 if is_label {
-                    Transition::Continue(Part::Labelled(at))
+                    Transition::Continue(Part::Labelled(token_index))
                 } else {
                     Transition::Stop
                 }
@@ -115,10 +121,10 @@ fn transition_for(
             _ => Transition::Stop,
         },
         Part::Labelled(_) => match class {
-            Class::Floating => Transition::Continue(Part::Words(Kind::Floating, at)),
-            Class::Essential => Transition::Continue(Part::Words(Kind::Essential, at)),
-            Class::Axiom => Transition::Continue(Part::Words(Kind::Axiom, at)),
-            Class::Theorem => Transition::Continue(Part::Formula(at)),
+            Class::Floating => Transition::Continue(Part::Words(Kind::Floating, token_index)),
+            Class::Essential => Transition::Continue(Part::Words(Kind::Essential, token_index)),
+            Class::Axiom => Transition::Continue(Part::Words(Kind::Axiom, token_index)),
+            Class::Theorem => Transition::Continue(Part::Formula(token_index)),
             _ => Transition::Stop,
         },
         Part::Words(kind, keyword) => match class {
@@ -126,14 +132,14 @@ fn transition_for(
             Class::Dot => Transition::Complete(Outline {
                 kind,
                 keyword,
-                middle: at,
-                end: at,
+                middle: token_index,
+                end: token_index,
             }),
             _ => Transition::Stop,
         },
         Part::Formula(keyword) => match class {
             Class::Plain => Transition::Continue(part),
-            Class::Equals => Transition::Continue(Part::Proof(keyword, at)),
+            Class::Equals => Transition::Continue(Part::Proof(keyword, token_index)),
             _ => Transition::Stop,
         },
         Part::Proof(keyword, equals) => match class {
@@ -142,26 +148,26 @@ fn transition_for(
                 kind: Kind::Theorem,
                 keyword,
                 middle: equals,
-                end: at,
+                end: token_index,
             }),
             _ => Transition::Stop,
         },
     }
 }
 
-/// The statement of the one token with the index `at`.
-fn one_token_statement(kind: Kind, at: u32) -> Transition
-    ensures { result ≡ Complete (outline kind at at at) }
+/// The statement of the one token with the index `token_index`.
+fn one_token_statement(kind: Kind, token_index: u32) -> Transition
+    ensures { result ≡ Complete (outline kind token_index token_index token_index) }
 {
     Transition::Complete(Outline {
         kind,
-        keyword: at,
-        middle: at,
-        end: at,
+        keyword: token_index,
+        middle: token_index,
+        end: token_index,
     })
 }
 
-/// Whether the word is a label, in a place where a label is expected.
+/// Whether the word is a label, where a label is expected.
 fn is_label_at(part: Part, word: &[u8]) -> bool
     ensures { IfAtStart part (result ≡ spec_is_label word.now) }
 {
@@ -171,21 +177,28 @@ fn is_label_at(part: Part, word: &[u8]) -> bool
     }
 }
 
-/// What the token with the index `at` does.
-fn transition_at(text: &[u8], tokens: &[Word], deep: u32, part: Part, at: u32) -> Transition
-    requires tokens { AreTokens text.now tokens.now }
-    requires at_lt_count { at < length tokens.now }
-    requires part { IsPartBefore part at }
-    ensures transition_is { transition_of text.now tokens.now deep at result
-        ≡ transition (progress text.now tokens.now deep part at)
-        (class (token_at text.now tokens.now at).word) (token_at text.now tokens.now at) }
-    ensures holds { IsTransitionAt at result }
+/// What the token with the index `token_index` does.
+fn transition_at(
+    text: &[u8],
+    tokens: &[Word],
+    depth: u32,
+    part: Part,
+    token_index: u32,
+) -> Transition
+    requires are_tokens { AreTokens text.now tokens.now }
+    requires index_lt_count { token_index < length tokens.now }
+    requires is_part_before { IsPartBefore part token_index }
+    ensures transition_is { transition_of text.now tokens.now depth token_index result
+        ≡ transition (progress text.now tokens.now depth part token_index)
+        (class (token_at text.now tokens.now token_index).word)
+        (token_at text.now tokens.now token_index) }
+    ensures is_transition_at { IsTransitionAt token_index result }
 {
-    let token = tokens[at as usize];
+    let token = tokens[token_index as usize];
     let word = token.bytes(text);
     let class = classify(word);
     let is_label = is_label_at(part, word);
-    transition_for(text, tokens, deep, part, class, is_label, at)
+    transition_for(text, tokens, depth, part, class, is_label, token_index)
 }
 
 /// What is found where a statement should begin: a complete statement, a token that is not
@@ -221,15 +234,15 @@ fn is_start(part: Part) -> bool
     matches!(part, Part::Start)
 }
 
-/// The fault of the token with the index `at`, which is not expected.
-fn unexpected(text: &[u8], tokens: &[Word], part: Part, at: u32) -> Fault
-    requires tokens { AreTokens text.now tokens.now }
-    requires at_lt_count { at < length tokens.now }
+/// The fault of the token with the index `token_index`, which is not expected.
+fn unexpected(text: &[u8], tokens: &[Word], part: Part, token_index: u32) -> Fault
+    requires are_tokens { AreTokens text.now tokens.now }
+    requires index_lt_count { token_index < length tokens.now }
     ensures { result
-        ≡ fault (token_at text.now tokens.now at).at
-        (shape_code (spec_is_start part) (token_at text.now tokens.now at).word) }
+        ≡ fault (token_at text.now tokens.now token_index).at
+        (shape_code (spec_is_start part) (token_at text.now tokens.now token_index).word) }
 {
-    let token = tokens[at as usize];
+    let token = tokens[token_index as usize];
     let word = token.bytes(text);
     Fault {
         at: token.start,
@@ -239,52 +252,57 @@ fn unexpected(text: &[u8], tokens: &[Word], part: Part, at: u32) -> Fault
 
 /// The first token from `from` on that has a `$`, or the end of the tokens if none has.
 fn next_keyword(text: &[u8], tokens: &[Word], from: u32) -> u32
-    requires tokens { AreTokens text.now tokens.now }
+    requires are_tokens { AreTokens text.now tokens.now }
     requires tokens_lt_2_31 { length tokens.now < 2 ^ 31 }
     requires from_le_count { from ≤ length tokens.now }
     ensures from_le_result { from ≤ result }
     ensures result_le_count { result ≤ length tokens.now }
-    ensures plain { (i : ℕ) → from ≤ i → i < result
+    ensures none_has_dollar { (i : ℕ) → from ≤ i → i < result
         → has_dollar (token_at text.now tokens.now i).word ≡ false }
 {
-    for at in from..tokens.len() as u32 {
-        let token = tokens[at as usize];
+    for token_index in from..tokens.len() as u32 {
+        let token = tokens[token_index as usize];
         if has_dollar(token.bytes(text)) {
-            return at;
+            return token_index;
         }
     }
     tokens.len() as u32
 }
 
 /// Where reading continues: words after a keyword are skipped, up to the next keyword.
-fn pass_words(text: &[u8], tokens: &[Word], part: Part, at: u32) -> u32
-    requires tokens { AreTokens text.now tokens.now }
+fn pass_words(text: &[u8], tokens: &[Word], part: Part, token_index: u32) -> u32
+    requires are_tokens { AreTokens text.now tokens.now }
     requires tokens_lt_2_31 { length tokens.now < 2 ^ 31 }
-    requires at_le_count { at ≤ length tokens.now }
-    requires part { IsPartBefore part at }
-    ensures { ArePassed text.now tokens.now part at result }
+    requires index_le_count { token_index ≤ length tokens.now }
+    requires is_part_before { IsPartBefore part token_index }
+    ensures { ArePassed text.now tokens.now part token_index result }
 {
     match part {
-        Part::Start | Part::Labelled(_) => at,
-        _ => next_keyword(text, tokens, at),
+        Part::Start | Part::Labelled(_) => token_index,
+        _ => next_keyword(text, tokens, token_index),
     }
 }
 
-/// Reads the next statement, from the token `from` on; `deep` blocks are open before it.
-pub fn next_statement(text: &[u8], tokens: &[Word], deep: u32, from: u32) -> NextStatement
-    requires tokens { AreTokens text.now tokens.now }
+/// Reads the next statement, from the token `from` on; `depth` blocks are open before it.
+pub fn next_statement(text: &[u8], tokens: &[Word], depth: u32, from: u32) -> NextStatement
+    requires are_tokens { AreTokens text.now tokens.now }
     requires tokens_lt_2_31 { length tokens.now < 2 ^ 31 }
     requires from_le_count { from ≤ length tokens.now }
-    ensures { IsNextStatement text.now tokens.now deep from result }
+    ensures { IsNextStatement text.now tokens.now depth from result }
 {
     let mut part = Part::Start;
-    let mut at = from;
-    while at < tokens.len() as u32 {
-        match transition_at(text, tokens, deep, part, at) {
-            Transition::Stop => return NextStatement::Stopped(unexpected(text, tokens, part, at)),
+    let mut token_index = from;
+    while token_index < tokens.len() as u32 {
+        match transition_at(text, tokens, depth, part, token_index) {
+            Transition::Stop => return NextStatement::Stopped(unexpected(
+                text,
+                tokens,
+                part,
+                token_index,
+            )),
             Transition::Continue(next) => {
                 part = next;
-                at = pass_words(text, tokens, next, at + 1);
+                token_index = pass_words(text, tokens, next, token_index + 1);
             }
             Transition::Complete(outline) => return NextStatement::Whole(outline),
         }

@@ -5,9 +5,9 @@ ghost use Rattle.mm_spec.specs.Text.{has_dollar, is_label as spec_is_label};
 ghost use Rattle.mm_spec.specs.Text.{is_label_byte as spec_is_label_byte};
 ghost use Rattle.mm_spec.specs.Laws.Table.{class};
 ghost use Rattle.mm_outline.specs.Parts.{class_of};
-ghost use Rattle.mm_outline.specs.Tokens.{TellsByFirst};
+ghost use Rattle.mm_outline.specs.Tokens.{FirstByteShowsDollar};
 
-/// What a word may be in a statement.
+/// What a token is: a keyword, a word without a `$` (`Plain`), or any other word with one.
 #[derive(Clone, Copy)]
 pub enum Class {
     Constant,
@@ -28,15 +28,15 @@ pub enum Class {
 /// Whether the token contains a `$`, which its first byte shows.
 #[inline(always)]
 pub fn has_dollar(token: &[u8]) -> bool
-    requires { TellsByFirst token.now }
+    requires { FirstByteShowsDollar token.now }
     ensures { result ≡ has_dollar token.now }
 {
     token[0] == b'$'
 }
 
-/// What the token is.
+/// What a token is.
 pub fn classify(word: &[u8]) -> Class
-    requires { TellsByFirst word.now }
+    requires { FirstByteShowsDollar word.now }
     ensures { class_of result ≡ class word.now }
 {
     if !has_dollar(word) {

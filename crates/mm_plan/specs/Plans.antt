@@ -10,13 +10,13 @@ use Rattle.mm_plan.specs.declared.Cutting.{Cutting}
 use Rattle.mm_plan.specs.declared.Cutting.TheVariants.{Count, Places}
 
 -- none of the first n places is less than the one before it
-abbrev pub RisesTo : List ℕ → ℕ → Type 0
-RisesTo xs n = (i : ℕ) → i + 1 < n → slice_index xs i ≤ slice_index xs (i + 1)
+abbrev pub AreSortedUpTo : List ℕ → ℕ → Type 0
+AreSortedUpTo xs n = (i : ℕ) → i + 1 < n → slice_index xs i ≤ slice_index xs (i + 1)
 
 module _ {A : Type 0} where
   abbrev pub IsLawfulCutting : Cutting A → Type 0
   IsLawfulCutting (Count n) = (1 ≤ n) × (n ≤ piece_limit)
-  IsLawfulCutting (Places v) = RisesTo v.items (length v.items)
+  IsLawfulCutting (Places v) = AreSortedUpTo v.items (length v.items)
 
   abbrev pub IsLawfulPlan : Plan A → Type 0
   IsLawfulPlan p = IsLawfulCutting p.cuts × (1 ≤ p.workers) × (p.workers ≤ worker_limit)

@@ -5,8 +5,8 @@
 #![tactic(auto)]
 
 ghost use Rattle.std.specs.Prelude.{◌≡◌, ◌↔◌, IsTrue, length};
-ghost use Rattle.mm_spec.specs.Request.{plain};
-ghost use Rattle.mm_plan.specs.Plans.{IsLawfulPlan, IsLawfulCutting, RisesTo, request_of};
+ghost use Rattle.mm_spec.specs.Request.{without_options};
+ghost use Rattle.mm_plan.specs.Plans.{IsLawfulPlan, IsLawfulCutting, AreSortedUpTo, request_of};
 
 use mm_spec::{Choice, Form, PIECE_LIMIT, Request, WORKER_LIMIT};
 use std::alloc::Allocator;
@@ -49,8 +49,8 @@ impl<A: Allocator> Drop for Plan<A> {
 }
 
 /// Whether no place is less than the one before it.
-fn is_rising(places: &[u32]) -> bool
-    ensures { IsTrue result ↔ RisesTo places.now (length places.now) }
+fn is_sorted(places: &[u32]) -> bool
+    ensures { IsTrue result ↔ AreSortedUpTo places.now (length places.now) }
 {
     for i in 1..places.len() {
         if places[i] < places[i - 1] {
@@ -66,7 +66,7 @@ impl<A: Allocator> Cutting<A> {
     {
         match self {
             Cutting::Count(count) => 1 <= *count && *count <= PIECE_LIMIT,
-            Cutting::Places(places) => is_rising(places),
+            Cutting::Places(places) => is_sorted(places),
         }
     }
 }
@@ -74,10 +74,10 @@ impl<A: Allocator> Cutting<A> {
 impl<A: Allocator> Plan<A> {
     /// The plan without options: the whole report of a text that is cut in this way, whose proofs
     /// this many workers check.
-    pub fn plain(cuts: Cutting<A>, workers: u32) -> Self
-        ensures cuts { result.cuts ≡ cuts }
-        ensures workers { result.workers ≡ workers }
-        ensures request { request_of result ≡ plain }
+    pub fn without_options(cuts: Cutting<A>, workers: u32) -> Self
+        ensures cuts_are { result.cuts ≡ cuts }
+        ensures workers_are { result.workers ≡ workers }
+        ensures requests_no_option { request_of result ≡ without_options }
     {
         Plan {
             cuts,

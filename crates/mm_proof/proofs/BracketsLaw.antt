@@ -1,8 +1,7 @@
 -- How the labels in brackets are read, word by word.
 use Rattle.std.proofs.Common.{◌≡◌, ◌∙◌, ℕ, zero, suc, ◌+◌, ◌<◌, ◌≤◌, true, false, List, [], ◌∷◌}
 use Rattle.std.proofs.Common.{◌++◌, length, drop, get_or, flat_map, Some, None, bytes_eq, codes}
-use Rattle.std.proofs.Common.{refl, sym, ap, ap₂, arith}
-use Rattle.std.proofs.Common.{take}
+use Rattle.std.proofs.Common.{refl, sym, ap, ap₂, arith, take}
 use Rattle.std.proofs.lemmas.List.{drop_more, append-nil, length-map, length-take-le}
 use Rattle.std.proofs.lemmas.Grind.{flat_map-append}
 use Rattle.mm_spec.specs.declared.Fault.{Fault}

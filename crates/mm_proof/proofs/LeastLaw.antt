@@ -39,25 +39,25 @@ IsLater n (Some g) = n < g.at
 least_is_later : (n : ℕ) (fs : List Fault) → AllByRecursion (λ (g : Fault). n < g.at) fs
     → IsLater n (least fs)
 least_is_later n [] all_later = tt
-least_is_later n (f ∷ fs) all_later = by_fault (least fs) (least_is_later n fs all_later.1)
+least_is_later n (f ∷ fs) all_later = stands_later (least fs) (least_is_later n fs all_later.1)
   where
     lesser_is_later : (g : Fault) (b : Bool) → n < g.at
         → IsLater n (elim b [ true ↦ Some f | false ↦ Some g ])
     lesser_is_later g true g_is_later = all_later.0
     lesser_is_later g false g_is_later = g_is_later
 
-    by_fault : (o : Option Fault) → IsLater n o → IsLater n (lesser f o)
-    by_fault None o_is_later = all_later.0
-    by_fault (Some g) o_is_later = lesser_is_later g (is_before f g) o_is_later
+    stands_later : (o : Option Fault) → IsLater n o → IsLater n (lesser f o)
+    stands_later None o_is_later = all_later.0
+    stands_later (Some g) o_is_later = lesser_is_later g (is_before f g) o_is_later
 
 -- a fault that stands before all others is the least
 first_is_least : (f : Fault) (fs : List Fault) → AllByRecursion (λ (g : Fault). f.at < g.at) fs
     → least (f ∷ fs) ≡ Some f
-first_is_least f fs all_later = by_fault (least fs) (least_is_later f.at fs all_later)
+first_is_least f fs all_later = lesser_is_f (least fs) (least_is_later f.at fs all_later)
   where
-    by_fault : (o : Option Fault) → IsLater f.at o → lesser f o ≡ Some f
-    by_fault None o_is_later = refl
-    by_fault (Some g) o_is_later =
+    lesser_is_f : (o : Option Fault) → IsLater f.at o → lesser f o ≡ Some f
+    lesser_is_f None o_is_later = refl
+    lesser_is_f (Some g) o_is_later =
         ap (λ b. elim (b || ((f.at == g.at) && nat_le (code_number f.code) (code_number g.code)))
         [ true ↦ Some f | false ↦ Some g ]) (lt-ltb f.at g.at o_is_later)
 
@@ -108,7 +108,7 @@ fault_of_first_faulty_word_is_least F faults_stand_at_words front t back f token
 
 -- the faults of a label stand where the label stands
 word_faults_stand_at_word : (db : List Statement) (k : ℕ) → AreAt (word_faults db k)
-word_faults_stand_at_word db k u = by_question_mark (bytes_eq u.word (codes "?"))
+word_faults_stand_at_word db k u = stand_at_word (bytes_eq u.word (codes "?"))
   where
     unusable_stands_at_word : (js : List ℕ)
         → AllByRecursion (λ (g : Fault). g.at ≡ u.at)
@@ -116,14 +116,14 @@ word_faults_stand_at_word db k u = by_question_mark (bytes_eq u.word (codes "?")
     unusable_stands_at_word [] = (refl, tt)
     unusable_stands_at_word (j ∷ js) = tt
 
-    by_question_mark : (b : Bool)
+    stand_at_word : (b : Bool)
         → AllByRecursion (λ (g : Fault). g.at ≡ u.at)
         (elim b [
           | true ↦ fault u.at IncompleteProof ∷ []
           | false ↦ elim (usable db k u.word) [ [] ↦ fault u.at UnusableLabel ∷ [] | j ∷ js ↦ [] ]
         ])
-    by_question_mark true = (refl, tt)
-    by_question_mark false = unusable_stands_at_word (usable db k u.word)
+    stand_at_word true = (refl, tt)
+    stand_at_word false = unusable_stands_at_word (usable db k u.word)
 
 module _ (text : List ℕ) (ws : List Word) (i : ℕ) (w : Word) (i_lt_length : i < length ws) where
   -- the words of the proof are those before the faulty word, that word, and those after it

@@ -11,13 +11,12 @@ use Rattle.std.proofs.lemmas.Bool.{and_parts, le-ltb, lt-ltb}
 use Rattle.std.proofs.lemmas.Option.{slice_get_within}
 use Rattle.mm_spec.specs.declared.Fault.{Fault}
 use Rattle.mm_spec.specs.Text.{Bytes, Token, fault}
-use Rattle.mm_spec.specs.Lawful.{when, at}
+use Rattle.mm_spec.specs.Lawful.{when, faults_at}
 use Rattle.mm_spec.specs.Steps as spec
-use Rattle.mm_spec.specs.Steps.{PlacedStep, placed, label}
-use Rattle.mm_spec.specs.Steps as spec
-use Rattle.mm_spec.specs.Steps.{marked}
+use Rattle.mm_spec.specs.Steps.{PlacedStep, placed, label, marked}
 use Rattle.mm_spec.specs.CompressedProof.{Letter, letters_from, letters_of, letter_faults, Group}
-use Rattle.mm_spec.specs.CompressedProof.{is_early, is_last, groups, value, starts_at, step_of}
+use Rattle.mm_spec.specs.CompressedProof.{is_early_letter, is_last_letter, groups, value, starts_at}
+use Rattle.mm_spec.specs.CompressedProof.{step_of}
 use Rattle.mm_spec.specs.CompressedProof.{group_steps, group_faults}
 use Rattle.mm_spec.specs.declared.Code.TheVariants.{OpenNumber, MarkBeforeStep, NumberTooLarge}
 use Rattle.mm_spec.specs.declared.Code.TheVariants.{IncompleteProof, BadLetter}
@@ -118,9 +117,9 @@ named_number_le_count : (labels marks : List ℕ) (n : ℕ) (s : spec.Step)
     → n ≤ length labels + length marks
 named_number_le_count labels marks zero s n_names_s = omega arith
 named_number_le_count labels marks (suc n) s n_names_s =
-    by_entries (slice_get labels n) refl (slice_get marks (n - length labels)) refl n_names_s
+    n_lt_count (slice_get labels n) refl (slice_get marks (n - length labels)) refl n_names_s
   where
-    by_entries : (a : Option ℕ) → slice_get labels n ≡ a → (b : Option ℕ)
+    n_lt_count : (a : Option ℕ) → slice_get labels n ≡ a → (b : Option ℕ)
         → slice_get marks (n - length labels) ≡ b
         → ◌≡◌ {A = List spec.Step}
         (elim a [
@@ -129,29 +128,29 @@ named_number_le_count labels marks (suc n) s n_names_s =
         ]) (s
         ∷ [])
         → suc n ≤ length labels + length marks
-    by_entries (Some j) label_n_is_a b mark_is_b n_names_s = let entry_index_lt_length =
+    n_lt_count (Some j) label_n_is_a b mark_is_b n_names_s = let entry_index_lt_length =
         slice_get_within labels n j label_n_is_a in omega (arith, entry_index_lt_length)
-    by_entries None label_n_is_a (Some i) mark_is_b n_names_s =
+    n_lt_count None label_n_is_a (Some i) mark_is_b n_names_s =
         let entry_index_lt_length = slice_get_within marks (n - length labels) i mark_is_b in
         omega (arith, entry_index_lt_length)
-    by_entries None label_n_is_a None mark_is_b n_names_s = absurd (cc)
+    n_lt_count None label_n_is_a None mark_is_b n_names_s = absurd (cc)
 
 -- the last letter of a number is no `Z`
-last_letter_is_no_mark : (byte : ℕ) → is_last byte ≡ true → (byte == 90) ≡ false
-last_letter_is_no_mark byte byte_is_last = by_equality (byte == 90) refl
+last_letter_is_no_mark : (byte : ℕ) → is_last_letter byte ≡ true → (byte == 90) ≡ false
+last_letter_is_no_mark byte byte_is_last = byte_is_not_90 (byte == 90) refl
   where
-    by_equality : (b : Bool) → (byte == 90) ≡ b → b ≡ false
-    by_equality true byte_is_90 =
+    byte_is_not_90 : (b : Bool) → (byte == 90) ≡ b → b ≡ false
+    byte_is_not_90 true byte_is_90 =
         let byte_le_84 =
         leb-true byte 84 (and_parts (nat_le 65 byte) (nat_le byte 84) byte_is_last).1 in
         let byte_eq_90 = eqb-true byte 90 byte_is_90 in absurd (omega arith)
-    by_equality false byte_is_90 = refl
+    byte_is_not_90 false byte_is_90 = refl
 
 -- after the last letter of a number the state has its step
 pub continues_after_last_letter : (t : ℕ) (labels marks : List ℕ) (number : Option BegunNumber)
     (steps : List PlacedStep)
     → (place byte : ℕ) (s : spec.Step)
-    → is_early byte ≡ false → is_last byte ≡ true
+    → is_early_letter byte ≡ false → is_last_letter byte ≡ true
     → ((n : ℕ) → saturated (20 * (begun_at number place).value + (byte - 64)) ≡ saturated n
     → step_of labels marks n ≡ s ∷ [])
     → (all_letters unread : List Letter)
@@ -178,7 +177,7 @@ continues_after_last_letter t labels marks number steps place byte s byte_is_not
           ∙ ap (λ r. group_faults (length labels) (length marks) (length steps) r.0) groups_split
           ∙ ap (λ b. faults_of_kind b (byte == 90)) byte_is_last
           ∙ ap (faults_of_kind true) (last_letter_is_no_mark byte byte_is_last)
-          ∙ ap (λ b. at (starts_at g) (when b NumberTooLarge)
+          ∙ ap (λ b. faults_at (starts_at g) (when b NumberTooLarge)
           ++ group_faults (length labels) (length marks) (length steps + 1) gs)
           number_is_not_too_large
           ∙ ap (λ n. group_faults (length labels) (length marks) n gs) (sym one_step_more);
@@ -214,13 +213,13 @@ continues_after_last_letter t labels marks number steps place byte s byte_is_not
     faults_of_kind : Bool → Bool → List Fault
     faults_of_kind a b =
         elim a [
-          | true ↦ at (starts_at g)
+          | true ↦ faults_at (starts_at g)
               (when (nat_lt (length labels + length marks) (value g)) NumberTooLarge)
           | false ↦ elim b [
-            | true ↦ at place
+            | true ↦ faults_at place
                 (when (nat_lt 0 (length continues.early)) OpenNumber
                 ++ when (length steps == 0) MarkBeforeStep)
-            | false ↦ at place
+            | false ↦ faults_at place
                 (elim (byte == 63) [ true ↦ IncompleteProof ∷ [] | false ↦ BadLetter ∷ [] ])
           ]
         ] ++ elim b [
@@ -253,7 +252,7 @@ continues_after_last_letter t labels marks number steps place byte s byte_is_not
 -- an early letter
 pub continues_after_early_letter : (t : ℕ) (labels marks : List ℕ) (number : Option BegunNumber)
     (steps : List PlacedStep)
-    → (place byte : ℕ) (begun : BegunNumber) → is_early byte ≡ true
+    → (place byte : ℕ) (begun : BegunNumber) → is_early_letter byte ≡ true
     → begun.at ≡ (begun_at number place).at
     → begun.value ≡ saturated (5 * (begun_at number place).value + (byte - 84))
     → (all_letters unread : List Letter)
@@ -311,7 +310,7 @@ continues_after_early_letter t labels marks number steps place byte begun byte_i
         )
 
 -- the digit of an early letter is 1 to 5
-pub early_digit_is_in_range : (byte digit : ℕ) → is_early byte ≡ true → digit ≡ byte - 84
+pub early_digit_is_in_range : (byte digit : ℕ) → is_early_letter byte ≡ true → digit ≡ byte - 84
     → (0 < digit) × (digit ≤ 20)
 early_digit_is_in_range byte digit byte_is_early digit_is =
     let in_range = and_parts (nat_le 85 byte) (nat_le byte 89) byte_is_early in
@@ -326,21 +325,22 @@ begun_number at value = record { at = at; value = value }
 -- a number that begins at the place is the number with which the state goes on there
 begun_at_is_number : (b : BegunNumber) (place : ℕ) → BeginsAt b place
     → begun_at (if_begun b) place ≡ b
-begun_at_is_number b place begins_at_place = by_zero (b.value == 0) refl
+begun_at_is_number b place begins_at_place = begun_is_b (b.value == 0) refl
   where
-    by_zero : (t : Bool) → (b.value == 0) ≡ t → begun_at (if t then None else Some b) place ≡ b
-    by_zero true value_is_0 =
+    begun_is_b : (t : Bool) → (b.value == 0) ≡ t → begun_at (if t then None else Some b) place ≡ b
+    begun_is_b true value_is_0 =
         let value_eq_0 = eqb-true b.value 0 value_is_0 in
         ap₂ begun_number (sym (begins_at_place value_eq_0)) (sym value_eq_0)
-    by_zero false value_is_0 = refl
+    begun_is_b false value_is_0 = refl
 
 -- a number whose value isn't 0 has begun
 pub number_with_letters_is_begun : (b : BegunNumber) → 0 < b.value → if_begun b ≡ Some b
-number_with_letters_is_begun b value_gt_0 = by_zero (b.value == 0) refl
+number_with_letters_is_begun b value_gt_0 = is_begun (b.value == 0) refl
   where
-    by_zero : (t : Bool) → (b.value == 0) ≡ t → (if t then None else Some b) ≡ Some b
-    by_zero true value_is_0 = let value_eq_0 = eqb-true b.value 0 value_is_0 in absurd (omega arith)
-    by_zero false value_is_0 = refl
+    is_begun : (t : Bool) → (b.value == 0) ≡ t → (if t then None else Some b) ≡ Some b
+    is_begun true value_is_0 =
+        let value_eq_0 = eqb-true b.value 0 value_is_0 in absurd (omega arith)
+    is_begun false value_is_0 = refl
 
 -- a number whose value is 0 hasn't begun
 pub number_without_letters_is_not_begun : (b : BegunNumber) → b.value ≡ 0 → if_begun b ≡ None
@@ -351,7 +351,7 @@ number_without_letters_is_not_begun b value_is_0 =
 pub continues_after_last_letter_of_number : (t : ℕ) (labels marks : List ℕ) (number : BegunNumber)
     (steps : List PlacedStep)
     → (place byte : ℕ) (s : spec.Step)
-    → BeginsAt number place → is_early byte ≡ false → is_last byte ≡ true
+    → BeginsAt number place → is_early_letter byte ≡ false → is_last_letter byte ≡ true
     → ((n : ℕ) → saturated (20 * number.value + (byte - 64)) ≡ saturated n
     → step_of labels marks n ≡ s ∷ [])
     → (all_letters unread : List Letter)
@@ -375,7 +375,7 @@ continues_after_last_letter_of_number t labels marks number steps place byte s b
 -- an early letter of this number
 pub continues_after_early_letter_of_number : (t : ℕ) (labels marks : List ℕ) (number : BegunNumber)
     (steps : List PlacedStep)
-    → (place byte : ℕ) (next : BegunNumber) → BeginsAt number place → is_early byte ≡ true
+    → (place byte : ℕ) (next : BegunNumber) → BeginsAt number place → is_early_letter byte ≡ true
     → next.at ≡ number.at → next.value ≡ saturated (5 * number.value + (byte - 84))
     → (all_letters unread : List Letter)
     → Continues (letters_state t labels marks (if_begun number) steps) all_letters
@@ -412,7 +412,7 @@ continues_after_mark t labels marks steps place has_steps all_letters unread con
       faults =
           continues.faults
           ∙ ap (λ r. group_faults (length labels) (length marks) (length steps) r.0) groups_split
-          ∙ ap (λ b. at place (when b MarkBeforeStep)
+          ∙ ap (λ b. faults_at place (when b MarkBeforeStep)
           ++ group_faults (length labels) (length marks + 1) (length steps) gs) has_steps
           ∙ ap (λ n. group_faults (length labels) n (length steps) gs) (sym one_mark_more);
       run = continues.run ∙ ap (λ r. r.1) groups_split;
@@ -444,7 +444,7 @@ letter_fault_is_first n end all_letters Memory starts_with_e = tt
 letter_fault_is_first n end [] (Faulty f) starts_with_e =
     absurd (let nothing_is_f = starts_with_e.1 in cc)
 letter_fault_is_first n end (x ∷ xs) (Faulty f) starts_with_e =
-    let end_fault = at end (when (nat_lt 0 (length (groups [] (x ∷ xs)).1)) OpenNumber) in
+    let end_fault = faults_at end (when (nat_lt 0 (length (groups [] (x ∷ xs)).1)) OpenNumber) in
     (starts_with_e.0 ++ end_fault, ap (λ fs. fs ++ end_fault) starts_with_e.1)
 
 -- after the last letter, where a number is open and where none is
@@ -457,12 +457,13 @@ has_early_letters (Some n) early begins =
 -- of all letters at most a number that is open at the end has a fault
 faults_at_end : (s : LettersState) (end : ℕ) (x : Letter) (xs : List Letter)
     → Continues s (x ∷ xs) []
-    → letter_faults (length s.labels) end (x ∷ xs) ≡ at end (when (is_some s.number) OpenNumber)
+    → letter_faults (length s.labels) end (x ∷ xs)
+    ≡ faults_at end (when (is_some s.number) OpenNumber)
 faults_at_end s end x xs continues =
-    ap (λ fs. fs ++ at end (when (nat_lt 0 (length (groups [] (x ∷ xs)).1)) OpenNumber))
+    ap (λ fs. fs ++ faults_at end (when (nat_lt 0 (length (groups [] (x ∷ xs)).1)) OpenNumber))
     continues.faults
-    ∙ ap (λ es. at end (when (nat_lt 0 (length es)) OpenNumber)) continues.run
-    ∙ ap (λ b. at end (when b OpenNumber))
+    ∙ ap (λ es. faults_at end (when (nat_lt 0 (length es)) OpenNumber)) continues.run
+    ∙ ap (λ b. faults_at end (when b OpenNumber))
     (has_early_letters s.number continues.early continues.begins)
 
 -- a number that is open at the end is the first fault
@@ -472,8 +473,11 @@ pub open_number_is_first_fault : (s : LettersState) (end : ℕ) (all_letters : L
     → StartsWith (letter_faults (length s.labels) end all_letters) (Faulty (fault end OpenNumber))
 open_number_is_first_fault s end [] number_is_open letters_are_some continues =
     absurd (letters_are_some refl)
-open_number_is_first_fault s end (x ∷ xs) number_is_open letters_are_some continues =
-    ([], faults_at_end s end x xs continues ∙ ap (λ b. at end (when b OpenNumber)) number_is_open)
+open_number_is_first_fault s end (x ∷ xs) number_is_open letters_are_some continues = (
+  [],
+  faults_at_end s end x xs continues
+      ∙ ap (λ b. faults_at end (when b OpenNumber)) number_is_open,
+)
 
 -- if no number is open at the end, the letters have no fault
 pub no_fault_at_end : (s : LettersState) (end : ℕ) (all_letters : List Letter)
@@ -482,7 +486,7 @@ pub no_fault_at_end : (s : LettersState) (end : ℕ) (all_letters : List Letter)
     → letter_faults (length s.labels) end all_letters ≡ []
 no_fault_at_end s end [] number_is_none letters_are_some continues = absurd (letters_are_some refl)
 no_fault_at_end s end (x ∷ xs) number_is_none letters_are_some continues =
-    faults_at_end s end x xs continues ∙ ap (λ b. at end (when b OpenNumber)) number_is_none
+    faults_at_end s end x xs continues ∙ ap (λ b. faults_at end (when b OpenNumber)) number_is_none
 
 -- all letters have been read after the last word
 pub continues_at_end : (s : LettersState) (text : List ℕ) (ws : List Place) (n : ℕ)
@@ -512,12 +516,12 @@ pub words_have_letters : (from end : ℕ) (text : List ℕ) (ws : List Place)
 words_have_letters from end text [] in_order words_are_some no_letters =
     absurd (true≢false words_are_some)
 words_have_letters from end text (v ∷ ws) in_order words_are_some no_letters =
-    by_first_word (token_of text v).word in_order.1 no_letters
+    has_letters (token_of text v).word in_order.1 no_letters
   where
-    by_first_word : (w : Bytes) → 1 ≤ length w
+    has_letters : (w : Bytes) → 1 ≤ length w
         → ¬ (letters_from v.start w ++ letters_of (as_tokens text ws) ≡ [])
-    by_first_word [] words_are_some no_letters = absurd (omega arith)
-    by_first_word (b ∷ bs) words_are_some no_letters = cc
+    has_letters [] words_are_some no_letters = absurd (omega arith)
+    has_letters (b ∷ bs) words_are_some no_letters = cc
 
 -- a letter without a step
 pub stands_at_next : (s : LettersState) (at : ℕ) → StandsAt s at → StandsAt s (at + 1)
@@ -543,7 +547,7 @@ stands_at_next_with_step s new at x stands new_has_step =
     })
 
 -- the digits of letters
-pub last_digit_is_in_range : (byte digit : ℕ) → is_last byte ≡ true → digit ≡ byte - 64
+pub last_digit_is_in_range : (byte digit : ℕ) → is_last_letter byte ≡ true → digit ≡ byte - 64
     → (0 < digit) × (digit ≤ 20)
 last_digit_is_in_range byte digit byte_is_last digit_is =
     let in_range = and_parts (nat_le 65 byte) (nat_le byte 84) byte_is_last in

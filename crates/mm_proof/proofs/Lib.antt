@@ -11,7 +11,6 @@ pub mod UsableLaw
 pub mod LeastLaw
 pub mod RisingLaw
 pub mod ReadLaw
-pub mod TheoremsLaw
 pub mod NumberLaw
 pub mod LettersLaw
 pub mod BracketsLaw

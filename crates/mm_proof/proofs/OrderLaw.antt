@@ -14,11 +14,12 @@ use Rattle.mm_spec.specs.declared.Code.TheVariants.{UnusableLabel, EmptyProof, O
 use Rattle.mm_spec.specs.declared.Code.TheVariants.{OpenNumber, MarkBeforeStep, NumberTooLarge}
 use Rattle.mm_spec.specs.declared.Code.TheVariants.{IncompleteProof, BadLetter}
 use Rattle.mm_spec.specs.Statement.{Statement}
-use Rattle.mm_spec.specs.Lawful.{when, at, least, lesser, is_before}
+use Rattle.mm_spec.specs.Lawful.{when, faults_at, least, lesser, is_before}
 use Rattle.mm_spec.specs.Frame.{mandatory_hypotheses}
 use Rattle.mm_spec.specs.NormalProof.{usable, proof_label_faults}
 use Rattle.mm_spec.specs.CompressedProof.{Compressed, bracketed, with_label, Letter, letters_from}
-use Rattle.mm_spec.specs.CompressedProof.{letters_of, Group, is_early, is_last, groups, value}
+use Rattle.mm_spec.specs.CompressedProof.{letters_of, Group, is_early_letter, is_last_letter}
+use Rattle.mm_spec.specs.CompressedProof.{groups, value}
 use Rattle.mm_spec.specs.CompressedProof.{starts_at, group_fault, group_faults, letter_faults}
 use Rattle.mm_spec.specs.CompressedProof.{compressed_faults}
 use Rattle.mm_proof.specs.Letters.{AreInOrder}
@@ -106,7 +107,7 @@ run_of_one from to place c from_le_place place_lt_to =
 
 -- a fault that there may be is a run
 run_if : (from to place : ℕ) (b : Bool) (c : Code) → from ≤ place → place < to
-    → IsRun from to (at place (when b c))
+    → IsRun from to (faults_at place (when b c))
 run_if from to place true c from_le_place place_lt_to =
     run_of_one from to place c from_le_place place_lt_to
 run_if from to place false c from_le_place place_lt_to = run_of_none from to
@@ -124,7 +125,7 @@ run_from_lower from low to fs from_le_low is_run =
 
 -- the first of faults in order is the least
 first_sorted_is_least : (f : Fault) (fs : List Fault) → AreSorted (f ∷ fs) → least (f ∷ fs) ≡ Some f
-first_sorted_is_least f fs are_sorted = by_fault (least fs) (before_least fs are_sorted.0)
+first_sorted_is_least f fs are_sorted = lesser_is_f (least fs) (before_least fs are_sorted.0)
   where
     IsBeforeLeast : Option Fault → Type 0
     IsBeforeLeast None = Unit {0}
@@ -145,9 +146,9 @@ first_sorted_is_least f fs are_sorted = by_fault (least fs) (before_least fs are
         before_lesser (Some h) f_before_g =
             lesser_is_before g h (is_before g h) f_before_all.0 f_before_g
 
-    by_fault : (o : Option Fault) → IsBeforeLeast o → lesser f o ≡ Some f
-    by_fault None f_before_g = refl
-    by_fault (Some g) f_before_g = ap (λ b. elim b [ true ↦ Some f | false ↦ Some g ]) f_before_g
+    lesser_is_f : (o : Option Fault) → IsBeforeLeast o → lesser f o ≡ Some f
+    lesser_is_f None f_before_g = refl
+    lesser_is_f (Some g) f_before_g = ap (λ b. elim b [ true ↦ Some f | false ↦ Some g ]) f_before_g
 
 -- ---- letters
 
@@ -195,7 +196,7 @@ letters_rise from end (t ∷ ts) in_order =
 
 -- the faults of a mark are a run
 mark_faults_are_run : (from place : ℕ) (a b : Bool) → from ≤ place
-    → IsRun from (place + 1) (at place (when a OpenNumber ++ when b MarkBeforeStep))
+    → IsRun from (place + 1) (faults_at place (when a OpenNumber ++ when b MarkBeforeStep))
 mark_faults_are_run from place true true from_le_place = record {
   from_le_places = (from_le_place, (from_le_place, tt));
   places_lt_to = (omega arith, (omega arith, tt));
@@ -221,7 +222,7 @@ module _ (labels end : ℕ) where
       (group_fault labels marks count
       (record { early = early; last = record { at = place; byte = byte } }))
   group_faults_are_run from now place byte early marks count early_is_open now_le_place =
-      by_letter_kind (is_last byte)
+      faults_are_run (is_last_letter byte)
       (byte == 90)
       (byte == 63)
     where
@@ -246,25 +247,26 @@ module _ (labels end : ℕ) where
           let first_lt_now = is_open.1 in
           omega (arith, from_le_first, first_lt_now, now_le_place)
 
-      by_letter_kind : (a b c : Bool) → IsRun from (place + 1) (elim a [
-        | true ↦ at (starts_at g) (when (nat_lt (labels + marks) (value g)) NumberTooLarge)
+      faults_are_run : (a b c : Bool) → IsRun from (place + 1) (elim a [
+        | true ↦ faults_at (starts_at g) (when (nat_lt (labels + marks) (value g)) NumberTooLarge)
         | false ↦ elim b [
-          | true ↦ at place
+          | true ↦ faults_at place
               (when (nat_lt 0 (length early)) OpenNumber ++ when (count == 0) MarkBeforeStep)
-          | false ↦ at place (elim c [ true ↦ IncompleteProof ∷ [] | false ↦ BadLetter ∷ [] ])
+          | false ↦ faults_at place
+              (elim c [ true ↦ IncompleteProof ∷ [] | false ↦ BadLetter ∷ [] ])
         ]
       ])
-      by_letter_kind true b c =
+      faults_are_run true b c =
           run_if from (place + 1) (starts_at g) (nat_lt (labels + marks) (value g)) NumberTooLarge
           (from_le_start early early_is_open) (start_lt_next early early_is_open)
-      by_letter_kind false true c =
+      faults_are_run false true c =
           mark_faults_are_run from place (nat_lt 0 (length early)) (count == 0)
           (letters_from_le_place early early_is_open)
-      by_letter_kind false false true =
+      faults_are_run false false true =
           run_of_one from (place + 1) place IncompleteProof
           (letters_from_le_place early early_is_open)
           (omega arith)
-      by_letter_kind false false false = run_of_one from (place + 1) place BadLetter
+      faults_are_run false false false = run_of_one from (place + 1) place BadLetter
           (letters_from_le_place early early_is_open)
           (omega arith)
 
@@ -272,7 +274,7 @@ module _ (labels end : ℕ) where
   abbrev remaining_faults : List Letter → ℕ → ℕ → List Letter → List Fault
   remaining_faults early marks count xs =
       group_faults labels marks count (groups early xs).0
-      ++ at end (when (nat_lt 0 (length (groups early xs).1)) OpenNumber)
+      ++ faults_at end (when (nat_lt 0 (length (groups early xs).1)) OpenNumber)
 
   -- the place where an open number stands isn't past the end
   from_le_end : (from now : ℕ) (early : List Letter) → IsOpenAt from early now → now ≤ end
@@ -298,7 +300,7 @@ module _ (labels end : ℕ) where
       (from_le_end from now early is_open_at are_rising)
       (omega arith)
   remaining_faults_are_run (x ∷ xs) early from now marks count early_is_open are_rising =
-      by_mark (is_early x.byte)
+      groups_are_run (is_early_letter x.byte)
       (remaining_faults_are_run xs (early ++ x ∷ []) from (x.at + 1) marks count
       (open_with_letter early early_is_open) are_rising.1)
       (group_is_run (x.byte == 90)
@@ -328,7 +330,7 @@ module _ (labels end : ℕ) where
       later_groups = (groups [] xs).0
 
       end_faults : List Fault
-      end_faults = at end (when (nat_lt 0 (length (groups [] xs).1)) OpenNumber)
+      end_faults = faults_at end (when (nat_lt 0 (length (groups [] xs).1)) OpenNumber)
 
       first_is_run : IsRun from (x.at + 1) (group_fault labels marks count g)
       first_is_run = group_faults_are_run from now x.at x.byte early marks count early_is_open
@@ -385,15 +387,15 @@ module _ (labels end : ℕ) where
       faults_of_groups : Bool → List Fault
       faults_of_groups a =
           let are_rising = groups_of_kind a in
-          group_faults labels marks count are_rising.0 ++ at end
+          group_faults labels marks count are_rising.0 ++ faults_at end
           (when (nat_lt 0 (length are_rising.1)) OpenNumber)
 
-      by_mark : (a : Bool)
+      groups_are_run : (a : Bool)
           → IsRun from (end + 1) (remaining_faults (early ++ x ∷ []) marks count xs)
           → IsRun from (end + 1) (faults_of_kind (x.byte == 90))
           → IsRun from (end + 1) (faults_of_groups a)
-      by_mark true run_after_early run_after_group = run_after_early
-      by_mark false run_after_early run_after_group = run_after_group
+      groups_are_run true run_after_early run_after_group = run_after_early
+      groups_are_run false run_after_early run_after_group = run_after_group
 
   -- the faults of all letters are a run
   letter_faults_are_run : (from : ℕ) (xs : List Letter) → AreRising from xs end
@@ -408,12 +410,12 @@ module _ (labels end : ℕ) where
 -- the faults of a label are a run
 label_faults_are_run : (db : List Statement) (k : ℕ) (t : Token)
     → IsRun t.at (t.at + 1) (proof_label_faults db k t)
-label_faults_are_run db k t = by_usability (usable db k t.word)
+label_faults_are_run db k t = faults_are_run (usable db k t.word)
   where
-    by_usability : (js : List ℕ)
+    faults_are_run : (js : List ℕ)
         → IsRun t.at (t.at + 1) (elim js [ [] ↦ fault t.at UnusableLabel ∷ [] | j ∷ js ↦ [] ])
-    by_usability [] = run_of_one t.at (t.at + 1) t.at UnusableLabel (omega arith) (omega arith)
-    by_usability (j ∷ js) = run_of_none t.at (t.at + 1)
+    faults_are_run [] = run_of_one t.at (t.at + 1) t.at UnusableLabel (omega arith) (omega arith)
+    faults_are_run (j ∷ js) = run_of_none t.at (t.at + 1)
 
 -- words in order begin no later than they end
 in_order_from_le_end : (from end : ℕ) (ts : List Token) → AreInOrder from ts end → from ≤ end
@@ -437,13 +439,13 @@ module _ (db : List Statement) (k end : ℕ) where
   bracket_faults_are_run n from [] in_order =
       run_of_one from (end + 1) end OpenBrackets in_order (omega arith)
   bracket_faults_are_run n from (t ∷ ts) in_order =
-      by_closing_bracket (bytes_eq t.word (codes ")"))
+      faults_are_run (bytes_eq t.word (codes ")"))
       (bracket_faults_are_run n (t.at + length t.word) ts in_order.2)
     where
       label_end_le_end : t.at + length t.word ≤ end
       label_end_le_end = in_order_from_le_end (t.at + length t.word) end ts in_order.2
 
-      by_closing_bracket : (b : Bool) → IsRun (t.at + length t.word) (end + 1) (faults_of n
+      faults_are_run : (b : Bool) → IsRun (t.at + length t.word) (end + 1) (faults_of n
           (bracketed ts))
           → IsRun from (end + 1)
           (faults_of n
@@ -451,13 +453,13 @@ module _ (db : List Statement) (k end : ℕ) where
             | true ↦ record { labels = []; letters = Some ts }
             | false ↦ with_label t (bracketed ts)
           ]))
-      by_closing_bracket true rest_is_run =
+      faults_are_run true rest_is_run =
           let from_le_place = in_order.0 in
           letter_faults_are_run n end from (letters_of ts)
           (rising_from_lower from (t.at + length t.word) end (letters_of ts)
           (omega (arith, from_le_place))
           (letters_rise (t.at + length t.word) end ts in_order.2))
-      by_closing_bracket false rest_is_run =
+      faults_are_run false rest_is_run =
           let from_le_place = in_order.0 in
           let word_has_bytes = in_order.1 in
           subst (IsRun from (end + 1))

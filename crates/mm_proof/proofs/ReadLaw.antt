@@ -5,13 +5,12 @@ use Rattle.std.proofs.Common.{true≢false, flat_map}
 use Rattle.std.proofs.lemmas.Option.{slice_get_within}
 use Rattle.std.specs.Option.{option_map}
 use Rattle.std.specs.List.{list_any}
-use Rattle.mm_spec.specs.Text.{Token}
+use Rattle.mm_spec.specs.Text.{Token, fault}
 use Rattle.mm_spec.specs.Statement.{Statement, provable, proof_of}
 use Rattle.mm_spec.specs.NormalProof.{normal_faults, normal_steps}
 use Rattle.mm_spec.specs.CompressedProof.{bracketed, compressed_faults, compressed_steps}
 use Rattle.mm_spec.specs.Proof.{reading_faults, steps}
 use Rattle.mm_spec.specs.Citation.{is_theorem, reading_faults_at, steps_at}
-use Rattle.mm_spec.specs.Text.{fault}
 use Rattle.mm_spec.specs.declared.Code.TheVariants.{EmptyProof}
 use Rattle.mm_proof.specs.Refused.{word_faults}
 use Rattle.mm_database.specs.Database.{end_at}
@@ -33,14 +32,14 @@ pub theorem_is_provable : (db : List Statement) (k : ℕ) (ps : List Token)
     → is_theorem_at db k ≡ true
     → option_map proof_of (slice_get db k) ≡ Some ps → IsProvable db k ps
 theorem_is_provable db k ps k_is_theorem proof_is_ps =
-    by_statement (slice_get db k) refl k_is_theorem proof_is_ps
+    s_is_provable (slice_get db k) refl k_is_theorem proof_is_ps
   where
-    by_statement : (o : Option Statement) → slice_get db k ≡ o
+    s_is_provable : (o : Option Statement) → slice_get db k ≡ o
         → list_any is_theorem (elim o [ None ↦ [] | Some s ↦ s ∷ [] ]) ≡ true
         → option_map proof_of o ≡ Some ps → IsProvable db k ps
-    by_statement None statement_k_is_o k_is_theorem proof_is_ps =
+    s_is_provable None statement_k_is_o k_is_theorem proof_is_ps =
         absurd (true≢false (sym k_is_theorem))
-    by_statement (Some (provable l p xs a qs d)) statement_k_is_o k_is_theorem proof_is_ps =
+    s_is_provable (Some (provable l p xs a qs d)) statement_k_is_o k_is_theorem proof_is_ps =
         let qs_is_ps : qs ≡ ps = cc in
         record {
           label = l;
@@ -50,7 +49,7 @@ theorem_is_provable db k ps k_is_theorem proof_is_ps =
           dot = d;
           statement_is = statement_k_is_o ∙ ap (λ z. Some (provable l p xs a z d)) qs_is_ps;
         }
-    by_statement (Some s) statement_k_is_o k_is_theorem proof_is_ps =
+    s_is_provable (Some s) statement_k_is_o k_is_theorem proof_is_ps =
         absurd (true≢false (sym k_is_theorem))
 
 -- the theorem is one of the statements

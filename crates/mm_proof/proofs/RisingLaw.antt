@@ -12,9 +12,7 @@ use Rattle.mm_spec.specs.declared.Word.{Word}
 use Rattle.mm_spec.specs.Laws.Words.{IsWord}
 use Rattle.mm_spec.specs.Readings.{bytes_of}
 use Rattle.mm_spec.specs.Lexed as lexed
-use Rattle.mm_spec.specs.Statement.{Statement, provable}
-use Rattle.mm_spec.specs.Lexed as lexed
-use Rattle.mm_spec.specs.Statement.{spelling_of}
+use Rattle.mm_spec.specs.Statement.{Statement, provable, spelling_of}
 use Rattle.mm_spec.specs.Opened.{counted}
 use Rattle.mm_spec.specs.Lexed.{lexed_of}
 use Rattle.mm_spec.specs.Output.{IsRead}

@@ -5,7 +5,7 @@ use Rattle.std.specs.List.{list_any}
 use Rattle.std.proofs.Math.Bool.{and-false}
 use Rattle.mm_spec.specs.Text.{Bytes}
 use Rattle.mm_spec.specs.Statement.{Statement}
-use Rattle.mm_spec.specs.Scope.{is_active, statement_at}
+use Rattle.mm_spec.specs.Scope.{active_at, statement_at}
 use Rattle.mm_spec.specs.NormalProof.{is_labelled, usable}
 use Rattle.mm_spec.proofs.FindsLaw.{active_lt_place}
 use Rattle.mm_spec.proofs.BoolLaw.{passes_alone}
@@ -18,7 +18,7 @@ module _ (db : List Statement) (k : ℕ) (w : Bytes) where
 
   -- whether a statement has the label and may be used
   abbrev passes : ℕ → Bool
-  passes j = is_active db j k && labelled j
+  passes j = active_at db j k && labelled j
 
   -- if no statement has the label and may be used, the label isn't usable
   none_passes : ((j : ℕ) → passes j ≡ false) → usable db k w ≡ []
@@ -30,29 +30,29 @@ module _ (db : List Statement) (k : ℕ) (w : Bytes) where
   -- a label that no statement has isn't usable
   pub undeclared_is_unusable : ((j : ℕ) → labelled j ≡ false) → usable db k w ≡ []
   undeclared_is_unusable none_is_labelled =
-      none_passes (λ j. ap (λ b. is_active db j k && b) (none_is_labelled j)
-      ∙ and-false (is_active db j k))
+      none_passes (λ j. ap (λ b. active_at db j k && b) (none_is_labelled j)
+      ∙ and-false (active_at db j k))
 
   -- a label of a statement that isn't active isn't usable
   pub inactive_is_unusable : (j : ℕ) → ((i : ℕ) → labelled i ≡ true → i ≡ j)
-      → is_active db j k ≡ false
+      → active_at db j k ≡ false
       → usable db k w ≡ []
   inactive_is_unusable j only_j_is_labelled j_is_inactive =
-      none_passes (λ i. by_label i (labelled i) refl)
+      none_passes (λ i. does_not_pass i (labelled i) refl)
     where
-      by_label : (i : ℕ) (b : Bool) → labelled i ≡ b → passes i ≡ false
-      by_label i true label_of_i_is_b =
-          ap (λ x. is_active db x k && labelled i) (only_j_is_labelled i label_of_i_is_b)
+      does_not_pass : (i : ℕ) (b : Bool) → labelled i ≡ b → passes i ≡ false
+      does_not_pass i true label_of_i_is_b =
+          ap (λ x. active_at db x k && labelled i) (only_j_is_labelled i label_of_i_is_b)
           ∙ ap (λ b. b && labelled i) j_is_inactive
-      by_label i false label_of_i_is_b = ap (λ b. is_active db i k && b) label_of_i_is_b
-          ∙ and-false (is_active db i k)
+      does_not_pass i false label_of_i_is_b = ap (λ b. active_at db i k && b) label_of_i_is_b
+          ∙ and-false (active_at db i k)
 
   -- a label of an active statement is usable
   pub active_is_usable : (j : ℕ) → ((i : ℕ) → labelled i ≡ true → i ≡ j) → labelled j ≡ true
-      → is_active db j k ≡ true → usable db k w ≡ j ∷ []
+      → active_at db j k ≡ true → usable db k w ≡ j ∷ []
   active_is_usable j only_j_is_labelled j_is_labelled active_at_k =
       filter_is passes k 0 (j ∷ []) ((omega arith), tt) member_lt_k
-      (λ i i_ge_0 i_lt_k. by_equality i (nat_eq i j) refl)
+      (λ i i_ge_0 i_lt_k. only_j_passes i (nat_eq i j) refl)
     where
       member_lt_k : (i : ℕ) → (nat_eq i j || false) ≡ true → i < 0 + k
       member_lt_k i i_is_member =
@@ -64,10 +64,10 @@ module _ (db : List Statement) (k : ℕ) (w : Bytes) where
       other_fails : (i : ℕ) → nat_eq i j ≡ false → (c : Bool) → labelled i ≡ c → passes i ≡ false
       other_fails i i_ne_j true j_is_labelled =
           absurd (true≢false (sym (eq-eqb i j (only_j_is_labelled i j_is_labelled)) ∙ i_ne_j))
-      other_fails i i_ne_j false j_is_labelled = ap (λ b. is_active db i k && b) j_is_labelled
-          ∙ and-false (is_active db i k)
+      other_fails i i_ne_j false j_is_labelled = ap (λ b. active_at db i k && b) j_is_labelled
+          ∙ and-false (active_at db i k)
 
-      by_equality : (i : ℕ) (b : Bool) → nat_eq i j ≡ b → passes i ≡ (b || false)
-      by_equality i true i_eq_j_is_b =
+      only_j_passes : (i : ℕ) (b : Bool) → nat_eq i j ≡ b → passes i ≡ (b || false)
+      only_j_passes i true i_eq_j_is_b =
           ap passes (eqb-true i j i_eq_j_is_b) ∙ ap₂ (λ x y. x && y) active_at_k j_is_labelled
-      by_equality i false i_eq_j_is_b = other_fails i i_eq_j_is_b (labelled i) refl
+      only_j_passes i false i_eq_j_is_b = other_fails i i_eq_j_is_b (labelled i) refl

@@ -1,4 +1,5 @@
--- What the answers of the reader mean.
+-- What a refusal promises of the faults of a proof: that it tells the first of them, either by
+-- place and code, or as the list has them. And what the readers find of a label.
 use Rattle.std.specs.Prelude.{◌≡◌, ℕ, true, false, List, [], ◌∷◌, Option, Some, None, bytes_eq}
 use Rattle.std.specs.Prelude.{codes}
 use Rattle.mm_spec.specs.Text.{Token, fault}
@@ -20,7 +21,7 @@ abbrev pub StartsWith : List Fault → ProofRefused → Type 0
 StartsWith faults (Faulty f) = (more : List Fault) × (faults ≡ f ∷ more)
 StartsWith faults Memory = Unit {0}
 
--- the number that was found, if any, as a list
+-- the statement that was found, if any, as a list
 abbrev pub as_list : Option ℕ → List ℕ
 as_list None = []
 as_list (Some j) = j ∷ []

@@ -25,22 +25,22 @@ fn read_labels<A: Allocator>(
     end: u32,
     labels: &mut Vec<u32, A>,
 ) -> Result<usize, ProofRefused>
-    requires theorem { theorem < length database.now.statements }
-    requires within { AreWithin database.now.text words.now }
-    ensures labels { IfOk result
+    requires theorem_lt_length { theorem < length database.now.statements }
+    requires words_within { AreWithin database.now.text words.now }
+    ensures reads { IfOk result
         (λ n. ReadsLabels database.now.statements theorem database.now.text words.now n
         labels.old.items labels.new.items) }
-    ensures fault { IfErr result
+    ensures fault_is_first { IfErr result
         (λ e. StartsWith
         (compressed_faults database.now.statements theorem end
         (bracketed (as_tokens database.now.text words.now))) e) }
 {
     let text = database.text();
-    for n in 0..words.len() {
-        let word = words[n];
+    for index in 0..words.len() {
+        let word = words[index];
         let label = word.bytes(text);
         if label == b")".as_slice() {
-            return Ok(n);
+            return Ok(index);
         }
         match usable_label(database, theorem, label) {
             None => return Err(refused(word.start, Code::UnusableLabel)),
@@ -70,18 +70,18 @@ pub(crate) fn read_compressed<A: Allocator + Copy>(
     words: &[Word],
     end: u32,
 ) -> Result<Steps<A>, ProofRefused>
-    requires theorem { IsTrue (is_theorem_at database.now.statements theorem) }
-    requires within { AreWithin database.now.text words.now }
+    requires is_theorem { IsTrue (is_theorem_at database.now.statements theorem) }
+    requires words_within { AreWithin database.now.text words.now }
     requires in_order { AreInOrder 0 (as_tokens database.now.text words.now) end }
-    ensures steps { IfOk result
+    ensures steps_are_read { IfOk result
         (λ s. s ≡ theorem_steps theorem
         (compressed_steps database.now.statements theorem
         (bracketed (as_tokens database.now.text words.now)))) }
-    ensures sound { IfOk result
+    ensures has_no_fault { IfOk result
         (λ s. compressed_faults database.now.statements theorem end
         (bracketed (as_tokens database.now.text words.now))
         ≡ []) }
-    ensures fault { IfErr result
+    ensures fault_is_first { IfErr result
         (λ e. StartsWith
         (compressed_faults database.now.statements theorem end
         (bracketed (as_tokens database.now.text words.now))) e) }

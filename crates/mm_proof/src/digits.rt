@@ -40,8 +40,8 @@ pub(crate) fn letter_of(byte: u8) -> LetterKind
 /// smaller.
 #[inline(always)]
 pub(crate) fn with_digit(number: u64, base: u64, digit: u64) -> u64
-    requires base { base ≤ 20 }
-    requires digit { digit ≤ 20 }
+    requires base_le_20 { base ≤ 20 }
+    requires digit_le_20 { digit ≤ 20 }
     ensures { result ≡ saturated (base * number + digit) }
 {
     // For a small number nothing can wrap. (This bound fits in an instruction, 32 bits don't.)
@@ -64,9 +64,9 @@ fn with_digit_of_large(number: u64, base: u64, digit: u64) -> u64
 
 /// The value of a number in letters: any number of letters `U` to `Y`, followed by one of `A` to
 /// `T`. It is `None` for any other word, and for a value above 4,294,967,295.
-pub fn number(letters: &[u8]) -> Option<u32>
-    ensures some { IfSome result (λ n. IsNumber letters.now n) }
-    ensures none { IfNone result ((n : ℕ) → IsNumber letters.now n → 4294967295 < n) }
+pub fn value_of_letters(letters: &[u8]) -> Option<u32>
+    ensures value_is { IfSome result (λ n. IsNumber letters.now n) }
+    ensures is_too_large { IfNone result ((n : ℕ) → IsNumber letters.now n → 4294967295 < n) }
 {
     let (last, early) = letters.split_last()?;
     let LetterKind::Last(digit) = letter_of(*last) else {

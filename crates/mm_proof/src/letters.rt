@@ -3,14 +3,13 @@
 ghost use Rattle.std.specs.Prelude.{All, IfSome, ◌≡◌, ◌<◌, ◌≤◌, ◌+◌, ◌*◌, ◌∷◌, ◌++◌, [], ℕ, None};
 ghost use Rattle.std.specs.Prelude.{length, IfOk, IfErr, IfNone, OnOk};
 ghost use Rattle.mm_spec.specs.Steps.{placed};
-ghost use Rattle.mm_spec.specs.CompressedProof.{letters_of, letter_faults, step_of};
+ghost use Rattle.mm_spec.specs.CompressedProof.{letters_of, letter_faults, mark_letter, step_of};
 ghost use Rattle.mm_outline.specs.Parts.{as_tokens, AreWithin};
 ghost use Rattle.mm_steps.specs.TheoremSteps.{theorem_steps, as_step, IsEarlier};
 ghost use Rattle.mm_proof.specs.Number.{HasLetterKind, saturated};
 ghost use Rattle.mm_proof.specs.declared.digits.LetterKind.TheVariants.{Last};
 ghost use Rattle.mm_proof.specs.Letters.{letters_state, letter, with_number, step_as_list};
-ghost use Rattle.mm_proof.specs.Letters.{if_begun};
-ghost use Rattle.mm_proof.specs.Letters.{AreInOrder, StandsAt, IsReadUpTo, BeginsAt};
+ghost use Rattle.mm_proof.specs.Letters.{if_begun, AreInOrder, StandsAt, IsReadUpTo, BeginsAt};
 ghost use Rattle.mm_proof.specs.Letters.{word_letters, ReadsLetters, ReadsAllLetters};
 ghost use Rattle.mm_proof.specs.Letters.{RefusesLetters};
 ghost use Rattle.mm_proof.specs.Refused.{StartsWith};
@@ -38,10 +37,10 @@ pub(crate) struct BegunNumber {
 
 /// Returns a number with one more digit.
 fn with_next_digit(number: BegunNumber, base: u64, digit: u64) -> BegunNumber
-    requires base { base ≤ 20 }
-    requires digit { digit ≤ 20 }
-    ensures at { result.at ≡ number.at }
-    ensures value { result.value ≡ saturated (base * number.value + digit) }
+    requires base_le_20 { base ≤ 20 }
+    requires digit_le_20 { digit ≤ 20 }
+    ensures place_stays { result.at ≡ number.at }
+    ensures value_is_saturated { result.value ≡ saturated (base * number.value + digit) }
 {
     BegunNumber {
         at: number.at,
@@ -51,8 +50,8 @@ fn with_next_digit(number: BegunNumber, base: u64, digit: u64) -> BegunNumber
 
 /// Lets a number that has no letters yet begin at place `at`.
 fn begin_at(number: &mut BegunNumber, at: u32)
-    ensures at { BeginsAt number.new at }
-    ensures same { if_begun number.new ≡ if_begun number.old }
+    ensures begins_at_place { BeginsAt number.new at }
+    ensures begun_stays { if_begun number.new ≡ if_begun number.old }
 {
     if number.value == 0 {
         number.at = at;
@@ -108,11 +107,11 @@ impl<A: Allocator> LettersRead<A> {
     /// greatest 64-bit number if that is smaller.
     fn step_named(&self, value: u64) -> Option<Step>
         requires { 0 < value }
-        ensures step { (n : ℕ) → value ≡ saturated n
+        ensures step_is_of_number { (n : ℕ) → value ≡ saturated n
             → step_of self.now.labels self.now.marks n ≡ step_as_list result }
-        ensures large { IfNone result
+        ensures no_step_has_number { IfNone result
             ((n : ℕ) → value ≡ saturated n → length self.now.labels + length self.now.marks < n) }
-        ensures earlier { IfSome result
+        ensures step_is_earlier { IfSome result
             (λ s. (n : ℕ) → All (λ j. j < n) self.now.marks → IsEarlier (as_step s) n) }
     {
         let labels = self.labels.as_slice();
@@ -131,7 +130,7 @@ impl<A: Allocator> LettersRead<A> {
 
     /// Appends the step of a number that ends. The step is a label or an earlier step.
     fn add_step(&mut self, at: u32, step: Step) -> Result<(), AllocError>
-        requires earlier { IsEarlier (as_step step) (length self.old.steps) }
+        requires step_is_earlier { IsEarlier (as_step step) (length self.old.steps) }
         ensures { OnOk result
             (self.new
             ≡ letters_state self.old.theorem self.old.labels self.old.marks None
@@ -143,10 +142,10 @@ impl<A: Allocator> LettersRead<A> {
 
     /// Reads the last letter of a number, which is at place `_at`.
     fn end_number(&mut self, number: BegunNumber, _at: u32, digit: u64) -> Result<(), ProofRefused>
-        requires digit { 0 < digit }
-        requires small { digit ≤ 20 }
-        requires stands { IsReadUpTo self.old number _at }
-        ensures stands { OnOk result (StandsAt self.new (_at + 1)) }
+        requires digit_gt_0 { 0 < digit }
+        requires digit_le_20 { digit ≤ 20 }
+        requires is_read_up_to { IsReadUpTo self.old number _at }
+        ensures stands_after { OnOk result (StandsAt self.new (_at + 1)) }
         ensures reads { OnOk result ((byte : ℕ) → HasLetterKind byte (Last digit)
             → ReadsLetters (with_number self.old (if_begun number)) (letter _at byte ∷ [])
             (with_number self.new None)) }
@@ -163,13 +162,13 @@ impl<A: Allocator> LettersRead<A> {
 
     /// Reads a `Z` after a number that has ended.
     fn mark(&mut self, at: u32) -> Result<(), ProofRefused>
-        requires stands { StandsAt self.old at }
-        ensures stands { OnOk result (StandsAt self.new (at + 1)) }
+        requires stands_at { StandsAt self.old at }
+        ensures stands_after { OnOk result (StandsAt self.new (at + 1)) }
         ensures reads { OnOk result
-            (ReadsLetters (with_number self.old None) (letter at 90 ∷ [])
+            (ReadsLetters (with_number self.old None) (letter at mark_letter ∷ [])
             (with_number self.new None)) }
         ensures refuses { IfErr result
-            (λ e. RefusesLetters (with_number self.old None) (letter at 90 ∷ []) e) }
+            (λ e. RefusesLetters (with_number self.old None) (letter at mark_letter ∷ []) e) }
     {
         if self.steps.len() == 0 {
             return Err(refused(at, Code::MarkBeforeStep));
@@ -180,9 +179,9 @@ impl<A: Allocator> LettersRead<A> {
 
     /// Reads a letter.
     fn read(&mut self, number: &mut BegunNumber, at: u32, byte: u8) -> Result<(), ProofRefused>
-        requires more { at < 4294967295 }
-        requires stands { IsReadUpTo self.old number.old at }
-        ensures stands { OnOk result (IsReadUpTo self.new number.new (at + 1)) }
+        requires place_lt_max { at < 4294967295 }
+        requires is_read_up_to { IsReadUpTo self.old number.old at }
+        ensures is_read_after { OnOk result (IsReadUpTo self.new number.new (at + 1)) }
         ensures reads { OnOk result
             (ReadsLetters (with_number self.old (if_begun number.old)) (letter at byte ∷ [])
             (with_number self.new (if_begun number.new))) }
@@ -223,10 +222,10 @@ impl<A: Allocator> LettersRead<A> {
         text: &[u8],
         word: Word,
     ) -> Result<(), ProofRefused>
-        requires order { word.start ≤ word.end }
-        requires within { word.end ≤ length text.now }
-        requires stands { StandsAt self.old word.start }
-        ensures stands { OnOk result (StandsAt self.new word.end) }
+        requires start_le_end { word.start ≤ word.end }
+        requires end_le_length { word.end ≤ length text.now }
+        requires stands_at { StandsAt self.old word.start }
+        ensures stands_after { OnOk result (StandsAt self.new word.end) }
         ensures reads { OnOk result
             (ReadsLetters (with_number self.old (if_begun number.old)) (word_letters text.now word)
             (with_number self.new (if_begun number.new))) }
@@ -235,8 +234,8 @@ impl<A: Allocator> LettersRead<A> {
             (word_letters text.now word) e) }
     {
         begin_at(number, word.start);
-        for i in word.start as usize..word.end as usize {
-            self.read(number, i as u32, text[i])?;
+        for place in word.start as usize..word.end as usize {
+            self.read(number, place as u32, text[place])?;
         }
         Ok(())
     }
@@ -248,12 +247,12 @@ impl<A: Allocator> LettersRead<A> {
         words: &[Word],
         end: u32,
     ) -> Result<(), ProofRefused>
-        requires within { AreWithin text.now words.now }
+        requires words_within { AreWithin text.now words.now }
         requires in_order { AreInOrder 0 (as_tokens text.now words.now) end }
-        requires none { self.old ≡ letters_state self.old.theorem self.old.labels [] None [] }
+        requires none_read { self.old ≡ letters_state self.old.theorem self.old.labels [] None [] }
         ensures reads { OnOk result
             (ReadsAllLetters self.old (letters_of (as_tokens text.now words.now)) end self.new) }
-        ensures fault { IfErr result
+        ensures fault_is_first { IfErr result
             (λ e. StartsWith
             (letter_faults (length self.old.labels) end
             (letters_of (as_tokens text.now words.now))) e) }

@@ -24,18 +24,18 @@ fn read_normal<A: Allocator + Copy>(
     theorem: u32,
     words: &[Word],
 ) -> Result<Steps<A>, ProofRefused>
-    requires theorem { theorem < length database.now.statements }
-    requires within { AreWithin database.now.text words.now }
-    requires rising { AllPairs (λ t u. t.at < u.at) (as_tokens database.now.text words.now) }
-    ensures steps { IfOk result
+    requires theorem_lt_length { theorem < length database.now.statements }
+    requires words_within { AreWithin database.now.text words.now }
+    requires words_rise { AllPairs (λ t u. t.at < u.at) (as_tokens database.now.text words.now) }
+    ensures steps_are_read { IfOk result
         (λ s. s
         ≡ theorem_steps theorem
         (normal_steps database.now.statements theorem (as_tokens database.now.text words.now))) }
-    ensures sound { IfOk result
+    ensures has_no_fault { IfOk result
         (λ s. flat_map (word_faults database.now.statements theorem)
         (as_tokens database.now.text words.now)
         ≡ []) }
-    ensures fault { IfErr result
+    ensures fault_is_first { IfErr result
         (λ e. IsProofRefusal
         (flat_map (word_faults database.now.statements theorem)
         (as_tokens database.now.text words.now)) e) }
@@ -64,10 +64,11 @@ pub fn read_proof<A: Allocator + Copy>(
     theorem: u32,
 ) -> Result<Steps<A>, ProofRefused>
     requires { IsTrue (is_theorem_at database.now.statements theorem) }
-    ensures steps { IfOk result
+    ensures steps_are_read { IfOk result
         (λ s. s ≡ theorem_steps theorem (steps_at database.now.statements theorem)) }
-    ensures sound { IfOk result (λ s. reading_faults_at database.now.statements theorem ≡ []) }
-    ensures fault { IfErr result
+    ensures has_no_fault { IfOk result
+        (λ s. reading_faults_at database.now.statements theorem ≡ []) }
+    ensures fault_is_first { IfErr result
         (λ e. IsProofRefusal (reading_faults_at database.now.statements theorem) e) }
 {
     // The proof needs the clauses of `len`.

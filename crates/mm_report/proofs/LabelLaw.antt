@@ -17,23 +17,22 @@ selected_lt_bound p n i d i_lt_length =
         → get_or (filter p (range_with_len a m)) i d < a + m
     selected_lt_end zero a i i_lt_length = absurd (omega arith)
     selected_lt_end (suc m) a i i_lt_length =
-        by_test (p a) (selected_lt_end m (a + 1)) i i_lt_length
+        lt_end_by_test (p a) (selected_lt_end m (a + 1)) i i_lt_length
       where
-        by_test : (b : Bool)
+        lt_end_by_test : (b : Bool)
             → ((i : ℕ) → i < length (filter p (range_with_len (a + 1) m))
             → get_or (filter p (range_with_len (a + 1) m)) i d < a + 1 + m)
             → (i : ℕ)
             → i < length {A = ℕ}
-            (cond b (a ∷ filter p (range_with_len (a + 1) m))
-            (filter p (range_with_len (a + 1) m)))
+            (cond b (a ∷ filter p (range_with_len (a + 1) m)) (filter p (range_with_len (a + 1) m)))
             → get_or {A = ℕ}
             (cond b (a ∷ filter p (range_with_len (a + 1) m))
             (filter p (range_with_len (a + 1) m))) i d
             < a + suc m
-        by_test true rest_lt_end zero i_lt_length = omega arith
-        by_test true rest_lt_end (suc i) i_lt_length =
+        lt_end_by_test true rest_lt_end zero i_lt_length = omega arith
+        lt_end_by_test true rest_lt_end (suc i) i_lt_length =
             let later_lt_end = rest_lt_end i (omega arith) in omega (arith, later_lt_end)
-        by_test false rest_lt_end i i_lt_length =
+        lt_end_by_test false rest_lt_end i i_lt_length =
             let later_lt_end = rest_lt_end i i_lt_length in omega (arith, later_lt_end)
 
 -- what is looked up of part of a list, each after a space
@@ -46,10 +45,10 @@ spaced_of_mapped f ks from to =
     (sym (ap (take (to - from)) (drop-map f from ks) ∙ take-map f (to - from) (drop from ks)))
 
 -- labels of neighbours, each after a space, are some bytes
-pub spaced_has_bytes : (names : List Bytes) (from to : ℕ) → from < to → to ≤ length names
-    → 0 < length (flat_map (λ (l : Bytes). 32 ∷ l) (slice_range names from to))
-spaced_has_bytes names from to from_lt_to to_le_length =
-    has_bytes (slice_range names from to) (simp (length-take, length-drop) (omega arith))
+pub spaced_has_bytes : (labels : List Bytes) (from to : ℕ) → from < to → to ≤ length labels
+    → 0 < length (flat_map (λ (l : Bytes). 32 ∷ l) (slice_range labels from to))
+spaced_has_bytes labels from to from_lt_to to_le_length =
+    has_bytes (slice_range labels from to) (simp (length-take, length-drop) (omega arith))
   where
     has_bytes : (ls : List Bytes) → 0 < length ls
         → 0 < length (flat_map (λ (l : Bytes). 32 ∷ l) ls)

@@ -11,7 +11,7 @@ use Rattle.mm_spec.specs.Output.{label_at, theorems}
 use Rattle.mm_spec.specs.Report.{report}
 use Rattle.mm_spec.specs.Request.{Request}
 use Rattle.mm_rows.specs.Marks.{Marks}
-use Rattle.mm_report.specs.Rows.{row_of, rows_of, open_theorems, report_of}
+use Rattle.mm_report.specs.Rows.{row_of, rows_of, open_theorem_count, report_of}
 
 -- the first line has the number of rows
 pub count_is_rows : (m : Marks) (labels : List Bytes) (n : ℕ) → n ≡ length labels
@@ -22,22 +22,23 @@ count_is_rows m labels n n_is_length labels_as_rows =
 
 -- what is sent is the report of the database
 pub sent_is_report_of_database : (request : Request) (d : Contents) (columns : List ℕ) (m : Marks)
-    → (opened : Option ℕ) (names heads : List Bytes)
-    → opened ≡ open_theorems request.with_open d columns
-    → names ≡ map (label_at d.statements) (theorems d.statements)
-    → heads ≡ map (label_at d.statements) columns
-    → report request opened heads (rows_of m names) ≡ report_of request d columns m
-sent_is_report_of_database request d columns m opened names heads opened_is names_are heads_are =
-    ap (λ (x : Option ℕ). report request x heads (rows_of m names)) opened_is
-    ∙ ap₂ (λ (x y : List Bytes). report request (open_theorems request.with_open d columns) y
-    (rows_of m x)) names_are heads_are
+    → (opened : Option ℕ) (labels column_labels : List Bytes)
+    → opened ≡ open_theorem_count request.with_open d columns
+    → labels ≡ map (label_at d.statements) (theorems d.statements)
+    → column_labels ≡ map (label_at d.statements) columns
+    → report request opened column_labels (rows_of m labels) ≡ report_of request d columns m
+sent_is_report_of_database request d columns m opened labels column_labels opened_is labels_are
+    column_labels_are =
+    ap (λ (x : Option ℕ). report request x column_labels (rows_of m labels)) opened_is
+    ∙ ap₂ (λ (x y : List Bytes). report request (open_theorem_count request.with_open d columns) y
+    (rows_of m x)) labels_are column_labels_are
 
 -- there are as many labels as rows
-pub labels_as_many_as_rows : (db : List Statement) (m : Marks) (names : List Bytes)
-    → names ≡ map (label_at db) (theorems db) → length (theorems db) ≡ m.rows
-    → length names ≡ m.rows
-labels_as_many_as_rows db m names names_are theorems_as_many_as_rows =
-    ap (λ (ls : List Bytes). length ls) names_are ∙ length-map (theorems db) (label_at db)
+pub labels_as_many_as_rows : (db : List Statement) (m : Marks) (labels : List Bytes)
+    → labels ≡ map (label_at db) (theorems db) → length (theorems db) ≡ m.rows
+    → length labels ≡ m.rows
+labels_as_many_as_rows db m labels labels_are theorems_as_many_as_rows =
+    ap (λ (ls : List Bytes). length ls) labels_are ∙ length-map (theorems db) (label_at db)
     ∙ theorems_as_many_as_rows
 
 -- two sections that were sent as one text are sections of the report

@@ -15,6 +15,7 @@ use Rattle.std.proofs.lemmas.List.FromFn.{sum_by-map-range_with_len_more}
 use Rattle.mm_spec.specs.Text.{Bytes}
 use Rattle.mm_spec.specs.Report.{Row, separated, mark_at, users, usage_line, usage_lines}
 use Rattle.mm_rows.specs.Marks.{Marks, mark, IsAbove, first_after}
+use Rattle.mm_rows.proofs.TableLaw.{above_is_from_first, from_first_is_above}
 use Rattle.mm_report.specs.Rows.{row_of, after_label}
 use Rattle.mm_report.proofs.SentLaw.{range_append}
 
@@ -80,16 +81,16 @@ separated_append (r ∷ rs) ss rs_not_empty =
     ∙ ap (λ z. z ++ spaced ss) (sym (separated_spaced (r ∷ rs)))
 
 -- the spaced labels of neighbours are those of their rows
-pub spaced_run_is_rows : (m : Marks) (names : List Bytes) (from to : ℕ) → from ≤ to
-    → to ≤ length names
-    → flat_map (λ (l : Bytes). 32 ∷ l) (slice_range names from to)
-    ≡ spaced (map (λ i. row_of m (get_or names i []) i) (range_with_len from (to - from)))
-spaced_run_is_rows m names from to from_le_to to_le_length =
+pub spaced_run_is_rows : (m : Marks) (labels : List Bytes) (from to : ℕ) → from ≤ to
+    → to ≤ length labels
+    → flat_map (λ (l : Bytes). 32 ∷ l) (slice_range labels from to)
+    ≡ spaced (map (λ i. row_of m (get_or labels i []) i) (range_with_len from (to - from)))
+spaced_run_is_rows m labels from to from_le_to to_le_length =
     let numbers : List ℕ = range_with_len from (to - from) in
-    let row : ℕ → Row = λ i. row_of m (get_or names i []) i in
+    let row : ℕ → Row = λ i. row_of m (get_or labels i []) i in
     ap (flat_map (λ (l : Bytes). 32 ∷ l))
-    (sym (pick_l-range_with_len [] names from (to - from) (omega arith)))
-    ∙ flat_map-map (λ (l : Bytes). 32 ∷ l) (λ i. get_or names i []) numbers
+    (sym (pick_l-range_with_len [] labels from (to - from) (omega arith)))
+    ∙ flat_map-map (λ (l : Bytes). 32 ∷ l) (λ i. get_or labels i []) numbers
     ∙ sym (flat_map-map (λ (r : Row). 32 ∷ r.label) row numbers)
 
 module _ (m : Marks) (labels : ℕ → Bytes) (j : ℕ) where
@@ -141,18 +142,6 @@ module _ (m : Marks) (labels : ℕ → Bytes) (j : ℕ) (j_lt_columns : j < m.co
       (λ k n_le_k k_lt_end. row_has_mark k ∙ none_marked k n_le_k k_lt_end))
       ∙ append-nil (users_before m labels j n)
 
-  -- what isn't before the first theorem after the last sent is above the last sent
-  above_if_not_before_first : (last_sent : Option ℕ) (k : ℕ) → first_after last_sent ≤ k
-      → IsAbove last_sent k
-  above_if_not_before_first None k first_le_k = tt
-  above_if_not_before_first (Some i) k first_le_k = omega arith
-
-  -- what is above the last sent isn't before the first theorem after it
-  first_le_if_above : (last_sent : Option ℕ) (i : ℕ) → IsAbove last_sent i
-      → first_after last_sent ≤ i
-  first_le_if_above None i is_above = omega arith
-  first_le_if_above (Some l) i is_above = omega arith
-
   -- up to the next marked theorem nothing is added
   users_before_next_user : (last_sent : Option ℕ) (n : ℕ) → first_after last_sent ≤ n
       → ((k : ℕ) → IsAbove last_sent k → k < n → mark m k j ≡ false)
@@ -161,7 +150,7 @@ module _ (m : Marks) (labels : ℕ → Bytes) (j : ℕ) (j_lt_columns : j < m.co
       let end_is_n : first_after last_sent + (n - first_after last_sent) ≡ n = omega arith in
       ap (users_before m labels j) (sym end_is_n)
       ∙ users_before_gap (first_after last_sent) (n - first_after last_sent)
-      (λ k first_le_k k_lt_end. none_marked k (above_if_not_before_first last_sent k first_le_k)
+      (λ k first_le_k k_lt_end. none_marked k (from_first_is_above last_sent k first_le_k)
       (omega arith))
 
   -- after a marked theorem there is a user
@@ -188,7 +177,7 @@ module _ (m : Marks) (labels : ℕ → Bytes) (j : ℕ) (j_lt_columns : j < m.co
   users_with_run last_sent first end last_is_marked first_is_above first_le_end none_marked
       run_is_marked =
       text_by_last last_sent last_is_marked (users_before_next_user last_sent first
-      (first_le_if_above last_sent first first_is_above) none_marked)
+      (above_is_from_first last_sent first first_is_above) none_marked)
     where
       users_before_end : users_before m labels j end
           ≡ users_before m labels j first ++ run m labels j first end
@@ -261,13 +250,13 @@ usage_lines_from_push rows a (k ∷ ls) l =
     (usage_line rows (a + suc (length ls)) l))
 
 -- the lines of the first j + 1 columns are those of the first j, and then that of column j
-pub usage_lines_push : (rows : List Row) (names : List Bytes) (j : ℕ) → j < length names
-    → usage_lines rows 0 (take (j + 1) names)
-    ≡ usage_lines rows 0 (take j names) ++ usage_line rows j (get_or names j [])
-usage_lines_push rows names j j_lt_length =
-    let taken_length = length-take-le j names (omega arith) in
-    let next_number_is_j : 0 + length (take j names) ≡ j = omega (arith, taken_length) in
-    ap (usage_lines rows 0) (take_more names j [] j_lt_length)
-    ∙ usage_lines_from_push rows 0 (take j names) (get_or names j [])
-    ∙ ap (λ n. usage_lines rows 0 (take j names) ++ usage_line rows n (get_or names j []))
+pub usage_lines_push : (rows : List Row) (labels : List Bytes) (j : ℕ) → j < length labels
+    → usage_lines rows 0 (take (j + 1) labels)
+    ≡ usage_lines rows 0 (take j labels) ++ usage_line rows j (get_or labels j [])
+usage_lines_push rows labels j j_lt_length =
+    let taken_length = length-take-le j labels (omega arith) in
+    let next_number_is_j : 0 + length (take j labels) ≡ j = omega (arith, taken_length) in
+    ap (usage_lines rows 0) (take_more labels j [] j_lt_length)
+    ∙ usage_lines_from_push rows 0 (take j labels) (get_or labels j [])
+    ∙ ap (λ n. usage_lines rows 0 (take j labels) ++ usage_line rows n (get_or labels j []))
     next_number_is_j

@@ -11,7 +11,7 @@ ghost use Rattle.mm_spec.specs.declared.Choice.TheVariants as choices;
 ghost use Rattle.mm_report.specs.Sent.{Sent};
 
 use crate::labels::{TheoremLabels, label_of};
-use crate::open_columns::open_theorems;
+use crate::open_theorems::open_theorem_count;
 use crate::sections::{send_head, send_line};
 use crate::sink::{Sink, WriteFailed};
 use mm_cites::Citations;
@@ -101,8 +101,8 @@ fn send_citation_lines<W: Write, D: Allocator, C: Allocator>(
     labels: &TheoremLabels<'_, '_, D>,
     citations: &Citations<C>,
 )
-    requires labels { length labels.now ≡ length citations.now.theorems }
-    requires cited { AreCitationsOf database.now.statements citations.now }
+    requires as_many_labels { length labels.now ≡ length citations.now.theorems }
+    requires are_citations { AreCitationsOf database.now.statements citations.now }
     ensures { Sent (W.contents to.old) (W.contents to.new) sink.old sink.new
         (flat_map citation_line
         (citing_rows database.now.statements (option_copied only.entry) citations.now
@@ -127,10 +127,10 @@ pub fn write_requested_citations<'a, W: Write, A: Allocator, C: Allocator, D: Al
     citations: &Citations<C>,
 ) -> Result<(), WriteFailed>
     requires { AreCitationsOf database.now.statements citations.now }
-    ensures ok { OnOk result
+    ensures report_is_written { OnOk result
         (Appends (W.contents to.old) (W.contents to.new)
         (citation_report_of request.now database.now chosen.now citations.now)) }
-    ensures err { OnErr result
+    ensures prefix_is_written { OnErr result
         ((k : ℕ)
         × Appends (W.contents to.old) (W.contents to.new)
         (take k (citation_report_of request.now database.now chosen.now citations.now))) }
@@ -138,9 +138,9 @@ pub fn write_requested_citations<'a, W: Write, A: Allocator, C: Allocator, D: Al
     let mut sink = Sink::new();
     let labels = TheoremLabels::new(database);
     let axioms = chosen.len() as u64;
-    let open_columns = open_theorems(database, chosen, request.with_open);
+    let open_theorems = open_theorem_count(database, chosen, request.with_open);
     let theorems = citations.rows() as u64;
-    send_head(&mut sink, to, request, axioms, open_columns, theorems);
+    send_head(&mut sink, to, request, axioms, open_theorems, theorems);
     send_line(&mut sink, to, b"citations");
     send_citation_lines(&mut sink, to, database, request.only, &labels, citations);
     send_line(&mut sink, to, b"end");
@@ -163,12 +163,12 @@ pub fn write_citations<'a, W: Write, A: Allocator, C: Allocator, D: Allocator>(
     form: Form,
 ) -> Result<(), WriteFailed>
     requires { AreCitationsOf database.now.statements citations.now }
-    ensures ok { OnOk result
+    ensures report_is_written { OnOk result
         (Appends (W.contents to.old) (W.contents to.new)
         (citation_report_of
         (text_request (option_copied only.entry) with_open form choices.Citations)
         database.now chosen.now citations.now)) }
-    ensures err { OnErr result
+    ensures prefix_is_written { OnErr result
         ((k : ℕ)
         × Appends (W.contents to.old) (W.contents to.new)
         (take k (citation_report_of
@@ -180,7 +180,7 @@ pub fn write_citations<'a, W: Write, A: Allocator, C: Allocator, D: Allocator>(
         choice: Choice::Citations,
         form,
         with_open,
-        ..Request::plain()
+        ..Request::without_options()
     };
     write_requested_citations(to, &request, database, chosen, citations)
 }

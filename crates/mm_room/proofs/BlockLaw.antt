@@ -17,27 +17,27 @@ abbrev two_fields : Shape
 two_fields = record { name = []; args = []; types = []; fields = RawPtr ∷ Struct no_field ∷ [] }
 
 -- what the fields of a `Block` own
-abbrev pub Fields : RattleType
-Fields = Struct two_fields
+abbrev pub BlockFields : RattleType
+BlockFields = Struct two_fields
 
 abbrev pub block_val : Ptr → Val
 block_val p = vstruct (vcons (ptr_val p) (vcons (vstruct vnil) vnil))
 
 module _ {M : Type 1} {𝓤 : Ura M} (𝓛 : Logic 𝓤) where
-  pub fields_Makes : Makes 𝓛 Fields (Is Fields)
-  fields_Makes = Struct-Makes 𝓛 two_fields (rawptr_pure, (Struct-Pure no_field tt, tt))
+  pub block_makes : Makes 𝓛 BlockFields (Is BlockFields)
+  block_makes = Struct-Makes 𝓛 two_fields (rawptr_pure, (Struct-Pure no_field tt, tt))
 
-  fields_Lawful : Lawful 𝓛 Fields
-  fields_Lawful = Struct-Lawful 𝓛 two_fields (rawptr_Lawful 𝓛, (Struct-Lawful 𝓛 no_field tt, tt))
+  fields_lawful : Lawful 𝓛 BlockFields
+  fields_lawful = Struct-Lawful 𝓛 two_fields (rawptr_Lawful 𝓛, (Struct-Lawful 𝓛 no_field tt, tt))
 
-pub fields_are : (p : Ptr) → Is Fields (p, (tt, tt)) (block_val p ∷ [])
-fields_are p = ((rawptr_vals p, (vstruct vnil ∷ [], tt)), (refl, (refl, ((tt, (refl, tt)), tt))))
+pub is_block : (p : Ptr) → Is BlockFields (p, (tt, tt)) (block_val p ∷ [])
+is_block p = ((rawptr_vals p, (vstruct vnil ∷ [], tt)), (refl, (refl, ((tt, (refl, tt)), tt))))
 
 pub block_typed : {M : Type 1} {𝓤 : Ura M} (𝓛 : Logic 𝓤) (p : Ptr)
     → Typed (ty_struct [] (tcons ty_ptr (tcons (ty_struct [] tnil) tnil)) ∷ []) (block_val p ∷ [])
-block_typed 𝓛 p = (fields_Lawful 𝓛).typed (p, (tt, tt)) (block_val p ∷ []) (fields_are p)
+block_typed 𝓛 p = (fields_lawful 𝓛).typed (p, (tt, tt)) (block_val p ∷ []) (is_block p)
 
-pub block_is : (p : Ptr) (vs : List Val) → Is Fields (p, (tt, tt)) vs → vs ≡ block_val p ∷ []
+pub block_is : (p : Ptr) (vs : List Val) → Is BlockFields (p, (tt, tt)) vs → vs ≡ block_val p ∷ []
 block_is p vs =
     Struct-Tells two_fields (rawptr_vals, (λ _. vstruct vnil ∷ [], tt))
     (rawptr_Tells, (Struct-Tells no_field tt tt, tt)) (p, (tt, tt)) vs

@@ -1,4 +1,4 @@
--- The walks of this crate: `Memory::none` makes no memory, `allocate` turns the units of a room
+-- What is proved by hand in separation logic, in files `Proof.antt`: `Memory::none` makes no memory, `allocate` turns the units of a room
 -- into the block that is asked for, and `deallocate` turns that block back into them.
 pub mod MemoryLaw
 pub mod RoomLaw

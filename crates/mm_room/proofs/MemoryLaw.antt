@@ -13,25 +13,25 @@ abbrev pub one_pointer : Shape
 one_pointer = record { name = []; args = []; types = []; fields = RawPtr ∷ [] }
 
 -- what the fields of a `Memory` own
-abbrev pub Fields : RattleType
-Fields = Struct one_pointer
+abbrev pub MemoryFields : RattleType
+MemoryFields = Struct one_pointer
 
 abbrev pub memory_val : Ptr → Val
 memory_val p = vstruct (vcons (ptr_val p) vnil)
 
-pub fields_Makes : {M : Type 1} {𝓤 : Ura M} (𝓛 : Logic 𝓤) → Makes 𝓛 Fields (Is Fields)
-fields_Makes 𝓛 = Struct-Makes 𝓛 one_pointer (rawptr_pure, tt)
+pub memory_makes : {M : Type 1} {𝓤 : Ura M} (𝓛 : Logic 𝓤) → Makes 𝓛 MemoryFields (Is MemoryFields)
+memory_makes 𝓛 = Struct-Makes 𝓛 one_pointer (rawptr_pure, tt)
 
-pub fields_are : (p : Ptr) → Is Fields (p, tt) (memory_val p ∷ [])
-fields_are p = ((rawptr_vals p, tt), (refl, (refl, tt)))
+pub is_memory : (p : Ptr) → Is MemoryFields (p, tt) (memory_val p ∷ [])
+is_memory p = ((rawptr_vals p, tt), (refl, (refl, tt)))
 
 pub memory_typed : {M : Type 1} {𝓤 : Ura M} (𝓛 : Logic 𝓤) (p : Ptr)
     → Typed (ty_struct [] (tcons ty_ptr tnil) ∷ []) (memory_val p ∷ [])
 memory_typed 𝓛 p = (Struct-Lawful 𝓛 one_pointer (rawptr_Lawful 𝓛, tt)).typed (p, tt) (memory_val p
-    ∷ []) (fields_are p)
+    ∷ []) (is_memory p)
 
-pub fields_shown : {M : Type 1} {𝓤 : Ura M} (𝓛 : Logic 𝓤) → Shows 𝓛 Fields (Is Fields)
-fields_shown 𝓛 = shows 𝓛 Fields
+pub memory_shown : {M : Type 1} {𝓤 : Ura M} (𝓛 : Logic 𝓤) → Shows 𝓛 MemoryFields (Is MemoryFields)
+memory_shown 𝓛 = shows 𝓛 MemoryFields
 
-pub memory_is : (p : Ptr) (vs : List Val) → Is Fields (p, tt) vs → vs ≡ memory_val p ∷ []
+pub memory_is : (p : Ptr) (vs : List Val) → Is MemoryFields (p, tt) vs → vs ≡ memory_val p ∷ []
 memory_is p vs = Struct-Tells one_pointer (rawptr_vals, tt) (rawptr_Tells, tt) (p, tt) vs

@@ -23,7 +23,7 @@ use Rattle.core.specs.declared.alloc.Allocator.{Ghosts}
 use Rattle.core.proofs.slots.Carves.{carve}
 use Rattle.mm_room.specs.Units.{units, block_at, block_units, block_back}
 use Rattle.mm_room.specs.contracts.block.Block as block
-use Rattle.mm_room.proofs.BlockLaw.{Fields, block_val, block_is}
+use Rattle.mm_room.proofs.BlockLaw.{BlockFields, block_val, block_is}
 
 module _ (A : RattleType) (g : Ghosts A.Denot) where
   abbrev pub MaybeBlock : RattleType
@@ -74,7 +74,8 @@ module _ (A : RattleType) (g : Ghosts A.Denot) {M : Type 1} {𝓤 : Ura M} {𝓛
       fpick t (λ us. fsplit t $
       feq_l t (λ value_is. fpick t (λ vss. fsplit t $ feq_l t (λ parts_are. fsplit t $
       move t (1 ∷ []) $ drop t $ fsplit t $
-      peeks t Fields (Is Fields) (shows 𝓛 Fields) (x.address, (tt, tt)) vss.0 (λ is_fields. drop t $
+      peeks t BlockFields (Is BlockFields) (shows 𝓛 BlockFields) (x.address, (tt, tt)) vss.0 (λ
+      is_fields. drop t $
       rewrite t 0 (λ (k : ℕ). ‵ (block_at (g.dealloc_token x.alloc) k x.address)) is_block.1 refl $
       rewrite t 0 (λ (a : A.Denot). ‵ (block_at (g.dealloc_token a) (block_units s) x.address))
       is_block.0

@@ -21,7 +21,7 @@ use Rattle.core.specs.contracts.option.Option as option
 use Rattle.core.proofs.slots.Carves.{carve}
 use Rattle.mm_room.specs.Units.{units, units_at, way_back}
 use Rattle.mm_room.specs.contracts.memory.Memory as memory
-use Rattle.mm_room.proofs.MemoryLaw.{Fields, memory_val, fields_shown, memory_is}
+use Rattle.mm_room.proofs.MemoryLaw.{MemoryFields, memory_val, memory_shown, memory_is}
 
 abbrev pub MaybeMemory : RattleType
 MaybeMemory = option.the_row memory.the_row
@@ -71,7 +71,8 @@ module _ {M : Type 1} {𝓤 : Ura M} {𝓛 : Logic 𝓤} {K : Type 0} {Γ : List
         fpick t (λ us. fsplit t $
         feq_l t (λ value_is. fpick t (λ vss. fsplit t $ feq_l t (λ parts_are. fsplit t $
         move t (1 ∷ []) $ drop t $ fsplit t $
-        peeks t Fields (Is Fields) (fields_shown 𝓛) (m.address, tt) vss.0 (λ is_fields. drop t $
+        peeks t MemoryFields (Is MemoryFields) (memory_shown 𝓛) (m.address, tt) vss.0 (λ is_fields.
+        drop t $
         rewrite t 0 (λ (k : ℕ). ‵ (units_at m.address k)) is_memory.0 refl $
         in_block t m.address n (subst (λ (k : ℕ). 0 < k) is_memory.0 is_memory.1) (λ b o address_is.
         if_memory b o (subst (λ (k : ℕ). 0 < k) is_memory.0 is_memory.1)

@@ -38,8 +38,8 @@ impl<A: Allocator> Block<A> {
 
     /// Gives the block of `units` units back to the allocator.
     pub(crate) fn free(self, alloc: &A, units: usize)
-        requires alloc { self.alloc ≡ alloc.now }
-        requires units { self.units ≡ units }
+        requires alloc_is { self.alloc ≡ alloc.now }
+        requires units_are { self.units ≡ units }
         requires size_lt_limit { units * 16 < 2 ^ 63 }
     {
         let Block {

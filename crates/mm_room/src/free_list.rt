@@ -39,8 +39,8 @@ impl<A: Allocator> FreeList<A> {
 
     /// Takes a block of `units` units from the list, if it has one.
     pub(crate) fn take_block(&mut self, units: usize) -> Option<Block<A>>
-        ensures alloc { self.new.alloc ≡ self.old.alloc }
-        ensures block { IfSome result (λ b. (b.alloc ≡ self.old.alloc) × (b.units ≡ units)) }
+        ensures alloc_stays { self.new.alloc ≡ self.old.alloc }
+        ensures block_is { IfSome result (λ b. (b.alloc ≡ self.old.alloc) × (b.units ≡ units)) }
     {
         if self.units == units {
             self.blocks.pop()
@@ -52,11 +52,12 @@ impl<A: Allocator> FreeList<A> {
     /// Adds a block of `units` units to the list. Returns it if the list has blocks of another
     /// size, or if there is no memory for the list.
     pub(crate) fn put_block(&mut self, block: Block<A>, units: usize) -> Result<(), Block<A>>
-        requires alloc { block.alloc ≡ self.old.alloc }
-        requires units { block.units ≡ units }
+        requires alloc_is { block.alloc ≡ self.old.alloc }
+        requires units_are { block.units ≡ units }
         requires size_lt_limit { units * 16 < 2 ^ 63 }
-        ensures alloc { self.new.alloc ≡ self.old.alloc }
-        ensures block { IfErr result (λ b. (b.alloc ≡ block.alloc) × (b.units ≡ block.units)) }
+        ensures alloc_stays { self.new.alloc ≡ self.old.alloc }
+        ensures block_is_back { IfErr result (λ b. (b.alloc ≡ block.alloc) × (b.units ≡
+            block.units)) }
     {
         if self.blocks.is_empty() {
             self.units = units;

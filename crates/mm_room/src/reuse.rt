@@ -120,8 +120,8 @@ impl<A: Allocator> Reusing<A> {
     /// Adds a block for `size` bytes to its list. If no list takes it, the other allocator gets it
     /// back.
     fn give_back(&self, block: Block<A>, size: usize)
-        requires alloc { block.alloc ≡ self.now.alloc }
-        requires units { block.units ≡ block_units size }
+        requires alloc_is { block.alloc ≡ self.now.alloc }
+        requires units_are { block.units ≡ block_units size }
     {
         let units = units_for(size);
         if units > MOST_UNITS {

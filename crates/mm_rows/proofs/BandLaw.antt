@@ -88,21 +88,19 @@ pub row_or_marks_columns : (across rows : ℕ) (bits old new : List ℕ) (first 
     → get_or new k 0 ≡ bit_or (get_or old k 0) (get_or (row_at bits across n) k 0))
     → AreMarked across bits old first n → AreMarked across bits new first (n + 1)
 row_or_marks_columns across rows bits old new first n n_lt_rows bits_have_size marks_have_width
-    lengths_equal
-    words_are_ored are_marked
+    lengths_equal words_are_ored are_marked
     i j first_le_i i_lt_next j_in_row bit_is_set =
     or_bits new old (row_at bits across n) lengths_equal
     (marks_have_width ∙ sym (row_has_width_words bits across n rows n_lt_rows bits_have_size))
-    words_are_ored
-    j
-    ∙ either_makes_or _ _ (marked_by_row (cases_eq i n))
+    words_are_ored j
+    ∙ either_makes_or _ _ (is_old_or_in_row (cases_eq i n))
   where
-    marked_by_row : (i ≡ n) ⊎ (i ≡ n → ⊥) → (is_bit old j ≡ true)
+    is_old_or_in_row : (i ≡ n) ⊎ (i ≡ n → ⊥) → (is_bit old j ≡ true)
         ⊎ (is_bit (row_at bits across n) j ≡ true)
-    marked_by_row (inl i_is_n) =
+    is_old_or_in_row (inl i_is_n) =
         inr (row_bit_is_table_bit bits across n j j_in_row
         ∙ subst (λ x. is_bit bits (bit_index across x j) ≡ true) i_is_n bit_is_set)
-    marked_by_row (inr i_is_not_n) =
+    is_old_or_in_row (inr i_is_not_n) =
         inl (are_marked i j first_le_i (omega arith) j_in_row bit_is_set)
 
 pub band_bits_are_marked : (across rows : ℕ) (bits has_mark : List ℕ) (w end : ℕ)
@@ -111,13 +109,13 @@ pub band_bits_are_marked : (across rows : ℕ) (bits has_mark : List ℕ) (w end
     → bit_in_rows rows across bits (64 * w + k) j ≡ true → is_bit has_mark j ≡ true
 band_bits_are_marked across rows bits has_mark w end rows_le_end are_marked k j k_lt_64 j_in_row
     bit_is_set =
-    marked_by_row_count (cases_lt (64 * w + k) rows)
+    bit_is_marked (cases_lt (64 * w + k) rows)
   where
-    marked_by_row_count : (64 * w + k < rows) ⊎ (rows ≤ 64 * w + k) → is_bit has_mark j ≡ true
-    marked_by_row_count (inl row_lt_rows) =
+    bit_is_marked : (64 * w + k < rows) ⊎ (rows ≤ 64 * w + k) → is_bit has_mark j ≡ true
+    bit_is_marked (inl row_lt_rows) =
         are_marked (64 * w + k) j (omega arith) (omega arith) j_in_row
         (sym (bit_in_rows_is_bit rows across bits (64 * w + k) j row_lt_rows) ∙ bit_is_set)
-    marked_by_row_count (inr rows_le_row) =
+    bit_is_marked (inr rows_le_row) =
         let no_bit_there = no_bit_past_rows rows across bits (64 * w + k) j rows_le_row in
         absurd (let true_is_false : true ≡ false = sym bit_is_set ∙ no_bit_there in cc)
 
@@ -242,13 +240,13 @@ unmarked_word_is_zero rows across bits w j none_is_set k k_lt_64 =
     ap (λ x. eqb x 1) (bit_at-zero k) ∙ sym (false_from_ne_true _ (none_is_set k k_lt_64))
 
 -- a word of a column lies within the words
-pub word_place_lt_length : (columns down j w len : ℕ) → j < columns → w < down
+pub word_index_lt_length : (columns down j w len : ℕ) → j < columns → w < down
     → len ≡ columns * down
     → j * down + w < len
-word_place_lt_length columns down j w len j_lt_columns w_lt_down length_is =
-    let place_lt_product = mul-add-lt j down w columns j_lt_columns w_lt_down in
+word_index_lt_length columns down j w len j_lt_columns w_lt_down length_is =
+    let index_lt_product = mul-add-lt j down w columns j_lt_columns w_lt_down in
     let products_equal = mul_comm down columns in
-    omega (arith, place_lt_product, products_equal, length_is)
+    omega (arith, index_lt_product, products_equal, length_is)
 
 -- after word w of column j was written, band w is written in the columns up to j
 pub next_word_is_written : (rows columns : ℕ) (bits transposed : List ℕ) (w j word : ℕ)
@@ -260,7 +258,7 @@ next_word_is_written rows columns bits transposed w j word w_lt_words j_lt_colum
     word_is_column_word
     written_before =
     record {
-      size = length-set transposed place_of_word word ∙ written_before.size;
+      size_is = length-set transposed index_of_word word ∙ written_before.size_is;
       earlier_bands =
           λ l v l_lt_columns v_lt_w v_lt_words. subst
           (IsColumnWord rows (words_for columns) bits v l)
@@ -278,28 +276,28 @@ next_word_is_written rows columns bits transposed w j word w_lt_words j_lt_colum
           ∙ written_before.later_bands l v l_lt_columns v_lt_w v_lt_words;
     }
   where
-    place_of_word : ℕ
-    place_of_word = j * words_for rows + w
+    index_of_word : ℕ
+    index_of_word = j * words_for rows + w
 
     other_words_are_kept : (l v : ℕ) → v < words_for rows → (l ≡ j → v ≡ w → ⊥)
-        → get_or (set transposed place_of_word word) (l * words_for rows + v) 0
+        → get_or (set transposed index_of_word word) (l * words_for rows + v) 0
         ≡ get_or transposed (l * words_for rows + v) 0
     other_words_are_kept l v v_lt_words not_that_word =
-        get_or-set_other transposed place_of_word (l * words_for rows + v) word 0
+        get_or-set_other transposed index_of_word (l * words_for rows + v) word 0
         (λ places_equal. let indices_equal = same_from_place l v j w (words_for rows) v_lt_words
         w_lt_words places_equal in not_that_word indices_equal.0 indices_equal.1)
 
     word_of_column : (l : ℕ) → l < columns → l < j + 1 → (l ≡ j) ⊎ (l ≡ j → ⊥)
         → IsColumnWord rows (words_for columns) bits w l
-        (get_or (set transposed place_of_word word) (l * words_for rows + w) 0)
+        (get_or (set transposed index_of_word word) (l * words_for rows + w) 0)
     word_of_column l l_lt_columns l_lt_next (inl l_is_j) =
         subst (λ x. IsColumnWord rows (words_for columns) bits w x
-        (get_or (set transposed place_of_word word) (x * words_for rows + w) 0)) (sym l_is_j)
+        (get_or (set transposed index_of_word word) (x * words_for rows + w) 0)) (sym l_is_j)
         (subst (IsColumnWord rows (words_for columns) bits w j)
-        (sym (get_or-set_same transposed place_of_word word 0
-        (word_place_lt_length columns (words_for rows) j w (length transposed) j_lt_columns
+        (sym (get_or-set_same transposed index_of_word word 0
+        (word_index_lt_length columns (words_for rows) j w (length transposed) j_lt_columns
         w_lt_words
-        written_before.size))) word_is_column_word)
+        written_before.size_is))) word_is_column_word)
     word_of_column l l_lt_columns l_lt_next (inr l_is_not_j) =
         subst (IsColumnWord rows (words_for columns) bits w l)
         (sym (other_words_are_kept l w w_lt_words (λ l_is_j v_is_w. l_is_not_j l_is_j)))
@@ -316,7 +314,7 @@ pub zero_words_are_written : (rows columns : ℕ) (bits transposed : List ℕ) (
 zero_words_are_written rows columns bits transposed w from to w_lt_words none_is_marked from_le_to
     written_before =
     record {
-      size = written_before.size;
+      size_is = written_before.size_is;
       earlier_bands = written_before.earlier_bands;
       written_below =
           λ j j_lt_columns j_lt_to. word_of_column j j_lt_columns j_lt_to (cases_lt j from);
@@ -358,8 +356,7 @@ pub skipped_columns_are_written : (rows columns : ℕ) (bits has_mark transposed
     → ColumnsWritten rows columns bits transposed w from
     → ColumnsWritten rows columns bits transposed w to
 skipped_columns_are_written rows columns bits has_mark transposed across w from to across_is
-    w_lt_words
-    set_bits_are_marked
+    w_lt_words set_bits_are_marked
     from_le_to none_is_marked =
     zero_words_are_written rows columns bits transposed w from to w_lt_words
     (λ j from_le_j j_lt_to j_lt_columns. unmarked_word_is_zero rows (words_for columns) bits w j
@@ -380,7 +377,7 @@ pub next_band_is_begun : (rows columns : ℕ) (bits transposed : List ℕ) (w fr
     → ColumnsWritten rows columns bits transposed w from
     → ColumnsWritten rows columns bits transposed (w + 1) 0
 next_band_is_begun rows columns bits transposed w from columns_le_from written_before = record {
-  size = written_before.size;
+  size_is = written_before.size_is;
   earlier_bands =
       λ j v j_lt_columns v_lt_next v_lt_words. word_of_band j v j_lt_columns v_lt_next v_lt_words
       (cases_eq v w);
@@ -408,7 +405,7 @@ pub all_bands_are_transposed : (rows columns : ℕ) (bits transposed : List ℕ)
     → words_for rows ≤ w
     → ColumnsWritten rows columns bits transposed w 0 → AreTransposed rows columns bits transposed
 all_bands_are_transposed rows columns bits transposed w words_le_w all_written = record {
-  size = all_written.size;
+  size_is = all_written.size_is;
   bits_are_transposed = λ i j i_in_range j_in_range. bit_is_of_row i j (omega arith) j_in_range
       ∙ bit_in_rows_is_bit rows (words_for columns) bits i j i_in_range;
   none_past_rows =
@@ -420,17 +417,17 @@ all_bands_are_transposed rows columns bits transposed w words_le_w all_written =
         → is_bit transposed (bit_index (words_for rows) j i)
         ≡ bit_in_rows rows (words_for columns) bits i j
     bit_is_of_row i j word_lt_words j_lt_columns =
-        let place_is_i : 64 * (i / 64) + i % 64 ≡ i = omega arith in
+        let index_is_i : 64 * (i / 64) + i % 64 ≡ i = omega arith in
         ap₂ (λ x y. eqb (bit_at (get_or transposed x 0) y) 1) (bit_index_word (words_for rows) j i)
         (bit_index_bit (words_for rows) j i)
         ∙ all_written.earlier_bands j (i / 64) j_lt_columns (omega arith) word_lt_words (i % 64)
         (omega arith)
-        ∙ ap (λ x. bit_in_rows rows (words_for columns) bits x j) place_is_i
+        ∙ ap (λ x. bit_in_rows rows (words_for columns) bits x j) index_is_i
 
 -- a word of a row is among the words of all rows
 pub row_word_lt_length : (rows across i x n : ℕ) → n ≡ rows * across → i < rows → x < across
     → i * across + x < n
 row_word_lt_length rows across i x n length_is i_lt_rows x_lt_across =
-    let place_lt_product = mul-add-lt i across x rows i_lt_rows x_lt_across in
+    let index_lt_product = mul-add-lt i across x rows i_lt_rows x_lt_across in
     let products_equal = mul_comm across rows in
-    omega (arith, place_lt_product, length_is, products_equal)
+    omega (arith, index_lt_product, length_is, products_equal)

@@ -32,8 +32,8 @@ all_bytes word = digits_l 256 64 (number_l (2 ^ 64) (eight word))
 byte_of_word : (word j : ℕ) → word < 2 ^ 64 → j < 8
     → get_or (all_bytes word) j 0 ≡ word / 256 ^ j % 256
 byte_of_word word j word_lt_2_64 j_lt_8 =
-    let place_is_j : 8 * 0 + j ≡ j = omega arith in
-    sym (ap (λ n. get_or (all_bytes word) n 0) place_is_j)
+    let index_is_j : 8 * 0 + j ≡ j = omega arith in
+    sym (ap (λ n. get_or (all_bytes word) n 0) index_is_j)
     ∙ get_or_narrower (2 ^ 64) 8 256 64 (eight word) 0 j refl (
       word_lt_2_64,
       (
@@ -74,17 +74,16 @@ low_byte_bit n b b_lt_8 =
 
 power_of_256 : (j : ℕ) → j < 8 → 256 ^ j ≡ 2 ^ (8 * j)
 power_of_256 j j_lt_8 =
-    eqb-true _ _
-    (agree_below_at (λ x. eqb (256 ^ x) (2 ^ (8 * x))) (λ x. true) 8 j refl j_lt_8)
+    eqb-true _ _ (agree_below_at (λ x. eqb (256 ^ x) (2 ^ (8 * x))) (λ x. true) 8 j refl j_lt_8)
 
 byte_bit_is_word_bit : (word k : ℕ) → k < 64
     → bit_at (word / 256 ^ (k / 8) % 256) (k % 8) ≡ bit_at word k
 byte_bit_is_word_bit word k k_lt_64 =
-    let place_is_k : 8 * (k / 8) + k % 8 ≡ k = omega arith in
+    let index_is_k : 8 * (k / 8) + k % 8 ≡ k = omega arith in
     low_byte_bit (word / 256 ^ (k / 8)) (k % 8) (omega arith)
     ∙ ap (λ p. bit_at (word / p) (k % 8)) (power_of_256 (k / 8) (omega arith))
     ∙ shifted word (8 * (k / 8)) (k % 8)
-    ∙ ap (bit_at word) place_is_k
+    ∙ ap (bit_at word) index_is_k
 
 -- for each of 64 lanes the byte of the word that its cell is in
 abbrev pub spread : ℕ → List ℕ
@@ -122,8 +121,7 @@ lane_is_digit word k word_lt_2_64 k_lt_64 =
     ∙ get_or-sel_l (zip2 eqb (masked word) BITS) (replicate 64 49) (replicate 64 48) k 0 k_lt_64
     k_lt_64 k_lt_64
     ∙ ap₂ (cond (get_or (zip2 eqb (masked word) BITS) k false))
-    (get_or-replicate 64 k 49 0 k_lt_64)
-    (get_or-replicate 64 k 48 0 k_lt_64)
+    (get_or-replicate 64 k 49 0 k_lt_64) (get_or-replicate 64 k 48 0 k_lt_64)
     ∙ digit_is_shown (get_or (zip2 eqb (masked word) BITS) k false)
     ∙ ap digit_of
     (get_or-zip2 eqb (masked word) BITS k 0 0 false k_lt_64 k_lt_64
@@ -142,17 +140,17 @@ pub next_cells_are_written : (words into lanes : List ℕ) (w : ℕ) → w < len
     → AreCells words into w → AreCells words (put_chunk (64 * w) into lanes) (w + 1)
 next_cells_are_written words into lanes w w_lt_length into_has_size lanes_are_64 lanes_are_digits
     cells_before i
-    i_lt_end = cell_by_word (cases_lt i (64 * w))
+    i_lt_end = cell_is_written (cases_lt i (64 * w))
   where
-    cell_by_word : (i < 64 * w) ⊎ (64 * w ≤ i)
+    cell_is_written : (i < 64 * w) ⊎ (64 * w ≤ i)
         → get_or (put_chunk (64 * w) into lanes) i 0 ≡ digit_of (is_bit words i)
-    cell_by_word (inl i_lt_block) =
+    cell_is_written (inl i_lt_block) =
         get_or-put_chunk_below (64 * w) into lanes i 0 i_lt_block ∙ cells_before i i_lt_block
-    cell_by_word (inr block_le_i) =
-        let place_is_i : 64 * w + (i - 64 * w) ≡ i = omega arith in
+    cell_is_written (inr block_le_i) =
+        let index_is_i : 64 * w + (i - 64 * w) ≡ i = omega arith in
         let word_is : w ≡ i / 64 = omega arith in
         let bit_is : i - 64 * w ≡ i % 64 = omega arith in
-        ap (λ n. get_or (put_chunk (64 * w) into lanes) n 0) (sym place_is_i)
+        ap (λ n. get_or (put_chunk (64 * w) into lanes) n 0) (sym index_is_i)
         ∙ get_or-put_chunk_at (64 * w) into lanes (i - 64 * w) 0 (omega (arith, lanes_are_64))
         (omega (arith, lanes_are_64, into_has_size, w_lt_length))
         ∙ lanes_are_digits (i - 64 * w) (omega arith)
@@ -171,14 +169,13 @@ module _ (m : Marks) (rows columns : ℕ) (words : List ℕ)
       → into ≡ map (λ j. digit_of (mark_at j (row_marks m i)))
       (range_with_len (64 * word) (length into_before))
   written_are_row_cells i word part into into_before row_lt_marks part_is_row cells_fit_marks
-      whole_words
-      lengths_equal
+      whole_words lengths_equal
       digits_are =
       ext_get_or 0 into (map cell (range_with_len (64 * word) (length into_before)))
       (lengths_equal ∙ sym
       (length-map (range_with_len (64 * word) (length into_before)) cell
       ∙ length-range_with_len (64 * word) (length into_before)))
-      (λ k k_lt_length. cell_at_place k (omega (arith, lengths_equal, k_lt_length)))
+      (λ k k_lt_length. cell_at_index k (omega (arith, lengths_equal, k_lt_length)))
     where
       cell : ℕ → ℕ
       cell j = digit_of (mark_at j (row_marks m i))
@@ -191,10 +188,10 @@ module _ (m : Marks) (rows columns : ℕ) (words : List ℕ)
           ∙ row_bit_is_mark m rows columns words marks_are is_table i j row_lt_rows j_in_row
           ∙ sym (ap (λ (x : Marks). mark_at j (row_marks x i)) marks_are)
 
-      cell_at_place : (k : ℕ) → k < length into_before
+      cell_at_index : (k : ℕ) → k < length into_before
           → get_or into k 0 ≡ get_or (map cell (range_with_len (64 * word) (length into_before))) k
           0
-      cell_at_place k k_lt_length =
+      cell_at_index k k_lt_length =
           let cells_fit_row : 64 * word + length into_before ≤ 64 * words_for columns =
           subst (λ (x : Marks). 64 * word + length into_before ≤ 64 * words_for x.columns) marks_are
           cells_fit_marks in

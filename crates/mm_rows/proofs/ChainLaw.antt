@@ -22,13 +22,13 @@ use Rattle.mm_rows.specs.BitRows.{IsBitRow, HasCitedRows, row_at}
 pub index_is_unique : (xs : List ℕ) (i j : ℕ) → IsStatementList xs → i < length xs → j < length xs
     → get_or xs i 0 ≡ get_or xs j 0 → i ≡ j
 index_is_unique xs i j is_statement_list i_lt_length j_lt_length elements_equal =
-    equal_by_order (cases_order i j)
+    indices_equal (cases_order i j)
   where
-    equal_by_order : (i ≡ j) ⊎ ((i < j) ⊎ (j < i)) → i ≡ j
-    equal_by_order (inl i_eq_j) = i_eq_j
-    equal_by_order (inr (inl i_lt_j)) =
+    indices_equal : (i ≡ j) ⊎ ((i < j) ⊎ (j < i)) → i ≡ j
+    indices_equal (inl i_eq_j) = i_eq_j
+    indices_equal (inr (inl i_lt_j)) =
         let elements_rise = is_statement_list.rises i j i_lt_j j_lt_length in absurd (omega arith)
-    equal_by_order (inr (inr j_lt_i)) =
+    indices_equal (inr (inr j_lt_i)) =
         let elements_rise = is_statement_list.rises j i j_lt_i i_lt_length in absurd (omega arith)
 
 -- a place of a list below n whose statement is a, or rests on it
@@ -37,28 +37,28 @@ IsVia c cited n a =
     (m : ℕ) × (m < n) × ((get_or cited m 0 ≡ a) ⊎ RestsOn (HasCitation c) (get_or cited m 0) a)
 
 -- the bits of a row that is filled from the first n citations
-pub record FilledFrom (c : Citing) (columns cited : List ℕ) (n : ℕ) (row : List ℕ) : Type 0 where
-  pub has_words : length row ≡ words_for (length columns)
-  pub marks : (j : ℕ) → j < length columns
-      → Decides (is_bit row j) (IsVia c cited n (get_or columns j 0))
-  pub none_past_columns : (j : ℕ) → length columns ≤ j → is_bit row j ≡ false
+pub record FilledFrom (c : Citing) (axioms cited : List ℕ) (n : ℕ) (row : List ℕ) : Type 0 where
+  pub has_words : length row ≡ words_for (length axioms)
+  pub marks_decide : (j : ℕ) → j < length axioms
+      → Decides (is_bit row j) (IsVia c cited n (get_or axioms j 0))
+  pub none_past_columns : (j : ℕ) → length axioms ≤ j → is_bit row j ≡ false
 
-pub filled_with_one_more : (c : Citing) (columns cited : List ℕ) (n : ℕ)
+pub filled_with_one_more : (c : Citing) (axioms cited : List ℕ) (n : ℕ)
     (row marked filled : List ℕ)
-    → FilledFrom c columns cited n row
+    → FilledFrom c axioms cited n row
     → length filled ≡ length row
-    → ((j : ℕ) → j < length columns
-    → Decides (is_bit marked j) ((is_bit row j ≡ true) ⊎ (get_or cited n 0 ≡ get_or columns j 0)))
-    → ((j : ℕ) → length columns ≤ j → is_bit marked j ≡ is_bit row j)
-    → ((j : ℕ) → j < length columns
+    → ((j : ℕ) → j < length axioms
+    → Decides (is_bit marked j) ((is_bit row j ≡ true) ⊎ (get_or cited n 0 ≡ get_or axioms j 0)))
+    → ((j : ℕ) → length axioms ≤ j → is_bit marked j ≡ is_bit row j)
+    → ((j : ℕ) → j < length axioms
     → Decides (is_bit filled j)
-    ((is_bit marked j ≡ true) ⊎ RestsOn (HasCitation c) (get_or cited n 0) (get_or columns j 0)))
-    → ((j : ℕ) → length columns ≤ j → is_bit filled j ≡ is_bit marked j)
-    → FilledFrom c columns cited (n + 1) filled
-filled_with_one_more c columns cited n row marked filled filled_before lengths_equal mid_decides
+    ((is_bit marked j ≡ true) ⊎ RestsOn (HasCitation c) (get_or cited n 0) (get_or axioms j 0)))
+    → ((j : ℕ) → length axioms ≤ j → is_bit filled j ≡ is_bit marked j)
+    → FilledFrom c axioms cited (n + 1) filled
+filled_with_one_more c axioms cited n row marked filled filled_before lengths_equal mid_decides
     mid_past_columns new_decides new_past_columns = record {
       has_words = lengths_equal ∙ filled_before.has_words;
-      marks = λ j j_lt_columns. (
+      marks_decide = λ j j_lt_columns. (
         λ is_marked. marked_to_via j j_lt_columns ((new_decides j j_lt_columns).0 is_marked),
         λ is_via. via_to_marked j j_lt_columns is_via.0 is_via.1 is_via.2
             (cases_eq is_via.0 n),
@@ -68,52 +68,52 @@ filled_with_one_more c columns cited n row marked filled filled_before lengths_e
           ∙ filled_before.none_past_columns j columns_le_j;
     }
   where
-    via_one_more : (j : ℕ) → IsVia c cited n (get_or columns j 0)
-        → IsVia c cited (n + 1) (get_or columns j 0)
-    via_one_more j is_via = let place_lt_n = is_via.1 in (is_via.0, omega arith, is_via.2)
+    via_one_more : (j : ℕ) → IsVia c cited n (get_or axioms j 0)
+        → IsVia c cited (n + 1) (get_or axioms j 0)
+    via_one_more j is_via = let index_lt_n = is_via.1 in (is_via.0, omega arith, is_via.2)
 
-    marked_to_via : (j : ℕ) → j < length columns
-        → (is_bit marked j ≡ true) ⊎ RestsOn (HasCitation c) (get_or cited n 0) (get_or columns j 0)
-        → IsVia c cited (n + 1) (get_or columns j 0)
+    marked_to_via : (j : ℕ) → j < length axioms
+        → (is_bit marked j ≡ true) ⊎ RestsOn (HasCitation c) (get_or cited n 0) (get_or axioms j 0)
+        → IsVia c cited (n + 1) (get_or axioms j 0)
     marked_to_via j j_lt_columns (inr rests_on) = (n, omega arith, inr rests_on)
     marked_to_via j j_lt_columns (inl is_marked) =
-        ⊎_elim (λ was_marked. via_one_more j ((filled_before.marks j j_lt_columns).0 was_marked))
-        (λ is_cited. (n, omega arith, inl is_cited))
+        ⊎_elim (λ was_marked. via_one_more j ((filled_before.marks_decide j j_lt_columns).0
+        was_marked)) (λ is_cited. (n, omega arith, inl is_cited))
         ((mid_decides j j_lt_columns).0 is_marked)
 
-    marked_by_citation : (j : ℕ) → j < length columns
-        → (get_or cited n 0 ≡ get_or columns j 0)
-        ⊎ RestsOn (HasCitation c) (get_or cited n 0) (get_or columns j 0) → is_bit filled j ≡ true
+    marked_by_citation : (j : ℕ) → j < length axioms
+        → (get_or cited n 0 ≡ get_or axioms j 0)
+        ⊎ RestsOn (HasCitation c) (get_or cited n 0) (get_or axioms j 0) → is_bit filled j ≡ true
     marked_by_citation j j_lt_columns (inl is_cited) =
         (new_decides j j_lt_columns).1 (inl ((mid_decides j j_lt_columns).1 (inr is_cited)))
     marked_by_citation j j_lt_columns (inr rests_on) = (new_decides j j_lt_columns).1 (inr rests_on)
 
-    via_to_marked : (j : ℕ) → j < length columns → (m : ℕ) → m < n + 1
-        → (get_or cited m 0 ≡ get_or columns j 0)
-        ⊎ RestsOn (HasCitation c) (get_or cited m 0) (get_or columns j 0) → (m ≡ n) ⊎ (m ≡ n → ⊥)
+    via_to_marked : (j : ℕ) → j < length axioms → (m : ℕ) → m < n + 1
+        → (get_or cited m 0 ≡ get_or axioms j 0)
+        ⊎ RestsOn (HasCitation c) (get_or cited m 0) (get_or axioms j 0) → (m ≡ n) ⊎ (m ≡ n → ⊥)
         → is_bit filled j ≡ true
     via_to_marked j j_lt_columns m m_lt_next is_via (inl m_is_n) =
         marked_by_citation j j_lt_columns
-        (subst (λ x. (get_or cited x 0 ≡ get_or columns j 0)
-        ⊎ RestsOn (HasCitation c) (get_or cited x 0) (get_or columns j 0)) m_is_n is_via)
+        (subst (λ x. (get_or cited x 0 ≡ get_or axioms j 0)
+        ⊎ RestsOn (HasCitation c) (get_or cited x 0) (get_or axioms j 0)) m_is_n is_via)
     via_to_marked j j_lt_columns m m_lt_next is_via (inr m_is_not_n) =
         (new_decides j j_lt_columns).1
         (inl
         ((mid_decides j j_lt_columns).1
-        (inl ((filled_before.marks j j_lt_columns).1 (m, omega arith, is_via)))))
+        (inl ((filled_before.marks_decide j j_lt_columns).1 (m, omega arith, is_via)))))
 
 -- after all citations of a theorem, its row is right
-pub filled_row_is_bit_row : (c : Citing) (columns : List ℕ) (i : ℕ) (row : List ℕ) → IsFileOrder c
-    → i < length c.theorems → FilledFrom c columns (list_at c i) (length (list_at c i)) row
-    → IsBitRow c columns (theorem_at c i) row
-filled_row_is_bit_row c columns i row is_file_order i_lt_theorems filled = record {
+pub filled_row_is_bit_row : (c : Citing) (axioms : List ℕ) (i : ℕ) (row : List ℕ) → IsFileOrder c
+    → i < length c.theorems → FilledFrom c axioms (list_at c i) (length (list_at c i)) row
+    → IsBitRow c axioms (theorem_at c i) row
+filled_row_is_bit_row c axioms i row is_file_order i_lt_theorems filled = record {
   has_words = filled.has_words;
-  marks =
+  marks_decide =
       λ j j_lt_columns. (
-        λ is_marked. via_gives_rests (get_or columns j 0)
-            ((filled.marks j j_lt_columns).0 is_marked),
-        λ rests. (filled.marks j j_lt_columns).1
-            (rests_gives_via (get_or columns j 0) rests),
+        λ is_marked. via_gives_rests (get_or axioms j 0)
+            ((filled.marks_decide j j_lt_columns).0 is_marked),
+        λ rests. (filled.marks_decide j j_lt_columns).1
+            (rests_gives_via (get_or axioms j 0) rests),
       );
   none_past_columns = filled.none_past_columns;
 }
@@ -124,11 +124,10 @@ filled_row_is_bit_row c columns i row is_file_order i_lt_theorems filled = recor
         record {
           row = i;
           list_index = m;
-          within = i_lt_theorems;
-          listed = m_lt_length;
-          theorem =
-              refl;
-          cited = refl;
+          row_lt_count = i_lt_theorems;
+          index_lt_length = m_lt_length;
+          theorem_is = refl;
+          cited_is = refl;
         }
 
     via_gives_rests : (a : ℕ) → IsVia c (list_at c i) (length (list_at c i)) a
@@ -145,13 +144,14 @@ filled_row_is_bit_row c columns i row is_file_order i_lt_theorems filled = recor
         → IsVia c (list_at c i) (length (list_at c i)) a
     via_of_citation b a has_citation is_or_rests =
         let row_is_i : has_citation.row ≡ i = index_is_unique c.theorems has_citation.row i
-        is_file_order.rising has_citation.within
-        i_lt_theorems has_citation.theorem in
+        is_file_order.theorems_rise has_citation.row_lt_count
+        i_lt_theorems has_citation.theorem_is in
         let is_listed : has_citation.list_index < length (list_at c i) =
-        subst (λ x. has_citation.list_index < length (list_at c x)) row_is_i has_citation.listed in
+        subst (λ x. has_citation.list_index < length (list_at c x)) row_is_i
+        has_citation.index_lt_length in
         let cited_is_b : get_or (list_at c i) has_citation.list_index 0 ≡ b =
         subst (λ x. get_or (list_at c x) has_citation.list_index 0 ≡ b) row_is_i
-        has_citation.cited in (
+        has_citation.cited_is in (
           has_citation.list_index,
           is_listed,
           subst (λ x. (x ≡ a) ⊎ RestsOn (HasCitation c) x a)
@@ -170,59 +170,59 @@ pub rests_on_nothing : (c : Citing) (t a : ℕ)
     → ((i : ℕ) → i < length c.theorems → get_or c.theorems i 0 ≡ t → ⊥)
     → RestsOn (HasCitation c) t a → ⊥
 rests_on_nothing c t a no_row rests_on =
-    ⊎_elim (λ cites. no_row cites.row cites.within cites.theorem)
-    (λ via_cited. no_row via_cited.1.row via_cited.1.within via_cited.1.theorem)
+    ⊎_elim (λ cites. no_row cites.row cites.row_lt_count cites.theorem_is)
+    (λ via_cited. no_row via_cited.1.row via_cited.1.row_lt_count via_cited.1.theorem_is)
     ((rests_by_one_step (HasCitation c) t a).0 rests_on)
 
 -- a finished row is or-ed into another
-pub marks_of_or : (c : Citing) (columns : List ℕ) (t : ℕ) (old from ored : List ℕ)
-    → IsBitRow c columns t from → length ored ≡ length old → length old ≡ words_for (length columns)
+pub marks_of_or : (c : Citing) (axioms : List ℕ) (t : ℕ) (old from ored : List ℕ)
+    → IsBitRow c axioms t from → length ored ≡ length old → length old ≡ words_for (length axioms)
     → ((k : ℕ) → k < length old → get_or ored k 0 ≡ bit_or (get_or old k 0) (get_or from k 0))
-    → ((j : ℕ) → j < length columns
+    → ((j : ℕ) → j < length axioms
     → Decides (is_bit ored j) ((is_bit old j ≡ true)
-    ⊎ RestsOn (HasCitation c) t (get_or columns j 0)))
-    × ((j : ℕ) → length columns ≤ j → is_bit ored j ≡ is_bit old j)
-marks_of_or c columns t old from ored is_bit_row lengths_equal old_has_words words_are_ored =
+    ⊎ RestsOn (HasCitation c) t (get_or axioms j 0)))
+    × ((j : ℕ) → length axioms ≤ j → is_bit ored j ≡ is_bit old j)
+marks_of_or c axioms t old from ored is_bit_row lengths_equal old_has_words words_are_ored =
     let bits_are_ored =
     or_bits ored old from lengths_equal (old_has_words ∙ sym is_bit_row.has_words) words_are_ored in (
       (λ j j_lt_columns. Decides-at (is_bit ored j) (is_bit old j || is_bit from j)
           (bits_are_ored j)
           (Decides-or (is_bit old j) (is_bit from j) ((λ is_set. is_set), λ is_set. is_set)
-          (is_bit_row.marks j j_lt_columns))),
+          (is_bit_row.marks_decide j j_lt_columns))),
       λ j columns_le_j. bits_are_ored j
           ∙ or_with_false (is_bit old j) (is_bit from j)
           (is_bit_row.none_past_columns j columns_le_j),
     )
 
 -- before the first citation, no bit is set
-pub filled_from_nothing : (c : Citing) (columns cited row : List ℕ) → length row
-    ≡ words_for (length columns)
-    → ((j : ℕ) → is_bit row j ≡ false) → FilledFrom c columns cited 0 row
-filled_from_nothing c columns cited row row_has_words no_bit_is_set = record {
+pub filled_from_nothing : (c : Citing) (axioms cited row : List ℕ) → length row
+    ≡ words_for (length axioms)
+    → ((j : ℕ) → is_bit row j ≡ false) → FilledFrom c axioms cited 0 row
+filled_from_nothing c axioms cited row row_has_words no_bit_is_set = record {
   has_words = row_has_words;
-  marks =
+  marks_decide =
       λ j j_lt_columns. (
         λ is_set. absurd (let true_is_false : true ≡ false = sym is_set ∙ no_bit_is_set j in cc),
-        λ is_via. let place_lt_zero = is_via.1 in
-            absurd (omega (arith, place_lt_zero)),
+        λ is_via. let index_lt_zero = is_via.1 in
+            absurd (omega (arith, index_lt_zero)),
       );
   none_past_columns = λ j columns_le_j. no_bit_is_set j;
 }
 
 -- what is ready for one citation
-pub cited_row_is_ready : (c : Citing) (columns bits : List ℕ) (i k : ℕ) (cited row : List ℕ)
-    → cited ≡ list_at c i → k < length cited → length row ≡ words_for (length columns)
-    → HasCitedRows c columns bits i
+pub cited_row_is_ready : (c : Citing) (axioms bits : List ℕ) (i k : ℕ) (cited row : List ℕ)
+    → cited ≡ list_at c i → k < length cited → length row ≡ words_for (length axioms)
+    → HasCitedRows c axioms bits i
     → (r : ℕ) → r < length c.theorems → theorem_at c r ≡ get_or cited k 0
-    → IsBitRow c columns (get_or cited k 0) (row_at bits (length row) r)
-cited_row_is_ready c columns bits i k cited row cited_is k_lt_length row_has_words
+    → IsBitRow c axioms (get_or cited k 0) (row_at bits (length row) r)
+cited_row_is_ready c axioms bits i k cited row cited_is k_lt_length row_has_words
     cited_rows_are_known r
     r_lt_theorems theorem_is =
     let k_lt_list : k < length (list_at c i) = subst (λ xs. k < length xs) cited_is k_lt_length in
     let theorem_is_cited : theorem_at c r ≡ get_or (list_at c i) k 0 =
     theorem_is ∙ ap (λ xs. get_or xs k 0) cited_is in
-    subst (λ w. IsBitRow c columns (get_or cited k 0) (row_at bits w r)) (sym row_has_words)
-    (subst (λ t. IsBitRow c columns t (row_at bits (words_for (length columns)) r)) theorem_is
+    subst (λ w. IsBitRow c axioms (get_or cited k 0) (row_at bits w r)) (sym row_has_words)
+    (subst (λ t. IsBitRow c axioms t (row_at bits (words_for (length axioms)) r)) theorem_is
     (cited_rows_are_known r k r_lt_theorems k_lt_list theorem_is_cited))
 
 -- a row as a part of longer words
@@ -246,69 +246,69 @@ row_end_le_words bits (suc w) r row_has_width =
     omega (arith, row_has_width, taken_length, dropped_length)
 
 -- the row of a theorem that is ready
-pub found_row_is_known : (c : Citing) (columns theorems bits : List ℕ) (t w r : ℕ)
+pub found_row_is_known : (c : Citing) (axioms theorems bits : List ℕ) (t w r : ℕ)
     → theorems ≡ c.theorems
     → (r < length theorems) × (get_or theorems r 0 ≡ t)
     → ((q : ℕ) → q < length c.theorems → theorem_at c q ≡ t
-    → IsBitRow c columns t (slice_range bits (q * w) (q * w + w)))
-    → IsBitRow c columns t (slice_range bits (r * w) (r * w + w))
-found_row_is_known c columns theorems bits t w r theorems_are row_is_found rows_are_known =
+    → IsBitRow c axioms t (slice_range bits (q * w) (q * w + w)))
+    → IsBitRow c axioms t (slice_range bits (r * w) (r * w + w))
+found_row_is_known c axioms theorems bits t w r theorems_are row_is_found rows_are_known =
     rows_are_known r (subst (λ xs. r < length xs) theorems_are row_is_found.0)
     (subst (λ xs. get_or xs r 0 ≡ t) theorems_are row_is_found.1)
 
-pub found_row_end_le_words : (c : Citing) (columns theorems bits : List ℕ) (t w r : ℕ)
+pub found_row_end_le_words : (c : Citing) (axioms theorems bits : List ℕ) (t w r : ℕ)
     → theorems ≡ c.theorems
     → (r < length theorems) × (get_or theorems r 0 ≡ t)
     → ((q : ℕ) → q < length c.theorems → theorem_at c q ≡ t
-    → IsBitRow c columns t (slice_range bits (q * w) (q * w + w)))
-    → w ≡ words_for (length columns) → r * w + w ≤ length bits
-found_row_end_le_words c columns theorems bits t w r theorems_are row_is_found rows_are_known
+    → IsBitRow c axioms t (slice_range bits (q * w) (q * w + w)))
+    → w ≡ words_for (length axioms) → r * w + w ≤ length bits
+found_row_end_le_words c axioms theorems bits t w r theorems_are row_is_found rows_are_known
     width_is =
     row_end_le_words bits w r
-    ((found_row_is_known c columns theorems bits t w r theorems_are row_is_found
+    ((found_row_is_known c axioms theorems bits t w r theorems_are row_is_found
     rows_are_known).has_words
     ∙ sym width_is)
 
 -- the bit of the statement's column is set
-pub found_column_is_marked : (columns row marked : List ℕ) (j s : ℕ) → IsStatementList columns
-    → (j < length columns) × (get_or columns j 0 ≡ s)
+pub found_column_is_marked : (axioms row marked : List ℕ) (j s : ℕ) → IsStatementList axioms
+    → (j < length axioms) × (get_or axioms j 0 ≡ s)
     → ((k : ℕ) → is_bit marked k ≡ (eqb k j || is_bit row k))
-    → (k : ℕ) → k < length columns
-    → Decides (is_bit marked k) ((is_bit row k ≡ true) ⊎ (s ≡ get_or columns k 0))
-found_column_is_marked columns row marked j s is_statement_list column_is_found bits_are_set k
+    → (k : ℕ) → k < length axioms
+    → Decides (is_bit marked k) ((is_bit row k ≡ true) ⊎ (s ≡ get_or axioms k 0))
+found_column_is_marked axioms row marked j s is_statement_list column_is_found bits_are_set k
     k_lt_columns =
-    decided_by_column (cases_eq k j)
+    mark_is_decided (cases_eq k j)
   where
-    decided_by_column : (k ≡ j) ⊎ (k ≢ j)
-        → Decides (is_bit marked k) ((is_bit row k ≡ true) ⊎ (s ≡ get_or columns k 0))
-    decided_by_column (inl k_is_j) = (
-      λ is_set. inr (sym column_is_found.1 ∙ ap (λ i. get_or columns i 0) (sym k_is_j)),
+    mark_is_decided : (k ≡ j) ⊎ (k ≢ j)
+        → Decides (is_bit marked k) ((is_bit row k ≡ true) ⊎ (s ≡ get_or axioms k 0))
+    mark_is_decided (inl k_is_j) = (
+      λ is_set. inr (sym column_is_found.1 ∙ ap (λ i. get_or axioms i 0) (sym k_is_j)),
       λ set_or_statement. bits_are_set k
           ∙ ap (λ was_set. was_set || is_bit row k) (eq-eqb k j k_is_j),
     )
-    decided_by_column (inr k_is_not_j) =
+    mark_is_decided (inr k_is_not_j) =
         let bits_equal : is_bit marked k ≡ is_bit row k =
         bits_are_set k ∙ ap (λ was_set. was_set || is_bit row k) (ne_eqb k j k_is_not_j) in (
           λ is_set. inl (sym bits_equal ∙ is_set),
           λ set_or_statement. bits_equal ∙ ⊎_elim (λ was_set. was_set)
               (λ statement_is. absurd
-              (k_is_not_j (index_is_unique columns k j is_statement_list k_lt_columns
+              (k_is_not_j (index_is_unique axioms k j is_statement_list k_lt_columns
               column_is_found.0 (sym statement_is ∙ sym column_is_found.1)))) set_or_statement,
         )
 
-pub past_columns_are_kept : (columns row marked : List ℕ) (j s : ℕ)
-    → (j < length columns) × (get_or columns j 0 ≡ s)
+pub past_columns_are_kept : (axioms row marked : List ℕ) (j s : ℕ)
+    → (j < length axioms) × (get_or axioms j 0 ≡ s)
     → ((k : ℕ) → is_bit marked k ≡ (eqb k j || is_bit row k))
-    → (k : ℕ) → length columns ≤ k → is_bit marked k ≡ is_bit row k
-past_columns_are_kept columns row marked j s column_is_found bits_are_set k columns_le_k =
+    → (k : ℕ) → length axioms ≤ k → is_bit marked k ≡ is_bit row k
+past_columns_are_kept axioms row marked j s column_is_found bits_are_set k columns_le_k =
     let j_lt_columns = column_is_found.0 in
     bits_are_set k ∙ ap (λ b. b || is_bit row k)
     (ne_eqb k j (λ k_is_j. absurd (omega (arith, j_lt_columns, columns_le_k, k_is_j))))
 
-pub no_column_is_marked : (columns row : List ℕ) (s : ℕ)
-    → ((i : ℕ) → i < length columns → get_or columns i 0 ≡ s → ⊥) → (k : ℕ) → k < length columns
-    → Decides (is_bit row k) ((is_bit row k ≡ true) ⊎ (s ≡ get_or columns k 0))
-no_column_is_marked columns row s no_column k k_lt_columns = (
+pub no_column_is_marked : (axioms row : List ℕ) (s : ℕ)
+    → ((i : ℕ) → i < length axioms → get_or axioms i 0 ≡ s → ⊥) → (k : ℕ) → k < length axioms
+    → Decides (is_bit row k) ((is_bit row k ≡ true) ⊎ (s ≡ get_or axioms k 0))
+no_column_is_marked axioms row s no_column k k_lt_columns = (
   (λ is_set. inl is_set),
   λ set_or_statement. ⊎_elim (λ was_set. was_set)
       (λ statement_is. absurd (no_column k k_lt_columns (sym statement_is))) set_or_statement,

@@ -22,14 +22,14 @@ pub filter_of_filter : (p q r : ℕ → Bool) (xs : List ℕ) → ((x : ℕ) →
     → filter q (filter p xs) ≡ filter r xs
 filter_of_filter p q r [] both_tests = refl
 filter_of_filter p q r (x ∷ xs) both_tests =
-    filtered_by_test (p x) (both_tests x) (filter_of_filter p q r xs both_tests)
+    filters_agree (p x) (both_tests x) (filter_of_filter p q r xs both_tests)
   where
-    filtered_by_test : (a : Bool) → r x ≡ (a && q x) → filter q (filter p xs) ≡ filter r xs
+    filters_agree : (a : Bool) → r x ≡ (a && q x) → filter q (filter p xs) ≡ filter r xs
         → filter q (cond a (x ∷ filter p xs) (filter p xs))
         ≡ cond (r x) (x ∷ filter r xs) (filter r xs)
-    filtered_by_test false test_is later_filtered =
+    filters_agree false test_is later_filtered =
         later_filtered ∙ sym (ap (λ c. cond c (x ∷ filter r xs) (filter r xs)) test_is)
-    filtered_by_test true test_is later_filtered =
+    filters_agree true test_is later_filtered =
         ap₂ (λ (c : Bool) (l : List ℕ). cond c (x ∷ l) l) (sym test_is) later_filtered
 
 -- a selection of a list with one more element at its end
@@ -112,14 +112,14 @@ pub typecode_is_compared : (db : List Statement) (k x : ℕ) (v w : Bytes)
     → bytes_eq v w ≡ list_any (has_typecode (Some w)) (statement_at db k)
 typecode_is_compared db k x v w is_assertion_k typecode_is_x name_of_x =
     let statement_there = passing_statement db is_assertion k is_assertion_k in
-    compared_by_kind statement_there.0 statement_there.1 statement_there.2
+    comparison_is_test statement_there.0 statement_there.1 statement_there.2
   where
     -- a statement with a label, for each list of its symbols
     compared_if_labelled : (s : Statement) → slice_get db k ≡ Some s
         → is_labelled_kind (kind_of s) ≡ true
         → (xs : List Token) → symbols_of s ≡ xs
         → bytes_eq v w ≡ list_any (has_typecode (Some w)) (statement_at db k)
-    compared_if_labelled s s_at_k has_label xs symbols_are = compared_by_symbols xs symbols_are
+    compared_if_labelled s s_at_k has_label xs symbols_are = comparison_is_test xs symbols_are
       where
         typecode_is : (xs : List Token) → symbols_of s ≡ xs
             → typecode_of db k ≡ slice_get (map (λ u. index_of u (symbol_names db)) (words xs)) 0
@@ -139,12 +139,12 @@ typecode_is_compared db k x v w is_assertion_k typecode_is_x name_of_x =
             ap (λ (ys : List Token). elim ys [ [] ↦ false | u ∷ us ↦ bytes_eq u.word w ])
             symbols_are
 
-        compared_by_symbols : (xs : List Token) → symbols_of s ≡ xs
+        comparison_is_test : (xs : List Token) → symbols_of s ≡ xs
             → bytes_eq v w ≡ list_any (has_typecode (Some w)) (statement_at db k)
-        compared_by_symbols [] symbols_are =
+        comparison_is_test [] symbols_are =
             absurd (let none_is_typecode : None ≡ Some x = sym (typecode_is [] symbols_are)
             ∙ typecode_is_x in cc)
-        compared_by_symbols (t ∷ ts) symbols_are =
+        comparison_is_test (t ∷ ts) symbols_are =
             let typecode_found : Some (index_of t.word (symbol_names db)) ≡ Some x =
             sym (typecode_is (t ∷ ts) symbols_are) ∙ typecode_is_x in
             let number_is : index_of t.word (symbol_names db) ≡ x = cc in
@@ -155,21 +155,21 @@ typecode_is_compared db k x v w is_assertion_k typecode_is_x name_of_x =
             ∙ sym (ap (list_any (has_typecode (Some w))) (statement_at_place db k s s_at_k)
             ∙ or-false (has_typecode (Some w) s) ∙ typecode_compared t ts symbols_are)
 
-    compared_by_kind : (s : Statement) → slice_get db k ≡ Some s → is_assertion s ≡ true
+    comparison_is_test : (s : Statement) → slice_get db k ≡ Some s → is_assertion s ≡ true
         → bytes_eq v w ≡ list_any (has_typecode (Some w)) (statement_at db k)
-    compared_by_kind (constants kw xs d) s_at_k is_assertion_s =
+    comparison_is_test (constants kw xs d) s_at_k is_assertion_s =
         absurd (true≢false (sym is_assertion_s))
-    compared_by_kind (variables kw xs d) s_at_k is_assertion_s =
+    comparison_is_test (variables kw xs d) s_at_k is_assertion_s =
         absurd (true≢false (sym is_assertion_s))
-    compared_by_kind (disjoint kw xs d) s_at_k is_assertion_s =
+    comparison_is_test (disjoint kw xs d) s_at_k is_assertion_s =
         absurd (true≢false (sym is_assertion_s))
-    compared_by_kind (floating l kw xs d) s_at_k is_assertion_s =
+    comparison_is_test (floating l kw xs d) s_at_k is_assertion_s =
         absurd (true≢false (sym is_assertion_s))
-    compared_by_kind (essential l kw xs d) s_at_k is_assertion_s =
+    comparison_is_test (essential l kw xs d) s_at_k is_assertion_s =
         absurd (true≢false (sym is_assertion_s))
-    compared_by_kind (opening kw) s_at_k is_assertion_s = absurd (true≢false (sym is_assertion_s))
-    compared_by_kind (closing kw) s_at_k is_assertion_s = absurd (true≢false (sym is_assertion_s))
-    compared_by_kind (provable l kw xs q ps d) s_at_k is_assertion_s =
+    comparison_is_test (opening kw) s_at_k is_assertion_s = absurd (true≢false (sym is_assertion_s))
+    comparison_is_test (closing kw) s_at_k is_assertion_s = absurd (true≢false (sym is_assertion_s))
+    comparison_is_test (provable l kw xs q ps d) s_at_k is_assertion_s =
         compared_if_labelled (provable l kw xs q ps d) s_at_k refl xs refl
-    compared_by_kind (axiomatic l kw xs d) s_at_k is_assertion_s =
+    comparison_is_test (axiomatic l kw xs d) s_at_k is_assertion_s =
         compared_if_labelled (axiomatic l kw xs d) s_at_k refl xs refl

@@ -97,12 +97,12 @@ ones_of_one (inr ones_is_not_zero) =
     let ones_le_number = ones_le_self 1 in omega (arith, ones_le_number, ones_is_not_zero)
 
 ones_of_bit_value : (b : ℕ) → b < 2 → count_ones b ≡ cond (eqb b 1) 1 0
-ones_of_bit_value b b_lt_2 = counted_by_bit (cases_eq b 0)
+ones_of_bit_value b b_lt_2 = ones_are_bit (cases_eq b 0)
   where
-    counted_by_bit : (b ≡ 0) ⊎ (b ≡ 0 → ⊥) → count_ones b ≡ cond (eqb b 1) 1 0
-    counted_by_bit (inl b_is) =
+    ones_are_bit : (b ≡ 0) ⊎ (b ≡ 0 → ⊥) → count_ones b ≡ cond (eqb b 1) 1 0
+    ones_are_bit (inl b_is) =
         ap count_ones b_is ∙ ones_of_zero ∙ sym (ap (λ x. cond (eqb x 1) 1 0) b_is)
-    counted_by_bit (inr b_is_not_zero) =
+    ones_are_bit (inr b_is_not_zero) =
         let b_is : b ≡ 1 = omega arith in
         ap count_ones b_is ∙ ones_of_one (cases_eq (count_ones 1) 0)
         ∙ sym (ap (λ x. cond (eqb x 1) 1 0) b_is)

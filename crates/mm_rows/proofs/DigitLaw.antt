@@ -88,8 +88,8 @@ byte word j = get_or (digits_l 256 16 (number_l (2 ^ 64) (word ∷ word ∷ []))
 
 byte_of_word : (word j : ℕ) → word < 2 ^ 64 → j < 8 → byte word j ≡ word / 256 ^ j % 256
 byte_of_word word j word_lt_2_64 j_lt_8 =
-    let place_is_j : 8 * 0 + j ≡ j = omega arith in
-    sym (ap (byte word) place_is_j)
+    let index_is_j : 8 * 0 + j ≡ j = omega arith in
+    sym (ap (byte word) index_is_j)
     ∙ get_or_narrower (2 ^ 64) 8 256 16 (word ∷ word ∷ []) 0 j refl
     (word_lt_2_64, (word_lt_2_64, tt)) j_lt_8
     (omega arith)
@@ -109,58 +109,59 @@ halves word =
     ∷ bit_and (byte word 5) 15 ∷ byte word 5 / 2 ^ 4 ∷ bit_and (byte word 6) 15
     ∷ byte word 6 / 2 ^ 4 ∷ bit_and (byte word 7) 15 ∷ byte word 7 / 2 ^ 4 ∷ []
 
+-- `low0` and `high0` are of the halves of byte 0, and so on
 pub halves_are_fours : (word : ℕ) → word < 2 ^ 64 → halves word ≡ fours word
 halves_are_fours word word_lt_2_64 =
-    let l0 =
+    let low0 =
     ap (λ x. bit_and x 15) (byte_of_word word 0 word_lt_2_64 (omega arith))
     ∙ low_half_is_kept (word / 256 ^ 0) in
-    let h0 =
+    let high0 =
     ap (λ x. x / 2 ^ 4) (byte_of_word word 0 word_lt_2_64 (omega arith))
     ∙ high_half_is_quotient (word / 256 ^ 0) (word / 2 ^ 4) (omega arith) in
-    let l1 =
+    let low1 =
     ap (λ x. bit_and x 15) (byte_of_word word 1 word_lt_2_64 (omega arith))
     ∙ low_half_is_kept (word / 256 ^ 1) in
-    let h1 =
+    let high1 =
     ap (λ x. x / 2 ^ 4) (byte_of_word word 1 word_lt_2_64 (omega arith))
     ∙ high_half_is_quotient (word / 256 ^ 1) (word / 2 ^ 12) (omega arith) in
-    let l2 =
+    let low2 =
     ap (λ x. bit_and x 15) (byte_of_word word 2 word_lt_2_64 (omega arith))
     ∙ low_half_is_kept (word / 256 ^ 2) in
-    let h2 =
+    let high2 =
     ap (λ x. x / 2 ^ 4) (byte_of_word word 2 word_lt_2_64 (omega arith))
     ∙ high_half_is_quotient (word / 256 ^ 2) (word / 2 ^ 20) (omega arith) in
-    let l3 =
+    let low3 =
     ap (λ x. bit_and x 15) (byte_of_word word 3 word_lt_2_64 (omega arith))
     ∙ low_half_is_kept (word / 256 ^ 3) in
-    let h3 =
+    let high3 =
     ap (λ x. x / 2 ^ 4) (byte_of_word word 3 word_lt_2_64 (omega arith))
     ∙ high_half_is_quotient (word / 256 ^ 3) (word / 2 ^ 28) (omega arith) in
-    let l4 =
+    let low4 =
     ap (λ x. bit_and x 15) (byte_of_word word 4 word_lt_2_64 (omega arith))
     ∙ low_half_is_kept (word / 256 ^ 4) in
-    let h4 =
+    let high4 =
     ap (λ x. x / 2 ^ 4) (byte_of_word word 4 word_lt_2_64 (omega arith))
     ∙ high_half_is_quotient (word / 256 ^ 4) (word / 2 ^ 36) (omega arith) in
-    let l5 =
+    let low5 =
     ap (λ x. bit_and x 15) (byte_of_word word 5 word_lt_2_64 (omega arith))
     ∙ low_half_is_kept (word / 256 ^ 5) in
-    let h5 =
+    let high5 =
     ap (λ x. x / 2 ^ 4) (byte_of_word word 5 word_lt_2_64 (omega arith))
     ∙ high_half_is_quotient (word / 256 ^ 5) (word / 2 ^ 44) (omega arith) in
-    let l6 =
+    let low6 =
     ap (λ x. bit_and x 15) (byte_of_word word 6 word_lt_2_64 (omega arith))
     ∙ low_half_is_kept (word / 256 ^ 6) in
-    let h6 =
+    let high6 =
     ap (λ x. x / 2 ^ 4) (byte_of_word word 6 word_lt_2_64 (omega arith))
     ∙ high_half_is_quotient (word / 256 ^ 6) (word / 2 ^ 52) (omega arith) in
-    let l7 =
+    let low7 =
     ap (λ x. bit_and x 15) (byte_of_word word 7 word_lt_2_64 (omega arith))
     ∙ low_half_is_kept (word / 256 ^ 7) in
-    let h7 =
+    let high7 =
     ap (λ x. x / 2 ^ 4) (byte_of_word word 7 word_lt_2_64 (omega arith))
     ∙ high_half_is_quotient (word / 256 ^ 7) (word / 2 ^ 60) (omega arith) in
-    (λ i. l0 i ∷ h0 i ∷ l1 i ∷ h1 i ∷ l2 i ∷ h2 i ∷ l3 i ∷ h3 i ∷ l4 i ∷ h4 i ∷ l5 i ∷ h5 i ∷ l6 i
-    ∷ h6 i ∷ l7 i ∷ h7 i ∷ [])
+    (λ i. low0 i ∷ high0 i ∷ low1 i ∷ high1 i ∷ low2 i ∷ high2 i ∷ low3 i ∷ high3 i ∷ low4 i ∷ high4 i
+    ∷ low5 i ∷ high5 i ∷ low6 i ∷ high6 i ∷ low7 i ∷ high7 i ∷ [])
 
 pub half_is_hex_digit : (word k : ℕ) → word < 2 ^ 64 → k < 16
     → get_or (swz_l w8 16 DIGITS 0 (halves word)) k 0 ≡ hex_digit (four_at word k)
@@ -179,18 +180,18 @@ pub next_digits_are_written : (words into lanes : List ℕ) (w : ℕ) → w < le
     → AreDigits words into w → AreDigits words (put_chunk (16 * w) into lanes) (w + 1)
 next_digits_are_written words into lanes w w_lt_length into_has_size lanes_are_16 lanes_are_digits
     digits_before
-    i i_lt_end = digit_by_word (cases_lt i (16 * w))
+    i i_lt_end = digit_is_written (cases_lt i (16 * w))
   where
-    digit_by_word : (i < 16 * w) ⊎ (16 * w ≤ i)
+    digit_is_written : (i < 16 * w) ⊎ (16 * w ≤ i)
         → get_or (put_chunk (16 * w) into lanes) i 0
         ≡ hex_digit (four_at (get_or words (i / 16) 0) (i % 16))
-    digit_by_word (inl i_lt_block) =
+    digit_is_written (inl i_lt_block) =
         get_or-put_chunk_below (16 * w) into lanes i 0 i_lt_block ∙ digits_before i i_lt_block
-    digit_by_word (inr block_le_i) =
-        let place_is_i : 16 * w + (i - 16 * w) ≡ i = omega arith in
+    digit_is_written (inr block_le_i) =
+        let index_is_i : 16 * w + (i - 16 * w) ≡ i = omega arith in
         let word_is : w ≡ i / 16 = omega arith in
         let digit_is : i - 16 * w ≡ i % 16 = omega arith in
-        ap (λ n. get_or (put_chunk (16 * w) into lanes) n 0) (sym place_is_i)
+        ap (λ n. get_or (put_chunk (16 * w) into lanes) n 0) (sym index_is_i)
         ∙ get_or-put_chunk_at (16 * w) into lanes (i - 16 * w) 0 (omega (arith, lanes_are_16))
         (omega (arith, lanes_are_16, into_has_size, w_lt_length))
         ∙ lanes_are_digits (i - 16 * w) (omega arith)
@@ -203,11 +204,11 @@ mark_is_element zero (b ∷ bs) = refl
 mark_is_element (suc n) (b ∷ bs) = mark_is_element n bs
 
 bit_value_is : (x : ℕ) → x < 2 → x ≡ bit_of (eqb x 1)
-bit_value_is x x_lt_2 = value_by_bit (cases_eq x 0)
+bit_value_is x x_lt_2 = value_is_bit (cases_eq x 0)
   where
-    value_by_bit : (x ≡ 0) ⊎ (x ≡ 0 → ⊥) → x ≡ bit_of (eqb x 1)
-    value_by_bit (inl x_is) = x_is ∙ sym (ap (λ y. bit_of (eqb y 1)) x_is)
-    value_by_bit (inr x_is_not_zero) = let x_is : x ≡ 1 = omega (arith, x_is_not_zero, x_lt_2) in
+    value_is_bit : (x ≡ 0) ⊎ (x ≡ 0 → ⊥) → x ≡ bit_of (eqb x 1)
+    value_is_bit (inl x_is) = x_is ∙ sym (ap (λ y. bit_of (eqb y 1)) x_is)
+    value_is_bit (inr x_is_not_zero) = let x_is : x ≡ 1 = omega (arith, x_is_not_zero, x_lt_2) in
         x_is ∙ sym (ap (λ y. bit_of (eqb y 1)) x_is)
 
 module _ (m : Marks) (rows columns : ℕ) (words : List ℕ)
@@ -218,18 +219,17 @@ module _ (m : Marks) (rows columns : ℕ) (words : List ℕ)
       ≡ mark_at j (row_marks (marks rows columns words) i)
   row_bit_is_mark i j i_lt_rows j_in_row =
       row_bit_is_table_bit words (words_for columns) i j j_in_row
-      ∙ mark_by_column (cases_lt j columns)
+      ∙ bit_is_mark (cases_lt j columns)
       ∙ sym (mark_is_element j (row_marks (marks rows columns words) i))
     where
-      mark_by_column : (j < columns) ⊎ (columns ≤ j)
+      bit_is_mark : (j < columns) ⊎ (columns ≤ j)
           → is_bit words (bit_index (words_for columns) i j)
           ≡ get_or (row_marks (marks rows columns words) i) j false
-      mark_by_column (inl j_lt_columns) =
+      bit_is_mark (inl j_lt_columns) =
           sym (get_or-map-range_with_len (mark (marks rows columns words) i) 0 columns j j false
-          j_lt_columns
-          (omega arith)
+          j_lt_columns (omega arith)
           ∙ mark_is_bit rows columns words i j i_lt_rows j_lt_columns)
-      mark_by_column (inr columns_le_j) =
+      bit_is_mark (inr columns_le_j) =
           let marks_length =
           length-map (range_with_len 0 columns) (mark (marks rows columns words) i)
           ∙ length-range_with_len 0 columns in
@@ -285,7 +285,7 @@ module _ (m : Marks) (rows columns : ℕ) (words : List ℕ)
   part_has_width i part i_lt_marks part_is_row =
       let i_lt_rows = subst (λ (x : Marks). i < x.rows) marks_are i_lt_marks in
       ap length part_is_row ∙ row_has_width_words words (words_for columns) i rows i_lt_rows
-      is_table.size
+      is_table.size_is
 
   -- the digits that were written from word `word` of a row on are those of its columns
   pub written_are_row_digits : (i word : ℕ) (part into into_before : List ℕ) → i < m.rows
@@ -306,20 +306,20 @@ module _ (m : Marks) (rows columns : ℕ) (words : List ℕ)
       (lengths_equal ∙ sym
       (length-map (range_with_len (16 * word) (length into_before)) digit
       ∙ length-range_with_len (16 * word) (length into_before)))
-      (λ k k_lt_length. digit_at_place k (omega (arith, lengths_equal, k_lt_length)))
+      (λ k k_lt_length. digit_at_index k (omega (arith, lengths_equal, k_lt_length)))
     where
       digit : ℕ → ℕ
       digit k = hex_digit (digit_at k (row_marks m i))
 
-      digit_at_place : (k : ℕ) → k < length into_before
+      digit_at_index : (k : ℕ) → k < length into_before
           → get_or into k 0 ≡ get_or (map digit (range_with_len (16 * word) (length into_before))) k
           0
-      digit_at_place k k_lt_length =
+      digit_at_index k k_lt_length =
           let digits_fit_row : 16 * word + length into_before ≤ 16 * words_for columns =
           subst (λ (x : Marks). 16 * word + length into_before ≤ 16 * words_for x.columns) marks_are
           digits_fit_marks in
           let word_is : word + k / 16 ≡ (16 * word + k) / 16 = omega arith in
-          let digit_place_is : k % 16 ≡ (16 * word + k) % 16 = omega arith in
+          let digit_index_is : k % 16 ≡ (16 * word + k) % 16 = omega arith in
           let word_in_part : k / 16 < word + length into_before / 16 - word =
           omega (arith, k_lt_length, whole_words) in
           digits_written k k_lt_length
@@ -327,7 +327,7 @@ module _ (m : Marks) (rows columns : ℕ) (words : List ℕ)
           (get_or-take (word + length into_before / 16 - word) (drop word part) (k / 16) 0
           word_in_part
           ∙ get_or-drop word part (k / 16) 0)
-          ∙ ap₂ (λ a b. hex_digit (four_at (get_or part a 0) b)) word_is digit_place_is
+          ∙ ap₂ (λ a b. hex_digit (four_at (get_or part a 0) b)) word_is digit_index_is
           ∙ ap hex_digit (row_four_is_digit i (16 * word + k) part i_lt_marks
           (omega (arith, digits_fit_row, k_lt_length)) part_is_row)
           ∙ sym (get_or-map-range_with_len digit (16 * word) (length into_before) k

@@ -32,8 +32,8 @@ module _ (m : Marks) (rows columns : ℕ) (words : List ℕ)
       → i * width + width ≤ length xs
   row_end_le_table i width xs i_lt_marks width_is xs_are_words =
       let i_lt_rows = subst (λ (x : Marks). i < x.rows) marks_are i_lt_marks in
-      row_end_le_length width i rows (length xs) i_lt_rows (ap length xs_are_words ∙ is_table.size
-      ∙ sym (ap (λ a. rows * a) width_is))
+      row_end_le_length width i rows (length xs) i_lt_rows (ap length xs_are_words ∙
+      is_table.size_is ∙ sym (ap (λ a. rows * a) width_is))
 
   pub cell_bit_lt_table : (i j width : ℕ) (xs : List ℕ) → i < m.rows → j < m.columns
       → width ≡ words_for columns → xs ≡ words → bit_index width i j / 64 < length xs
@@ -41,7 +41,7 @@ module _ (m : Marks) (rows columns : ℕ) (words : List ℕ)
       let i_lt_rows = subst (λ (x : Marks). i < x.rows) marks_are i_lt_marks in
       let j_lt_columns = subst (λ (x : Marks). j < x.columns) marks_are j_lt_marks in
       bit_word_lt_length width rows i j (length xs) i_lt_rows (omega (arith, width_is))
-      (ap length xs_are_words ∙ is_table.size ∙ sym (ap (λ a. rows * a) width_is))
+      (ap length xs_are_words ∙ is_table.size_is ∙ sym (ap (λ a. rows * a) width_is))
 
   -- the bit that is read for a cell is its mark
   pub cell_bit_is_mark : (i j width : ℕ) (xs : List ℕ) → i < m.rows → j < m.columns
@@ -59,14 +59,14 @@ module _ (m : Marks) (rows columns : ℕ) (words : List ℕ)
       → result ≡ count_by (λ j. mark m i j) (range_with_len 0 m.columns)
   row_count_is_marks i result part i_lt_marks part_is_row result_is =
       let i_lt_rows = subst (λ (x : Marks). i < x.rows) marks_are i_lt_marks in
-      let columns_lt_2_31 = is_table.few_columns in
+      let columns_lt_2_31 = is_table.columns_lt_2_31 in
       let part_has_width = ap length part_is_row
-      ∙ row_has_width_words words (words_for columns) i rows i_lt_rows is_table.size in
+      ∙ row_has_width_words words (words_for columns) i rows i_lt_rows is_table.size_is in
       subst (λ (x : Marks). result ≡ tally (λ j. mark x i j) x.columns) (sym marks_are)
       (saturated_count_is_tally (is_bit part) (64 * length part) result
       (omega (arith, columns_lt_2_31, part_has_width)) result_is
       ∙ ap (λ xs. tally (is_bit xs) (64 * length xs)) part_is_row
-      ∙ ones_of_row_are_marks words (words_for columns) i rows columns i_lt_rows is_table.size
+      ∙ ones_of_row_are_marks words (words_for columns) i rows columns i_lt_rows is_table.size_is
       (omega arith)
       (λ j columns_le_j j_in_row. is_table.none_past_columns i j i_lt_rows columns_le_j j_in_row)
       ∙ equal_tests_equal_tallies (λ j. is_bit words (bit_index (words_for columns) i j))
@@ -78,13 +78,13 @@ module _ (m : Marks) (rows columns : ℕ) (words : List ℕ)
       → AreColumns m transposed
   transposed_are_columns transposed are_transposed =
       subst (λ (x : Marks). AreColumns x transposed) (sym marks_are) record {
-        size = are_transposed.size;
-        each =
+        size_is = are_transposed.size_is;
+        each_is_column =
             λ j j_lt_columns. record {
-              few_rows = is_table.few_rows;
-              size =
+              rows_lt_2_31 = is_table.rows_lt_2_31;
+              size_is =
                   row_has_width_words transposed (words_for rows) j columns j_lt_columns
-                  are_transposed.size;
+                  are_transposed.size_is;
               bits_are_marks =
                   λ i i_lt_rows. row_bit_is_table_bit transposed (words_for rows) j i (omega arith)
                   ∙ are_transposed.bits_are_transposed i j i_lt_rows j_lt_columns
@@ -102,8 +102,8 @@ module _ (m : Marks) (rows columns : ℕ) (words : List ℕ)
           row_bit_is_table_bit transposed (words_for rows) j i i_in_words
           ∙ are_transposed.none_past_rows i j rows_le_i i_in_words j_lt_columns
       past_last_row j j_lt_columns i rows_le_i (inr words_end_before) =
-          no_bit_past_row transposed (words_for rows) j columns i j_lt_columns are_transposed.size
-          words_end_before
+          no_bit_past_row transposed (words_for rows) j columns i j_lt_columns
+          are_transposed.size_is words_end_before
 
 -- the words of a column end within the words of all columns
 pub column_end_le_users : (m : Marks) (users : List ℕ) → AreColumns m users
@@ -111,13 +111,14 @@ pub column_end_le_users : (m : Marks) (users : List ℕ) → AreColumns m users
     → j < m.columns → width ≡ words_for m.rows → xs ≡ users → j * width + width ≤ length xs
 column_end_le_users m users are_columns j width xs j_lt_columns width_is xs_are_users =
     row_end_le_length width j m.columns (length xs) j_lt_columns
-    (ap length xs_are_users ∙ are_columns.size ∙ sym (ap (λ b. m.columns * b) width_is))
+    (ap length xs_are_users ∙ are_columns.size_is ∙ sym (ap (λ b. m.columns * b) width_is))
 
-above_is_from_first : (after : Option ℕ) (k : ℕ) → IsAbove after k → first_after after ≤ k
+-- what is above a row is from the first row after it on
+pub above_is_from_first : (after : Option ℕ) (k : ℕ) → IsAbove after k → first_after after ≤ k
 above_is_from_first None k is_above = omega arith
 above_is_from_first (Some i) k is_above = omega arith
 
-from_first_is_above : (after : Option ℕ) (k : ℕ) → first_after after ≤ k → IsAbove after k
+pub from_first_is_above : (after : Option ℕ) (k : ℕ) → first_after after ≤ k → IsAbove after k
 from_first_is_above None k first_le_k = tt
 from_first_is_above (Some i) k first_le_k = omega arith
 
@@ -141,8 +142,8 @@ module _ (m : Marks) (j : ℕ) (users : List ℕ) (is_column : IsColumn m j user
       → result ≡ min (tally (is_bit users) (64 * length users)) (2 ^ 64 - 1)
       → result ≡ count_by (λ i. mark m i j) (range_with_len 0 m.rows)
   column_count_is_marks result result_is =
-      let rows_lt_2_31 = is_column.few_rows in
-      let users_have_size = is_column.size in
+      let rows_lt_2_31 = is_column.rows_lt_2_31 in
+      let users_have_size = is_column.size_is in
       saturated_count_is_tally (is_bit users) (64 * length users) result
       (omega (arith, rows_lt_2_31, users_have_size)) result_is
       ∙ tally_of_passing_range (is_bit users) m.rows (64 * length users)
@@ -177,37 +178,37 @@ module _ (m : Marks) (j : ℕ) (users : List ℕ) (is_column : IsColumn m j user
       sym (is_column.bits_are_marks k k_lt_rows) ∙ none_is_set k (omega arith)
 
 -- the rows of all theorems are a table
-pub bit_rows_are_table : (c : Citing) (columns bits : List ℕ) (rows width : ℕ)
+pub bit_rows_are_table : (c : Citing) (axioms bits : List ℕ) (rows columns : ℕ)
     → IsStatementList c.theorems
-    → IsStatementList columns → AreBitRows c columns (length c.theorems) bits
+    → IsStatementList axioms → AreBitRows c axioms (length c.theorems) bits
     → rows ≡ length c.theorems
-    → width ≡ length columns → IsTable rows width bits
-bit_rows_are_table c columns bits rows width theorems_are_list columns_are_list are_bit_rows rows_is
-    width_is =
-    subst (λ n. IsTable n width bits) (sym rows_is)
-    (subst (λ n. IsTable (length c.theorems) n bits) (sym width_is) record {
-      few_rows = theorems_are_list.few;
-      few_columns = columns_are_list.few;
-      size = are_bit_rows.size;
+    → columns ≡ length axioms → IsTable rows columns bits
+bit_rows_are_table c axioms bits rows columns theorems_are_list axioms_are_list are_bit_rows rows_is
+    columns_is =
+    subst (λ n. IsTable n columns bits) (sym rows_is)
+    (subst (λ n. IsTable (length c.theorems) n bits) (sym columns_is) record {
+      rows_lt_2_31 = theorems_are_list.count_lt_2_31;
+      columns_lt_2_31 = axioms_are_list.count_lt_2_31;
+      size_is = are_bit_rows.size_is;
       none_past_columns =
           λ i j i_lt_theorems columns_le_j j_in_row.
-          sym (row_bit_is_table_bit bits (words_for (length columns)) i j j_in_row)
-          ∙ (are_bit_rows.each i i_lt_theorems).none_past_columns j columns_le_j;
+          sym (row_bit_is_table_bit bits (words_for (length axioms)) i j j_in_row)
+          ∙ (are_bit_rows.each_is_bit_row i i_lt_theorems).none_past_columns j columns_le_j;
     })
 
-pub bit_rows_are_matrix : (c : Citing) (columns bits : List ℕ) (rows width : ℕ) (m : Marks)
-    → AreBitRows c columns (length c.theorems) bits → rows ≡ length c.theorems
-    → width ≡ length columns → m ≡ marks rows width bits → IsMatrix c columns m
-bit_rows_are_matrix c columns bits rows width m are_bit_rows rows_is width_is m_is =
-    subst (λ x. IsMatrix c columns x) (sym (m_is ∙ ap₂ (λ a b. marks a b bits) rows_is width_is))
+pub bit_rows_are_matrix : (c : Citing) (axioms bits : List ℕ) (rows columns : ℕ) (m : Marks)
+    → AreBitRows c axioms (length c.theorems) bits → rows ≡ length c.theorems
+    → columns ≡ length axioms → m ≡ marks rows columns bits → IsMatrix c axioms m
+bit_rows_are_matrix c axioms bits rows columns m are_bit_rows rows_is columns_is m_is =
+    subst (λ x. IsMatrix c axioms x) (sym (m_is ∙ ap₂ (λ a b. marks a b bits) rows_is columns_is))
     record {
-      rows = refl;
+      rows_are = refl;
       columns_are = refl;
-      marked =
+      marks_decide =
           λ i j i_lt_theorems j_lt_columns. let row_decides =
-          (are_bit_rows.each i i_lt_theorems).marks j j_lt_columns in
-          let bit_is_mark = row_bit_is_table_bit bits (words_for (length columns)) i j (omega arith)
-          ∙ sym (mark_is_bit (length c.theorems) (length columns) bits i j i_lt_theorems
+          (are_bit_rows.each_is_bit_row i i_lt_theorems).marks_decide j j_lt_columns in
+          let bit_is_mark = row_bit_is_table_bit bits (words_for (length axioms)) i j (omega arith)
+          ∙ sym (mark_is_bit (length c.theorems) (length axioms) bits i j i_lt_theorems
           j_lt_columns) in (
             (λ is_marked. row_decides.0 (bit_is_mark ∙ is_marked)),
             λ rests. sym bit_is_mark

@@ -24,9 +24,9 @@ pub bit_word_lt_length : (width n i j len : ℕ) → i < n → j < 64 * width �
 bit_word_lt_length width n i j len i_lt_n j_in_row length_is =
     let word_index_is = bit_index_word width i j in
     let word_in_row : j / 64 < width = omega arith in
-    let place_lt_product = mul-add-lt i width (j / 64) n i_lt_n word_in_row in
+    let index_lt_product = mul-add-lt i width (j / 64) n i_lt_n word_in_row in
     let products_equal = mul_comm width n in
-    omega (arith, word_index_is, place_lt_product, products_equal)
+    omega (arith, word_index_is, index_lt_product, products_equal)
 
 -- a bit of a row is the bit with its index among the bits of all rows
 pub row_bit_is_table_bit : (words : List ℕ) (width i j : ℕ) → j < 64 * width

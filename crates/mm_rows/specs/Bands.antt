@@ -13,16 +13,16 @@ abbrev pub IsColumnWord : ℕ → ℕ → List ℕ → ℕ → ℕ → ℕ → T
 IsColumnWord rows across bits w j word =
     (k : ℕ) → k < 64 → (bit_at word k == 1) ≡ bit_in_rows rows across bits (64 * w + k) j
 
--- a byte of each row of band w: the one with the bits of the 8 columns from 8 * at on
+-- a byte of each row of band w: the one with the bits of the 8 columns from 8 * m on
 abbrev pub AreRowBytes : ℕ → ℕ → List ℕ → ℕ → ℕ → List ℕ → Type 0
-AreRowBytes rows across bits w at bytes =
+AreRowBytes rows across bits w m bytes =
     (k b : ℕ) → k < 64 → b < 8
-    → (bit_at (slice_index bytes k) b == 1) ≡ bit_in_rows rows across bits (64 * w + k) (8 * at + b)
+    → (bit_at (slice_index bytes k) b == 1) ≡ bit_in_rows rows across bits (64 * w + k) (8 * m + b)
 
 -- columns that are being written: the bands below w are written, and band w is written in the
 -- columns below `from`; all else is zero
 pub record ColumnsWritten (rows columns : ℕ) (bits transposed : List ℕ) (w from : ℕ) : Type 0 where
-  pub size : length transposed ≡ columns * words_for rows
+  pub size_is : length transposed ≡ columns * words_for rows
   pub earlier_bands : (j v : ℕ) → j < columns → v < w → v < words_for rows
       → IsColumnWord rows (words_for columns) bits v j
       (slice_index transposed (j * words_for rows + v))

@@ -8,11 +8,11 @@ use Rattle.mm_rows.specs.Bits.{is_bit, words_for, bit_index}
 use Rattle.mm_rows.specs.Marks.{Marks}
 
 -- the bits of statement t: which columns it rests on, and nothing past the last column
-pub record IsBitRow (c : Citing) (columns : List ℕ) (t : ℕ) (row : List ℕ) : Type 0 where
-  pub has_words : length row ≡ words_for (length columns)
-  pub marks : (j : ℕ) → j < length columns
-      → Decides (is_bit row j) (RestsOn (HasCitation c) t (slice_index columns j))
-  pub none_past_columns : (j : ℕ) → length columns ≤ j → is_bit row j ≡ false
+pub record IsBitRow (c : Citing) (axioms : List ℕ) (t : ℕ) (row : List ℕ) : Type 0 where
+  pub has_words : length row ≡ words_for (length axioms)
+  pub marks_decide : (j : ℕ) → j < length axioms
+      → Decides (is_bit row j) (RestsOn (HasCitation c) t (slice_index axioms j))
+  pub none_past_columns : (j : ℕ) → length axioms ≤ j → is_bit row j ≡ false
 
 -- the words of row r, if a row has `width` words
 abbrev pub row_at : List ℕ → ℕ → ℕ → List ℕ
@@ -21,22 +21,22 @@ row_at bits width r = slice_range bits (r * width) (r * width + width)
 -- among the words of all rows, that of statement t is known, if it is a theorem; a row has `width`
 -- words
 abbrev pub IsRowKnown : Citing → List ℕ → List ℕ → ℕ → ℕ → Type 0
-IsRowKnown c columns bits width t =
+IsRowKnown c axioms bits width t =
     (r : ℕ) → r < length c.theorems → theorem_at c r ≡ t
-    → IsBitRow c columns t (row_at bits width r)
+    → IsBitRow c axioms t (row_at bits width r)
 
 -- among the words of all rows, those of the theorems that theorem i cites are known
 abbrev pub HasCitedRows : Citing → List ℕ → List ℕ → ℕ → Type 0
-HasCitedRows c columns bits i =
+HasCitedRows c axioms bits i =
     (r k : ℕ) → r < length c.theorems → k < length (list_at c i)
     → theorem_at c r ≡ slice_index (list_at c i) k
-    → IsBitRow c columns (theorem_at c r) (row_at bits (words_for (length columns)) r)
+    → IsBitRow c axioms (theorem_at c r) (row_at bits (words_for (length axioms)) r)
 
 -- the words of the first n theorems, row by row
-pub record AreBitRows (c : Citing) (columns : List ℕ) (n : ℕ) (bits : List ℕ) : Type 0 where
-  pub size : length bits ≡ n * words_for (length columns)
-  pub each : (r : ℕ) → r < n
-      → IsBitRow c columns (theorem_at c r) (row_at bits (words_for (length columns)) r)
+pub record AreBitRows (c : Citing) (axioms : List ℕ) (n : ℕ) (bits : List ℕ) : Type 0 where
+  pub size_is : length bits ≡ n * words_for (length axioms)
+  pub each_is_bit_row : (r : ℕ) → r < n
+      → IsBitRow c axioms (theorem_at c r) (row_at bits (words_for (length axioms)) r)
 
 -- the cells of row i of a table of bits
 abbrev pub cells_of : ℕ → List ℕ → ℕ → List Bool

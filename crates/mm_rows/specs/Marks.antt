@@ -29,10 +29,10 @@ abbrev pub first_after : Option ℕ → ℕ
 first_after None = 0
 first_after (Some i) = i + 1
 
--- a table of the theorems and the columns, in which a cell is marked exactly if a chain of
--- citations leads from the theorem to the column
-pub record IsMatrix (c : Citing) (columns : List ℕ) (m : Marks) : Type 0 where
-  pub rows : m.rows ≡ length c.theorems
-  pub columns_are : m.columns ≡ length columns
-  pub marked : (i j : ℕ) → i < length c.theorems → j < length columns
-      → Decides (mark m i j) (RestsOn (HasCitation c) (theorem_at c i) (slice_index columns j))
+-- a table with a row for each theorem and a column for each of these axioms, in which a cell is
+-- marked exactly if a chain of citations leads from the theorem to the axiom
+pub record IsMatrix (c : Citing) (axioms : List ℕ) (m : Marks) : Type 0 where
+  pub rows_are : m.rows ≡ length c.theorems
+  pub columns_are : m.columns ≡ length axioms
+  pub marks_decide : (i j : ℕ) → i < length c.theorems → j < length axioms
+      → Decides (mark m i j) (RestsOn (HasCitation c) (theorem_at c i) (slice_index axioms j))

@@ -24,8 +24,8 @@ const BITS: [u8; 64] = [
 /// Returns the digits of the cells of a word.
 #[inline(always)]
 fn word_cells(word: u64) -> u8x64
-    ensures length { length result ≡ 64 }
-    ensures each { (k : ℕ) → k < 64 → slice_index result k ≡ digit_of (bit_at word k == 1) }
+    ensures length_is { length result ≡ 64 }
+    ensures digits_are { (k : ℕ) → k < 64 → slice_index result k ≡ digit_of (bit_at word k == 1) }
 {
     let bits = u8x64::from_array(BITS);
     let bytes = u64x8::splat(word).to_le_bytes().swizzle(BYTES);
@@ -37,8 +37,8 @@ fn word_cells(word: u64) -> u8x64
 /// Writes the digits of the cells of words.
 pub fn write_cells(into: &mut [u8], words: &[u64])
     requires { length into.old ≡ 64 * length words.now }
-    ensures length { length into.new ≡ length into.old }
-    ensures each { (i : ℕ) → i < length into.old
+    ensures length_stays { length into.new ≡ length into.old }
+    ensures digits_are { (i : ℕ) → i < length into.old
         → slice_index into.new i ≡ digit_of (is_bit words.now i) }
 {
     for (w, word) in words.iter().enumerate() {

@@ -72,16 +72,16 @@ impl<A: Allocator + Copy> Columns<A> {
 impl<A: Allocator> Columns<A> {
     /// Returns the statements of the columns.
     pub fn statements(&self) -> &[u32]
-        ensures statements { result.now ≡ self.now }
-        ensures rising { IsStatementList self.now }
+        ensures statements_are { result.now ≡ self.now }
+        ensures statements_rise { IsStatementList self.now }
     {
         self.statements.as_slice()
     }
 
     /// Returns the number of columns.
     pub fn len(&self) -> u32
-        ensures len { result ≡ length self.now }
-        ensures rising { IsStatementList self.now }
+        ensures len_is { result ≡ length self.now }
+        ensures statements_rise { IsStatementList self.now }
     {
         self.statements.len() as u32
     }

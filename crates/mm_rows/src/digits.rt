@@ -25,8 +25,8 @@ pub fn digit_value(word: u64, k: usize) -> u8
 /// Returns the digits of a word. A byte of the word has two of them, the first in its lower half.
 #[inline(always)]
 fn word_digits(word: u64) -> u8x16
-    ensures length { length result ≡ 16 }
-    ensures each { (k : ℕ) → k < 16 → slice_index result k ≡ hex_digit (four_at word k) }
+    ensures length_is { length result ≡ 16 }
+    ensures digits_are { (k : ℕ) → k < 16 → slice_index result k ≡ hex_digit (four_at word k) }
 {
     let bytes = u64x2::splat(word).to_le_bytes();
     let first = bytes & u8x16::splat(15);
@@ -41,8 +41,8 @@ fn word_digits(word: u64) -> u8x16
 /// Writes the digits of words.
 pub fn write_digits(into: &mut [u8], words: &[u64])
     requires { length into.old ≡ 16 * length words.now }
-    ensures length { length into.new ≡ length into.old }
-    ensures each { (i : ℕ) → i < length into.old
+    ensures length_stays { length into.new ≡ length into.old }
+    ensures digits_are { (i : ℕ) → i < length into.old
         → slice_index into.new i
         ≡ hex_digit (four_at (slice_index words.now (i / 16)) (i % 16)) }
 {

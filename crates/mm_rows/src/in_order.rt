@@ -17,16 +17,16 @@ use std::alloc::{AllocError, Allocator};
 fn fill_in_order<A: Allocator>(
     citations: &Citations<A>,
     theorems: &StatementIndices<A>,
-    columns: &StatementIndices<A>,
+    axioms: &StatementIndices<A>,
     bits: &mut [u64],
 )
-    requires theorems { theorems.now ≡ citations.now.theorems }
-    requires size { length bits.old
-        ≡ length citations.now.theorems * words_for (length columns.now) }
-    ensures { AreBitRows citations.now columns.now (length citations.now.theorems) bits.new }
+    requires theorems_are { theorems.now ≡ citations.now.theorems }
+    requires size_is { length bits.old
+        ≡ length citations.now.theorems * words_for (length axioms.now) }
+    ensures { AreBitRows citations.now axioms.now (length citations.now.theorems) bits.new }
 {
     for i in 0..citations.rows() {
-        fill_in_place(citations, theorems, columns, i, bits);
+        fill_in_place(citations, theorems, axioms, i, bits);
     }
 }
 
@@ -34,17 +34,17 @@ fn fill_in_order<A: Allocator>(
 fn all_rows_in_order<A: Allocator + Copy>(
     alloc: A,
     citations: &Citations<A>,
-    columns: &[u32],
+    axioms: &[u32],
 ) -> Result<Vec<u64, A>, AllocError>
-    requires { IsStatementList columns.now }
+    requires { IsStatementList axioms.now }
     ensures { IfOk result
-        (λ v. AreBitRows citations.now columns.now (length citations.now.theorems) v.items) }
+        (λ v. AreBitRows citations.now axioms.now (length citations.now.theorems) v.items) }
 {
     let theorems = StatementIndices::new(alloc, citations.theorems())?;
-    let columns = StatementIndices::new(alloc, columns)?;
+    let axioms = StatementIndices::new(alloc, axioms)?;
     let mut bits = Vec::new(alloc);
-    bits.resize(citations.rows() as usize * columns.words(), 0u64)?;
-    fill_in_order(citations, &theorems, &columns, &mut bits);
+    bits.resize(citations.rows() as usize * axioms.words(), 0u64)?;
+    fill_in_order(citations, &theorems, &axioms, &mut bits);
     Ok(bits)
 }
 

@@ -45,10 +45,10 @@ fn count_through_last(statements: &[u32]) -> usize
 
 /// Writes the indices of the statements of an ascending list into `indices`, which has none yet.
 fn set_indices(statements: &[u32], indices: &mut [u32])
-    requires rising { IsStatementList statements.now }
-    requires room { (i : ℕ) → i < length statements.now
+    requires statements_rise { IsStatementList statements.now }
+    requires fits { (i : ℕ) → i < length statements.now
         → slice_index statements.now i < length indices.old }
-    requires none { (s : ℕ) → s < length indices.old → slice_index indices.old s ≡ NO_INDEX }
+    requires none_set { (s : ℕ) → s < length indices.old → slice_index indices.old s ≡ NO_INDEX }
     ensures { AreIndices statements.now indices.new }
 {
     for (index, statement) in statements.iter().enumerate() {
@@ -85,10 +85,10 @@ impl<'a, A: Allocator> StatementIndices<'a, A> {
 
     /// Returns the index of a statement in the list, or `None` if it isn't there.
     pub(crate) fn find(&self, statement: u32) -> Option<usize>
-        ensures rising { IsStatementList self.now }
-        ensures some { IfSome result (λ i. (i < length self.now)
+        ensures statements_rise { IsStatementList self.now }
+        ensures is_index { IfSome result (λ i. (i < length self.now)
             × (slice_index self.now i ≡ statement)) }
-        ensures none { IfNone result ((i : ℕ) → i < length self.now
+        ensures is_missing { IfNone result ((i : ℕ) → i < length self.now
             → slice_index self.now i ≡ statement → ⊥) }
     {
         let number = statement as usize;

@@ -15,10 +15,10 @@ use std::simd::prelude::*;
 /// Sets in `has_mark` the bits of the columns in which a row of band w has a mark, and no others.
 /// There are at most 2 ^ 26 words in a row, so that its bits have numbers of 32 bits.
 fn mark_columns(has_mark: &mut [u64], bits: &[u64], rows: usize, w: usize)
-    requires size { length bits.now ≡ rows * length has_mark.old }
-    requires few_rows { rows < 2 ^ 31 }
-    requires few_words { length has_mark.old ≤ 2 ^ 26 }
-    requires band { 64 * w < rows }
+    requires size_is { length bits.now ≡ rows * length has_mark.old }
+    requires rows_lt_2_31 { rows < 2 ^ 31 }
+    requires words_le_2_26 { length has_mark.old ≤ 2 ^ 26 }
+    requires band_has_row { 64 * w < rows }
     ensures { (k j : ℕ) → k < 64 → j < 64 * length has_mark.old
         → bit_in_rows rows (length has_mark.old) bits.now (64 * w + k) j ≡ true
         → is_bit has_mark.new j ≡ true }
@@ -30,19 +30,19 @@ fn mark_columns(has_mark: &mut [u64], bits: &[u64], rows: usize, w: usize)
     }
 }
 
-/// Returns byte `at` of each row of band w, and zeros past the last row.
-fn row_bytes(bits: &[u64], across: usize, rows: usize, w: usize, at: usize) -> [u8; 64]
-    requires size { length bits.now ≡ rows * across }
-    requires few_rows { rows < 2 ^ 31 }
-    requires few_words { across ≤ 2 ^ 26 }
-    requires band { 64 * w < rows }
-    requires at_lt_row_bytes { at < 8 * across }
-    ensures { AreRowBytes rows across bits.now w at result }
+/// Returns byte `byte_index` of each row of band w, and zeros past the last row.
+fn row_bytes(bits: &[u64], across: usize, rows: usize, w: usize, byte_index: usize) -> [u8; 64]
+    requires size_is { length bits.now ≡ rows * across }
+    requires rows_lt_2_31 { rows < 2 ^ 31 }
+    requires words_le_2_26 { across ≤ 2 ^ 26 }
+    requires band_has_row { 64 * w < rows }
+    requires byte_lt_row { byte_index < 8 * across }
+    ensures { AreRowBytes rows across bits.now w byte_index result }
 {
     let mut bytes = [0u8; 64];
     for k in 0..(rows - 64 * w).min(64) {
-        let word = bits[(64 * w + k) * across + at / 8];
-        bytes[k] = ((word >> (8 * (at % 8))) & 0xFF) as u8;
+        let word = bits[(64 * w + k) * across + byte_index / 8];
+        bytes[k] = ((word >> (8 * (byte_index % 8))) & 0xFF) as u8;
     }
     bytes
 }
@@ -57,24 +57,25 @@ fn lane_bits(bytes: u8x64, b: usize) -> u64
     (bytes & bit).simd_eq(bit).to_bitmask()
 }
 
-/// Writes the words that band w makes of the columns of byte `at`.
+/// Writes the words that band w makes of the columns of byte `byte_index`.
 fn write_columns(
     transposed: &mut [u64],
     bits: &[u64],
     rows: usize,
     columns: usize,
     w: usize,
-    at: usize,
+    byte_index: usize,
 )
-    requires table { IsTable rows columns bits.now }
-    requires band { 64 * w < rows }
-    requires at_lt_row_bytes { at < 8 * words_for columns }
-    requires written { ColumnsWritten rows columns bits.now transposed.old w (8 * at) }
-    ensures { ColumnsWritten rows columns bits.now transposed.new w (8 * at + 8) }
+    requires is_table { IsTable rows columns bits.now }
+    requires band_has_row { 64 * w < rows }
+    requires byte_lt_row { byte_index < 8 * words_for columns }
+    requires columns_written { ColumnsWritten rows columns bits.now transposed.old w (8 *
+        byte_index) }
+    ensures { ColumnsWritten rows columns bits.now transposed.new w (8 * byte_index + 8) }
 {
     let down = rows.div_ceil(64);
-    let bytes = u8x64::from_array(row_bytes(bits, columns.div_ceil(64), rows, w, at));
-    for j in 8 * at..(8 * at + 8).min(columns) {
+    let bytes = u8x64::from_array(row_bytes(bits, columns.div_ceil(64), rows, w, byte_index));
+    for j in 8 * byte_index..(8 * byte_index + 8).min(columns) {
         let word = lane_bits(bytes, j % 8);
         // If the band has no mark in a column, the word is zero already and isn't fetched.
         if word != 0 {
@@ -93,17 +94,17 @@ fn transpose_band(
     columns: usize,
     w: usize,
 )
-    requires table { IsTable rows columns bits.now }
-    requires band { 64 * w < rows }
-    requires width { length has_mark.old ≡ words_for columns }
-    requires written { ColumnsWritten rows columns bits.now transposed.old w 0 }
+    requires is_table { IsTable rows columns bits.now }
+    requires band_has_row { 64 * w < rows }
+    requires width_is { length has_mark.old ≡ words_for columns }
+    requires columns_written { ColumnsWritten rows columns bits.now transposed.old w 0 }
     ensures { ColumnsWritten rows columns bits.now transposed.new (w + 1) 0 }
 {
     mark_columns(has_mark, bits, rows, w);
-    let mut at = 0usize;
-    while let Some(j) = next_set(has_mark, 8 * at) {
+    let mut byte_index = 0usize;
+    while let Some(j) = next_set(has_mark, 8 * byte_index) {
         write_columns(transposed, bits, rows, columns, w, j / 8);
-        at = j / 8 + 1;
+        byte_index = j / 8 + 1;
     }
 }
 
@@ -115,10 +116,10 @@ fn transpose_bands(
     rows: usize,
     columns: usize,
 )
-    requires table { IsTable rows columns bits.now }
-    requires width { length has_mark.old ≡ words_for columns }
-    requires size { length transposed.old ≡ columns * words_for rows }
-    requires empty { (k : ℕ) → slice_index transposed.old k ≡ 0 }
+    requires is_table { IsTable rows columns bits.now }
+    requires width_is { length has_mark.old ≡ words_for columns }
+    requires size_is { length transposed.old ≡ columns * words_for rows }
+    requires is_zero { (k : ℕ) → slice_index transposed.old k ≡ 0 }
     ensures { AreTransposed rows columns bits.now transposed.new }
 {
     for w in 0..rows.div_ceil(64) {

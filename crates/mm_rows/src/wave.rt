@@ -27,10 +27,10 @@ fn wave_of_theorem<A: Allocator>(
     waves: &[u32],
     theorem_index: u32,
 ) -> u32
-    requires theorems { theorems.now ≡ citations.now.theorems }
+    requires theorems_are { theorems.now ≡ citations.now.theorems }
     requires index_lt_theorems { theorem_index < length citations.now.theorems }
-    requires waves { AreWaves citations.now theorem_index waves.now }
-    ensures wave { IsWave (HasCitation citations.now) (IsCitingTheorem citations.now)
+    requires are_waves { AreWaves citations.now theorem_index waves.now }
+    ensures is_wave { IsWave (HasCitation citations.now) (IsCitingTheorem citations.now)
         (theorem_at citations.now theorem_index) result }
     ensures wave_le_index { result ≤ theorem_index }
 {
@@ -96,7 +96,7 @@ fn rows_by_wave<A: Allocator + Copy>(alloc: A, waves: &[u32]) -> Result<Vec<u32,
 /// Returns where the wave of the row at `from` ends, in a list of rows by wave.
 fn wave_end(waves: &[u32], rows: &[u32], from: usize) -> usize
     requires rows_exist { All (λ r. r < length waves.now) rows.now }
-    requires from { from < length rows.now }
+    requires from_lt_rows { from < length rows.now }
     ensures from_lt_result { from < result }
     ensures result_le_rows { result ≤ length rows.now }
     ensures one_wave { (p : ℕ) → from ≤ p → p < result
@@ -114,8 +114,8 @@ fn wave_end(waves: &[u32], rows: &[u32], from: usize) -> usize
 fn store(bits: &mut [u64], width: usize, row_index: u32, row: &[u64])
     requires row_fits { row_index * width + width ≤ length bits.old }
     requires row_has_words { length row.now ≡ width }
-    ensures written { row_at bits.new width row_index ≡ row.now }
-    ensures others_kept { (r : ℕ) → (r ≡ row_index → ⊥)
+    ensures row_is_written { row_at bits.new width row_index ≡ row.now }
+    ensures others_stay { (r : ℕ) → (r ≡ row_index → ⊥)
         → row_at bits.new width r ≡ row_at bits.old width r }
 {
     let begin = row_index as usize * width;
@@ -128,18 +128,18 @@ fn bit_rows<R: Threads + Sync, A: Allocator + Copy + Send + Sync>(
     alloc: A,
     citations: &Citations<A>,
     theorems: &StatementIndices<A>,
-    columns: &StatementIndices<A>,
+    axioms: &StatementIndices<A>,
     bits: &[u64],
     rows: &[u32],
 ) -> Result<Vec<Result<Vec<u64, A>, AllocError>, A>, AllocError>
-    requires theorems { theorems.now ≡ citations.now.theorems }
-    requires ready { All
+    requires theorems_are { theorems.now ≡ citations.now.theorems }
+    requires have_cited_rows { All
         (λ i. (i < length citations.now.theorems)
-        × HasCitedRows citations.now columns.now bits.now i) rows.now }
+        × HasCitedRows citations.now axioms.now bits.now i) rows.now }
     ensures { IfOk result
         (λ v. AllZip
         (λ k r. IfOk r
-        (λ w. IsBitRow citations.now columns.now
+        (λ w. IsBitRow citations.now axioms.now
         (theorem_at citations.now (slice_index rows.now k)) w.items))
         (range_with_len 0 (length rows.now)) v.items) }
 {
@@ -148,14 +148,14 @@ fn bit_rows<R: Threads + Sync, A: Allocator + Copy + Send + Sync>(
         .map(
             |k: usize| -> Result<Vec<u64, A>, AllocError>
                 requires k_lt_rows { k < length rows.now }
-                requires theorems { theorems.now ≡ citations.now.theorems }
-                requires ready { All
+                requires theorems_are { theorems.now ≡ citations.now.theorems }
+                requires have_cited_rows { All
                     (λ i. (i < length citations.now.theorems)
-                    × HasCitedRows citations.now columns.now bits.now i) rows.now }
+                    × HasCitedRows citations.now axioms.now bits.now i) rows.now }
                 ensures { IfOk result
-                    (λ w. IsBitRow citations.entry.now columns.entry.now
+                    (λ w. IsBitRow citations.entry.now axioms.entry.now
                     (theorem_at citations.entry.now (slice_index rows.entry.now k)) w.items) }
-            { bit_row(alloc, citations, theorems, columns, bits, rows[k]) },
+            { bit_row(alloc, citations, theorems, axioms, bits, rows[k]) },
         )
         .with_min_len(1)
         .collect(rt, alloc)
@@ -167,21 +167,21 @@ fn fill_side_by_side<R: Threads + Sync, A: Allocator + Copy + Send + Sync>(
     alloc: A,
     citations: &Citations<A>,
     theorems: &StatementIndices<A>,
-    columns: &StatementIndices<A>,
+    axioms: &StatementIndices<A>,
     rows: &[u32],
     bits: &mut [u64],
 ) -> Result<(), AllocError>
-    requires theorems { theorems.now ≡ citations.now.theorems }
-    requires size { length bits.old
-        ≡ length citations.now.theorems * words_for (length columns.now) }
-    requires ready { All
+    requires theorems_are { theorems.now ≡ citations.now.theorems }
+    requires size_is { length bits.old
+        ≡ length citations.now.theorems * words_for (length axioms.now) }
+    requires have_cited_rows { All
         (λ i. (i < length citations.now.theorems)
-        × HasCitedRows citations.now columns.now bits.old i) rows.now }
+        × HasCitedRows citations.now axioms.now bits.old i) rows.now }
     ensures { OnOk result
-        (AreFilled citations.now columns.now rows.now (length rows.now) bits.old bits.new) }
+        (AreFilled citations.now axioms.now rows.now (length rows.now) bits.old bits.new) }
 {
-    let width = columns.words();
-    let new_rows = bit_rows(rt, alloc, citations, theorems, columns, bits, rows)?;
+    let width = axioms.words();
+    let new_rows = bit_rows(rt, alloc, citations, theorems, axioms, bits, rows)?;
     for k in 0..rows.len() {
         match &new_rows[k] {
             Ok(row) => store(bits, width, rows[k], row),
@@ -195,20 +195,20 @@ fn fill_side_by_side<R: Threads + Sync, A: Allocator + Copy + Send + Sync>(
 fn fill_in_turn<A: Allocator>(
     citations: &Citations<A>,
     theorems: &StatementIndices<A>,
-    columns: &StatementIndices<A>,
+    axioms: &StatementIndices<A>,
     rows: &[u32],
     bits: &mut [u64],
 )
-    requires theorems { theorems.now ≡ citations.now.theorems }
-    requires size { length bits.old
-        ≡ length citations.now.theorems * words_for (length columns.now) }
-    requires ready { All
+    requires theorems_are { theorems.now ≡ citations.now.theorems }
+    requires size_is { length bits.old
+        ≡ length citations.now.theorems * words_for (length axioms.now) }
+    requires have_cited_rows { All
         (λ i. (i < length citations.now.theorems)
-        × HasCitedRows citations.now columns.now bits.old i) rows.now }
-    ensures { AreFilled citations.now columns.now rows.now (length rows.now) bits.old bits.new }
+        × HasCitedRows citations.now axioms.now bits.old i) rows.now }
+    ensures { AreFilled citations.now axioms.now rows.now (length rows.now) bits.old bits.new }
 {
     for k in 0..rows.len() {
-        fill_in_place(citations, theorems, columns, rows[k], bits);
+        fill_in_place(citations, theorems, axioms, rows[k], bits);
     }
 }
 
@@ -221,24 +221,24 @@ fn fill_wave<R: Threads + Sync, A: Allocator + Copy + Send + Sync>(
     alloc: A,
     citations: &Citations<A>,
     theorems: &StatementIndices<A>,
-    columns: &StatementIndices<A>,
+    axioms: &StatementIndices<A>,
     rows: &[u32],
     bits: &mut [u64],
 ) -> Result<(), AllocError>
-    requires theorems { theorems.now ≡ citations.now.theorems }
-    requires size { length bits.old
-        ≡ length citations.now.theorems * words_for (length columns.now) }
-    requires ready { All
+    requires theorems_are { theorems.now ≡ citations.now.theorems }
+    requires size_is { length bits.old
+        ≡ length citations.now.theorems * words_for (length axioms.now) }
+    requires have_cited_rows { All
         (λ i. (i < length citations.now.theorems)
-        × HasCitedRows citations.now columns.now bits.old i) rows.now }
+        × HasCitedRows citations.now axioms.now bits.old i) rows.now }
     ensures { OnOk result
-        (AreFilled citations.now columns.now rows.now (length rows.now) bits.old bits.new) }
+        (AreFilled citations.now axioms.now rows.now (length rows.now) bits.old bits.new) }
 {
     if rows.len() < FEWEST_FOR_THREADS {
-        fill_in_turn(citations, theorems, columns, rows, bits);
+        fill_in_turn(citations, theorems, axioms, rows, bits);
         Ok(())
     } else {
-        fill_side_by_side(rt, alloc, citations, theorems, columns, rows, bits)
+        fill_side_by_side(rt, alloc, citations, theorems, axioms, rows, bits)
     }
 }
 
@@ -248,17 +248,17 @@ fn fill_waves<R: Threads + Sync, A: Allocator + Copy + Send + Sync>(
     alloc: A,
     citations: &Citations<A>,
     theorems: &StatementIndices<A>,
-    columns: &StatementIndices<A>,
+    axioms: &StatementIndices<A>,
     waves: &[u32],
     bits: &mut [u64],
 ) -> Result<(), AllocError>
-    requires theorems { theorems.now ≡ citations.now.theorems }
+    requires theorems_are { theorems.now ≡ citations.now.theorems }
     requires waves_lt_2_31 { length waves.now < 2 ^ 31 }
-    requires waves { AreWaves citations.now (length citations.now.theorems) waves.now }
-    requires size { length bits.old
-        ≡ length citations.now.theorems * words_for (length columns.now) }
+    requires are_waves { AreWaves citations.now (length citations.now.theorems) waves.now }
+    requires size_is { length bits.old
+        ≡ length citations.now.theorems * words_for (length axioms.now) }
     ensures { OnOk result
-        (AreBitRows citations.now columns.now (length citations.now.theorems) bits.new) }
+        (AreBitRows citations.now axioms.now (length citations.now.theorems) bits.new) }
 {
     let rows = rows_by_wave(alloc, waves)?;
     let mut from = 0;
@@ -269,7 +269,7 @@ fn fill_waves<R: Threads + Sync, A: Allocator + Copy + Send + Sync>(
             alloc,
             citations,
             theorems,
-            columns,
+            axioms,
             &rows[from..to],
             bits,
         )?;
@@ -283,18 +283,18 @@ fn all_rows<R: Threads + Sync, A: Allocator + Copy + Send + Sync>(
     rt: &R,
     alloc: A,
     citations: &Citations<A>,
-    columns: &[u32],
+    axioms: &[u32],
 ) -> Result<Vec<u64, A>, AllocError>
-    requires { IsStatementList columns.now }
+    requires { IsStatementList axioms.now }
     ensures { IfOk result
-        (λ v. AreBitRows citations.now columns.now (length citations.now.theorems) v.items) }
+        (λ v. AreBitRows citations.now axioms.now (length citations.now.theorems) v.items) }
 {
     let theorems = StatementIndices::new(alloc, citations.theorems())?;
-    let columns = StatementIndices::new(alloc, columns)?;
+    let axioms = StatementIndices::new(alloc, axioms)?;
     let waves = waves_of(alloc, citations, &theorems)?;
     let mut bits = Vec::new(alloc);
-    bits.resize(citations.rows() as usize * columns.words(), 0u64)?;
-    fill_waves(rt, alloc, citations, &theorems, &columns, &waves, &mut bits)?;
+    bits.resize(citations.rows() as usize * axioms.words(), 0u64)?;
+    fill_waves(rt, alloc, citations, &theorems, &axioms, &waves, &mut bits)?;
     Ok(bits)
 }
 

@@ -9,21 +9,21 @@ use Rattle.mm_spec.specs.Statement.{Statement}
 use Rattle.mm_spec.specs.Derivation.{Pair, is_member, are_disjoint}
 use Rattle.mm_spec.specs.Frame.{symbol_names, is_variable_number, formula_at, mandatory_variables}
 use Rattle.mm_spec.specs.Frame.{mandatory_pairs, disjoint_at, active_of, is_disjoint_statement}
-use Rattle.mm_spec.specs.Frame.{pairs_of}
+use Rattle.mm_spec.specs.Frame.{pairs_below}
 use Rattle.mm_spec.specs.Citation.{context_at}
 use Rattle.mm_spec.proofs.FindsLaw.{each_filter, each_any}
 use Rattle.mm_rule.specs.Assertions.{as_pairs}
 
 -- equality of numbers is symmetric
 eq_symmetric : (x y : ℕ) → (x == y) ≡ (y == x)
-eq_symmetric x y = by_equality (x == y) (y == x) refl refl
+eq_symmetric x y = tests_agree (x == y) (y == x) refl refl
   where
-    by_equality : (a b : Bool) → (x == y) ≡ a → (y == x) ≡ b → a ≡ b
-    by_equality true true x_eq_y_is_a y_eq_x_is_b = refl
-    by_equality false false x_eq_y_is_a y_eq_x_is_b = refl
-    by_equality true false x_eq_y_is_a y_eq_x_is_b =
+    tests_agree : (a b : Bool) → (x == y) ≡ a → (y == x) ≡ b → a ≡ b
+    tests_agree true true x_eq_y_is_a y_eq_x_is_b = refl
+    tests_agree false false x_eq_y_is_a y_eq_x_is_b = refl
+    tests_agree true false x_eq_y_is_a y_eq_x_is_b =
         absurd (true≢false (sym (eq-eqb y x (sym (eqb-true x y x_eq_y_is_a))) ∙ y_eq_x_is_b))
-    by_equality false true x_eq_y_is_a y_eq_x_is_b =
+    tests_agree false true x_eq_y_is_a y_eq_x_is_b =
         absurd (true≢false (sym (eq-eqb x y (sym (eqb-true y x y_eq_x_is_b))) ∙ x_eq_y_is_a))
 
 -- equal tests find the same
@@ -55,14 +55,14 @@ module _ (db : List Statement) (k : ℕ) where
   disjoint_at_are_disjoint : (x y : ℕ) → disjoint_at db k x y ≡ true
       → are_disjoint (context_at db k) x y ≡ true
   disjoint_at_are_disjoint x y disjoint_x_y =
-      by_values (is_variable_number db x && is_variable_number db y) (x == y)
+      test_holds (is_variable_number db x && is_variable_number db y) (x == y)
       (list_any (λ j. is_member (formula_at db j) x && is_member (formula_at db j) y)
       (active_of is_disjoint_statement db k)) disjoint_x_y
     where
-      by_values : (v e l : Bool) → (not e && l) ≡ true → (not v || (not e && (not e && l))) ≡ true
-      by_values false e l tests_hold = refl
-      by_values true true l tests_hold = tests_hold
-      by_values true false l tests_hold = tests_hold
+      test_holds : (v e l : Bool) → (not e && l) ≡ true → (not v || (not e && (not e && l))) ≡ true
+      test_holds false e l tests_hold = refl
+      test_holds true true l tests_hold = tests_hold
+      test_holds true false l tests_hold = tests_hold
 
   -- the pairs of a frame are disjoint at its assertion
   pub frame_pairs_are_disjoint : (ps : List (ℕ × ℕ)) → as_pairs ps ≡ mandatory_pairs db k
@@ -88,9 +88,9 @@ module _ (db : List Statement) (k : ℕ) where
 
       all_are_disjoint : AllByRecursion IsDisjointPair (mandatory_pairs db k)
       all_are_disjoint =
-          each_filter IsDisjointPair in_order (pairs_of (length (symbol_names db)))
+          each_filter IsDisjointPair in_order (pairs_below (length (symbol_names db)))
           (each_any (λ p. in_order p ≡ true
-          → IsDisjointPair p) (pairs_of (length (symbol_names db)))
+          → IsDisjointPair p) (pairs_below (length (symbol_names db)))
           (λ p p_is_in_order. disjoint_at_are_disjoint p.low p.high
           (last_holds (nat_lt p.low p.high) (is_member (mandatory_variables db k) p.low)
           (is_member (mandatory_variables db k) p.high)

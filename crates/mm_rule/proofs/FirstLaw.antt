@@ -1,137 +1,52 @@
--- The places of the first `$f` of variables.
-use Rattle.std.proofs.Common.{◌≡◌, ◌≢◌, ℕ, suc, ◌+◌, ◌-◌, ◌<◌, ◌≤◌, Bool, true, false, ◌||◌, List}
-use Rattle.std.proofs.Common.{[], ◌∷◌, length, drop, get_or, slice_set, nat_eq, cond, refl, sym, ap}
-use Rattle.std.proofs.Common.{◌∙◌, arith, eqb-true, eq-eqb, true≢false, subst, map}
+-- The indices of the first `$f` of variables.
+use Rattle.std.proofs.Common.{◌≡◌, ◌≢◌, ℕ, suc, ◌+◌, ◌-◌, ◌<◌, Bool, true, false, ◌||◌, List}
+use Rattle.std.proofs.Common.{[], ◌∷◌, length, get_or, cond, refl, sym}
+use Rattle.std.proofs.Common.{arith, true≢false}
 use Rattle.std.specs.List.{list_any}
-use Rattle.std.proofs.lemmas.List.{get_or-set_same, get_or-set_other, drop_more}
 use Rattle.mm_spec.specs.Derivation.{Formula}
-use Rattle.mm_spec.specs.Laws.Complete.{binds, IsBound}
+use Rattle.mm_spec.specs.Laws.Complete.{binds, IsBound, variables_context}
 use Rattle.mm_spec.specs.Laws.Stack.{substitution_from, tail}
 use Rattle.mm_spec.specs.Statement.{Statement}
-use Rattle.mm_spec.specs.Frame.{formula_at}
 use Rattle.mm_spec.specs.Citation.{context_at}
 use Rattle.mm_rule.specs.Rule.{floating_index}
 
 module _ (db : List Statement) where
   -- a variable that is bound has the index of a hypothesis
-  pub floating_index_lt_length : (hs : List Formula) (x : ℕ) → IsBound (context_at db 0) hs x
+  pub floating_index_lt_length : (hs : List Formula) (x : ℕ) → IsBound (variables_context db) hs x
       → floating_index db hs x < length hs
   floating_index_lt_length [] x x_is_bound = absurd (true≢false (sym x_is_bound))
   floating_index_lt_length (h ∷ hs) x x_is_bound =
-      by_binding (binds (context_at db 0) x h) x_is_bound (floating_index_lt_length hs x)
+      first_lt_length (binds (variables_context db) x h) x_is_bound (floating_index_lt_length hs x)
     where
-      by_binding : (v : Bool) → (v || list_any (binds (context_at db 0) x) hs) ≡ true
-          → (IsBound (context_at db 0) hs x → floating_index db hs x < length hs)
+      first_lt_length : (v : Bool) → (v || list_any (binds (variables_context db) x) hs) ≡ true
+          → (IsBound (variables_context db) hs x → floating_index db hs x < length hs)
           → cond v 0 (suc (floating_index db hs x)) < suc (length hs)
-      by_binding true bound_here_or_in_rest rest_lt_length = omega arith
-      by_binding false bound_here_or_in_rest rest_lt_length = let index_lt_length =
+      first_lt_length true bound_here_or_in_rest rest_lt_length = omega arith
+      first_lt_length false bound_here_or_in_rest rest_lt_length = let index_lt_length =
           rest_lt_length bound_here_or_in_rest in omega (arith, index_lt_length)
 
   -- what is found for a variable is what the premise of its first `$f` has after the typecode
   pub substitution_is_tail_at_index : (t : ℕ) (hs ps : List Formula) (x : ℕ) → length ps ≡ length hs
-      → IsBound (context_at db 0) hs x
+      → IsBound (variables_context db) hs x
       → substitution_from (context_at db t) hs ps x ≡ tail (get_or ps (floating_index db hs x) [])
   substitution_is_tail_at_index t [] ps x lengths_equal x_is_bound =
       absurd (true≢false (sym x_is_bound))
   substitution_is_tail_at_index t (h ∷ hs) [] x lengths_equal x_is_bound =
       absurd (omega (arith, lengths_equal))
   substitution_is_tail_at_index t (h ∷ hs) (p ∷ ps) x lengths_equal x_is_bound =
-      by_binding (binds (context_at db 0) x h) x_is_bound
+      tail_is_found (binds (variables_context db) x h) x_is_bound
       (substitution_is_tail_at_index t hs ps x (omega (arith, lengths_equal)))
     where
-      by_binding : (v : Bool) → (v || list_any (binds (context_at db 0) x) hs) ≡ true
-          → (IsBound (context_at db 0) hs x
-          → substitution_from (context_at db t) hs ps x
+      tail_is_found : (v : Bool) → (v || list_any (binds (variables_context db) x) hs) ≡ true
+          → (IsBound (variables_context db) hs x → substitution_from (context_at db t) hs ps x
           ≡ tail (get_or ps (floating_index db hs x) []))
           → elim v [ true ↦ tail p | false ↦ substitution_from (context_at db t) hs ps x ]
           ≡ tail (get_or (p ∷ ps) (cond v 0 (suc (floating_index db hs x))) [])
-      by_binding true bound_here_or_in_rest rest_is_tail = refl
-      by_binding false bound_here_or_in_rest rest_is_tail = rest_is_tail bound_here_or_in_rest
+      tail_is_found true bound_here_or_in_rest rest_is_tail = refl
+      tail_is_found false bound_here_or_in_rest rest_is_tail = rest_is_tail bound_here_or_in_rest
 
-  -- the same for the hypotheses from a number on
-  abbrev pub PlacedFrom : ℕ → List Formula → List ℕ → Type 0
-  PlacedFrom n hs t =
-      (x : ℕ) → IsBound (context_at db 0) hs x → get_or t x 0 ≡ n + floating_index db hs x
-
-  -- before a hypothesis that binds no variable, the places stay as they are
-  placed_without_floating : (n : ℕ) (t : List ℕ) (h : Formula) (hs : List Formula)
-      → ((x : ℕ) → binds (context_at db 0) x h ≡ false) → PlacedFrom (suc n) hs t
-      → PlacedFrom n (h ∷ hs) t
-  placed_without_floating n t h hs h_binds_none placed_rest x x_is_bound =
-      by_binding (binds (context_at db 0) x h) (h_binds_none x) x_is_bound
-    where
-      by_binding : (v : Bool) → v ≡ false → (v || list_any (binds (context_at db 0) x) hs) ≡ true
-          → get_or t x 0 ≡ n + cond v 0 (suc (floating_index db hs x))
-      by_binding true binds_is_false x_is_bound = cc
-      by_binding false binds_is_false x_is_bound = let x_is_placed = placed_rest x x_is_bound in
-          omega (arith, x_is_placed)
-
-  -- before the `$f` of a variable, the variable gets its place
-  placed_with_floating : (n : ℕ) (t : List ℕ) (h : Formula) (hs : List Formula) (y : ℕ)
-      → y < length t
-      → ((x : ℕ) → binds (context_at db 0) x h ≡ nat_eq x y) → PlacedFrom (suc n) hs t
-      → PlacedFrom n (h ∷ hs) (slice_set t y n)
-  placed_with_floating n t h hs y y_lt_length h_binds_y placed_rest x x_is_bound =
-      by_binding (binds (context_at db 0) x h) (h_binds_y x) x_is_bound
-    where
-      by_binding : (v : Bool) → v ≡ nat_eq x y → (v || list_any (binds (context_at db 0) x) hs)
-          ≡ true
-          → get_or (slice_set t y n) x 0 ≡ n + cond v 0 (suc (floating_index db hs x))
-      by_binding true binds_is_equality x_is_bound =
-          let n_is_n_plus_0 : n ≡ n + 0 = omega arith in
-          ap (λ z. get_or (slice_set t y n) z 0) (eqb-true x y (sym binds_is_equality))
-          ∙ get_or-set_same t y n 0 y_lt_length ∙ n_is_n_plus_0
-      by_binding false binds_is_equality x_is_bound =
-          let x_not_y : x ≢ y =
-          λ x_is_y. true≢false (sym (eq-eqb x y x_is_y) ∙ sym binds_is_equality) in
-          let x_is_placed = placed_rest x x_is_bound in
-          let x_is_after_n : get_or t x 0 ≡ n + suc (floating_index db hs x) =
-          omega (arith, x_is_placed) in
-          get_or-set_other t y x n 0 x_not_y ∙ x_is_after_n
-
-  module _ (hyps : List ℕ) where
-    -- the formulas of the hypotheses from number `j` on
-    abbrev pub hs : ℕ → List Formula
-    hs j = map (formula_at db) (drop j hyps)
-
-    drop_length_is_nil : (xs : List ℕ) → drop (length xs) xs ≡ []
-    drop_length_is_nil [] = refl
-    drop_length_is_nil (x ∷ xs) = drop_length_is_nil xs
-
-    -- past the last hypothesis no variable needs a place
-    pub placed_at_end : (t : List ℕ) → PlacedFrom (length hyps) (hs (length hyps)) t
-    placed_at_end t =
-        subst (λ d. PlacedFrom (length hyps) (map (formula_at db) d) t)
-        (sym (drop_length_is_nil hyps))
-        (λ x x_is_bound. absurd (true≢false (sym x_is_bound)))
-
-    module _ (j : ℕ) (t : List ℕ) (j_gt_0 : 0 < j) (j_le_length : j ≤ length hyps) where
-      hypotheses_from_previous : hs (j - 1) ≡ formula_at db (get_or hyps (j - 1) 0) ∷ hs j
-      hypotheses_from_previous =
-          let previous_plus_1_is_j : j - 1 + 1 ≡ j = omega arith in
-          ap (map (formula_at db))
-          (drop_more hyps (j - 1) 0 (omega arith)
-          ∙ ap (λ m. get_or hyps (j - 1) 0 ∷ drop m hyps) previous_plus_1_is_j)
-
-      placed_from_next : PlacedFrom j (hs j) t → PlacedFrom (suc (j - 1)) (hs j) t
-      placed_from_next placed_from_j = let next_is_j : suc (j - 1) ≡ j = omega arith in
-          rw next_is_j placed_from_j
-
-      pub placed_back_without_floating : ((x : ℕ)
-          → binds (context_at db 0) x (formula_at db (get_or hyps (j - 1) 0)) ≡ false)
-          → PlacedFrom j (hs j) t → PlacedFrom (j - 1) (hs (j - 1)) t
-      placed_back_without_floating hypothesis_binds_none placed_from_j =
-          rw hypotheses_from_previous
-          (placed_without_floating (j - 1) t (formula_at db (get_or hyps (j - 1) 0))
-          (hs j) hypothesis_binds_none
-          (placed_from_next placed_from_j))
-
-      pub placed_back_with_floating : (y : ℕ) → y < length t
-          → ((x : ℕ)
-          → binds (context_at db 0) x (formula_at db (get_or hyps (j - 1) 0)) ≡ nat_eq x y)
-          → PlacedFrom j (hs j) t → PlacedFrom (j - 1) (hs (j - 1)) (slice_set t y (j - 1))
-      placed_back_with_floating y y_lt_length hypothesis_binds_y placed_from_j =
-          rw hypotheses_from_previous
-          (placed_with_floating (j - 1) t (formula_at db (get_or hyps (j - 1) 0))
-          (hs j) y y_lt_length hypothesis_binds_y
-          (placed_from_next placed_from_j))
+  -- the list has the index of the first `$f` of each variable, where `hs` are the hypotheses from
+  -- index n on
+  abbrev pub AreIndicesFrom : ℕ → List Formula → List ℕ → Type 0
+  AreIndicesFrom n hs indices =
+      (x : ℕ) → IsBound (variables_context db) hs x → get_or indices x 0 ≡ n + floating_index db hs x

@@ -8,11 +8,11 @@ use Rattle.mm_spec.specs.Text.{Bytes, is_in}
 use Rattle.mm_spec.specs.Statement.{Statement}
 use Rattle.std.proofs.lemmas.List.FromFn.{length-range_with_len}
 use Rattle.std.proofs.lemmas.Option.{slice_get_within}
-use Rattle.mm_spec.specs.Scope.{is_active, active, statement_at, variables_of}
+use Rattle.mm_spec.specs.Scope.{active_at, active, statement_at, variables_of}
 use Rattle.mm_spec.specs.Derivation.{Pair, is_member}
 use Rattle.mm_spec.specs.Frame.{symbol_names, is_variable_number, is_essential, is_floating}
 use Rattle.mm_spec.specs.Frame.{formula_at, mandatory_variables, mandatory_hypotheses}
-use Rattle.mm_spec.specs.Frame.{mandatory_pairs, disjoint_at, pairs_of}
+use Rattle.mm_spec.specs.Frame.{mandatory_pairs, disjoint_at, pairs_below}
 use Rattle.mm_spec.proofs.FindsLaw.{active_lt_place, each_filter, each_any, member_filter}
 use Rattle.mm_spec.proofs.BoolLaw.{middle_parts}
 use Rattle.mm_rule.specs.Assertions.{as_pairs}
@@ -33,17 +33,17 @@ filter_keeps_all P t xs all_p =
 -- a filtered list is no longer
 filter_no_longer : (t : ℕ → Bool) (xs : List ℕ) → length (filter t xs) ≤ length xs
 filter_no_longer t [] = omega arith
-filter_no_longer t (x ∷ xs) = by_test (t x) (filter_no_longer t xs)
+filter_no_longer t (x ∷ xs) = length_le (t x) (filter_no_longer t xs)
   where
-    by_test : (b : Bool) → length (filter t xs) ≤ length xs
+    length_le : (b : Bool) → length (filter t xs) ≤ length xs
         → length {A = ℕ} (cond b (x ∷ filter t xs) (filter t xs)) ≤ suc (length xs)
-    by_test true rest_le_length = omega (arith, rest_le_length)
-    by_test false rest_le_length = omega (arith, rest_le_length)
+    length_le true rest_le_length = omega (arith, rest_le_length)
+    length_le false rest_le_length = omega (arith, rest_le_length)
 
 -- an assertion has no more hypotheses than there are statements before it
 pub hypotheses_le_k : (db : List Statement) (k : ℕ) → length (mandatory_hypotheses db k) ≤ k
 hypotheses_le_k db k =
-    let active_le_k = filter_no_longer (λ j. is_active db j k) (range_with_len 0 k) in
+    let active_le_k = filter_no_longer (λ j. active_at db j k) (range_with_len 0 k) in
     let hypotheses_le_active =
     filter_no_longer
     (λ j. list_any is_essential (statement_at db j)
@@ -57,21 +57,21 @@ pub hypotheses_lt_length : (db : List Statement) (k : ℕ) → k ≤ length db
 hypotheses_lt_length db k k_le_length =
     All-from_recursion (λ h. h < length db) (mandatory_hypotheses db k)
     (filter_keeps_all (λ h. h < length db) _ _
-    (each_filter (λ h. h < length db) (λ j. is_active db j k) (range_with_len 0 k)
-    (each_any (λ j. is_active db j k ≡ true → j < length db) (range_with_len 0 k)
+    (each_filter (λ h. h < length db) (λ j. active_at db j k) (range_with_len 0 k)
+    (each_any (λ j. active_at db j k ≡ true → j < length db) (range_with_len 0 k)
     (λ j j_is_active. let j_lt_k = active_lt_place db j k j_is_active in omega (arith, j_lt_k)))))
 
 -- a variable is one of the symbols
 variable_lt_symbol_count : (db : List Statement) (x : ℕ) → is_variable_number db x ≡ true
     → x < length (symbol_names db)
 variable_lt_symbol_count db x x_is_variable =
-    by_name (slice_get (symbol_names db) x) refl x_is_variable
+    x_is_low (slice_get (symbol_names db) x) refl x_is_variable
   where
-    by_name : (o : Option Bytes) → slice_get (symbol_names db) x ≡ o
+    x_is_low : (o : Option Bytes) → slice_get (symbol_names db) x ≡ o
         → elim o [ None ↦ false | Some w ↦ is_in w (flat_map variables_of db) ] ≡ true
         → x < length (symbol_names db)
-    by_name None name_x_is_o x_is_variable = absurd (true≢false (sym x_is_variable))
-    by_name (Some w) name_x_is_o x_is_variable = slice_get_within (symbol_names db) x w name_x_is_o
+    x_is_low None name_x_is_o x_is_variable = absurd (true≢false (sym x_is_variable))
+    x_is_low (Some w) name_x_is_o x_is_variable = slice_get_within (symbol_names db) x w name_x_is_o
 
 -- a mandatory variable is one of the symbols
 mandatory_lt_symbol_count : (db : List Statement) (k x : ℕ) → is_member (mandatory_variables db k) x
@@ -99,8 +99,8 @@ pairs_lt_symbol_count db k ps ps_are_mandatory =
 
     mandatory_are_low : AllByRecursion IsLow (mandatory_pairs db k)
     mandatory_are_low =
-        each_filter IsLow in_order (pairs_of (length (symbol_names db)))
-        (each_any (λ p. in_order p ≡ true → IsLow p) (pairs_of (length (symbol_names db)))
+        each_filter IsLow in_order (pairs_below (length (symbol_names db)))
+        (each_any (λ p. in_order p ≡ true → IsLow p) (pairs_below (length (symbol_names db)))
         (λ p p_is_in_order. let members =
         middle_parts (nat_lt p.low p.high) (is_member (mandatory_variables db k) p.low)
         (is_member (mandatory_variables db k) p.high)

@@ -3,7 +3,8 @@
 ghost use Rattle.std.specs.Prelude.{◌≡◌, ◌<◌, ◌^◌, ℕ, All, length, map, true};
 ghost use Rattle.std.specs.List.{list_any};
 ghost use Rattle.mm_spec.specs.Scope.{statement_at};
-ghost use Rattle.mm_spec.specs.Frame.{is_essential, symbol_names, mandatory_hypotheses};
+ghost use Rattle.mm_spec.specs.Frame.{is_essential, symbol_names};
+ghost use Rattle.mm_spec.specs.Frame.{mandatory_hypotheses as mandatory_hypotheses_of};
 ghost use Rattle.mm_spec.specs.Frame.{mandatory_pairs, formula_at};
 ghost use Rattle.mm_spec.specs.Derivation.{are_disjoint};
 ghost use Rattle.mm_spec.specs.Citation.{context_at};
@@ -36,11 +37,14 @@ pub fn is_essential_hypothesis<A: Allocator>(database: &Database<A>, hypothesis:
 }
 
 /// The mandatory hypotheses of an assertion.
-pub fn hyps<'b, A: Allocator>(database: &'b Database<A>, assertion: u32) -> &'b [u32]
+pub fn mandatory_hypotheses<'b, A: Allocator>(
+    database: &'b Database<A>,
+    assertion: u32,
+) -> &'b [u32]
     requires { is_assertion_at database.now.statements assertion ≡ true }
-    ensures are { result.now ≡ mandatory_hypotheses database.now.statements assertion }
-    ensures below { All (λ h. h < length database.now.statements) result.now }
-    ensures few { length result.now < 2 ^ 31 }
+    ensures hypotheses_are { result.now ≡ mandatory_hypotheses_of database.now.statements assertion }
+    ensures hypotheses_lt_length { All (λ h. h < length database.now.statements) result.now }
+    ensures count_lt_2_31 { length result.now < 2 ^ 31 }
 {
     database.frame(assertion).hyps.as_slice()
 }
@@ -48,8 +52,9 @@ pub fn hyps<'b, A: Allocator>(database: &'b Database<A>, assertion: u32) -> &'b 
 /// The symbols of an assertion.
 pub fn formula<'b, A: Allocator>(database: &'b Database<A>, assertion: u32) -> &'b [Sym]
     requires { is_assertion_at database.now.statements assertion ≡ true }
-    ensures are { result.now ≡ formula_at database.now.statements assertion }
-    ensures known { All (λ s. s < length (symbol_names database.now.statements)) result.now }
+    ensures formula_is { result.now ≡ formula_at database.now.statements assertion }
+    ensures symbols_in_range { All (λ s. s < length (symbol_names database.now.statements))
+        result.now }
 {
     database.formula(assertion)
 }
@@ -57,11 +62,11 @@ pub fn formula<'b, A: Allocator>(database: &'b Database<A>, assertion: u32) -> &
 /// The mandatory pairs of an assertion.
 pub fn pairs<'b, A: Allocator>(database: &'b Database<A>, assertion: u32) -> &'b [(Sym, Sym)]
     requires { is_assertion_at database.now.statements assertion ≡ true }
-    ensures are { as_pairs result.now ≡ mandatory_pairs database.now.statements assertion }
-    ensures disjoint { All
+    ensures pairs_are { as_pairs result.now ≡ mandatory_pairs database.now.statements assertion }
+    ensures pairs_are_disjoint { All
         (λ (p : ℕ × ℕ). are_disjoint (context_at database.now.statements assertion) p.0 p.1 ≡ true)
         result.now }
-    ensures below { All
+    ensures pairs_in_range { All
         (λ (p : ℕ × ℕ). (p.0 < length (symbol_names database.now.statements))
         × (p.1 < length (symbol_names database.now.statements))) result.now }
 {

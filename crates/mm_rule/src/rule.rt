@@ -1,36 +1,36 @@
-//! What an assertion requires and what it yields, in terms of the numbers of its hypotheses.
+//! What an assertion requires and what it yields, in terms of the indices of its hypotheses.
 
 ghost use Rattle.std.specs.Prelude.{◌≡◌, ◌<◌, ◌^◌};
-ghost use Rattle.mm_rule.specs.declared.rule.RuleSymbol.TheVariants.{Constant, Variable};
+ghost use Rattle.mm_rule.specs.declared.rule.RulePart.TheVariants.{Constant, Variable};
 
 use mm_database::Sym;
 use std::marker::Model;
 
-/// A symbol of a formula of a frame.
+/// A symbol of a formula of a frame, as a part of a rule.
 #[derive(Clone, Copy, Drop)]
-pub enum RuleSymbol {
+pub enum RulePart {
     /// A constant.
     Constant(Sym),
-    /// A variable, by the number of its `$f` among the mandatory hypotheses, from 0.
+    /// A variable, by the index of its `$f` among the mandatory hypotheses.
     Variable(u32),
 }
 
 /// A number from here on stands for a variable, and a smaller one for a constant.
 const FIRST_VARIABLE: u32 = 2_147_483_648;
 
-/// A [`RuleSymbol`] in four bytes: the number of a constant, or 2^31 and the number of a variable.
-/// Rules have millions of symbols, and each step reads those of a rule.
+/// A [`RulePart`] in four bytes: the number of a constant, or 2^31 and the index of a `$f`.
+/// Rules have millions of parts, and each step reads those of a rule.
 #[derive(Clone, Copy, Drop)]
-pub struct PackedSymbol(u32);
+pub struct PackedPart(u32);
 
-impl Model for PackedSymbol {
-    ghost use Rattle.mm_rule.specs.declared.rule.RuleSymbol.{RuleSymbol};
-    ghost use Rattle.mm_rule.specs.declared.rule.RuleSymbol.TheVariants.{Constant, Variable};
+impl Model for PackedPart {
+    ghost use Rattle.mm_rule.specs.declared.rule.RulePart.{RulePart};
+    ghost use Rattle.mm_rule.specs.declared.rule.RulePart.TheVariants.{Constant, Variable};
     ghost use Rattle.mm_rule.specs.Packed.{first_variable, packed, unpacked};
     ghost use Rattle.std.proofs.Common.{◌≡◌, ◌-◌, true, false, nat_lt, cond, refl, arith};
     ghost use Rattle.std.proofs.lemmas.Bool.{ltb-false};
 
-    ghost Value = { RuleSymbol };
+    ghost Value = { RulePart };
 
     ghost view = { λ s. unpacked s.0 };
 
@@ -44,32 +44,32 @@ impl Model for PackedSymbol {
     } };
 }
 
-impl PackedSymbol {
+impl PackedPart {
     /// A constant.
-    pub fn constant(symbol: Sym) -> PackedSymbol
+    pub fn constant(symbol: Sym) -> PackedPart
         requires { symbol < 2 ^ 31 }
         ensures { result ≡ Constant symbol }
     {
-        PackedSymbol(symbol.number())
+        PackedPart(symbol.number())
     }
 
-    /// A variable, by the number of its `$f`.
-    pub fn variable(number: u32) -> PackedSymbol
-        requires { number < 2 ^ 31 }
-        ensures { result ≡ Variable number }
+    /// A variable, by the index of its `$f`.
+    pub fn variable(floating_index: u32) -> PackedPart
+        requires { floating_index < 2 ^ 31 }
+        ensures { result ≡ Variable floating_index }
     {
-        PackedSymbol(FIRST_VARIABLE + number)
+        PackedPart(FIRST_VARIABLE + floating_index)
     }
 
-    /// The symbol.
+    /// The part that it stands for.
     #[inline(always)]
-    pub fn symbol(self) -> RuleSymbol
+    pub fn unpack(self) -> RulePart
         ensures { result ≡ self }
     {
         if self.0 < FIRST_VARIABLE {
-            RuleSymbol::Constant(Sym::new(self.0))
+            RulePart::Constant(Sym::new(self.0))
         } else {
-            RuleSymbol::Variable(self.0 - FIRST_VARIABLE)
+            RulePart::Variable(self.0 - FIRST_VARIABLE)
         }
     }
 }
@@ -79,12 +79,12 @@ impl PackedSymbol {
 pub enum Hypothesis {
     /// The typecode, if the hypothesis is the first `$f` of its variable.
     Floating(Sym),
-    /// Otherwise the number of its symbols. They stand in the rule's parts, after those of the
+    /// Otherwise the number of its parts. They stand in the rule's parts, after those of the
     /// hypotheses before it.
     Essential(u32),
 }
 
-/// What an assertion requires and yields: its frame, with each variable given by the number of its
+/// What an assertion requires and yields: its frame, with each variable given by the index of its
 /// `$f` among the mandatory hypotheses.
 #[derive(Drop)]
 pub struct Rule<'a> {
@@ -92,12 +92,12 @@ pub struct Rule<'a> {
     pub assertion: u32,
     /// The mandatory hypotheses, in order.
     pub hypotheses: &'a [Hypothesis],
-    /// The mandatory pairs of disjoint variables, each by the numbers of their `$f`.
+    /// The mandatory pairs of disjoint variables, each by the indices of their `$f`.
     pub pairs: &'a [(u32, u32)],
-    /// The symbols of those hypotheses that aren't the first `$f` of a variable.
-    pub parts: &'a [PackedSymbol],
-    /// The symbols of the assertion's formula.
-    pub formula: &'a [PackedSymbol],
+    /// The parts of those hypotheses that aren't the first `$f` of a variable.
+    pub parts: &'a [PackedPart],
+    /// The parts of the assertion's formula.
+    pub formula: &'a [PackedPart],
 }
 
 impl<'a> Model for Rule<'a> {
@@ -131,8 +131,8 @@ impl<'a> Rule<'a> {
         self.pairs
     }
 
-    /// The symbols of the assertion's formula.
-    pub fn formula(&self) -> &'a [PackedSymbol]
+    /// The parts of the assertion's formula.
+    pub fn formula(&self) -> &'a [PackedPart]
         ensures { result.now ≡ self.now.formula }
     {
         self.formula

@@ -8,7 +8,8 @@ use Rattle.mm_spec.specs.Statement.{Statement, axiomatic, provable}
 use Rattle.mm_spec.specs.Scope.{is_some_still_active, is_block_open}
 use Rattle.mm_spec.specs.Frame.{frame_at}
 use Rattle.mm_spec.specs.Laws.Complete.{IsComplete, HasCompleteFrame, AreComplete}
-use Rattle.mm_spec.specs.Citation.{context_at, rule_of, rule_at, is_assertion}
+use Rattle.mm_spec.specs.Laws.Complete.{variables_context}
+use Rattle.mm_spec.specs.Citation.{context_at, referent_of, referent_at, is_assertion}
 use Rattle.mm_spec.proofs.FindsLaw.{got_lt_length}
 use Rattle.mm_rule.specs.Assertions.{is_assertion_at}
 
@@ -16,37 +17,38 @@ use Rattle.mm_rule.specs.Assertions.{is_assertion_at}
 module _ (db : List Statement) (complete : AreComplete db) (j : ℕ) where
   at_end : (s : Statement) → slice_get db j ≡ Some s
       → is_some_still_active (Some s) (is_block_open db j (length db)) ≡ true
-      → rule_at db (length db) j ≡ rule_of db j s
-  at_end s e a =
-      let j_lt_length_db : j < length db = got_lt_length db j s e in
+      → referent_at db (length db) j ≡ referent_of db j s
+  at_end s s_at_j is_active =
+      let j_lt_length_db : j < length db = got_lt_length db j s s_at_j in
       let before : nat_lt j (length db) ≡ true = lt-ltb j (length db) j_lt_length_db in
       ap₂ (λ b o. elim (b && is_some_still_active o (is_block_open db j (length db)))
-      [ false ↦ None | true ↦ elim o [ None ↦ None | Some s ↦ rule_of db j s ] ]) before e
-      ∙ ap (λ b. elim b [ false ↦ None | true ↦ rule_of db j s ]) a
+      [ false ↦ None | true ↦ elim o [ None ↦ None | Some s ↦ referent_of db j s ] ]) before s_at_j
+      ∙ ap (λ b. elim b [ false ↦ None | true ↦ referent_of db j s ]) is_active
 
   frame_complete : IsComplete (context_at db (length db)) (frame_at db j)
-      → IsComplete (context_at db 0) (frame_at db j)
+      → IsComplete (variables_context db) (frame_at db j)
   frame_complete h = record { hypotheses = h.hypotheses; formula = h.formula; pairs = h.pairs }
 
-  pub complete_at : is_assertion_at db j ≡ true → IsComplete (context_at db 0) (frame_at db j)
-  complete_at is = by_presence (slice_get db j) refl is
+  pub complete_at : is_assertion_at db j ≡ true → IsComplete (variables_context db) (frame_at db j)
+  complete_at j_is_assertion = frame_is_complete (slice_get db j) refl j_is_assertion
     where
-      by_statement : (s : Statement) → slice_get db j ≡ Some s → list_any is_assertion (s ∷ [])
+      statement_is_complete : (s : Statement) → slice_get db j ≡ Some s → list_any is_assertion (s ∷ [])
           ≡ true
-          → IsComplete (context_at db 0) (frame_at db j)
-      by_statement (axiomatic l p xs d) e h =
+          → IsComplete (variables_context db) (frame_at db j)
+      statement_is_complete (axiomatic l p xs d) s_at_j is_assertion_s =
           frame_complete
-          (subst (HasCompleteFrame (context_at db (length db))) (at_end (axiomatic l p xs d) e refl)
-          (complete (length db) j))
-      by_statement (provable l p xs w ps d) e h =
+          (subst (HasCompleteFrame (context_at db (length db))) (at_end (axiomatic l p xs d) s_at_j
+          refl) (complete (length db) j))
+      statement_is_complete (provable l p xs w ps d) s_at_j is_assertion_s =
           frame_complete
           (subst (HasCompleteFrame (context_at db (length db)))
-          (at_end (provable l p xs w ps d) e refl)
+          (at_end (provable l p xs w ps d) s_at_j refl)
           (complete (length db) j))
-      by_statement _ e h = absurd (true≢false (sym h))
+      statement_is_complete _ s_at_j is_assertion_s = absurd (true≢false (sym is_assertion_s))
 
-      by_presence : (o : Option Statement) → slice_get db j ≡ o
+      frame_is_complete : (o : Option Statement) → slice_get db j ≡ o
           → list_any is_assertion (elim o [ None ↦ [] | Some s ↦ s ∷ [] ]) ≡ true
-          → IsComplete (context_at db 0) (frame_at db j)
-      by_presence None e h = absurd (true≢false (sym h))
-      by_presence (Some s) e h = by_statement s e h
+          → IsComplete (variables_context db) (frame_at db j)
+      frame_is_complete None o_at_j is_assertion_o = absurd (true≢false (sym is_assertion_o))
+      frame_is_complete (Some s) o_at_j is_assertion_o =
+          statement_is_complete s o_at_j is_assertion_o

@@ -4,7 +4,7 @@ use Rattle.std.proofs.Common.{ap₂, ◌∙◌, arith, All, length-append, get_o
 use Rattle.std.proofs.lemmas.List.{take_all, drop_at}
 use Rattle.std.proofs.lemmas.List.Elements.{All-push}
 use Rattle.mm_spec.specs.Statement.{Statement}
-use Rattle.mm_rule.specs.declared.rule.RuleSymbol.{RuleSymbol}
+use Rattle.mm_rule.specs.declared.rule.RulePart.{RulePart}
 use Rattle.mm_rule.specs.declared.rule.Hypothesis.{Hypothesis}
 use Rattle.mm_rules.specs.declared.rules.RuleRanges.{RuleRanges}
 use Rattle.mm_rules.specs.declared.rules.IndexRange.{IndexRange}
@@ -18,22 +18,21 @@ module _ {X : Type 0} (xs added : List X) (s : IndexRange) where
   is_range_of_longer : IsIndexRange (length xs) s → IsIndexRange (length (xs ++ added)) s
   is_range_of_longer is_range =
       record {
-        rising = is_range.rising;
-        within = let end_le_length = is_range.within in
+        start_le_end = is_range.start_le_end;
+        end_le_length = let end_le_length = is_range.end_le_length in
             omega (arith, end_le_length, length-append xs added);
       }
 
   elements_stay : IsIndexRange (length xs) s → elements_in (xs ++ added) s ≡ elements_in xs s
-  elements_stay is_range = stretch_of_longer_list xs added s.start s.end is_range.rising
-      is_range.within
+  elements_stay is_range = stretch_of_longer_list xs added s.start s.end is_range.start_le_end
+      is_range.end_le_length
 
   module _ (start_is : s.start ≡ length xs) (end_is : s.end ≡ length (xs ++ added)) where
     added_range_is_range : IsIndexRange (length (xs ++ added)) s
     added_range_is_range =
         record {
-          rising = omega (arith, start_is, end_is, length-append xs added);
-          within = omega
-              (arith, end_is);
+          start_le_end = omega (arith, start_is, end_is, length-append xs added);
+          end_le_length = omega (arith, end_is);
         }
 
     elements_are_added : elements_in (xs ++ added) s ≡ added
@@ -44,30 +43,31 @@ module _ {X : Type 0} (xs added : List X) (s : IndexRange) where
 
 module _ (db : List Statement) (ranges : List RuleRanges) (hypotheses a : List Hypothesis)
     (pairs p : List (ℕ × ℕ))
-    (parts q f : List RuleSymbol) where
+    (parts q f : List RulePart) where
   -- the rules that were there
   has_rule_still : (new : List RuleRanges) (s : RuleRanges) → HasRule db
       (rule_lists ranges hypotheses pairs parts) s
       → HasRule db (rule_lists new (hypotheses ++ a) (pairs ++ p) ((parts ++ q) ++ f)) s
   has_rule_still new s has_rule =
-      let parts_range = is_range_of_longer parts q s.parts has_rule.parts in
-      let formula_range = is_range_of_longer parts q s.formula has_rule.formula in
+      let parts_range = is_range_of_longer parts q s.parts has_rule.parts_are_range in
+      let formula_range = is_range_of_longer parts q s.formula has_rule.formula_is_range in
       let hypotheses_are : elements_in (hypotheses ++ a) s.hypotheses
       ≡ elements_in hypotheses s.hypotheses =
-      elements_stay hypotheses a s.hypotheses has_rule.hypotheses in
+      elements_stay hypotheses a s.hypotheses has_rule.hypotheses_are_range in
       let pairs_are : elements_in (pairs ++ p) s.pairs ≡ elements_in pairs s.pairs =
-      elements_stay pairs p s.pairs has_rule.pairs in
+      elements_stay pairs p s.pairs has_rule.pairs_are_range in
       let parts_are : elements_in ((parts ++ q) ++ f) s.parts ≡ elements_in parts s.parts =
       elements_stay (parts ++ q) f s.parts parts_range
-      ∙ elements_stay parts q s.parts has_rule.parts in
+      ∙ elements_stay parts q s.parts has_rule.parts_are_range in
       let formula_are : elements_in ((parts ++ q) ++ f) s.formula ≡ elements_in parts s.formula =
       elements_stay (parts ++ q) f s.formula formula_range
-      ∙ elements_stay parts q s.formula has_rule.formula in
+      ∙ elements_stay parts q s.formula has_rule.formula_is_range in
       record {
-        hypotheses = is_range_of_longer hypotheses a s.hypotheses has_rule.hypotheses;
-        pairs = is_range_of_longer pairs p s.pairs has_rule.pairs;
-        parts = is_range_of_longer (parts ++ q) f s.parts parts_range;
-        formula = is_range_of_longer (parts ++ q) f s.formula formula_range;
+        hypotheses_are_range = is_range_of_longer hypotheses a s.hypotheses
+            has_rule.hypotheses_are_range;
+        pairs_are_range = is_range_of_longer pairs p s.pairs has_rule.pairs_are_range;
+        parts_are_range = is_range_of_longer (parts ++ q) f s.parts parts_range;
+        formula_is_range = is_range_of_longer (parts ++ q) f s.formula formula_range;
         is_compiled = rw (hypotheses_are, pairs_are, parts_are, formula_are) has_rule.is_compiled;
       }
 
@@ -101,11 +101,12 @@ module _ (db : List Statement) (ranges : List RuleRanges) (hypotheses a : List H
         let formula_are : elements_in ((parts ++ q) ++ f) s.formula ≡ f =
         elements_are_added (parts ++ q) f s.formula formula_start formula_end in
         record {
-          hypotheses = added_range_is_range hypotheses a s.hypotheses hypotheses_start
+          hypotheses_are_range = added_range_is_range hypotheses a s.hypotheses hypotheses_start
               hypotheses_end;
-          pairs = added_range_is_range pairs p s.pairs pairs_start pairs_end;
-          parts = is_range_of_longer (parts ++ q) f s.parts parts_range;
-          formula = added_range_is_range (parts ++ q) f s.formula formula_start formula_end;
+          pairs_are_range = added_range_is_range pairs p s.pairs pairs_start pairs_end;
+          parts_are_range = is_range_of_longer (parts ++ q) f s.parts parts_range;
+          formula_is_range = added_range_is_range (parts ++ q) f s.formula formula_start
+              formula_end;
           is_compiled = rw (hypotheses_are, pairs_are, parts_are, formula_are) is_compiled;
         }
 
@@ -121,7 +122,7 @@ module _ (db : List Statement) (ranges : List RuleRanges) (hypotheses a : List H
 -- the same by the values that the code has
 pub are_rules_with_one_more_at : (db : List Statement) (ranges ranges' : List RuleRanges)
     (hypotheses a hypotheses' : List Hypothesis)
-    → (pairs p pairs' : List (ℕ × ℕ)) (parts q f parts_and_q parts' : List RuleSymbol)
+    → (pairs p pairs' : List (ℕ × ℕ)) (parts q f parts_and_q parts' : List RulePart)
     (s : RuleRanges)
     → ranges' ≡ ranges ++ s ∷ [] → hypotheses' ≡ hypotheses ++ a → pairs' ≡ pairs ++ p → parts_and_q
     ≡ parts ++ q

@@ -3,53 +3,54 @@ use Rattle.std.specs.Prelude.{◌≡◌, ℕ, ◌+◌, ◌^◌, ◌<◌, ◌≤�
 use Rattle.std.specs.Prelude.{slice_range, All, if◌then◌else◌}
 use Rattle.mm_spec.specs.Statement.{Statement}
 use Rattle.mm_spec.specs.Derivation.{Formula}
-use Rattle.mm_spec.specs.Laws.Complete.{IsBound}
-use Rattle.mm_spec.specs.Citation.{context_at}
+use Rattle.mm_spec.specs.Laws.Complete.{IsBound, variables_context}
 use Rattle.mm_spec.specs.Frame.{is_variable_number, formula_at}
-use Rattle.mm_rule.specs.declared.rule.RuleSymbol.{RuleSymbol}
-use Rattle.mm_rule.specs.declared.rule.RuleSymbol.TheVariants.{Constant, Variable}
+use Rattle.mm_rule.specs.declared.rule.RulePart.{RulePart}
+use Rattle.mm_rule.specs.declared.rule.RulePart.TheVariants.{Constant, Variable}
 use Rattle.mm_rule.specs.declared.rule.Hypothesis.{Hypothesis}
 use Rattle.mm_rules.specs.declared.rules.RuleRanges.{RuleRanges}
 use Rattle.mm_rules.specs.declared.rules.IndexRange.{IndexRange}
 use Rattle.mm_rule.specs.Rule.{CompiledRule, compiled_rule, IsCompiled, floating_index, parts_of}
 use Rattle.mm_rule.specs.Rule.{all_parts}
-use Rattle.mm_rule.specs.Rule.{total_part_count, IsVariableBelow}
+use Rattle.mm_rule.specs.Rule.{total_stored_part_count, IsVariableBelow}
 
 -- for each variable that has a `$f`, the list has the index of the first one among the hypotheses
-abbrev pub AreFirstNumbers : List Statement → List Formula → List ℕ → Type 0
-AreFirstNumbers db hs numbers =
-    (x : ℕ) → IsBound (context_at db 0) hs x → get_or numbers x 0 ≡ floating_index db hs x
+abbrev pub AreFloatingIndices : List Statement → List Formula → List ℕ → Type 0
+AreFloatingIndices db hs indices =
+    (x : ℕ) → IsBound (variables_context db) hs x → get_or indices x 0 ≡ floating_index db hs x
 
--- 31 bits are enough for each of the numbers, and for how many there are
-pub record AreShortNumbers (numbers : List ℕ) : Type 0 where
-  pub few : length numbers < 2 ^ 31
-  pub each_is_short : All (λ n. n < 2 ^ 31) numbers
+-- 31 bits are enough for each of the indices, and for how many there are
+pub record AreShortIndices (indices : List ℕ) : Type 0 where
+  pub count_lt_2_31 : length indices < 2 ^ 31
+  pub each_is_short : All (λ n. n < 2 ^ 31) indices
 
 -- each variable of the formula has a `$f`
 abbrev pub AreCovered : List Statement → List Formula → Formula → Type 0
-AreCovered db hs f = All (λ x. is_variable_number db x ≡ true → IsBound (context_at db 0) hs x) f
+AreCovered db hs f =
+    All (λ x. is_variable_number db x ≡ true → IsBound (variables_context db) hs x) f
 
--- a symbol as a part: a constant, or a variable given by its number
-abbrev pub numbered_part : List Statement → List ℕ → ℕ → RuleSymbol
-numbered_part db numbers s =
-    if is_variable_number db s then Variable (get_or numbers s 0) else Constant s
+-- a symbol as a part: a constant, or a variable given by the index that the list has for it
+abbrev pub indexed_part : List Statement → List ℕ → ℕ → RulePart
+indexed_part db indices s =
+    if is_variable_number db s then Variable (get_or indices s 0) else Constant s
 
-abbrev pub numbered_parts : List Statement → List ℕ → Formula → List RuleSymbol
-numbered_parts db numbers f = map (numbered_part db numbers) f
+-- the symbols of a formula as such parts
+abbrev pub indexed_parts : List Statement → List ℕ → Formula → List RulePart
+indexed_parts db indices f = map (indexed_part db indices) f
 
--- the pairs of symbols as pairs of their numbers
-abbrev pub numbered_pairs : List ℕ → List (ℕ × ℕ) → List (ℕ × ℕ)
-numbered_pairs numbers ps = map (λ (p : ℕ × ℕ). (get_or numbers p.0 0, get_or numbers p.1 0)) ps
+-- the pairs of symbols as pairs of the indices that the list has for them
+abbrev pub indexed_pairs : List ℕ → List (ℕ × ℕ) → List (ℕ × ℕ)
+indexed_pairs indices ps = map (λ (p : ℕ × ℕ). (get_or indices p.0 0, get_or indices p.1 0)) ps
 
--- The lists have what the hypotheses `hyps` require: for each of them the parts of its formula, in
--- which a variable is given by the index of its `$f`.
-pub record AreCompiled (db : List Statement) (hyps : List ℕ) (hypotheses : List Hypothesis)
-    (parts : List RuleSymbol) : Type 0 where
+-- The lists have what the mandatory hypotheses require: for each of them the parts of its formula,
+-- in which a variable is given by the index of its `$f`.
+pub record AreCompiled (db : List Statement) (mandatory : List ℕ) (hypotheses : List Hypothesis)
+    (parts : List RulePart) : Type 0 where
   pub parts_are : all_parts parts 0 hypotheses
-      ≡ map (parts_of db (map (formula_at db) hyps)) (map (formula_at db) hyps)
-  pub count : length hypotheses ≡ length hyps
-  pub part_count_is : total_part_count hypotheses ≡ length parts
-  pub below : All (IsVariableBelow (length hyps)) parts
+      ≡ map (parts_of db (map (formula_at db) mandatory)) (map (formula_at db) mandatory)
+  pub count_is : length hypotheses ≡ length mandatory
+  pub part_count_is : total_stored_part_count hypotheses ≡ length parts
+  pub parts_in_range : All (IsVariableBelow (length mandatory)) parts
 
 -- a compiler of rules: how many symbols it knows, and the rule that it compiled last
 pub record CompilerState : Type 0 where
@@ -64,9 +65,9 @@ pub record RuleLists : Type 0 where
   pub ranges : List RuleRanges
   pub hypotheses : List Hypothesis
   pub pairs : List (ℕ × ℕ)
-  pub parts : List RuleSymbol
+  pub parts : List RulePart
 
-abbrev pub rule_lists : List RuleRanges → List Hypothesis → List (ℕ × ℕ) → List RuleSymbol
+abbrev pub rule_lists : List RuleRanges → List Hypothesis → List (ℕ × ℕ) → List RulePart
     → RuleLists
 rule_lists ranges hypotheses pairs parts =
     record { ranges = ranges; hypotheses = hypotheses; pairs = pairs; parts = parts }
@@ -78,18 +79,22 @@ rule_ranges k hypotheses pairs parts formula =
       hypotheses = hypotheses;
       pairs = pairs;
       parts = parts;
-      formula =
-          formula;
+      formula = formula;
     }
 
 abbrev pub index_range : ℕ → ℕ → IndexRange
 index_range start end = record { start = start; end = end }
 
 module _ {X : Type 0} where
+  -- the elements of a range of a list
   abbrev pub elements_in : List X → IndexRange → List X
   elements_in xs s = slice_range xs s.start s.end
 
--- how many hypotheses, pairs and symbols a rule has together
+-- the greatest number of 64 bits
+abbrev pub most_usize : ℕ
+most_usize = 18446744073709551615
+
+-- how many hypotheses, pairs and parts a rule has together
 abbrev pub rule_size : CompiledRule → ℕ
 rule_size c = length c.hypotheses + length c.pairs + length c.parts + length c.formula
 
@@ -105,28 +110,30 @@ rule_in l s =
 
 -- a range of a list of `n` elements
 pub record IsIndexRange (n : ℕ) (s : IndexRange) : Type 0 where
-  pub rising : s.start ≤ s.end
-  pub within : s.end ≤ n
+  pub start_le_end : s.start ≤ s.end
+  pub end_le_length : s.end ≤ n
 
 -- the rule of an assertion of the database is in the ranges
 pub record HasRule (db : List Statement) (l : RuleLists) (s : RuleRanges) : Type 0 where
-  pub hypotheses : IsIndexRange (length l.hypotheses) s.hypotheses
-  pub pairs : IsIndexRange (length l.pairs) s.pairs
-  pub parts : IsIndexRange (length l.parts) s.parts
-  pub formula : IsIndexRange (length l.parts) s.formula
+  pub hypotheses_are_range : IsIndexRange (length l.hypotheses) s.hypotheses
+  pub pairs_are_range : IsIndexRange (length l.pairs) s.pairs
+  pub parts_are_range : IsIndexRange (length l.parts) s.parts
+  pub formula_is_range : IsIndexRange (length l.parts) s.formula
   pub is_compiled : IsCompiled db (rule_in l s)
 
+-- each of the rules is that of its assertion
 abbrev pub AreRules : List Statement → RuleLists → Type 0
 AreRules db l = All (HasRule db l) l.ranges
 
+-- what an index beyond the rules gives
 abbrev pub no_ranges : RuleRanges
 no_ranges =
     rule_ranges 0 (index_range 0 0) (index_range 0 0) (index_range 0 0) (index_range 0 0)
 
--- `n` is the number of the rule of assertion `a`
-pub record IsRuleNumber (l : RuleLists) (n a : ℕ) : Type 0 where
-  pub inside : n < length l.ranges
-  pub assertion_is : (get_or l.ranges n no_ranges).assertion ≡ a
+-- the rule of assertion `a` has the index `i` among the ranges
+pub record IsRuleIndex (l : RuleLists) (i a : ℕ) : Type 0 where
+  pub index_lt_count : i < length l.ranges
+  pub assertion_is : (get_or l.ranges i no_ranges).assertion ≡ a
 
 -- the rule is that of assertion `a`
 pub record IsRuleOf (db : List Statement) (c : CompiledRule) (a : ℕ) : Type 0 where

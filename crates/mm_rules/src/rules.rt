@@ -7,13 +7,14 @@ ghost use Rattle.mm_spec.specs.Frame.{symbol_names};
 ghost use Rattle.mm_spec.specs.Laws.Complete.{AreComplete};
 ghost use Rattle.mm_rule.specs.Rule.{IsCompiled};
 ghost use Rattle.mm_rule.specs.Assertions.{is_assertion_at};
-ghost use Rattle.mm_rules.specs.Rules.{AreRules, IsRuleNumber, IsIndexRange, rule_lists, no_ranges};
-ghost use Rattle.mm_rules.specs.Rules.{elements_in, rule_size, lists_size};
+ghost use Rattle.mm_rules.specs.Rules.{AreRules, IsRuleIndex, IsIndexRange, rule_lists, no_ranges};
+ghost use Rattle.mm_rules.specs.Rules.{elements_in, rule_size, lists_size, most_usize};
 
 use crate::compile::RuleCompiler;
 use mm_database::Database;
 use mm_rule::{
-    Hypothesis, PackedSymbol, Rule, hyps, is_assertion, is_essential_hypothesis, pairs, put_number,
+    Hypothesis, PackedPart, Rule, is_assertion, is_essential_hypothesis, mandatory_hypotheses,
+    pairs, put_number,
 };
 use std::alloc::{AllocError, Allocator};
 use std::marker::Model;
@@ -55,7 +56,7 @@ pub struct Rules<A: Allocator> {
     hypotheses: Vec<Hypothesis, A>,
     pairs: Vec<(u32, u32), A>,
     /// The symbols of hypotheses and of formulas.
-    parts: Vec<PackedSymbol, A>,
+    parts: Vec<PackedPart, A>,
     /// For each statement an index in `ranges` at which its rule may be; `find` verifies it.
     rule_indices: Vec<u32, A>,
 }
@@ -125,12 +126,12 @@ impl Lengths {
     fn add<A: Allocator>(&mut self, database: &Database<A>, assertion: u32)
         requires { is_assertion_at database.now.statements assertion ≡ true }
     {
-        let hyps = hyps(database, assertion);
+        let mandatory = mandatory_hypotheses(database, assertion);
         self.rules = self.rules.saturating_add(1);
-        self.hypotheses = self.hypotheses.saturating_add(hyps.len());
+        self.hypotheses = self.hypotheses.saturating_add(mandatory.len());
         self.pairs = self.pairs.saturating_add(pairs(database, assertion).len());
         self.parts = self.parts.saturating_add(database.formula(assertion).len());
-        for hypothesis in hyps {
+        for hypothesis in mandatory {
             if is_essential_hypothesis(database, *hypothesis) {
                 self.parts = self
                     .parts
@@ -142,7 +143,7 @@ impl Lengths {
 
 /// How many elements a rule has.
 fn elements_of(rule: &Rule) -> usize
-    ensures { result ≡ min (rule_size rule.now) 18446744073709551615 }
+    ensures { result ≡ min (rule_size rule.now) most_usize }
 {
     let hypotheses_and_pairs = rule.hypotheses.len().saturating_add(rule.pairs.len());
     hypotheses_and_pairs
@@ -165,9 +166,9 @@ fn append_range<T: Copy, A: Allocator>(
     elements: &[T],
 ) -> Result<IndexRange, AllocError>
     requires { length list.old.items + length elements.now < 2 ^ 32 }
-    ensures items { OnOk result (list.new.items ≡ list.old.items ++ elements.now) }
-    ensures start { IfOk result (λ s. s.start ≡ length list.old.items) }
-    ensures end { IfOk result (λ s. s.end ≡ length list.new.items) }
+    ensures appends_elements { OnOk result (list.new.items ≡ list.old.items ++ elements.now) }
+    ensures start_is { IfOk result (λ s. s.start ≡ length list.old.items) }
+    ensures end_is { IfOk result (λ s. s.end ≡ length list.new.items) }
 {
     let start = list.len();
     list.extend_from_slice(elements)?;
@@ -193,8 +194,8 @@ impl<A: Allocator> Rules<A> {
         }
     }
 
-    /// No rules, in lists with room for those of a database.
-    fn with_room(alloc: A, database: &Database<A>) -> Result<Self, AllocError>
+    /// No rules, in lists with capacity for those of a database.
+    fn with_capacity(alloc: A, database: &Database<A>) -> Result<Self, AllocError>
     where
         A: Copy,
         ensures { IfOk result (λ r. r ≡ rule_lists [] [] [] []) }
@@ -215,7 +216,7 @@ impl<A: Allocator> Rules<A> {
         A: Copy,
         ensures { IfOk result (λ r. AreRules database.now.statements r) }
     {
-        let mut rules = Self::with_room(alloc, database)?;
+        let mut rules = Self::with_capacity(alloc, database)?;
         let mut compiler = RuleCompiler::new(alloc, database)?;
         for statement in 0..database.len() {
             rules.hold_rule(database, statement, &mut compiler)?;
@@ -231,13 +232,13 @@ impl<A: Allocator> Rules<A> {
         statement: u32,
         compiler: &mut RuleCompiler<A>,
     ) -> Result<(), AllocError>
-        requires statement { statement < length database.now.statements }
-        requires complete { AreComplete database.now.statements }
-        requires symbol_count { compiler.old.symbol_count
+        requires statement_lt_length { statement < length database.now.statements }
+        requires are_complete { AreComplete database.now.statements }
+        requires symbol_count_is { compiler.old.symbol_count
             ≡ length (symbol_names database.now.statements) }
-        requires rules { AreRules database.now.statements self.old }
-        ensures symbol_count { compiler.new.symbol_count ≡ compiler.old.symbol_count }
-        ensures rules { OnOk result (AreRules database.now.statements self.new) }
+        requires are_rules { AreRules database.now.statements self.old }
+        ensures symbol_count_stays { compiler.new.symbol_count ≡ compiler.old.symbol_count }
+        ensures are_rules { OnOk result (AreRules database.now.statements self.new) }
     {
         if !is_assertion(database, statement) {
             return Ok(());
@@ -255,7 +256,7 @@ impl<A: Allocator> Rules<A> {
 
     /// How many elements are held.
     fn element_count(&self) -> usize
-        ensures { result ≡ min (lists_size self.now) 18446744073709551615 }
+        ensures { result ≡ min (lists_size self.now) most_usize }
     {
         let hypotheses_and_pairs = self.hypotheses.len().saturating_add(self.pairs.len());
         hypotheses_and_pairs.saturating_add(self.parts.len())
@@ -275,7 +276,7 @@ impl<A: Allocator> Rules<A> {
             ((db : List Statement)
             → AreRules db self.old → IsCompiled db rule.entry → AreRules db self.new) }
     {
-        let number = self.ranges.len();
+        let rule_index = self.ranges.len();
         let hypotheses = append_range(&mut self.hypotheses, rule.hypotheses)?;
         let pairs = append_range(&mut self.pairs, rule.pairs)?;
         let parts = append_range(&mut self.parts, rule.parts)?;
@@ -287,36 +288,35 @@ impl<A: Allocator> Rules<A> {
             parts,
             formula,
         })?;
-        put_number(&mut self.rule_indices, rule.assertion as usize, number);
+        put_number(&mut self.rule_indices, rule.assertion as usize, rule_index);
         Ok(())
     }
 
-    /// The number of an assertion's rule, which is its index in `ranges`; `None` if the rule isn't
-    /// held.
+    /// The index of an assertion's rule in `ranges`; `None` if the rule isn't held.
     pub fn find(&self, assertion: u32) -> Option<usize>
-        ensures { IfSome result (λ number. IsRuleNumber self.now number assertion) }
+        ensures { IfSome result (λ rule_index. IsRuleIndex self.now rule_index assertion) }
     {
         let index = assertion as usize;
         if index >= self.rule_indices.len() {
             return None;
         }
-        let number = self.rule_indices[index] as usize;
-        if number < self.ranges.len() && self.ranges[number].assertion == assertion {
-            Some(number)
+        let rule_index = self.rule_indices[index] as usize;
+        if rule_index < self.ranges.len() && self.ranges[rule_index].assertion == assertion {
+            Some(rule_index)
         } else {
             None
         }
     }
 
-    /// The rule with this number.
-    pub fn rule(&self, _database: &Database<A>, number: usize) -> Rule<'_>
-        requires rules { AreRules _database.now.statements self.now }
-        requires ranges { number < length self.now.ranges }
-        ensures assertion { result.assertion
-            ≡ (get_or self.now.ranges number no_ranges).assertion }
-        ensures rule { IsCompiled _database.now.statements result }
+    /// The rule with this index.
+    pub fn rule(&self, _database: &Database<A>, rule_index: usize) -> Rule<'_>
+        requires are_rules { AreRules _database.now.statements self.now }
+        requires index_lt_count { rule_index < length self.now.ranges }
+        ensures assertion_is { result.assertion
+            ≡ (get_or self.now.ranges rule_index no_ranges).assertion }
+        ensures is_compiled { IsCompiled _database.now.statements result }
     {
-        let ranges = self.ranges[number];
+        let ranges = self.ranges[rule_index];
         Rule {
             assertion: ranges.assertion,
             hypotheses: elements(&self.hypotheses, ranges.hypotheses),

@@ -59,8 +59,7 @@ module _ (db : List Statement) (request : Request) (c : Citing)
       let counts_equal = ap (λ (ts : List ℕ). length ts) have_citations.theorems_are in
       let row_count_is = length-map-range_with_len f 0 (length c.theorems) in
       zip_of_related (IsCitingRowOf db request) (theorems db) (citing_rows db request.only c names)
-      0
-      (f 0)
+      0 (f 0)
       (omega (arith, row_count_is, counts_equal))
       (λ i i_lt_theorem_count.
       let i_lt_count : i < length c.theorems = omega (arith, counts_equal, i_lt_theorem_count) in

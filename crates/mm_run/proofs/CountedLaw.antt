@@ -10,13 +10,13 @@ use Rattle.mm_spec.specs.Request.{Request}
 use Rattle.mm_spec.specs.Lexed.{lexed_of}
 use Rattle.mm_spec.specs.Output.{columns, HasNoFault, IsReportOf, IsOutput}
 use Rattle.mm_database.specs.Database.{Contents}
-use Rattle.mm_report.specs.Rows.{open_theorems}
+use Rattle.mm_report.specs.Rows.{open_theorem_count}
 use Rattle.mm_run.specs.Counted.{IsCounted}
 
 open_theorems_are : (d : Contents) (w : Bool) (only : Option Bytes) (axioms : List ℕ)
     → IsCounted w d
     → axioms ≡ columns d.statements only
-    → open_theorems w d axioms
+    → open_theorem_count w d axioms
     ≡ (if w then Some
     (count_by (λ a. list_any is_open_theorem (statement_at d.read a))
     (columns (counted true d.read) only)) else None)
@@ -32,7 +32,7 @@ pub is_output : (request : Request) (d : Contents) (axioms bytes : List ℕ)
     → HasNoFault (length d.text) (lexed_of d.text) request.with_open d.read
     → axioms ≡ columns d.statements request.only
     → IsReportOf request.choice d.statements
-    (open_theorems request.with_open d axioms) request bytes
+    (open_theorem_count request.with_open d axioms) request bytes
     → IsOutput d.text request bytes
 is_output request d axioms bytes is_counted has_no_fault axioms_are is_report =
     inr (
@@ -41,6 +41,6 @@ is_output request d axioms bytes is_counted has_no_fault axioms_are is_report =
       subst (λ o. IsReportOf request.choice (counted request.with_open d.read) o request bytes)
           (open_theorems_are d request.with_open request.only axioms is_counted axioms_are)
           (subst (λ db. IsReportOf request.choice db
-          (open_theorems request.with_open d axioms) request bytes) is_counted.statements_are
+          (open_theorem_count request.with_open d axioms) request bytes) is_counted.statements_are
           is_report),
     )

@@ -17,7 +17,7 @@ use Rattle.mm_database.specs.Database.{Contents}
 use Rattle.mm_spec.proofs.ChainsLaw.{alike_relations_have_alike_chains}
 use Rattle.mm_work.specs.Citing.{Citing, HasCitation, theorem_at}
 use Rattle.mm_rows.specs.Marks.{Marks, mark, IsMatrix}
-use Rattle.mm_report.specs.Rows.{row_of, rows_of, marks_of, open_theorems, report_of}
+use Rattle.mm_report.specs.Rows.{row_of, rows_of, marks_of, open_theorem_count, report_of}
 use Rattle.mm_run.specs.Counted.{IsJudged}
 use Rattle.mm_run.proofs.CountedLaw.{is_output}
 use Rattle.mm_work.specs.Judged.{AllHaveCitations, CitesAsDatabase}
@@ -65,7 +65,7 @@ module _ (db : List Statement) (request : Request) (c : Citing) (m : Marks)
       let i_lt_count : i < length c.theorems = subst (λ (ts : List ℕ). i < length ts)
       (sym theorems_are) i_lt_theorem_count in
       let decided =
-      decides_through (mark m i j) (is_matrix.marked i j i_lt_count j_lt_length)
+      decides_through (mark m i j) (is_matrix.marks_decide i j i_lt_count j_lt_length)
       (alike_relations_have_alike_chains (HasCitation c) (proof.Cites db request.essential)
       cites_as_database.citations_agree (theorem_at c i)
       (get_or (columns db request.only) j 0)) in
@@ -87,7 +87,7 @@ module _ (db : List Statement) (request : Request) (c : Citing) (m : Marks)
   rows_are =
       let names = map (label_at db) (theorems db) in
       let f = λ (i : ℕ). row_of m (get_or names i []) i in
-      let row_count_is = is_matrix.rows in
+      let row_count_is = is_matrix.rows_are in
       let counts_equal = ap (λ (ts : List ℕ). length ts) theorems_are in
       let rows_length_is = length-map-range_with_len f 0 m.rows in
       zip_of_related (IsRowOf db request) (theorems db) (rows_of m names) 0 (f 0)
@@ -123,8 +123,7 @@ pub is_report : (request : Request) (db : List Statement) (opened : Option ℕ) 
     → IsMatrix c axioms m
     → (request.choice ≡ Citations → ⊥)
     → IsReportOf request.choice db opened request
-    (report request opened (map (label_at db) axioms)
-    (rows_of m (map (label_at db) (theorems db))))
+    (report request opened (map (label_at db) axioms) (rows_of m (map (label_at db) (theorems db))))
 is_report request db opened c axioms m have_citations axioms_are is_matrix not_citations =
     let is_matrix_of_columns = subst (λ (l : List ℕ). IsMatrix c l m) axioms_are is_matrix in
     let rows = rows_of m (map (label_at db) (theorems db)) in
@@ -143,5 +142,5 @@ pub table_is_output : (request : Request) (d : Contents) (c : Citing) (axioms : 
     → IsOutput d.text request (report_of request d axioms m)
 table_is_output request d c axioms m is_judged axioms_are is_matrix not_citations =
     is_output request d axioms _ is_judged.is_counted is_judged.has_no_fault axioms_are
-    (is_report request d.statements (open_theorems request.with_open d axioms) c axioms m
+    (is_report request d.statements (open_theorem_count request.with_open d axioms) c axioms m
     is_judged.have_citations axioms_are is_matrix not_citations)

@@ -29,13 +29,13 @@ pub record IsJudged (essential with_open : Bool) (d : Contents) (c : Citing) : T
   pub is_counted : IsCounted with_open d
   pub have_citations : AllHaveCitations d.statements essential c
 
--- the database was judged without a fault, and these marks are those of its theorems' citations in
--- these columns
-pub record IsMatrixOf (essential with_open : Bool) (d : Contents) (columns : List ℕ) (m : Marks)
+-- the database was judged without a fault, and these marks are those of its theorems, with a column
+-- for each of these axioms
+pub record IsMatrixOf (essential with_open : Bool) (d : Contents) (axioms : List ℕ) (m : Marks)
     : Type 0 where
   pub citations : Citing
   pub is_judged : IsJudged essential with_open d citations
-  pub is_matrix : IsMatrix citations columns m
+  pub is_matrix : IsMatrix citations axioms m
 
 -- the text has this first fault, or none, and then this database and these citations
 module _ {A : Type 0} where

@@ -28,7 +28,7 @@ pub fn cuts_of<A: Allocator + Copy>(
     len: usize,
 ) -> Result<Cuts<A>, AllocError>
     requires is_lawful { IsLawfulCutting cutting.now }
-    requires len { len ≤ 2 ^ 31 }
+    requires len_le_2_31 { len ≤ 2 ^ 31 }
     ensures { IfOk result (λ cuts. cuts.len ≡ len) }
 {
     match cutting {
@@ -38,7 +38,7 @@ pub fn cuts_of<A: Allocator + Copy>(
             places_within.extend_from_slice(&places[..count_within(places, len)])?;
             match Cuts::from_places(places_within, len) {
                 Ok(cuts) => Ok(cuts),
-                Err(_) => unreachable!("the places of a lawful plan rise"),
+                Err(_) => unreachable!("the places of a lawful plan are sorted"),
             }
         }
     }

@@ -31,8 +31,8 @@ impl From<AllocError> for ReadRefused {
     }
 }
 
-/// Reads to the end or to the limit. A read that returns an error of any kind is a failure, and
-/// isn't repeated.
+/// Reads into `text`, which is empty, up to the end or to the limit. A read that returns an error
+/// of any kind is a failure, and isn't repeated.
 pub fn read_all<R: Read, A: Allocator>(
     from: &mut R,
     text: &mut Vec<u8, A>,

@@ -7,11 +7,11 @@ ghost use Rattle.mm_spec.specs.Request.{Request};
 ghost use Rattle.mm_spec.specs.Lexed.{lexed_of};
 ghost use Rattle.mm_spec.specs.Output.{FirstFault, columns};
 ghost use Rattle.mm_spec.specs.Ends.{Answers, reading_limit};
-ghost use Rattle.mm_run.specs.Counted.{IsJudged, IsMatrixOf, IsReadFrom};
+ghost use Rattle.mm_work.specs.Judged.{IsJudgement};
+ghost use Rattle.mm_run.specs.Counted.{IsJudged, IsJudgedText, IsMatrixOf, IsReadFrom};
 ghost use Rattle.mm_plan.specs.Plans.{IsLawfulPlan, request_of};
 
 use crate::RunEnd;
-use crate::alone::answer_by_one;
 use crate::cuts::cuts_of;
 use crate::judged_text::{JudgedText, judged_text};
 use mm_database::Database;
@@ -21,17 +21,17 @@ use mm_report::{
     Choice, Request, has_usage, write_refusal, write_requested_citations, write_requested_report,
     write_rows,
 };
-use mm_rows::{Columns, MarkedRows, Matrix, marked_rows, matrix};
+use mm_rows::{Columns, MarkedRows, Matrix, marked_rows_alone, matrix_alone};
 use mm_spec::Fault;
 use mm_stmt::read_owned;
-use mm_work::{Citations, Open, check_all};
+use mm_work::{Citations, Judged, Open, check_all, check_alone};
 use std::alloc::{AllocError, Allocator};
 use std::io::Write;
 use std::sync::Wait;
 use std::thread::Threads;
 
 /// Writes the refusal of the text for its first fault.
-pub(crate) fn refuse<W: Write>(text: &[u8], fault: Fault, to: &mut W) -> RunEnd
+fn refuse<W: Write>(text: &[u8], fault: Fault, to: &mut W) -> RunEnd
     ensures { (request : Request) → FirstFault (length text.now) (lexed_of text.now)
         request.with_open fault
         → Answers result text.now request (W.contents to.old) (W.contents to.new) }
@@ -44,40 +44,40 @@ pub(crate) fn refuse<W: Write>(text: &[u8], fault: Fault, to: &mut W) -> RunEnd
 
 /// Writes the report of what each theorem cites, for a database without a fault. It needs no
 /// matrix.
-pub(crate) fn report_citations<'a, A: Allocator + Copy, W: Write>(
+fn report_citations<'a, A: Allocator + Copy, W: Write>(
     alloc: A,
     request: &Request<'_>,
     database: &Database<'a, A>,
     citations: &Citations<A>,
     to: &mut W,
 ) -> RunEnd
-    requires judged { IsJudged request.now.essential request.now.with_open database.now
+    requires is_judged { IsJudged request.now.essential request.now.with_open database.now
         citations.now }
-    requires choice { request.now.choice ≡ choices.Citations }
+    requires is_citations { request.now.choice ≡ choices.Citations }
     ensures { Answers result database.now.text request.now (W.contents to.old)
         (W.contents to.new) }
 {
-    let Ok(columns) = Columns::new(alloc, database, request.only) else {
+    let Ok(chosen) = Columns::new(alloc, database, request.only) else {
         return RunEnd::NoMemory;
     };
-    match write_requested_citations(to, request, database, &columns, citations) {
+    match write_requested_citations(to, request, database, &chosen, citations) {
         Ok(()) => RunEnd::Accepted,
         Err(_) => RunEnd::WriteFailed,
     }
 }
 
 /// Writes the report of what each theorem rests on, with the usage, which needs the columns.
-pub(crate) fn report_usage<'a, A: Allocator, W: Write>(
+fn report_usage<'a, A: Allocator, W: Write>(
     request: &Request<'_>,
     database: &Database<'a, A>,
     chosen: &Columns<A>,
     matrix: &Matrix<A>,
     to: &mut W,
 ) -> RunEnd
-    requires chosen { chosen.now ≡ columns database.now.statements request.now.only }
-    requires matrix { IsMatrixOf request.now.essential request.now.with_open database.now
+    requires columns_are { chosen.now ≡ columns database.now.statements request.now.only }
+    requires is_matrix { IsMatrixOf request.now.essential request.now.with_open database.now
         chosen.now matrix.now }
-    requires choice { request.now.choice ≡ choices.Citations → ⊥ }
+    requires is_no_citations { request.now.choice ≡ choices.Citations → ⊥ }
     ensures { Answers result database.now.text request.now (W.contents to.old)
         (W.contents to.new) }
 {
@@ -88,17 +88,17 @@ pub(crate) fn report_usage<'a, A: Allocator, W: Write>(
 }
 
 /// Writes the report of what each theorem rests on, without the usage, from the rows alone.
-pub(crate) fn report_rows<'a, A: Allocator, W: Write>(
+fn report_rows<'a, A: Allocator, W: Write>(
     request: &Request<'_>,
     database: &Database<'a, A>,
     chosen: &Columns<A>,
     marked: &MarkedRows<A>,
     to: &mut W,
 ) -> RunEnd
-    requires chosen { chosen.now ≡ columns database.now.statements request.now.only }
-    requires marked { IsMatrixOf request.now.essential request.now.with_open database.now
+    requires columns_are { chosen.now ≡ columns database.now.statements request.now.only }
+    requires is_matrix { IsMatrixOf request.now.essential request.now.with_open database.now
         chosen.now marked.now }
-    requires choice { request.now.choice ≡ choices.Citations → ⊥ }
+    requires is_no_citations { request.now.choice ≡ choices.Citations → ⊥ }
     requires no_usage { has_section request.now.choice choices.Usage ≡ false }
     ensures { Answers result database.now.text request.now (W.contents to.old)
         (W.contents to.new) }
@@ -110,17 +110,16 @@ pub(crate) fn report_rows<'a, A: Allocator, W: Write>(
 }
 
 /// Writes the report of what each theorem rests on, for a database without a fault.
-fn report_dependence<'a, R: Threads + Sync, A: Allocator + Copy + Send + Sync, W: Write>(
-    rt: &R,
+fn report_dependence<'a, A: Allocator + Copy, W: Write>(
     alloc: A,
     request: &Request<'_>,
     database: &Database<'a, A>,
     citations: &Citations<A>,
     to: &mut W,
 ) -> RunEnd
-    requires judged { IsJudged request.now.essential request.now.with_open database.now
+    requires is_judged { IsJudged request.now.essential request.now.with_open database.now
         citations.now }
-    requires choice { request.now.choice ≡ choices.Citations → ⊥ }
+    requires is_no_citations { request.now.choice ≡ choices.Citations → ⊥ }
     ensures { Answers result database.now.text request.now (W.contents to.old)
         (W.contents to.new) }
 {
@@ -128,36 +127,41 @@ fn report_dependence<'a, R: Threads + Sync, A: Allocator + Copy + Send + Sync, W
         return RunEnd::NoMemory;
     };
     if has_usage(request.choice) {
-        match matrix(rt, alloc, citations, &chosen) {
+        match matrix_alone(alloc, citations, &chosen) {
             Ok(matrix) => report_usage(request, database, &chosen, &matrix, to),
             Err(_) => RunEnd::NoMemory,
         }
     } else {
-        match marked_rows(rt, alloc, citations, &chosen) {
+        match marked_rows_alone(alloc, citations, &chosen) {
             Ok(marked) => report_rows(request, database, &chosen, &marked, to),
             Err(_) => RunEnd::NoMemory,
         }
     }
 }
 
-/// Writes the report requested of a database without a fault.
-fn report<'a, R: Threads + Sync, A: Allocator + Copy + Send + Sync, W: Write>(
-    rt: &R,
+/// Writes the output of a judged text: the refusal for its first fault, or the report that is
+/// requested. `text` is the text that was judged, and the request has the flags `essential` and
+/// `with_open` with which it was judged. One judged text serves any number of such requests.
+pub fn write_judged<'a, A: Allocator + Copy, W: Write>(
     alloc: A,
+    text: &[u8],
     request: &Request<'_>,
-    database: &Database<'a, A>,
-    citations: &Citations<A>,
+    judged: &JudgedText<'a, A>,
     to: &mut W,
 ) -> RunEnd
-    requires judged { IsJudged request.now.essential request.now.with_open database.now
-        citations.now }
-    ensures { Answers result database.now.text request.now (W.contents to.old)
-        (W.contents to.new) }
+    requires is_judged { IsJudgedText text.now request.now.essential request.now.with_open
+        judged.now }
+    ensures { Answers result text.now request.now (W.contents to.old) (W.contents to.new) }
 {
-    if request.choice == Choice::Citations {
-        report_citations(alloc, request, database, citations, to)
-    } else {
-        report_dependence(rt, alloc, request, database, citations, to)
+    match judged {
+        JudgedText::Faulty(fault) => refuse(text, *fault, to),
+        JudgedText::Sound(database, citations) => {
+            if request.choice == Choice::Citations {
+                report_citations(alloc, request, database, citations, to)
+            } else {
+                report_dependence(alloc, request, database, citations, to)
+            }
+        }
     }
 }
 
@@ -177,6 +181,25 @@ fn database_of<'a, R: Threads + Sync, A: Allocator + Copy + Send + Sync>(
     read_owned(alloc, text, lexed, plan.with_open)
 }
 
+/// Checks all proofs of a database: on the calling thread alone, if the plan has one worker. Fails
+/// only if out of memory.
+fn check<'a, R: Threads + Wait + Sync, A: Allocator + Copy + Send + Sync>(
+    rt: &R,
+    alloc: A,
+    database: &Database<'a, A>,
+    plan: &Plan<A>,
+) -> Result<Judged<A>, AllocError>
+    requires is_lawful { IsLawfulPlan plan.now }
+    ensures { IfOk result (λ judged. IsJudgement database.now.statements plan.now.essential
+        judged) }
+{
+    if plan.workers == 1 {
+        check_alone(alloc, database, plan.essential)
+    } else {
+        check_all(rt, alloc, database, plan.workers, plan.essential, &Open)
+    }
+}
+
 /// Writes the output of a text: the refusal for its first fault, or the report that the plan
 /// requests.
 pub fn answer<R: Threads + Wait + Sync, A: Allocator + Copy + Send + Sync, W: Write>(
@@ -194,16 +217,9 @@ pub fn answer<R: Threads + Wait + Sync, A: Allocator + Copy + Send + Sync, W: Wr
     let Ok(database) = database_of(rt, alloc, text, plan) else {
         return RunEnd::NoMemory;
     };
-    if plan.workers == 1 {
-        return answer_by_one(alloc, text, &plan.request(), database, to);
-    }
-    let Ok(judged) = check_all(rt, alloc, &database, plan.workers, plan.essential, &Open) else {
+    let Ok(judged) = check(rt, alloc, &database, plan) else {
         return RunEnd::NoMemory;
     };
-    match judged_text(database, judged) {
-        JudgedText::Faulty(fault) => refuse(text, fault, to),
-        JudgedText::Sound(database, citations) => {
-            report(rt, alloc, &plan.request(), &database, &citations, to)
-        }
-    }
+    let judged = judged_text(database, judged);
+    write_judged(alloc, text, &plan.request(), &judged, to)
 }

@@ -10,7 +10,8 @@ use Rattle.mm_spec.specs.Statement.{Statement, constants, variables, disjoint, f
 use Rattle.mm_spec.specs.Statement.{axiomatic, provable, opening, closing, is_closing, label_of}
 use Rattle.mm_spec.specs.Scope.{Names, names_before, depth, active_statements, variables_of}
 use Rattle.mm_spec.specs.Scope.{constants_of, label_words, typings_of}
-use Rattle.mm_spec.specs.Lawful.{least, scope_faults, at, at_each, when, is_empty, constant_codes}
+use Rattle.mm_spec.specs.Lawful.{least, scope_faults, faults_at, faults_at_each, when, is_empty}
+use Rattle.mm_spec.specs.Lawful.{constant_codes}
 use Rattle.mm_spec.specs.Lawful.{variable_codes, label_faults, floating_faults}
 use Rattle.mm_spec.specs.declared.Word as spec
 use Rattle.mm_spec.specs.declared.Code.TheVariants.{ConstantInBlock, EmptyDeclaration}
@@ -18,9 +19,8 @@ use Rattle.std.specs.Prelude.{nat_lt}
 use Rattle.std.proofs.Math.Bool.{or-false, or-true}
 use Rattle.mm_spec.proofs.FaultlessLaw.{both_are_empty, no_least_no_faults}
 use Rattle.mm_outline.specs.Blocks.{BlockLists, IsBlocks, never, pushed}
-use Rattle.mm_scope.specs.WordEntry.{WordEntry, entry_of, declared_entry, typed_entry}
-use Rattle.mm_scope.specs.WordEntry.{IsEntryOf, gives_other_typecode, is_constant_entry}
-use Rattle.mm_scope.specs.WordEntry.{is_variable_entry}
+use Rattle.mm_scope.specs.WordEntry.{WordEntry, entry_of, declared_entry, typed_entry, IsEntryOf}
+use Rattle.mm_scope.specs.WordEntry.{gives_other_typecode, is_constant_entry, is_variable_entry}
 use Rattle.mm_scope.specs.WordEntry.{entry_after, label_after}
 use Rattle.mm_outline.specs.Parts.{statement_between}
 use Rattle.mm_scope.specs.ReadSoFar.{KnowsStatements}
@@ -67,9 +67,9 @@ module _ (db : List Statement) (db_lt_never : length db < never) (w : Bytes) whe
   -- the entry of a word after a `$c`
   entry_after_constants : (k : ℕ) (xs : List Token) (e : ℕ) (x : Option WordEntry)
       → IsEntryOf db w x
-      → at_each (constant_codes n) [] xs ≡ []
+      → faults_at_each (constant_codes n) [] xs ≡ []
       → IsEntryOf (db ++ constants k xs e ∷ []) w (entry_after (length db) (constants k xs e) w x)
-  entry_after_constants k xs e x x_is_entry no_fault = by_is_in (is_in w (words xs)) refl
+  entry_after_constants k xs e x x_is_entry no_fault = is_entry (is_in w (words xs)) refl
     where
       fresh : (x : Option WordEntry) → IsEntryOf db w x → is_constant_entry x ≡ false
           → is_variable_entry x ≡ false → is_in w (words xs) ≡ true
@@ -80,14 +80,14 @@ module _ (db : List Statement) (db_lt_never : length db < never) (w : Bytes) whe
       fresh (Some o) x_is_entry is_no_constant is_no_variable w_in_xs =
           absurd (true≢false (sym (ap not is_no_variable) ∙ is_no_constant))
 
-      by_is_in : (b : Bool) → is_in w (words xs) ≡ b
+      is_entry : (b : Bool) → is_in w (words xs) ≡ b
           → IsEntryOf (db ++ constants k xs e ∷ []) w
           (if b then declared_entry false (length db) w x else x)
-      by_is_in false w_in_xs =
+      is_entry false w_in_xs =
           entry_is_unchanged db (constants k xs e) w x x_is_entry
           (in_append_nil (words xs) false w_in_xs) refl
           refl
-      by_is_in true w_in_xs =
+      is_entry true w_in_xs =
           let undeclared = faultless_constant_is_new n xs no_fault w w_in_xs in
           fresh x x_is_entry (no_constant_entry x x_is_entry undeclared.0)
           (no_variable_entry x x_is_entry undeclared.1) w_in_xs
@@ -95,17 +95,17 @@ module _ (db : List Statement) (db_lt_never : length db < never) (w : Bytes) whe
   -- the entry of a word after a `$v`
   entry_after_variables : (k : ℕ) (xs : List Token) (e : ℕ) (x : Option WordEntry)
       → IsEntryOf db w x
-      → at_each (variable_codes n) [] xs ≡ []
+      → faults_at_each (variable_codes n) [] xs ≡ []
       → IsEntryOf (db ++ variables k xs e ∷ []) w (entry_after (length db) (variables k xs e) w x)
-  entry_after_variables k xs e x x_is_entry no_fault = by_is_in (is_in w (words xs)) refl
+  entry_after_variables k xs e x x_is_entry no_fault = is_entry (is_in w (words xs)) refl
     where
-      by_is_in : (b : Bool) → is_in w (words xs) ≡ b
+      is_entry : (b : Bool) → is_in w (words xs) ≡ b
           → IsEntryOf (db ++ variables k xs e ∷ []) w
           (if b then declared_entry true (length db) w x else x)
-      by_is_in false w_in_xs =
+      is_entry false w_in_xs =
           entry_is_unchanged db (variables k xs e) w x x_is_entry refl
           (in_append_nil (words xs) false w_in_xs) refl
-      by_is_in true w_in_xs =
+      is_entry true w_in_xs =
           let undeclared = faultless_variable_is_new n xs no_fault w w_in_xs in
           entry_of_new_variable db (variables k xs e) w x x_is_entry
           (no_constant_entry x x_is_entry undeclared.0) undeclared.1 refl
@@ -116,7 +116,7 @@ module _ (db : List Statement) (db_lt_never : length db < never) (w : Bytes) whe
       → IsEntryOf db w x → floating_faults n k (c ∷ v ∷ []) ≡ []
       → IsEntryOf (db ++ floating l k (c ∷ v ∷ []) e ∷ []) w
       (entry_after (length db) (floating l k (c ∷ v ∷ []) e) w x)
-  entry_after_floating l k c v e x x_is_entry no_fault = by_equality (bytes_eq v.word w) refl
+  entry_after_floating l k c v e x x_is_entry no_fault = is_entry (bytes_eq v.word w) refl
     where
       typed_word_has_entry : (x : Option WordEntry) → IsEntryOf db w x → v.word ≡ w
           → IsEntryOf (db ++ floating l k (c ∷ v ∷ []) e ∷ []) w (typed_entry (length db) c.word x)
@@ -137,13 +137,13 @@ module _ (db : List Statement) (db_lt_never : length db < never) (w : Bytes) whe
           ∙ untyped.2)
           refl refl (ap (λ u. record { typecode = c.word; variable = u } ∷ []) v_is_w)
 
-      by_equality : (b : Bool) → bytes_eq v.word w ≡ b
+      is_entry : (b : Bool) → bytes_eq v.word w ≡ b
           → IsEntryOf (db ++ floating l k (c ∷ v ∷ []) e ∷ []) w
           (if b then typed_entry (length db) c.word x else x)
-      by_equality false v_eq_w =
+      is_entry false v_eq_w =
           entry_is_unchanged db (floating l k (c ∷ v ∷ []) e) w x x_is_entry refl refl
           (ap (λ b. b || false) (bytes_eq_sym w v.word ∙ v_eq_w))
-      by_equality true v_eq_w =
+      is_entry true v_eq_w =
           typed_word_has_entry x x_is_entry ((bytes_eq-Decides v.word w).0 v_eq_w)
 
   -- what is known of the word after a lawful statement
@@ -151,13 +151,13 @@ module _ (db : List Statement) (db_lt_never : length db < never) (w : Bytes) whe
       → scope_faults n d s ≡ [] → IsEntryOf (db ++ s ∷ []) w (entry_after (length db) s w x)
   entry_after_statement (constants k xs e) d x x_is_entry no_fault =
       entry_after_constants k xs e x x_is_entry
-      (both_are_empty
-      (at k (when (nat_lt 0 d) ConstantInBlock) ++ at e (when (is_empty n xs) EmptyDeclaration))
-      (at_each (constant_codes n) [] xs) no_fault).1
+      (both_are_empty (faults_at k (when (nat_lt 0 d) ConstantInBlock)
+      ++ faults_at e (when (is_empty xs) EmptyDeclaration))
+      (faults_at_each (constant_codes n) [] xs) no_fault).1
   entry_after_statement (variables k xs e) d x x_is_entry no_fault =
       entry_after_variables k xs e x x_is_entry
-      (both_are_empty (at e (when (is_empty n xs) EmptyDeclaration))
-      (at_each (variable_codes n) [] xs) no_fault).1
+      (both_are_empty (faults_at e (when (is_empty xs) EmptyDeclaration))
+      (faults_at_each (variable_codes n) [] xs) no_fault).1
   entry_after_statement (floating l k [] e) d x x_is_entry no_fault =
       absurd (let floating_has_no_fault =
       (both_are_empty (label_faults n l) (floating_faults n k []) no_fault).1 in cc)
@@ -191,19 +191,19 @@ module _ (db : List Statement) (db_lt_never : length db < never) (w : Bytes) whe
   is_label_after_statement s m o is_label_before =
       in_flat_map_push db s w label_words
       ∙ ap (λ b. b || is_in w (label_words s ++ [])) is_label_before
-      ∙ by_token (label_of s)
+      ∙ is_label_after (label_of s)
     where
-      by_word : (l : Token) (b : Bool) → bytes_eq w l.word ≡ b
+      tests_agree : (l : Token) (b : Bool) → bytes_eq w l.word ≡ b
           → (is_some o || (b || false)) ≡ is_some (if b then Some m else o)
-      by_word l true w_eq_l = or-true (is_some o)
-      by_word l false w_eq_l = or-false (is_some o)
+      tests_agree l true w_eq_l = or-true (is_some o)
+      tests_agree l false w_eq_l = or-false (is_some o)
 
-      by_token : (q : Option Token)
+      is_label_after : (q : Option Token)
           → (is_some o || is_in w (elim q [ None ↦ [] | Some l ↦ l.word ∷ [] ] ++ []))
           ≡ is_some (label_after m q w o)
-      by_token None = or-false (is_some o)
-      by_token (Some l) =
-          by_word l (bytes_eq w l.word) refl
+      is_label_after None = or-false (is_some o)
+      is_label_after (Some l) =
+          tests_agree l (bytes_eq w l.word) refl
           ∙ ap (λ b. is_some (if b then Some m else o)) (bytes_eq_sym w l.word)
 
 module _ (text : List ℕ) (ws : List spec.Word) (db : List Statement) (b : BlockLists)
@@ -253,21 +253,22 @@ pub knows_after_statement : (text : List ℕ) (ws : List spec.Word) (db : List S
     ≡ None
     → (is_closing (statement_between text ws k p m e) ≡ true → 0 < depth db (length db))
     → (c : BlockLists)
-    → c ≡ pushed k b → (number : ℕ) → number ≡ length b.block_of
+    → c ≡ pushed k b → (statement : ℕ) → statement ≡ length b.block_of
     → (new : List ℕ → Option Symbol)
     → ((w : List ℕ)
-    → entry_of (new w) ≡ entry_after number (statement_between text ws k p m e) w
+    → entry_of (new w) ≡ entry_after statement (statement_between text ws k p m e) w
     (entry_of (look w)))
-    → (names : List ℕ → Option ℕ)
+    → (new_labels : List ℕ → Option ℕ)
     → ((w : List ℕ)
-    → names w ≡ label_after number (label_of (statement_between text ws k p m e)) w (labels w))
-    → KnowsStatements (db ++ statement_between text ws k p m e ∷ []) new names c
+    → new_labels w ≡ label_after statement (label_of (statement_between text ws k p m e)) w (labels
+    w))
+    → KnowsStatements (db ++ statement_between text ws k p m e ∷ []) new new_labels c
 knows_after_statement text ws db look labels b knows db_lt_never k p m e no_fault closes_open_block
-    c c_is_pushed number number_is_length new
+    c c_is_pushed statement statement_is_length new
     entries_after
-    names labels_after =
+    new_labels labels_after =
     let s = statement_between text ws k p m e in
-    let number_is_db_length : number ≡ length db = number_is_length ∙ knows.blocks.count in
+    let statement_is_db_length : statement ≡ length db = statement_is_length ∙ knows.blocks.count in
     record {
       blocks =
           subst (IsBlocks (db ++ statement_between text ws k p m e ∷ [])) (sym c_is_pushed)
@@ -275,7 +276,7 @@ knows_after_statement text ws db look labels b knows db_lt_never k p m e no_faul
       symbols =
           λ w. subst (IsEntryOf (db ++ statement_between text ws k p m e ∷ []) w)
           (sym (entries_after w ∙ ap (λ i. entry_after i (statement_between text ws k p m e) w
-          (entry_of (look w))) number_is_db_length))
+          (entry_of (look w))) statement_is_db_length))
           (entry_after_statement db db_lt_never w (statement_between text ws k p m e)
           (depth db (length db))
           (entry_of (look w))
@@ -285,14 +286,15 @@ knows_after_statement text ws db look labels b knows db_lt_never k p m e no_faul
           (statement_between text ws k p m e))
           no_fault));
       labels_known =
-          λ w. is_label_after_statement db db_lt_never w (statement_between text ws k p m e) number
+          λ w. is_label_after_statement db db_lt_never w (statement_between text ws k p m e)
+          statement
           (labels w)
           (knows.labels_known w)
           ∙ ap is_some (sym (labels_after w));
       labels_are =
-          labels_after_statement db s labels names knows.labels_are
+          labels_after_statement db s labels new_labels knows.labels_are
           (λ w. labels_after w
-          ∙ ap (λ i. label_after i (label_of s) w (labels w)) number_is_db_length)
+          ∙ ap (λ i. label_after i (label_of s) w (labels w)) statement_is_db_length)
           (label_stands_for_nothing db labels knows.labels_known (depth db (length db)) s
           (no_least_no_faults (scope_faults (names_before db (length db)) (depth db (length db)) s)
           no_fault));

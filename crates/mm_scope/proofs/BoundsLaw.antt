@@ -136,15 +136,15 @@ front_flat_map_no_longer f xs ys =
 first_occurrences_no_longer : (e ws : List Bytes) → length (first_occurrences e ws) ≤ length ws
 first_occurrences_no_longer e [] = omega arith
 first_occurrences_no_longer e (w ∷ ws) =
-    by_is_in (is_in w e) (first_occurrences_no_longer e ws) (first_occurrences_no_longer (w ∷ e) ws)
+    at_most (is_in w e) (first_occurrences_no_longer e ws) (first_occurrences_no_longer (w ∷ e) ws)
   where
-    by_is_in : (b : Bool) → length (first_occurrences e ws) ≤ length ws
+    at_most : (b : Bool) → length (first_occurrences e ws) ≤ length ws
         → length (first_occurrences (w ∷ e) ws) ≤ length ws
         → length {A = Bytes}
         (elim b [ true ↦ first_occurrences e ws | false ↦ w ∷ first_occurrences (w ∷ e) ws ])
         ≤ suc (length ws)
-    by_is_in true unchanged_le extended_le = omega (arith, unchanged_le)
-    by_is_in false unchanged_le extended_le = omega (arith, extended_le)
+    at_most true unchanged_le extended_le = omega (arith, unchanged_le)
+    at_most false unchanged_le extended_le = omega (arith, extended_le)
 
 -- statements that stand in front of a list of statements, which are the first of the tokens
 module _ (ts later_tokens : List Token) (list : List Statement)

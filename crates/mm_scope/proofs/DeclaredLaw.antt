@@ -41,7 +41,7 @@ module _ (text : List ℕ) (ws : List Word) (from i : ℕ) (from_le_i : from ≤
       ≡ (if is_in w (words (between text ws from (i + 1))) then declared_entry v n w
       (entry_of (old w)) else entry_of (old w))
   declared_with_next_word v n s old cur new new_adds_word s_is_declared cur_is_declared w =
-      ap entry_of (new_adds_word w) ∙ by_equality (bytes_eq next_word w) refl
+      ap entry_of (new_adds_word w) ∙ entry_is_declared (bytes_eq next_word w) refl
       ∙ ap (λ b. if b then declared_entry v n w (entry_of (old w)) else entry_of (old w))
       (sym (in_between_push text ws from i from_le_i i_lt_length w))
     where
@@ -50,20 +50,20 @@ module _ (text : List ℕ) (ws : List Word) (from i : ℕ) (from_le_i : from ≤
       declaring_after_choice_is_once true o = declared_twice_is_once v n w o
       declaring_after_choice_is_once false o = refl
 
-      by_equality : (b : Bool) → bytes_eq next_word w ≡ b
+      entry_is_declared : (b : Bool) → bytes_eq next_word w ≡ b
           → entry_of (if b then Some s else cur w)
           ≡ (if is_in w so_far
           || (bytes_eq next_word w || false) then declared_entry v n w
           (entry_of (old w)) else entry_of
           (old w))
-      by_equality true next_word_eq_w =
+      entry_is_declared true next_word_eq_w =
           let next_word_is_w : next_word ≡ w = (bytes_eq-Decides next_word w).0 next_word_eq_w in
           s_is_declared ∙ ap (λ x. declared_entry v n x (entry_of (cur x))) next_word_is_w
           ∙ ap (declared_entry v n w) (cur_is_declared w)
           ∙ declaring_after_choice_is_once (is_in w so_far) (entry_of (old w))
           ∙ ap (λ b. if b then declared_entry v n w (entry_of (old w)) else entry_of (old w))
           (sym (ap (λ b. is_in w so_far || (b || false)) next_word_eq_w ∙ or-true (is_in w so_far)))
-      by_equality false next_word_eq_w =
+      entry_is_declared false next_word_eq_w =
           cur_is_declared w
           ∙ ap (λ b. if b then declared_entry v n w (entry_of (old w)) else entry_of (old w))
           (sym (ap (λ b. is_in w so_far || (b || false)) next_word_eq_w

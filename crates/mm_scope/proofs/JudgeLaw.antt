@@ -1,9 +1,8 @@
 -- The least of faults, symbol by symbol.
-use Rattle.std.proofs.Common.{◌≡◌, ◌≢◌, ℕ, suc, ◌+◌, ◌-◌, ◌<◌, ◌≤◌, false, ◌||◌}
-use Rattle.std.proofs.Common.{List, [], ◌∷◌, ◌++◌, length, Option, None, Some, refl}
-use Rattle.std.proofs.Common.{ap, ap₂, sym, ◌∙◌, arith, append-nil, append_assoc}
-use Rattle.std.proofs.Common.{bytes_eq, map, if◌then◌else◌, is_some, take, drop, drop-cons, add-one}
-use Rattle.std.proofs.Common.{length-drop, nat_eq}
+use Rattle.std.proofs.Common.{◌≡◌, ◌≢◌, ℕ, suc, ◌+◌, ◌-◌, ◌<◌, ◌≤◌, false, ◌||◌, List, [], ◌∷◌}
+use Rattle.std.proofs.Common.{◌++◌, length, Option, None, Some, refl, ap, ap₂, sym, ◌∙◌, arith}
+use Rattle.std.proofs.Common.{append-nil, append_assoc, bytes_eq, map, if◌then◌else◌, is_some, take}
+use Rattle.std.proofs.Common.{drop, drop-cons, add-one, length-drop, nat_eq}
 use Rattle.std.proofs.lemmas.List.{length-take-le, length-map, map-append}
 use Rattle.std.proofs.lemmas.List.Folds.{list_any-append}
 use Rattle.std.proofs.Math.Bool.{or-false}
@@ -13,7 +12,8 @@ use Rattle.std.proofs.lemmas.Grind.{common_steps}
 use Rattle.mm_spec.specs.Text.{Bytes, Token, fault, is_in, words}
 use Rattle.mm_spec.specs.declared.Fault.{Fault}
 use Rattle.mm_spec.specs.Scope.{Names}
-use Rattle.mm_spec.specs.Lawful.{at, at_each, floating_faults, is_empty, least, lesser}
+use Rattle.mm_spec.specs.Lawful.{faults_at, faults_at_each, floating_faults, is_empty, least}
+use Rattle.mm_spec.specs.Lawful.{lesser}
 use Rattle.mm_spec.specs.declared.Word as spec
 use Rattle.mm_outline.specs.Parts.{between, token_at, token_of, nth_word}
 use Rattle.mm_outline.proofs.TurnsLaw.{between_with_one_more, nothing_between_place_and_itself}
@@ -58,12 +58,12 @@ in_before_next : (w : Bytes) (e : List Bytes) (xs : List Token)
 in_before_next w e [] = refl
 in_before_next w e (x ∷ xs) = grind (arith, in_before_next w (x.word ∷ e) xs)
 
-at_each_snoc : (codes : List Bytes → Bytes → List Code) (e : List Bytes) (xs : List Token)
+at_each_push : (codes : List Bytes → Bytes → List Code) (e : List Bytes) (xs : List Token)
     → (t : Token)
-    → at_each codes e (xs ++ t ∷ [])
-    ≡ at_each codes e xs ++ at t.at (codes (before_next e xs) t.word)
-at_each_snoc codes e [] t = append-nil (at t.at (codes e t.word))
-at_each_snoc codes e (x ∷ xs) t = simp (at_each_snoc codes (x.word ∷ e) xs t, append_assoc)
+    → faults_at_each codes e (xs ++ t ∷ [])
+    ≡ faults_at_each codes e xs ++ faults_at t.at (codes (before_next e xs) t.word)
+at_each_push codes e [] t = append-nil (faults_at t.at (codes e t.word))
+at_each_push codes e (x ∷ xs) t = simp (at_each_push codes (x.word ∷ e) xs t, append_assoc)
 
 module _ (text : List ℕ) (ws : List spec.Word) (from i : ℕ) where
   -- the words before the one at i
@@ -83,11 +83,11 @@ module _ (text : List ℕ) (ws : List spec.Word) (from i : ℕ) where
   -- the faults of the words with one symbol more are those of the earlier words, followed by those
   -- of the symbol
   pub at_each_between_push : from ≤ i → i < length ws → (codes : List Bytes → Bytes → List Code)
-      → at_each codes [] (between text ws from (i + 1))
-      ≡ at_each codes [] (between text ws from i)
-      ++ at (token_at text ws i).at (codes earlier next_word)
+      → faults_at_each codes [] (between text ws from (i + 1))
+      ≡ faults_at_each codes [] (between text ws from i)
+      ++ faults_at (token_at text ws i).at (codes earlier next_word)
   at_each_between_push from_le_i i_lt_length codes =
-      rw (between_with_one_more text ws from i from_le_i i_lt_length, at_each_snoc) refl
+      rw (between_with_one_more text ws from i from_le_i i_lt_length, at_each_push) refl
 
   -- a word is among the words with one more exactly if it is among the earlier ones or is that one
   pub in_between_push : from ≤ i → i < length ws → (w : Bytes)
@@ -163,16 +163,16 @@ between_is_two_tokens text ws k j j_le_length width_is_3 =
     )
 
 -- a list without length is empty
-no_length_is_empty : (n : Names) (xs : List Token) → nat_eq (length xs) 0 ≡ is_empty n xs
-no_length_is_empty n [] = refl
-no_length_is_empty n (x ∷ xs) = grind arith
+no_length_is_empty : (xs : List Token) → nat_eq (length xs) 0 ≡ is_empty xs
+no_length_is_empty [] = refl
+no_length_is_empty (x ∷ xs) = grind arith
 
 -- whether there are no words
-pub nothing_between_is_empty : (n : Names) (text : List ℕ) (ws : List spec.Word) (k j : ℕ) → k < j
+pub nothing_between_is_empty : (text : List ℕ) (ws : List spec.Word) (k j : ℕ) → k < j
     → j ≤ length ws
-    → nat_eq (j - k - 1) 0 ≡ is_empty n (between text ws (k + 1) j)
-nothing_between_is_empty n text ws k j k_lt_j j_le_length =
+    → nat_eq (j - k - 1) 0 ≡ is_empty (between text ws (k + 1) j)
+nothing_between_is_empty text ws k j k_lt_j j_le_length =
     let between_length = length_between text ws (k + 1) j (omega arith) j_le_length in
     let count_is_length : j - k - 1 ≡ length (between text ws (k + 1) j) =
     omega (arith, between_length) in
-    rw count_is_length (no_length_is_empty n (between text ws (k + 1) j))
+    rw count_is_length (no_length_is_empty (between text ws (k + 1) j))

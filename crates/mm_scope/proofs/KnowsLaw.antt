@@ -9,15 +9,13 @@ use Rattle.std.specs.List.{list_any}
 use Rattle.std.proofs.Math.Bool.{and-false}
 use Rattle.mm_spec.specs.Text.{Bytes, is_in}
 use Rattle.mm_spec.specs.Statement.{Statement}
-use Rattle.mm_spec.specs.Scope.{names_before, active_statements, is_active, variables_of}
+use Rattle.mm_spec.specs.Scope.{names_before, active_statements, active_at, variables_of}
 use Rattle.mm_spec.specs.Scope.{constants_of, label_words, typings_of}
 use Rattle.mm_outline.specs.Blocks.{BlockLists, IsBlocks, never, end_in, is_never, is_open_in}
 use Rattle.mm_scope.specs.Knows as judge
 use Rattle.mm_scope.specs.Knows.{Knows, has_other_typecode, is_typed_here}
-use Rattle.mm_scope.specs.WordEntry.{entry_of}
-use Rattle.mm_scope.specs.WordEntry.{IsEntryOf, typed_by, typecode_by, gives_other_typecode}
-use Rattle.mm_scope.specs.WordEntry.{is_constant_entry}
-use Rattle.mm_scope.specs.WordEntry.{is_variable_entry}
+use Rattle.mm_scope.specs.WordEntry.{entry_of, IsEntryOf, typed_by, typecode_by}
+use Rattle.mm_scope.specs.WordEntry.{gives_other_typecode, is_constant_entry, is_variable_entry}
 use Rattle.mm_outline.specs.Typed.{has_word, typed_words}
 use Rattle.mm_scope.specs.ReadSoFar.{KnowsStatements}
 use Rattle.mm_database.specs.Names.{is_constant_in, is_variable_in}
@@ -46,11 +44,11 @@ pub no_active_statement_has_word : (db : List Statement) (f : Statement → List
     → is_in w (flat_map f db) ≡ false
     → is_in w (flat_map f (active_statements db (length db))) ≡ false
 no_active_statement_has_word db f w w_not_in_db =
-    word_of_active_is_any db f w (λ j. is_active db j (length db)) (length db) 0
-    ∙ none_passes_no_any (λ j. is_active db j (length db) && has_word db f w j) (length db) 0
-    (λ j j_lt_length. ap (λ b. is_active db j (length db) && b)
+    word_of_active_is_any db f w (λ j. active_at db j (length db)) (length db) 0
+    ∙ none_passes_no_any (λ j. active_at db j (length db) && has_word db f w j) (length db) 0
+    (λ j j_lt_length. ap (λ b. active_at db j (length db) && b)
     (no_statement_has_word db f w w_not_in_db j)
-    ∙ and-false (is_active db j (length db)))
+    ∙ and-false (active_at db j (length db)))
 
 -- no block is open by the number that stands for no statement
 never_is_not_open : (b : BlockLists) → length b.block_of ≤ never → is_open_in b never ≡ false
@@ -66,17 +64,17 @@ module _ (db : List Statement) (b : BlockLists) (are_blocks : IsBlocks db b)
       ≡ judge.is_active_variable (is_open_in b) o
   in_active_is_active_variable None is_entry =
       no_active_statement_has_word db variables_of w is_entry.variable_is_known
-  in_active_is_active_variable (Some s) is_entry = by_test s.is_variable refl
+  in_active_is_active_variable (Some s) is_entry = in_active_is_open s.is_variable refl
     where
-      by_test : (v : Bool) → s.is_variable ≡ v
+      in_active_is_open : (v : Bool) → s.is_variable ≡ v
           → is_in w (flat_map variables_of (active_statements db (length db)))
-          ≡ (v && is_open_in b s.declared)
-      by_test true is_variable_is_v =
+          ≡ (v && is_open_in b s.declaration)
+      in_active_is_open true is_variable_is_v =
           let last_declares_w = is_entry.declaration_is_latest is_variable_is_v in
-          in_active_iff_latest_active db variables_of w s.declared last_declares_w
+          in_active_iff_latest_active db variables_of w s.declaration last_declares_w
           ∙ latest_active_is_open db b are_blocks db_lt_never variables_of w
-          (declarations_are_local w) s.declared last_declares_w
-      by_test false is_variable_is_v =
+          (declarations_are_local w) s.declaration last_declares_w
+      in_active_is_open false is_variable_is_v =
           no_active_statement_has_word db variables_of w
           (is_entry.variable_is_known ∙ is_variable_is_v)
 
@@ -86,22 +84,22 @@ module _ (db : List Statement) (b : BlockLists) (are_blocks : IsBlocks db b)
       ≡ is_typed_here (is_open_in b) o
   in_active_is_typed_here None is_entry =
       no_active_statement_has_word db typed_words w (is_entry.untyped_has_no_typing refl)
-  in_active_is_typed_here (Some s) is_entry = by_case (cases_eq s.typed never)
+  in_active_is_typed_here (Some s) is_entry = in_active_is_open (cases_eq s.typing never)
     where
-      by_case : (s.typed ≡ never) ⊎ (s.typed ≢ never)
+      in_active_is_open : (s.typing ≡ never) ⊎ (s.typing ≢ never)
           → is_in w (flat_map typed_words (active_statements db (length db)))
-          ≡ is_open_in b s.typed
-      by_case (inl typed_is_never) =
+          ≡ is_open_in b s.typing
+      in_active_is_open (inl typed_is_never) =
           no_active_statement_has_word db typed_words w
           (is_entry.untyped_has_no_typing typed_is_never)
           ∙ sym (ap (is_open_in b) typed_is_never
           ∙ never_is_not_open b (let block_count = are_blocks.count in
           omega (arith, block_count, db_lt_never)))
-      by_case (inr typed_ne_never) =
+      in_active_is_open (inr typed_ne_never) =
           let last_types_w = is_entry.typing_is_latest typed_ne_never in
-          in_active_iff_latest_active db typed_words w s.typed last_types_w
+          in_active_iff_latest_active db typed_words w s.typing last_types_w
           ∙ latest_active_is_open db b are_blocks db_lt_never typed_words w
-          (typings_are_local w) s.typed last_types_w
+          (typings_are_local w) s.typing last_types_w
 
 constant_entry_is_constant_in : (o : Option Symbol)
     → is_constant_entry (entry_of o) ≡ is_constant_in o
@@ -142,10 +140,10 @@ scope_knows_names db look labels b knows db_lt_never =
       labels_known = λ w. ap (λ xs. is_in w (flat_map label_words xs)) take_length_is_db
           ∙ knows.labels_known w;
       typed =
-          λ w is_active. typed_word_is_typing w (active_statements db (length db))
+          λ w active_at. typed_word_is_typing w (active_statements db (length db))
           ∙ in_active_is_typed_here db b knows.blocks db_lt_never w (look w) (knows.symbols w);
       other_typecode =
-          λ c w is_active. ap (λ xs. list_any (gives_other_typecode c w) (flat_map typings_of xs))
+          λ c w active_at. ap (λ xs. list_any (gives_other_typecode c w) (flat_map typings_of xs))
           take_length_is_db
           ∙ (knows.symbols w).other_typecode c ∙ other_entry_is_other_typecode c (look w);
     }

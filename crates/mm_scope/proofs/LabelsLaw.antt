@@ -77,15 +77,15 @@ module _ (db : List Statement) (s : Statement) (find new : List ℕ → Option �
         new_is_label_after,
       )
   labelled_or_unchanged w (Some l) label_is_o new_is_label_after =
-      by_equality (bytes_eq l.word w)
+      has_label_or_not (bytes_eq l.word w)
       (ap (λ o. elim o [ None ↦ false | Some l ↦ bytes_eq l.word w ]) label_is_o) new_is_label_after
     where
-      by_equality : (b : Bool) → is_labelled w s ≡ b
+      has_label_or_not : (b : Bool) → is_labelled w s ≡ b
           → new w ≡ (if b then Some (length db) else find w)
           → ((is_labelled w s ≡ true) × (new w ≡ Some (length db)))
           ⊎ ((is_labelled w s ≡ false) × (new w ≡ find w))
-      by_equality true labelled_is_b new_is_choice = inl (labelled_is_b, new_is_choice)
-      by_equality false labelled_is_b new_is_choice = inr (labelled_is_b, new_is_choice)
+      has_label_or_not true labelled_is_b new_is_choice = inl (labelled_is_b, new_is_choice)
+      has_label_or_not false labelled_is_b new_is_choice = inr (labelled_is_b, new_is_choice)
 
   -- the map with the label of one statement more is that of the statements with this one
   pub labels_after_statement : ((w : Bytes)
@@ -180,16 +180,16 @@ pub label_stands_for_nothing : (db : List Statement) (find : List ℕ → Option
     → scope_faults (names_before db (length db)) d s ≡ [] → (w : Bytes) → is_labelled w s ≡ true
     → find w ≡ None
 label_stands_for_nothing db find known_if_label d s no_fault w w_labels_s =
-    by_token (label_of s) refl w_labels_s
+    w_stands_for_nothing (label_of s) refl w_labels_s
   where
     is_none_from_false : (o : Option ℕ) → is_some o ≡ false → o ≡ None
     is_none_from_false None is_some_is_false = refl
     is_none_from_false (Some k) is_some_is_false = absurd (true≢false is_some_is_false)
 
-    by_token : (o : Option Token) → label_of s ≡ o
+    w_stands_for_nothing : (o : Option Token) → label_of s ≡ o
         → (elim o [ None ↦ false | Some l ↦ bytes_eq l.word w ]) ≡ true → find w ≡ None
-    by_token None label_is_o o_is_labelled_w = absurd (true≢false (sym o_is_labelled_w))
-    by_token (Some l) label_is_o o_is_labelled_w =
+    w_stands_for_nothing None label_is_o o_is_labelled_w = absurd (true≢false (sym o_is_labelled_w))
+    w_stands_for_nothing (Some l) label_is_o o_is_labelled_w =
         let l_is_w = (bytes_eq-Decides l.word w).0 o_is_labelled_w in
         is_none_from_false (find w)
         (sym (known_if_label w)

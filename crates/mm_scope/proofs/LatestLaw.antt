@@ -6,9 +6,8 @@ use Rattle.std.proofs.Common.{Some}
 use Rattle.std.specs.List.{list_any, range_with_len}
 use Rattle.mm_spec.specs.Text.{Bytes, is_in}
 use Rattle.mm_spec.specs.Statement.{Statement}
-use Rattle.mm_spec.specs.Scope.{is_active, is_some_still_active, is_global, is_local}
-use Rattle.mm_spec.specs.Scope.{active_statements}
-use Rattle.mm_spec.specs.Scope.{depth, is_block_open}
+use Rattle.mm_spec.specs.Scope.{active_at, is_some_still_active, is_global, is_local}
+use Rattle.mm_spec.specs.Scope.{active_statements, depth, is_block_open}
 use Rattle.mm_spec.proofs.LocalLaw.{get_front, get_at_seam}
 use Rattle.std.proofs.lemmas.Bool.{lt-ltb, cases_lt}
 use Rattle.mm_spec.proofs.FindsLaw.{range_any}
@@ -20,33 +19,32 @@ use Rattle.mm_outline.specs.Typed.{has_word}
 module _ (db : List Statement) (f : Statement → List Bytes) (w : Bytes) where
   -- a word is in an active statement exactly if the last that has it is active
   pub in_active_iff_latest_active : (last : ℕ) → Latest db f w last
-      → is_in w (flat_map f (active_statements db (length db))) ≡ is_active db last (length db)
+      → is_in w (flat_map f (active_statements db (length db))) ≡ active_at db last (length db)
   in_active_iff_latest_active last latest =
-      word_of_active_is_any db f w (λ j. is_active db j (length db)) (length db) 0
-      ∙ by_active (is_active db last (length db)) refl
+      word_of_active_is_any db f w (λ j. active_at db j (length db)) (length db) 0
+      ∙ some_active_has_word (active_at db last (length db)) refl
     where
-      no_other_passes : is_active db last (length db) ≡ false → (j : ℕ) → j < length db
+      no_other_passes : active_at db last (length db) ≡ false → (j : ℕ) → j < length db
           → (a b : Bool)
-          → is_active db j (length db) ≡ a → has_word db f w j ≡ b → (a && b) ≡ false
+          → active_at db j (length db) ≡ a → has_word db f w j ≡ b → (a && b) ≡ false
       no_other_passes last_is_inactive j j_lt_length true true j_is_active j_has_word =
-          absurd (true≢false (sym j_is_active
-          ∙ ap (λ i. is_active db i (length db))
+          absurd (true≢false (sym j_is_active ∙ ap (λ i. active_at db i (length db))
           (latest.active_is_last j j_lt_length j_has_word j_is_active) ∙ last_is_inactive))
       no_other_passes last_is_inactive j j_lt_length true false j_is_active j_has_word = refl
       no_other_passes last_is_inactive j j_lt_length false b j_is_active j_has_word = refl
 
-      by_active : (b : Bool) → is_active db last (length db) ≡ b
-          → list_any (λ j. is_active db j (length db) && has_word db f w j)
+      some_active_has_word : (b : Bool) → active_at db last (length db) ≡ b
+          → list_any (λ j. active_at db j (length db) && has_word db f w j)
           (range_with_len 0 (length db))
           ≡ b
-      by_active true last_is_b =
-          range_any (λ j. is_active db j (length db) && has_word db f w j) (length db) 0 last
+      some_active_has_word true last_is_b =
+          range_any (λ j. active_at db j (length db) && has_word db f w j) (length db) 0 last
           (omega arith) (let j_lt_length = latest.last_lt_length in
           omega (arith, j_lt_length)) (ap₂ (λ a b. a && b) last_is_b latest.last_has_word)
-      by_active false last_is_b =
-          none_passes_no_any (λ j. is_active db j (length db) && has_word db f w j) (length db) 0
+      some_active_has_word false last_is_b =
+          none_passes_no_any (λ j. active_at db j (length db) && has_word db f w j) (length db) 0
           (λ j j_lt_length. let j_lt_db_length : j < length db = omega arith in
-          no_other_passes last_is_b j j_lt_db_length (is_active db j (length db))
+          no_other_passes last_is_b j j_lt_db_length (active_at db j (length db))
           (has_word db f w j) refl refl)
 
 -- ---- one statement more
@@ -61,11 +59,11 @@ weaken_conjunct false false a b holds = holds
 module _ (db : List Statement) (s : Statement) where
   -- what is active after one statement more was active before it
   active_before_if_active_after : (j : ℕ) → j < length db
-      → is_active (db ++ s ∷ []) j (length db + 1) ≡ true
-      → is_active db j (length db) ≡ true
+      → active_at (db ++ s ∷ []) j (length db + 1) ≡ true
+      → active_at db j (length db) ≡ true
   active_before_if_active_after j j_lt_length j_is_active_after =
       ap₂ (λ x y. x && y) (lt-ltb j (length db) j_lt_length)
-      (by_statement (slice_get db j) (is_block_open db j (length db))
+      (was_active (slice_get db j) (is_block_open db j (length db))
       (nat_le (depth db j) (depth (db ++ s ∷ []) (length db + 1)))
       (ap (λ z. z
       && is_some_still_active (slice_get db j)
@@ -76,10 +74,10 @@ module _ (db : List Statement) (s : Statement) where
       (sym (get_front db (s ∷ []) j j_lt_length)) (sym (open_after_one_more db s j j_lt_length))
       ∙ j_is_active_after))
     where
-      by_statement : (o : Option Statement) (a b : Bool) → is_some_still_active o (a && b) ≡ true
+      was_active : (o : Option Statement) (a b : Bool) → is_some_still_active o (a && b) ≡ true
           → is_some_still_active o a ≡ true
-      by_statement None a b j_is_active_after = j_is_active_after
-      by_statement (Some t) a b j_is_active_after =
+      was_active None a b j_is_active_after = j_is_active_after
+      was_active (Some t) a b j_is_active_after =
           weaken_conjunct (is_global t) (is_local t) a b j_is_active_after
 
   module _ (f : Statement → List Bytes) (w : Bytes) where
@@ -103,18 +101,18 @@ module _ (db : List Statement) (s : Statement) where
           omega (arith, last_lt_before, length-append db (s ∷ []));
       last_has_word = has_word_in_front last latest.last_lt_length ∙ latest.last_has_word;
       active_is_last =
-          λ j j_lt_length j_has_w j_is_active. by_order j j_lt_length j_has_w
-          (ap (is_active (db ++ s ∷ []) j) (sym (length-append db (s ∷ []))) ∙ j_is_active)
+          λ j j_lt_length j_has_w j_is_active. j_is_last j j_lt_length j_has_w
+          (ap (active_at (db ++ s ∷ []) j) (sym (length-append db (s ∷ []))) ∙ j_is_active)
           (cases_lt j (length db));
     }
       where
-        by_order : (j : ℕ) → j < length (db ++ s ∷ []) → has_word (db ++ s ∷ []) f w j ≡ true
-            → is_active (db ++ s ∷ []) j (length db + 1) ≡ true → (j < length db) ⊎ (length db ≤ j)
+        j_is_last : (j : ℕ) → j < length (db ++ s ∷ []) → has_word (db ++ s ∷ []) f w j ≡ true
+            → active_at (db ++ s ∷ []) j (length db + 1) ≡ true → (j < length db) ⊎ (length db ≤ j)
             → j ≡ last
-        by_order j j_lt_new_length j_has_word j_is_active (inl j_order) =
+        j_is_last j j_lt_new_length j_has_word j_is_active (inl j_order) =
             latest.active_is_last j j_order (sym (has_word_in_front j j_order)
             ∙ j_has_word) (active_before_if_active_after j j_order j_is_active)
-        by_order j j_lt_new_length j_has_word j_is_active (inr j_order) =
+        j_is_last j j_lt_new_length j_has_word j_is_active (inr j_order) =
             absurd (let j_is_last_index : j ≡ length db =
             omega (arith, j_lt_new_length, j_order, length-append db (s ∷ [])) in
             true≢false (sym j_has_word ∙ ap (has_word (db ++ s ∷ []) f w) j_is_last_index
@@ -129,22 +127,22 @@ module _ (db : List Statement) (s : Statement) where
       last_lt_length = omega (arith, length-append db (s ∷ []));
       last_has_word = has_word_at_end ∙ s_has_w;
       active_is_last =
-          λ j j_lt_length j_has_w j_is_active. by_order j j_lt_length j_has_w
-          (ap (is_active (db ++ s ∷ []) j) (sym (length-append db (s ∷ []))) ∙ j_is_active)
+          λ j j_lt_length j_has_w j_is_active. j_is_new j j_lt_length j_has_w
+          (ap (active_at (db ++ s ∷ []) j) (sym (length-append db (s ∷ []))) ∙ j_is_active)
           (cases_lt j (length db));
     }
       where
-        by_order : (j : ℕ) → j < length (db ++ s ∷ []) → has_word (db ++ s ∷ []) f w j ≡ true
-            → is_active (db ++ s ∷ []) j (length db + 1) ≡ true → (j < length db) ⊎ (length db ≤ j)
+        j_is_new : (j : ℕ) → j < length (db ++ s ∷ []) → has_word (db ++ s ∷ []) f w j ≡ true
+            → active_at (db ++ s ∷ []) j (length db + 1) ≡ true → (j < length db) ⊎ (length db ≤ j)
             → j ≡ length db
-        by_order j j_lt_new_length j_has_word j_is_active (inl j_order) =
+        j_is_new j j_lt_new_length j_has_word j_is_active (inl j_order) =
             absurd (true≢false
-            (sym (range_any (λ i. is_active db i (length db) && has_word db f w i) (length db) 0 j
+            (sym (range_any (λ i. active_at db i (length db) && has_word db f w i) (length db) 0 j
             (omega arith) (omega arith)
             (ap₂ (λ a b. a && b) (active_before_if_active_after j j_order j_is_active)
             (sym (has_word_in_front j j_order)
             ∙ j_has_word)))
-            ∙ sym (word_of_active_is_any db f w (λ i. is_active db i (length db)) (length db) 0)
+            ∙ sym (word_of_active_is_any db f w (λ i. active_at db i (length db)) (length db) 0)
             ∙ no_active_has_w))
-        by_order j j_lt_new_length j_has_word j_is_active (inr j_order) =
+        j_is_new j j_lt_new_length j_has_word j_is_active (inr j_order) =
             omega (arith, j_lt_new_length, j_order, length-append db (s ∷ []))

@@ -1,10 +1,9 @@
 -- Symbols keep their numbers when statements are added.
-use Rattle.std.proofs.Common.{◌≡◌, ℕ, suc, ◌+◌, ◌<◌, ◌≤◌}
-use Rattle.std.proofs.Common.{Bool, true, false, ◌||◌, List, [], ◌∷◌, ◌++◌, length, map, flat_map}
-use Rattle.std.proofs.Common.{get_or, slice_get, None, Some}
-use Rattle.std.proofs.Common.{bytes_eq, if◌then◌else◌, refl, sym, ap, ap₂, ◌∙◌, subst, arith}
-use Rattle.std.proofs.Common.{true≢false, append_assoc, append-nil, length-append}
-use Rattle.std.proofs.lemmas.List.{map-append}
+use Rattle.std.proofs.Common.{◌≡◌, ℕ, suc, ◌+◌, ◌<◌, ◌≤◌, Bool, true, false, ◌||◌, List, [], ◌∷◌}
+use Rattle.std.proofs.Common.{◌++◌, length, map, flat_map, get_or, slice_get, None, Some, bytes_eq}
+use Rattle.std.proofs.Common.{if◌then◌else◌, refl, sym, ap, ap₂, ◌∙◌, subst, arith, true≢false}
+use Rattle.std.proofs.Common.{append_assoc, append-nil, length-append}
+use Rattle.std.proofs.lemmas.List.{map-append, length-map}
 use Rattle.std.proofs.lemmas.Grind.{flat_map-append}
 use Rattle.std.proofs.lemmas.Option.{slice_get_within, slice_get-get_or}
 use Rattle.mm_spec.specs.Text.{Bytes, Token, is_in, words}
@@ -22,7 +21,6 @@ use Rattle.mm_lists.specs.Lists.{AreJoined, with_end}
 use Rattle.mm_database.specs.Names.{with_name}
 use Rattle.mm_lists.proofs.ListsLaw.{joined_with_one_more}
 use Rattle.mm_outline.proofs.StatementsLaw.{element_of_mapped}
-use Rattle.std.proofs.lemmas.List.{length-map}
 use Rattle.mm_scope.specs.Formulas.{AreFormulas, numbers_in, judged, unjudged}
 use Rattle.mm_database.proofs.SymbolsLaw.{first_occurrences_push, if_new, bytes_eq_itself}
 use Rattle.mm_scope.proofs.BoundsLaw.{symbol_is_declared_name}
@@ -32,13 +30,13 @@ use Rattle.mm_scope.proofs.BoundsLaw.{symbol_is_declared_name}
 -- the names of what is declared, with one word more
 pub names_declared : (d : List Bytes) (w : Bytes)
     → with_name w (first_occurrences [] d) ≡ first_occurrences [] (d ++ w ∷ [])
-names_declared d w = by_is_in (is_in w (first_occurrences [] d)) ∙ sym (first_occurrences_push d w)
+names_declared d w = adds_new (is_in w (first_occurrences [] d)) ∙ sym (first_occurrences_push d w)
   where
-    by_is_in : (b : Bool)
+    adds_new : (b : Bool)
         → (if b then first_occurrences [] d else (first_occurrences [] d ++ w ∷ []))
         ≡ first_occurrences [] d ++ if_new b w
-    by_is_in true = sym (append-nil (first_occurrences [] d))
-    by_is_in false = refl
+    adds_new true = sym (append-nil (first_occurrences [] d))
+    adds_new false = refl
 
 -- ---- more names after
 
@@ -47,14 +45,14 @@ pub index_of_in_front : (w : Bytes) (ns added : List Bytes) → is_in w ns ≡ t
     → index_of w (ns ++ added) ≡ index_of w ns
 index_of_in_front w [] added w_in_ns = absurd (true≢false (sym w_in_ns))
 index_of_in_front w (n ∷ ns) added w_in_ns =
-    by_equality (bytes_eq w n) refl (index_of_in_front w ns added)
+    index_stays (bytes_eq w n) refl (index_of_in_front w ns added)
   where
-    by_equality : (b : Bool) → bytes_eq w n ≡ b
+    index_stays : (b : Bool) → bytes_eq w n ≡ b
         → (is_in w ns ≡ true → index_of w (ns ++ added) ≡ index_of w ns)
         → ◌≡◌ {A = ℕ} (elim b [ true ↦ 0 | false ↦ suc (index_of w (ns ++ added)) ])
         (elim b [ true ↦ 0 | false ↦ suc (index_of w ns) ])
-    by_equality true w_eq_n index_in_rest_unchanged = refl
-    by_equality false w_eq_n index_in_rest_unchanged =
+    index_stays true w_eq_n index_in_rest_unchanged = refl
+    index_stays false w_eq_n index_in_rest_unchanged =
         ap suc (index_in_rest_unchanged (sym (ap (λ b. b || is_in w ns) w_eq_n) ∙ w_in_ns))
 
 -- further words add names after those that there are, and change none of them

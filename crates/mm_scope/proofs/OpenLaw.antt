@@ -8,7 +8,7 @@ use Rattle.std.proofs.lemmas.Option.{slice_get-get_or}
 use Rattle.mm_spec.specs.Text.{Bytes, is_in}
 use Rattle.mm_spec.specs.Statement.{Statement, constants, variables, disjoint, floating, essential}
 use Rattle.mm_spec.specs.Statement.{axiomatic, provable, opening, closing}
-use Rattle.mm_spec.specs.Scope.{is_active, is_some_still_active, is_still_active, variables_of}
+use Rattle.mm_spec.specs.Scope.{active_at, is_some_still_active, is_still_active, variables_of}
 use Rattle.mm_spec.specs.Scope.{is_block_open}
 use Rattle.mm_outline.specs.Blocks.{BlockLists, IsBlocks, end_of, never, end_in, is_never}
 use Rattle.mm_outline.specs.Blocks.{is_open_in}
@@ -26,15 +26,15 @@ block_open_is_open_in db b are_blocks db_lt_never j j_lt_length =
     let end_is_known : slice_get b.ends (get_or b.block_of j 0) ≡ Some (end_of b j) =
     slice_get-get_or b.ends (get_or b.block_of j 0) 0 (are_blocks.blocks_have_ends j j_lt_length) in
     are_blocks.open_up_to_end j (length db) j_lt_length (le_refl (length db))
-    ∙ by_case (are_blocks.ends_are_bounded j j_lt_length) ∙ ap is_never (sym end_is_known)
+    ∙ open_is_never (are_blocks.ends_are_bounded j j_lt_length) ∙ ap is_never (sym end_is_known)
     ∙ ap (λ o. is_never (end_in b.ends o)) (sym block_is_known)
   where
-    by_case : (end_of b j ≡ never) ⊎ (end_of b j < length db)
+    open_is_never : (end_of b j ≡ never) ⊎ (end_of b j < length db)
         → nat_le (length db) (end_of b j) ≡ nat_eq (end_of b j) never
-    by_case (inl end_is_never) =
+    open_is_never (inl end_is_never) =
         le-leb (length db) (end_of b j) (omega (arith, end_is_never, db_lt_never))
         ∙ sym (eq-eqb (end_of b j) never end_is_never)
-    by_case (inr end_lt_length) =
+    open_is_never (inr end_lt_length) =
         lt-leb (length db) (end_of b j) end_lt_length
         ∙ sym (ne_eqb (end_of b j) never
         (λ end_is_never. absurd (omega (arith, end_is_never, end_lt_length, db_lt_never))))
@@ -72,18 +72,18 @@ typings_are_local w (closing k) b types_w = absurd (true≢false (sym types_w))
 pub latest_active_is_open : (db : List Statement) (b : BlockLists) → IsBlocks db b
     → length db < never
     → (f : Statement → List Bytes) (w : List ℕ) → IsLocal f w → (last : ℕ) → Latest db f w last
-    → is_active db last (length db) ≡ is_open_in b last
+    → active_at db last (length db) ≡ is_open_in b last
 latest_active_is_open db b are_blocks db_lt_never f w is_local last latest =
-    by_statement (slice_get db last) refl
+    active_is_open (slice_get db last) refl
   where
-    by_statement : (o : Option Statement) → slice_get db last ≡ o
-        → is_active db last (length db) ≡ is_open_in b last
-    by_statement None last_statement_is_o =
+    active_is_open : (o : Option Statement) → slice_get db last ≡ o
+        → active_at db last (length db) ≡ is_open_in b last
+    active_is_open None last_statement_is_o =
         absurd (true≢false
         (sym latest.last_has_word
         ∙ ap (λ o. is_in w (flat_map f (elim o [ None ↦ [] | Some t ↦ t ∷ [] ])))
         last_statement_is_o))
-    by_statement (Some s) last_statement_is_o =
+    active_is_open (Some s) last_statement_is_o =
         ap₂ (λ t o. t && is_some_still_active o (is_block_open db last (length db)))
         (lt-ltb last (length db) latest.last_lt_length) last_statement_is_o
         ∙ is_local s (is_block_open db last (length db))

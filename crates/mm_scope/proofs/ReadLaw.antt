@@ -108,18 +108,18 @@ module _ (text : List ℕ) (ws : List Word) (len : ℕ) (lexical : Option Fault)
       is_read_at_end no_statement_follows (Some f)
       (ap (λ o. first_fault_of o
       (first_fault_of lexical (fault_at_end len (progress_from (start 0) (as_tokens text ws)))))
-      (is_read_to.leads.stop
+      (is_read_to.leads.fault_stays
       ∙ shape_fault_is_f))
 
   fault_at_end_is_end_fault_of : (part : Part) (i : ℕ) (o : Option Fault)
       → first_fault_of o (fault_at_end len (progress text ws open_blocks part i))
       ≡ end_fault_of o len part open_blocks
   fault_at_end_is_end_fault_of part i (Some f) = refl
-  fault_at_end_is_end_fault_of Start i None = by_number open_blocks
+  fault_at_end_is_end_fault_of Start i None = end_faults_agree open_blocks
     where
-      by_number : (d : ℕ) → fault_at_end len (start d) ≡ end_fault_of None len Start d
-      by_number zero = refl
-      by_number (suc d) = refl
+      end_faults_agree : (d : ℕ) → fault_at_end len (start d) ≡ end_fault_of None len Start d
+      end_faults_agree zero = refl
+      end_faults_agree (suc d) = refl
   fault_at_end_is_end_fault_of (Labelled l) i None = refl
   fault_at_end_is_end_fault_of (Words k w) i None = refl
   fault_at_end_is_end_fault_of (Formula w) i None = refl
@@ -136,8 +136,8 @@ module _ (text : List ℕ) (ws : List Word) (len : ℕ) (lexical : Option Fault)
   read_ended part no_statement_follows no_shape_fault progress_is_part f f_is_end_fault =
       is_read_at_end no_statement_follows f
       (ap₂ (λ o q. first_fault_of o (first_fault_of lexical (fault_at_end len q)))
-      (is_read_to.leads.stop ∙ no_shape_fault)
-      (is_read_to.leads.rest ∙ progress_is_part)
+      (is_read_to.leads.fault_stays ∙ no_shape_fault)
+      (is_read_to.leads.progress_stays ∙ progress_is_part)
       ∙ fault_at_end_is_end_fault_of part (length ws) lexical ∙ sym f_is_end_fault)
 
 -- a statement that closes a block stands in one
@@ -287,14 +287,14 @@ is_read_to_with_statement text ws db open_blocks token_index is_read_to length_l
 
     lawful : (j : ℕ) → j < length (db ++ statement_between text ws k w m e ∷ [])
         → scope_fault (db ++ statement_between text ws k w m e ∷ []) j ≡ None
-    lawful j j_lt_length = by_order (cases_lt j (length db))
+    lawful j j_lt_length = j_is_lawful (cases_lt j (length db))
       where
-        by_order : (j < length db) ⊎ (length db ≤ j)
+        j_is_lawful : (j < length db) ⊎ (length db ≤ j)
             → scope_fault (db ++ statement_between text ws k w m e ∷ []) j ≡ None
-        by_order (inl j_lt_db) =
+        j_is_lawful (inl j_lt_db) =
             scope_fault_front db (statement_between text ws k w m e ∷ []) j j_lt_db
             ∙ is_read_to.lawful j j_lt_db
-        by_order (inr db_le_j) =
+        j_is_lawful (inr db_le_j) =
             let db_is_j : length db ≡ j = omega (arith, j_lt_length, db_le_j, one_statement_more) in
             subst (λ j. scope_fault (db ++ statement_between text ws k w m e ∷ []) j ≡ None) db_is_j
             (scope_fault_of_next db (statement_between text ws k w m e) []

@@ -6,8 +6,7 @@ use Rattle.mm_spec.specs.Text.{Token}
 use Rattle.mm_spec.specs.declared.Word.{Word}
 use Rattle.mm_database.specs.declared.names.Symbol.{Symbol}
 use Rattle.mm_outline.specs.Parts.{between, token_at}
-use Rattle.mm_scope.specs.WordEntry.{WordEntry, entry_of, typed_entry}
-use Rattle.mm_scope.specs.WordEntry.{typed_after}
+use Rattle.mm_scope.specs.WordEntry.{WordEntry, entry_of, typed_entry, typed_after}
 use Rattle.mm_scope.proofs.JudgeLaw.{between_is_two_tokens, length_between}
 
 -- a `$f` that has not two symbols types nothing
@@ -41,19 +40,19 @@ module _ (text : List ℕ) (ws : List Word) (k j : ℕ) (j_le_length : j ≤ len
       → entry_of (new w) ≡ typed_after n (between text ws (k + 1) j) w (entry_of (old w))
   typed_after_two_symbols width_is_3 n old mid new mid_is_old new_adds_type w =
       let second_is_k_plus_2 : k + 1 + 1 ≡ k + 2 = omega arith in
-      new_adds_type w ∙ by_equality (bytes_eq (token_at text ws (k + 1 + 1)).word w) refl
+      new_adds_type w ∙ entry_is_typed (bytes_eq (token_at text ws (k + 1 + 1)).word w) refl
       ∙ ap (λ m. if bytes_eq (token_at text ws m).word w then typed_entry n
       (token_at text ws (k + 1)).word (entry_of (old w)) else entry_of (old w)) second_is_k_plus_2
       ∙ ap (λ xs. typed_after n xs w (entry_of (old w)))
       (sym (between_is_two_tokens text ws k j j_le_length width_is_3))
     where
-      by_equality : (b : Bool) → bytes_eq (token_at text ws (k + 1 + 1)).word w ≡ b
+      entry_is_typed : (b : Bool) → bytes_eq (token_at text ws (k + 1 + 1)).word w ≡ b
           → (if b then typed_entry n (token_at text ws (k + 1)).word
           (entry_of (mid (token_at text ws (k + 1 + 1)).word)) else entry_of (mid w))
           ≡ (if b then typed_entry n (token_at text ws (k + 1)).word
           (entry_of (old w)) else entry_of (old w))
-      by_equality true variable_eq_w =
+      entry_is_typed true variable_eq_w =
           ap (λ v. typed_entry n (token_at text ws (k + 1)).word (entry_of (mid v)))
           ((bytes_eq-Decides (token_at text ws (k + 1 + 1)).word w).0 variable_eq_w)
           ∙ ap (λ o. typed_entry n (token_at text ws (k + 1)).word (entry_of o)) (mid_is_old w)
-      by_equality false variable_eq_w = ap entry_of (mid_is_old w)
+      entry_is_typed false variable_eq_w = ap entry_of (mid_is_old w)

@@ -12,10 +12,9 @@ use Rattle.mm_spec.specs.Text.{Bytes, is_in}
 use Rattle.mm_spec.specs.Statement.{Statement}
 use Rattle.mm_spec.specs.Scope.{Typing, active_statements, variables_of, constants_of, typings_of}
 use Rattle.mm_outline.specs.Blocks.{never}
-use Rattle.mm_scope.specs.WordEntry.{WordEntry, entry, declared_entry, typed_entry}
-use Rattle.mm_scope.specs.WordEntry.{IsEntryOf, Latest, typed_by, typecode_by, declared_by}
-use Rattle.mm_scope.specs.WordEntry.{gives_other_typecode}
-use Rattle.mm_scope.specs.WordEntry.{is_constant_entry, is_variable_entry}
+use Rattle.mm_scope.specs.WordEntry.{WordEntry, entry, declared_entry, typed_entry, IsEntryOf}
+use Rattle.mm_scope.specs.WordEntry.{Latest, typed_by, typecode_by, declared_by}
+use Rattle.mm_scope.specs.WordEntry.{gives_other_typecode, is_constant_entry, is_variable_entry}
 use Rattle.mm_outline.specs.Typed.{typed_words}
 use Rattle.mm_scope.proofs.LatestLaw.{latest_unchanged, latest_is_new}
 
@@ -25,15 +24,15 @@ no_typing_no_other_typecode : (c w : Bytes) (ts : List Typing)
     → list_any (gives_other_typecode c w) (ts ++ []) ≡ false
 no_typing_no_other_typecode c w [] w_not_typed = refl
 no_typing_no_other_typecode c w (t ∷ ts) w_not_typed =
-    by_equality (bytes_eq w t.variable) w_not_typed (no_typing_no_other_typecode c w ts)
+    has_no_other (bytes_eq w t.variable) w_not_typed (no_typing_no_other_typecode c w ts)
   where
-    by_equality : (b : Bool) → (b || is_in w (map (λ t. t.variable) ts ++ [])) ≡ false
+    has_no_other : (b : Bool) → (b || is_in w (map (λ t. t.variable) ts ++ [])) ≡ false
         → (is_in w (map (λ t. t.variable) ts ++ []) ≡ false
         → list_any (gives_other_typecode c w) (ts ++ []) ≡ false)
         → ((b && not (bytes_eq c t.typecode)) || list_any (gives_other_typecode c w) (ts ++ []))
         ≡ false
-    by_equality true w_not_typed rest_has_no_other_typecode = absurd (true≢false w_not_typed)
-    by_equality false w_not_typed rest_has_no_other_typecode =
+    has_no_other true w_not_typed rest_has_no_other_typecode = absurd (true≢false w_not_typed)
+    has_no_other false w_not_typed rest_has_no_other_typecode =
         rest_has_no_other_typecode w_not_typed
 
 module _ (db : List Statement) (s : Statement) (w : Bytes) where
@@ -179,7 +178,7 @@ module _ (db : List Statement) (s : Statement) (w : Bytes) where
             ∙ e_is_entry.constant_is_known;
         variable_is_known = in_flat_map_unchanged variables_of s_is_no_variable
             ∙ e_is_entry.variable_is_known;
-        declaration_is_latest = λ is_variable. latest_unchanged db s variables_of w e.declared
+        declaration_is_latest = λ is_variable. latest_unchanged db s variables_of w e.declaration
             (e_is_entry.declaration_is_latest is_variable) s_is_no_variable;
         typing_is_latest =
             λ is_typed. latest_is_new db s typed_words w s_has_typing w_has_no_active_type;
@@ -207,16 +206,16 @@ module _ (db : List Statement) (s : Statement) (w : Bytes) where
       or_absorbs false b y a_and_b_is_false = refl
 
       -- the typecode that an earlier `$f` gave is this one
-      earlier_typecode_is_c : (d : Bytes) → (t : Bool) → nat_eq e.typed never ≡ t
+      earlier_typecode_is_c : (d : Bytes) → (t : Bool) → nat_eq e.typing never ≡ t
           → (not t && not (bytes_eq c e.typecode)) ≡ false
           → ((not t && not (bytes_eq d e.typecode)) || not (bytes_eq d c)) ≡ not (bytes_eq d c)
       earlier_typecode_is_c d true typed_is_t typecode_is_same = refl
       earlier_typecode_is_c d false typed_is_t typecode_is_same =
-          by_equality (bytes_eq c e.typecode) refl typecode_is_same
+          tests_agree (bytes_eq c e.typecode) refl typecode_is_same
         where
-          by_equality : (b : Bool) → bytes_eq c e.typecode ≡ b → not b ≡ false
+          tests_agree : (b : Bool) → bytes_eq c e.typecode ≡ b → not b ≡ false
               → (not (bytes_eq d e.typecode) || not (bytes_eq d c)) ≡ not (bytes_eq d c)
-          by_equality true equality_is_b typecode_is_same =
+          tests_agree true equality_is_b typecode_is_same =
               ap (λ y. not (bytes_eq d y) || not (bytes_eq d c))
               (sym ((bytes_eq-Decides c e.typecode).0 equality_is_b))
               ∙ or_with_itself (not (bytes_eq d c))
@@ -224,7 +223,7 @@ module _ (db : List Statement) (s : Statement) (w : Bytes) where
               or_with_itself : (y : Bool) → (y || y) ≡ y
               or_with_itself true = refl
               or_with_itself false = refl
-          by_equality false equality_is_b typecode_is_same = absurd (true≢false typecode_is_same)
+          tests_agree false equality_is_b typecode_is_same = absurd (true≢false typecode_is_same)
 
       other_typecode_after : (d : Bytes)
           → list_any (gives_other_typecode d w) (flat_map typings_of (db ++ s ∷ []))
@@ -234,6 +233,6 @@ module _ (db : List Statement) (s : Statement) (w : Bytes) where
           ne_eqb (length db) never
           (λ length_is_never. omega (arith, length_is_never, db_lt_never)) in
           other_typecode_push d ∙ ap₂ (λ a b. a || b) (e_is_entry.other_typecode d) (other_in_s d)
-          ∙ earlier_typecode_is_c d (nat_eq e.typed never) refl (sym (e_is_entry.other_typecode c)
+          ∙ earlier_typecode_is_c d (nat_eq e.typing never) refl (sym (e_is_entry.other_typecode c)
           ∙ no_other_typecode_before)
           ∙ sym (ap (λ b. not b && not (bytes_eq d c)) length_ne_never)

@@ -18,7 +18,7 @@ use Rattle.mm_database.specs.declared.names.Symbol.{Symbol}
 -- that an earlier `$f` gave another typecode, by which statements are in open blocks
 module _ (is_open : ℕ → Bool) where
   abbrev pub is_active_symbol : Symbol → Bool
-  is_active_symbol s = s.is_variable && is_open s.declared
+  is_active_symbol s = s.is_variable && is_open s.declaration
 
   abbrev pub is_active_variable : Option Symbol → Bool
   is_active_variable None = false
@@ -26,13 +26,14 @@ module _ (is_open : ℕ → Bool) where
 
   abbrev pub is_typed_here : Option Symbol → Bool
   is_typed_here None = false
-  is_typed_here (Some s) = is_open s.typed
+  is_typed_here (Some s) = is_open s.typing
 
 abbrev pub has_other_typecode : Bytes → Option Symbol → Bool
 has_other_typecode c None = false
-has_other_typecode c (Some s) = not (nat_eq s.typed never) && not (bytes_eq c s.typecode.now)
+has_other_typecode c (Some s) = not (nat_eq s.typing never) && not (bytes_eq c s.typecode.now)
 
--- these are the names that are known
+-- the names are those that are known: `look` says what is known of a word as a symbol, `labels` the
+-- statement of a label, and `is_open` whether the block of a statement is open
 pub record Knows (n : Names) (look : Bytes → Option Symbol) (labels : Bytes → Option ℕ)
     (is_open : ℕ → Bool) : Type 0 where
   pub constants : (w : Bytes) → is_in w n.constants ≡ is_constant_in (look w)
@@ -45,23 +46,26 @@ pub record Knows (n : Names) (look : Bytes → Option Symbol) (labels : Bytes �
   pub other_typecode : (c w : Bytes) → is_active_variable is_open (look w) ≡ true
       → is_typed_otherwise n c w ≡ has_other_typecode c (look w)
 
--- the fault with a code at a place, and that of a `$f`, whose code is found at its variable, or for
--- the whole at its keyword
+-- the fault with a code at a place, if there is a code
 abbrev pub fault_at : ℕ → Option Code → Option Fault
 fault_at place None = None
 fault_at place (Some code) = Some (fault place code)
 
+-- the fault of a `$f`, by the places of its keyword and of its variable: its symbols aren't a
+-- constant and an active variable (`None`), or the code says what is wrong with the constant as the
+-- type of the variable, if anything is
 abbrev pub typing_fault : ℕ → ℕ → Option (Option Code) → Option Fault
-typing_fault keyword place None = Some (fault keyword BadFloating)
-typing_fault keyword place (Some code) = fault_at place code
+typing_fault keyword_place variable_place None = Some (fault keyword_place BadFloating)
+typing_fault keyword_place variable_place (Some code) = fault_at variable_place code
 
--- `$c`, `$v` and `$d`, and the rule on each of their symbols
+-- whether a statement is a `$c`, `$v` or `$d`
 abbrev pub lists_symbols : Kind → Bool
 lists_symbols Constants = true
 lists_symbols Variables = true
 lists_symbols Disjoint = true
 lists_symbols _ = false
 
+-- what is wrong with a word of a `$c`, `$v` or `$d`, by the words before it
 abbrev pub listed_codes : Names → Kind → List Bytes → Bytes → List Code
 listed_codes n Constants = constant_codes n
 listed_codes n Variables = variable_codes n

@@ -41,7 +41,7 @@ pub record ReadSoFar : Type 0 where
 
 -- what has been read is that of these statements
 pub record IsReadSoFar (db : List Statement) (k : ReadSoFar) : Type 0 where
-  pub keeps : KnowsStatements db k.look k.labels k.blocks
+  pub knows : KnowsStatements db k.look k.labels k.blocks
   pub names_are : k.names ≡ symbol_names db
   pub formulas : AreFormulas db k.symbols k.ends
 

@@ -3,7 +3,7 @@ use Rattle.std.specs.Prelude.{◌≡◌, ◌<◌, ◌+◌, ℕ, List, [], ◌∷
 use Rattle.mm_spec.specs.Text.{words}
 use Rattle.mm_spec.specs.Statement.{Statement, is_closing}
 use Rattle.mm_spec.specs.Scope.{Names, names_before, depth, constants_of, variables_of}
-use Rattle.mm_spec.specs.Lawful.{at, least, scope_faults}
+use Rattle.mm_spec.specs.Lawful.{faults_at, least, scope_faults}
 use Rattle.mm_spec.specs.declared.Code.{Code}
 use Rattle.mm_spec.specs.declared.Fault.{Fault}
 use Rattle.mm_spec.specs.declared.Word.{Word}
@@ -43,8 +43,8 @@ module _ {A : Type 0} where
   abbrev pub symbol_in : Scope A → List ℕ → Option Symbol
   symbol_in s = find s.names.symbols
 
-  abbrev pub entry_in : Scope A → List ℕ → Option WordEntry
-  entry_in s w = entry_of (symbol_in s w)
+  abbrev pub word_entry_in : Scope A → List ℕ → Option WordEntry
+  word_entry_in s w = entry_of (symbol_in s w)
 
   abbrev pub label_in : Scope A → List ℕ → Option ℕ
   label_in s = find s.names.labels
@@ -73,9 +73,9 @@ module _ {A : Type 0} where
   -- a code is that of the least fault, wherever the codes of the rule are found
   abbrev pub IsLeastCode : Scope A → (Names → List Code) → Option Code → Type 0
   IsLeastCode s rule found =
-      (place : ℕ) → IsLeastFault s (λ n. at place (rule n)) (fault_at place found)
+      (place : ℕ) → IsLeastFault s (λ n. faults_at place (rule n)) (fault_at place found)
 
-  -- the symbols are those before and these words, where they are new
+  -- if the symbols were the words d, each once, they are now these and the words ws
   abbrev pub Declares : Scope A → Scope A → List (List ℕ) → Type 0
   Declares old new ws =
       (d : List (List ℕ)) → names_in old ≡ first_occurrences [] d

@@ -4,29 +4,31 @@ use Rattle.std.specs.Prelude.{flat_map, nat_eq, bytes_eq, Option, None, Some, if
 use Rattle.std.specs.List.{list_any}
 use Rattle.mm_spec.specs.Text.{Bytes, Token, is_in, words}
 use Rattle.mm_spec.specs.Statement.{Statement, constants, variables, floating}
-use Rattle.mm_spec.specs.Scope.{Typing, is_active, constants_of, variables_of, typings_of}
+use Rattle.mm_spec.specs.Scope.{Typing, active_at, constants_of, variables_of, typings_of}
 use Rattle.mm_outline.specs.Blocks.{never}
 use Rattle.mm_outline.specs.Typed.{has_word, typed_words}
 use Rattle.mm_database.specs.declared.names.Symbol.{Symbol}
 
--- what is known of a symbol, with its typecode as bytes
+-- what is known of a symbol: whether it is a variable, the statement that declared it last, the
+-- last `$f` that typed it, or `never`, and its typecode, as bytes; as long as no `$f` has typed it,
+-- the symbol itself stands for that
 pub record WordEntry : Type 0 where
   pub is_variable : Bool
-  pub declared : ℕ
-  pub typed : ℕ
+  pub declaration : ℕ
+  pub typing : ℕ
   pub typecode : List ℕ
 
 abbrev pub entry : Bool → ℕ → ℕ → List ℕ → WordEntry
-entry is_variable declared typed typecode = record {
+entry is_variable declaration typing typecode = record {
   is_variable = is_variable;
-  declared = declared;
-  typed = typed;
+  declaration = declaration;
+  typing = typing;
   typecode = typecode;
 }
 
 abbrev pub entry_of : Option Symbol → Option WordEntry
 entry_of None = None
-entry_of (Some s) = Some (entry s.is_variable s.declared s.typed s.typecode.now)
+entry_of (Some s) = Some (entry s.is_variable s.declaration s.typing s.typecode.now)
 
 -- whether the typing gives the word another typecode
 abbrev pub gives_other_typecode : Bytes → Bytes → Typing → Bool
@@ -34,12 +36,13 @@ gives_other_typecode typecode word typing =
     bytes_eq word typing.variable && not (bytes_eq typecode typing.typecode)
 
 module _ (db : List Statement) (f : Statement → List Bytes) (w : Bytes) where
-  -- the last statement that has the word, the only one that may be active
+  -- the last statement that has the word among those that f gives, the only such statement that
+  -- may be active
   pub record Latest (last : ℕ) : Type 0 where
     pub last_lt_length : last < length db
     pub last_has_word : has_word db f w last ≡ true
     pub active_is_last : (j : ℕ) → j < length db → has_word db f w j ≡ true
-        → is_active db j (length db) ≡ true
+        → active_at db j (length db) ≡ true
         → j ≡ last
 
 abbrev pub is_constant_entry : Option WordEntry → Bool
@@ -53,11 +56,11 @@ is_variable_entry (Some e) = e.is_variable
 -- the last declaration, the last `$f`, and its typecode
 abbrev pub declared_by : Option WordEntry → ℕ
 declared_by None = never
-declared_by (Some e) = e.declared
+declared_by (Some e) = e.declaration
 
 abbrev pub typed_by : Option WordEntry → ℕ
 typed_by None = never
-typed_by (Some e) = e.typed
+typed_by (Some e) = e.typing
 
 abbrev pub typecode_by : Option WordEntry → List ℕ
 typecode_by None = []
@@ -76,25 +79,26 @@ pub record IsEntryOf (db : List Statement) (w : Bytes) (x : Option WordEntry) : 
 
 -- the entry after the symbol's declaration by a statement
 abbrev pub declared_entry : Bool → ℕ → List ℕ → Option WordEntry → Option WordEntry
-declared_entry is_variable number word None = Some (entry is_variable number never word)
-declared_entry is_variable number word (Some e) =
-    Some (entry is_variable number e.typed e.typecode)
+declared_entry is_variable statement word None = Some (entry is_variable statement never word)
+declared_entry is_variable statement word (Some e) =
+    Some (entry is_variable statement e.typing e.typecode)
 
 -- the entry of a word after the declaration of words by a statement
 abbrev pub after_declaring : Bool → ℕ → List (List ℕ) → List ℕ → Option WordEntry → Option WordEntry
-after_declaring is_variable number declared word old =
-    if is_in word declared then declared_entry is_variable number word old else old
+after_declaring is_variable statement declared word old =
+    if is_in word declared then declared_entry is_variable statement word old else old
 
 -- the entry after a `$f`
 abbrev pub typed_entry : ℕ → List ℕ → Option WordEntry → Option WordEntry
-typed_entry number typecode None = None
-typed_entry number typecode (Some e) = Some (entry e.is_variable e.declared number typecode)
+typed_entry statement typecode None = None
+typed_entry statement typecode (Some e) =
+    Some (entry e.is_variable e.declaration statement typecode)
 
 -- the entry of a word after the `$f` of a variable, by the entries before it
 abbrev pub after_typing : ℕ → List ℕ → List ℕ → (List ℕ → Option WordEntry) → List ℕ
     → Option WordEntry
-after_typing number typecode variable entries w =
-    if bytes_eq variable w then typed_entry number typecode (entries variable) else entries w
+after_typing statement typecode variable entries w =
+    if bytes_eq variable w then typed_entry statement typecode (entries variable) else entries w
 
 -- the entry of a word after statement n, and the statement of a label after it
 abbrev pub typed_after : ℕ → List Token → Bytes → Option WordEntry → Option WordEntry

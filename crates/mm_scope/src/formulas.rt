@@ -22,7 +22,7 @@ fn number_all<'a, A: Allocator + Copy>(
     to: u32,
     numbers: &mut Vec<Sym, A>,
 ) -> Result<(), AllocError>
-    requires words { AreWithin text.now tokens.now }
+    requires tokens_within { AreWithin text.now tokens.now }
     requires from_le_to { from ≤ to }
     requires to_le_length { to ≤ length tokens.now }
     requires few_names { length (names_of names.now.symbols) < 2 ^ 31 }
@@ -49,9 +49,9 @@ impl<'a, A: Allocator + Copy> Scope<'a, A> {
         outline: Outline,
         numbers: &mut Vec<Sym, A>,
     ) -> Result<(), AllocError>
-        requires words { AreWithin text.now tokens.now }
+        requires tokens_within { AreWithin text.now tokens.now }
         requires few_tokens { length tokens.now < 2 ^ 31 }
-        requires outline { IsOutline outline }
+        requires is_outline { IsOutline outline }
         requires end_lt_length { outline.end < length tokens.now }
         requires few_names { length (names_in self.now) < 2 ^ 31 }
         ensures { OnOk result

@@ -5,7 +5,7 @@ ghost use Rattle.std.specs.Prelude.{◌+◌, ◌-◌, ℕ, List, is_some, Some, 
 ghost use Rattle.mm_spec.specs.Text.{is_in, words};
 ghost use Rattle.mm_database.specs.Names.{find};
 ghost use Rattle.mm_scope.specs.Formulas.{judged, numbers_in};
-ghost use Rattle.mm_spec.specs.Lawful.{at, at_each, least, when, symbol_codes};
+ghost use Rattle.mm_spec.specs.Lawful.{faults_at, faults_at_each, least, when, symbol_codes};
 ghost use Rattle.mm_spec.specs.Lawful.{formula_faults, floating_faults, label_faults, scope_faults};
 ghost use Rattle.mm_spec.specs.Scope.{Names as DeclaredNames};
 ghost use Rattle.mm_spec.specs.declared.Fault.{Fault as SpecFault};
@@ -33,14 +33,14 @@ impl<'a, A: Allocator + Copy> Scope<'a, A> {
         to: u32,
         numbers: &mut Vec<Sym, A>,
     ) -> Result<Option<Fault>, AllocError>
-        requires words { AreWithin text.now tokens.now }
+        requires tokens_within { AreWithin text.now tokens.now }
         requires from_le_to { from ≤ to }
         requires to_le_length { to ≤ length tokens.now }
         requires few_names { length (names_in self.now) < 2 ^ 31 }
-        ensures fault { IfOk result
+        ensures fault_is_least { IfOk result
             (IsLeastFault self.now
-            (λ n. at_each (symbol_codes n) [] (between text.now tokens.now from to))) }
-        ensures numbers { OnOk result
+            (λ n. faults_at_each (symbol_codes n) [] (between text.now tokens.now from to))) }
+        ensures numbers_are_added { OnOk result
             (numbers.new.items
             ≡ numbers.old.items
             ++ numbers_in (names_in self.now) (between text.now tokens.now from to)) }
@@ -59,7 +59,7 @@ impl<'a, A: Allocator + Copy> Scope<'a, A> {
     }
 
     /// Returns the first fault of the symbols of a `$c`, `$v` or `$d`.
-    fn declared_fault(
+    fn listed_symbols_fault(
         &self,
         alloc: A,
         text: &'a [u8],
@@ -68,12 +68,12 @@ impl<'a, A: Allocator + Copy> Scope<'a, A> {
         from: u32,
         to: u32,
     ) -> Result<Option<Fault>, AllocError>
-        requires words { AreWithin text.now tokens.now }
+        requires tokens_within { AreWithin text.now tokens.now }
         requires from_le_to { from ≤ to }
         requires to_lt_length { to < length tokens.now }
         ensures { IfOk result
             (IsLeastFault self.now
-            (λ n. at_each (listed_codes n kind) [] (between text.now tokens.now from to))) }
+            (λ n. faults_at_each (listed_codes n kind) [] (between text.now tokens.now from to))) }
     {
         let is_short = to - from <= MAX_WORDS_COMPARED;
         let mut seen = IndexMap::new(alloc);
@@ -82,7 +82,7 @@ impl<'a, A: Allocator + Copy> Scope<'a, A> {
             let repeated = is_repeated(&mut seen, is_short, text, tokens, from, token_index)?;
             let token = tokens[token_index as usize];
             let word = token.bytes(text);
-            let code = self.declared_code(kind, word, repeated);
+            let code = self.listed_code(kind, word, repeated);
             least_found = lesser(least_found, fault_with_code(token.start, code));
         }
         Ok(least_found)
@@ -98,15 +98,15 @@ impl<'a, A: Allocator + Copy> Scope<'a, A> {
         to: u32,
         numbers: &mut Vec<Sym, A>,
     ) -> Result<Option<Fault>, AllocError>
-        requires words { AreWithin text.now tokens.now }
+        requires tokens_within { AreWithin text.now tokens.now }
         requires from_le_to { from ≤ to }
         requires to_lt_length { to < length tokens.now }
         requires few_names { length (names_in self.now) < 2 ^ 31 }
-        ensures fault { IfOk result
+        ensures fault_is_least { IfOk result
             (IsLeastFault self.now
             (λ n. formula_faults n (between text.now tokens.now from to)
             (nth_word tokens.now to).start)) }
-        ensures numbers { OnOk result
+        ensures numbers_are_added { OnOk result
             (numbers.new.items
             ≡ numbers.old.items
             ++ numbers_in (names_in self.now) (between text.now tokens.now from to)) }
@@ -124,7 +124,7 @@ impl<'a, A: Allocator + Copy> Scope<'a, A> {
 
     /// Returns the fault of the label at the token `token_index`.
     fn label_fault(&self, text: &[u8], tokens: &[Word], token_index: u32) -> Option<Fault>
-        requires words { AreWithin text.now tokens.now }
+        requires tokens_within { AreWithin text.now tokens.now }
         requires index_lt_length { token_index < length tokens.now }
         ensures { IsLeastFault self.now
             (λ n. label_faults n (token_at text.now tokens.now token_index)) result }
@@ -135,7 +135,7 @@ impl<'a, A: Allocator + Copy> Scope<'a, A> {
 
     /// Returns the fault of the symbols of a `$f`.
     fn floating_fault(&self, text: &[u8], tokens: &[Word], keyword: u32, to: u32) -> Option<Fault>
-        requires words { AreWithin text.now tokens.now }
+        requires tokens_within { AreWithin text.now tokens.now }
         requires keyword_lt_to { keyword < to }
         requires to_lt_length { to < length tokens.now }
         ensures { IsLeastFault self.now
@@ -145,12 +145,12 @@ impl<'a, A: Allocator + Copy> Scope<'a, A> {
         if to - keyword != 3 {
             return fault_with_code(tokens[keyword as usize].start, Some(Code::BadFloating));
         }
-        let first = tokens[keyword as usize + 1];
-        let second = tokens[keyword as usize + 2];
-        let typecode = first.bytes(text);
-        let variable = second.bytes(text);
+        let typecode_token = tokens[keyword as usize + 1];
+        let variable_token = tokens[keyword as usize + 2];
+        let typecode = typecode_token.bytes(text);
+        let variable = variable_token.bytes(text);
         match self.typing_code(typecode, variable) {
-            Some(code) => fault_with_code(second.start, code),
+            Some(code) => fault_with_code(variable_token.start, code),
             None => fault_with_code(tokens[keyword as usize].start, Some(Code::BadFloating)),
         }
     }
@@ -163,36 +163,39 @@ impl<'a, A: Allocator + Copy> Scope<'a, A> {
         depth: u32,
         outline: Outline,
     ) -> Option<Fault>
-        requires among { IsAmong _text.now tokens.now outline }
+        requires is_among_tokens { IsAmong _text.now tokens.now outline }
         requires keyword_lt_middle { outline.keyword < outline.middle }
-        requires lists { lists_symbols outline.kind ≡ true }
+        requires kind_lists_symbols { lists_symbols outline.kind ≡ true }
         ensures { (n : DeclaredNames)
             → (faults : List SpecFault)
             × (result ≡ least faults)
             × (scope_faults n depth (statement_of _text.now tokens.now outline)
             ≡ faults
-            ++ at_each (listed_codes n outline.kind) []
+            ++ faults_at_each (listed_codes n outline.kind) []
             (between _text.now tokens.now (outline.keyword + 1) outline.middle)) }
     {
-        let keyword_at = tokens[outline.keyword as usize].start;
-        let end_at = tokens[outline.middle as usize].start;
+        let keyword_place = tokens[outline.keyword as usize].start;
+        let end_place = tokens[outline.middle as usize].start;
         let symbol_count = outline.middle - outline.keyword - 1;
         match outline.kind {
             Kind::Constants => {
                 let block_fault = fault_with_code(
-                    keyword_at,
+                    keyword_place,
                     code_if(depth > 0, Code::ConstantInBlock),
                 );
                 lesser(
                     block_fault,
-                    fault_with_code(end_at, code_if(symbol_count == 0, Code::EmptyDeclaration)),
+                    fault_with_code(
+                        end_place,
+                        code_if(symbol_count == 0, Code::EmptyDeclaration),
+                    ),
                 )
             }
             Kind::Variables => fault_with_code(
-                end_at,
+                end_place,
                 code_if(symbol_count == 0, Code::EmptyDeclaration),
             ),
-            _ => fault_with_code(end_at, code_if(symbol_count < 2, Code::TooFewVariables)),
+            _ => fault_with_code(end_place, code_if(symbol_count < 2, Code::TooFewVariables)),
         }
     }
 
@@ -207,14 +210,14 @@ impl<'a, A: Allocator + Copy> Scope<'a, A> {
         outline: Outline,
         numbers: &mut Vec<Sym, A>,
     ) -> Result<Option<Fault>, AllocError>
-        requires among { IsAmong text.now tokens.now outline }
+        requires is_among_tokens { IsAmong text.now tokens.now outline }
         requires few_names { length (names_in self.now) < 2 ^ 31 }
-        ensures numbers { OnOk result
+        ensures numbers_are_added { OnOk result
             (numbers.new.items
             ≡ numbers.old.items
             ++ judged (names_in self.now)
             (statement_of text.now tokens.now outline)) }
-        ensures fault { IfOk result
+        ensures fault_is_least { IfOk result
             (IsLeastFault self.now
             (λ n. scope_faults n depth (statement_of text.now tokens.now outline))) }
     {
@@ -224,9 +227,9 @@ impl<'a, A: Allocator + Copy> Scope<'a, A> {
         match kind {
             Kind::Open => Ok(None),
             Kind::Close => Ok(None),
-            Kind::Constants => self.declared(alloc, text, tokens, depth, outline),
-            Kind::Variables => self.declared(alloc, text, tokens, depth, outline),
-            Kind::Disjoint => self.declared(alloc, text, tokens, depth, outline),
+            Kind::Constants => self.listing_fault(alloc, text, tokens, depth, outline),
+            Kind::Variables => self.listing_fault(alloc, text, tokens, depth, outline),
+            Kind::Disjoint => self.listing_fault(alloc, text, tokens, depth, outline),
             Kind::Floating => {
                 let fault_of_label = self.label_fault(text, tokens, keyword - 1);
                 Ok(lesser(
@@ -234,32 +237,32 @@ impl<'a, A: Allocator + Copy> Scope<'a, A> {
                     self.floating_fault(text, tokens, keyword, middle),
                 ))
             }
-            Kind::Essential => self.labelled(text, tokens, outline, numbers),
-            Kind::Axiom => self.labelled(text, tokens, outline, numbers),
-            Kind::Theorem => self.labelled(text, tokens, outline, numbers),
+            Kind::Essential => self.labelled_fault(text, tokens, outline, numbers),
+            Kind::Axiom => self.labelled_fault(text, tokens, outline, numbers),
+            Kind::Theorem => self.labelled_fault(text, tokens, outline, numbers),
         }
     }
 
     /// Returns the least fault of a label and a formula, and appends the numbers of the formula's
     /// symbols.
-    fn labelled(
+    fn labelled_fault(
         &self,
         text: &[u8],
         tokens: &[Word],
         outline: Outline,
         numbers: &mut Vec<Sym, A>,
     ) -> Result<Option<Fault>, AllocError>
-        requires among { IsAmong text.now tokens.now outline }
-        requires label { 0 < outline.keyword }
+        requires is_among_tokens { IsAmong text.now tokens.now outline }
+        requires keyword_gt_0 { 0 < outline.keyword }
         requires keyword_lt_middle { outline.keyword < outline.middle }
         requires few_names { length (names_in self.now) < 2 ^ 31 }
-        ensures fault { IfOk result
+        ensures fault_is_least { IfOk result
             (IsLeastFault self.now
             (λ n. label_faults n (token_at text.now tokens.now (outline.keyword - 1))
             ++ formula_faults n
             (between text.now tokens.now (outline.keyword + 1) outline.middle)
             (nth_word tokens.now outline.middle).start)) }
-        ensures numbers { OnOk result
+        ensures numbers_are_added { OnOk result
             (numbers.new.items
             ≡ numbers.old.items
             ++ numbers_in (names_in self.now)
@@ -272,7 +275,7 @@ impl<'a, A: Allocator + Copy> Scope<'a, A> {
     }
 
     /// Returns the least fault of a `$c`, `$v` or `$d`.
-    fn declared(
+    fn listing_fault(
         &self,
         alloc: A,
         text: &'a [u8],
@@ -280,15 +283,15 @@ impl<'a, A: Allocator + Copy> Scope<'a, A> {
         depth: u32,
         outline: Outline,
     ) -> Result<Option<Fault>, AllocError>
-        requires among { IsAmong text.now tokens.now outline }
+        requires is_among_tokens { IsAmong text.now tokens.now outline }
         requires keyword_lt_middle { outline.keyword < outline.middle }
-        requires lists { lists_symbols outline.kind ≡ true }
+        requires kind_lists_symbols { lists_symbols outline.kind ≡ true }
         ensures { IfOk result
             (IsLeastFault self.now
             (λ n. scope_faults n depth (statement_of text.now tokens.now outline))) }
     {
         let from = outline.keyword + 1;
-        let fault_of_symbols = self.declared_fault(
+        let fault_of_symbols = self.listed_symbols_fault(
             alloc,
             text,
             tokens,
@@ -303,7 +306,7 @@ impl<'a, A: Allocator + Copy> Scope<'a, A> {
 
 /// Returns the code if the test holds.
 fn code_if(holds: bool, code: Code) -> Option<Code>
-    ensures { (place : ℕ) → fault_at place result ≡ least (at place (when holds code)) }
+    ensures { (place : ℕ) → fault_at place result ≡ least (faults_at place (when holds code)) }
 {
     if holds { Some(code) } else { None }
 }
@@ -352,7 +355,7 @@ const MAX_WORDS_COMPARED: u32 = 16;
 
 /// Whether the word at `token_index` is among the words before it, from `from` on.
 fn is_among(text: &[u8], tokens: &[Word], from: u32, token_index: u32) -> bool
-    requires words { AreWithin text.now tokens.now }
+    requires tokens_within { AreWithin text.now tokens.now }
     requires from_le_index { from ≤ token_index }
     requires index_lt_length { token_index < length tokens.now }
     ensures { result
@@ -380,16 +383,16 @@ fn is_repeated<'a, A: Allocator + Copy>(
     from: u32,
     token_index: u32,
 ) -> Result<bool, AllocError>
-    requires words { AreWithin text.now tokens.now }
+    requires tokens_within { AreWithin text.now tokens.now }
     requires from_le_index { from ≤ token_index }
     requires index_lt_length { token_index < length tokens.now }
-    requires seen { is_short ≡ false → (w : List ℕ)
+    requires seen_has_earlier_words { is_short ≡ false → (w : List ℕ)
         → is_some (find seen.old.entries w)
         ≡ is_in w (words (between text.now tokens.now from token_index)) }
-    ensures repeated { IfOk result
+    ensures tells_repeated { IfOk result
         (λ b. b ≡ is_in (token_at text.now tokens.now token_index).word
         (words (between text.now tokens.now from token_index))) }
-    ensures seen { OnOk result
+    ensures word_is_seen { OnOk result
         (is_short ≡ false → (w : List ℕ)
         → is_some (find seen.new.entries w)
         ≡ is_in w (words (between text.now tokens.now from (token_index + 1)))) }
@@ -402,13 +405,13 @@ fn is_repeated<'a, A: Allocator + Copy>(
     }
 }
 
-/// Adds the word to `seen`, and returns whether it was there before.
+/// Adds the word to `seen`, whose values say nothing, and returns whether it was there before.
 fn insert_word<'a, A: Allocator + Copy>(
     seen: &mut NameMap<'a, u32, A>,
     word: &'a [u8],
 ) -> Result<bool, AllocError>
     ensures was_seen { IfOk result (λ b. b ≡ is_some (find seen.old.entries word.now)) }
-    ensures inserted { OnOk result
+    ensures word_is_inserted { OnOk result
         ((w : List ℕ)
         → find seen.new.entries w
         ≡ (if bytes_eq word.now w then Some 0 else find seen.old.entries w)) }

@@ -3,7 +3,7 @@
 ghost use Rattle.std.specs.Prelude.{◌≡◌, ◌<◌, ◌^◌, [], None, All, length, OnOk, IfOk};
 ghost use Rattle.mm_spec.specs.Output.{IsRead};
 ghost use Rattle.mm_spec.specs.Lexed.{tokens_of};
-ghost use Rattle.mm_lists.specs.Lists.{ArePlaces};
+ghost use Rattle.mm_lists.specs.Lists.{AreBounds};
 ghost use Rattle.mm_database.specs.ParsedStatements.{AreParsedStatements};
 ghost use Rattle.mm_outline.specs.Parts.{AreWithin, IsOutline, depth_after, statement_of};
 ghost use Rattle.mm_outline.specs.Tokens.{AreTokens};
@@ -51,8 +51,8 @@ impl<'a, A: Allocator> Outlined<'a, A> {
     /// Returns what was read of the text, the names by themselves. `variables` says for each symbol
     /// whether it is a variable.
     pub fn into_reading(self, text: &'a [u8], variables: Vec<bool, A>) -> Reading<'a, A>
-        requires ends { ArePlaces self.ends.items (length self.symbols.items) }
-        requires parts { AreParsedStatements
+        requires are_places { AreBounds self.ends.items (length self.symbols.items) }
+        requires are_parsed_statements { AreParsedStatements
             (statements text.now (tokens_of text.now) self.outlines.items) self.scope.blocks
             (formulas_of self) variables.items }
         ensures { result ≡ reading_of text.now self.entry }
@@ -88,9 +88,9 @@ fn depth_after(kind: Kind, depth: u32) -> u32
 
 /// Returns the names and blocks before the first statement: none.
 fn no_scope<'a, A: Allocator + Copy>(alloc: A) -> Result<Scope<'a, A>, AllocError>
-    ensures keeps { IfOk result
+    ensures is_scope_after_none { IfOk result
         (λ s. IsScopeAfter [] s) }
-    ensures names { IfOk result (λ s. names_in s ≡ []) }
+    ensures has_no_names { IfOk result (λ s. names_in s ≡ []) }
 {
     let blocks = no_blocks(alloc)?;
     let names = no_names(alloc)?;
@@ -148,12 +148,12 @@ impl<'a, A: Allocator + Copy> Outlined<'a, A> {
         depth: u32,
         outline: Outline,
     ) -> Result<(), AllocError>
-        requires among { IsAmong text.now tokens.now outline }
+        requires is_among_tokens { IsAmong text.now tokens.now outline }
         requires few_tokens { length tokens.now < 2 ^ 31 }
         requires no_fault { self.old.fault ≡ None }
         requires is_read_so_far { IsReadSoFar
             (statements text.now tokens.now self.old.outlines.items) (read_so_far self.old) }
-        requires next { MayTake (statements text.now tokens.now self.old.outlines.items) depth
+        requires may_take { MayTake (statements text.now tokens.now self.old.outlines.items) depth
             (statement_of text.now tokens.now outline) }
         ensures { OnOk result
             (HasTaken text.now tokens.now self.old.outlines.items depth outline self.new) }
@@ -182,16 +182,16 @@ pub fn outline_statements<'a, A: Allocator + Copy>(
     tokens: &[Word],
     lexical: Option<Fault>,
 ) -> Result<Outlined<'a, A>, AllocError>
-    requires words { AreWithin text.now tokens.now }
-    requires tokens { AreTokens text.now tokens.now }
+    requires tokens_within { AreWithin text.now tokens.now }
+    requires are_tokens { AreTokens text.now tokens.now }
     requires few_tokens { length tokens.now < 2 ^ 31 }
     requires few_bytes { lexical ≡ None → length text.now < 2 ^ 31 }
     ensures few_outlines { IfOk result (λ d. length d.outlines.items < 2 ^ 31) }
-    ensures outlines { IfOk result
+    ensures are_outlines { IfOk result
         (λ d. All (λ o. IsOutline o × (o.end < length tokens.now)) d.outlines.items) }
     ensures is_read_so_far { IfOk result
         (λ d. IsReadSoFar (statements text.now tokens.now d.outlines.items) (read_so_far d)) }
-    ensures read { IfOk result
+    ensures fault_is_read { IfOk result
         (λ d. IsRead (length text.now) (lexed text.now tokens.now lexical)
         (statements text.now tokens.now d.outlines.items) d.fault) }
 {

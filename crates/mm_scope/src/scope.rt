@@ -4,7 +4,8 @@ ghost use Rattle.std.specs.Prelude.{◌≡◌, ◌<◌, ◌+◌, ◌-◌, ◌^�
 ghost use Rattle.std.specs.Prelude.{length, not, true, OnOk};
 ghost use Rattle.mm_spec.specs.Text.{is_in, token};
 ghost use Rattle.mm_spec.specs.Statement.{Statement, label_of};
-ghost use Rattle.mm_spec.specs.Lawful.{at, is_typed, is_typed_otherwise, least, when, symbol_codes};
+ghost use Rattle.mm_spec.specs.Lawful.{faults_at, is_typed, is_typed_otherwise, least, when};
+ghost use Rattle.mm_spec.specs.Lawful.{symbol_codes};
 ghost use Rattle.mm_spec.specs.Lawful.{label_faults, floating_faults};
 ghost use Rattle.mm_spec.specs.declared.Code.TheVariants.{BadTypecode, TypedBefore, OtherTypecode};
 ghost use Rattle.mm_outline.specs.Blocks.{is_open_in};
@@ -15,7 +16,7 @@ ghost use Rattle.mm_scope.specs.WordEntry.{after_declaring, after_typing, declar
 ghost use Rattle.mm_scope.specs.WordEntry.{entry_after, label_after};
 ghost use Rattle.mm_scope.specs.Scopes.{Declares, IsAmong, IsLeastCode, IsLeastFault};
 ghost use Rattle.mm_scope.specs.Scopes.{IsScopeAfter, IsNextScope, declared_words, listed_words};
-ghost use Rattle.mm_scope.specs.Scopes.{symbol_in, entry_in, label_in, names_in};
+ghost use Rattle.mm_scope.specs.Scopes.{symbol_in, word_entry_in, label_in, names_in};
 
 use mm_database::names::{NameTable, Symbol};
 use mm_outline::blocks::{Blocks, NEVER};
@@ -35,14 +36,14 @@ impl<'a, A: Allocator + Copy> Scope<'a, A> {
     fn is_active(&self, symbol: Symbol<'a>) -> bool
         ensures { result ≡ is_active_symbol (is_open_in self.now.blocks) symbol.entry }
     {
-        symbol.is_variable && self.blocks.is_open(symbol.declared)
+        symbol.is_variable && self.blocks.is_open(symbol.declaration)
     }
 
     /// Whether the symbol has an active `$f`.
     fn is_typed(&self, symbol: Symbol<'a>) -> bool
-        ensures { result ≡ is_open_in self.now.blocks symbol.entry.typed }
+        ensures { result ≡ is_open_in self.now.blocks symbol.entry.typing }
     {
-        self.blocks.is_open(symbol.typed)
+        self.blocks.is_open(symbol.typing)
     }
 
     /// Returns what is wrong with a word as a symbol of a formula after the typecode. `word_symbol`
@@ -88,7 +89,7 @@ impl<'a, A: Allocator + Copy> Scope<'a, A> {
     pub(crate) fn typecode_fault_code(word_symbol: Option<Symbol<'a>>) -> Option<Code>
         ensures { (place : ℕ)
             → fault_at place result
-            ≡ least (at place (when (not (is_constant_in word_symbol.entry)) BadTypecode)) }
+            ≡ least (faults_at place (when (not (is_constant_in word_symbol.entry)) BadTypecode)) }
     {
         match word_symbol {
             Some(symbol) if !symbol.is_variable => None,
@@ -107,7 +108,7 @@ impl<'a, A: Allocator + Copy> Scope<'a, A> {
     {
         if self.is_typed(symbol) {
             Some(Code::TypedBefore)
-        } else if symbol.typed != NEVER && typecode != symbol.typecode {
+        } else if symbol.typing != NEVER && typecode != symbol.typecode {
             Some(Code::OtherTypecode)
         } else {
             None
@@ -116,12 +117,12 @@ impl<'a, A: Allocator + Copy> Scope<'a, A> {
 
     /// Returns what is wrong with a word as a symbol of a `$c`, `$v` or `$d`. `repeated` says
     /// whether it occurs earlier in the statement.
-    pub(crate) fn declared_code(&self, kind: Kind, word: &[u8], repeated: bool) -> Option<Code>
+    pub(crate) fn listed_code(&self, kind: Kind, word: &[u8], repeated: bool) -> Option<Code>
         ensures { (earlier : List (List ℕ))
             → repeated ≡ is_in word.now earlier
             → IsLeastCode self.now (λ n. listed_codes n kind earlier word.now) result }
     {
-        let (is_known, is_active) = match self.names.symbol(word) {
+        let (is_declared, is_active) = match self.names.symbol(word) {
             Some(symbol) => {
                 let is_active = self.is_active(symbol);
                 (
@@ -139,7 +140,7 @@ impl<'a, A: Allocator + Copy> Scope<'a, A> {
             } else {
                 None
             }
-        } else if is_known || repeated {
+        } else if is_declared || repeated {
             Some(Code::DeclaredBefore)
         } else if self.names.is_label(word) {
             Some(Code::LabelIsSymbol)
@@ -148,14 +149,14 @@ impl<'a, A: Allocator + Copy> Scope<'a, A> {
         }
     }
 
-    /// Returns what is wrong with a constant as the type of an active variable, or `None` if the
-    /// two words aren't a constant and an active variable.
+    /// Returns what is wrong with a constant as the type of an active variable: `Some(None)` if
+    /// nothing is, and `None` if the two words aren't a constant and an active variable.
     pub(crate) fn typing_code(&self, typecode: &[u8], variable: &[u8]) -> Option<Option<Code>>
-        ensures { (keyword first second : ℕ)
+        ensures { (keyword_place typecode_place variable_place : ℕ)
             → IsLeastFault self.now
-            (λ n. floating_faults n keyword
-            (token first typecode.now ∷ token second variable.now ∷ []))
-            (typing_fault keyword second result) }
+            (λ n. floating_faults n keyword_place
+            (token typecode_place typecode.now ∷ token variable_place variable.now ∷ []))
+            (typing_fault keyword_place variable_place result) }
     {
         match self.names.symbol(variable) {
             Some(symbol) => {
@@ -172,28 +173,28 @@ impl<'a, A: Allocator + Copy> Scope<'a, A> {
     }
 }
 
-/// Returns what is known of the symbol after its declaration by the statement `number`.
-fn declared<'a, A: Allocator + Copy>(
+/// Returns what is known of the symbol after its declaration by the statement.
+fn declared_symbol<'a, A: Allocator + Copy>(
     names: &NameTable<'a, A>,
     is_variable: bool,
-    number: u32,
+    statement: u32,
     word: &'a [u8],
 ) -> Symbol<'a>
     ensures { entry_of (Some result)
-        ≡ declared_entry is_variable number word.entry.now
+        ≡ declared_entry is_variable statement word.entry.now
         (entry_of (find_in names.now.symbols word.entry.now)) }
 {
     match names.symbol(word) {
         Some(old) => Symbol {
             is_variable,
-            declared: number,
-            typed: old.typed,
+            declaration: statement,
+            typing: old.typing,
             typecode: old.typecode,
         },
         None => Symbol {
             is_variable,
-            declared: number,
-            typed: NEVER,
+            declaration: statement,
+            typing: NEVER,
             typecode: word,
         },
     }
@@ -207,42 +208,43 @@ impl<'a, A: Allocator + Copy> Scope<'a, A> {
         tokens: &[Word],
         outline: Outline,
     ) -> Result<(), AllocError>
-        requires among { IsAmong text.now tokens.now outline }
+        requires is_among_tokens { IsAmong text.now tokens.now outline }
         requires few_tokens { length tokens.now < 2 ^ 31 }
-        requires keeps { (db : List Statement) × IsScopeAfter db self.old × (length db < 2 ^ 31) }
-        ensures keeps { OnOk result
+        requires is_scope_after { (db : List Statement)
+            × IsScopeAfter db self.old × (length db < 2 ^ 31) }
+        ensures is_next_scope { OnOk result
             (IsNextScope self.old self.new (statement_of text.now tokens.now outline)) }
-        ensures names { OnOk result
+        ensures names_are_declared { OnOk result
             (Declares self.old self.new
             (declared_words (statement_of text.now tokens.now outline))) }
     {
-        let number = self.blocks.len();
+        let statement = self.blocks.len();
         self.blocks.push(outline.kind)?;
-        self.add_names(text, tokens, outline, number)
+        self.add_names(text, tokens, outline, statement)
     }
 
-    /// Adds the names of the statement `number`.
+    /// Adds the names of the statement.
     fn add_names(
         &mut self,
         text: &'a [u8],
         tokens: &[Word],
         outline: Outline,
-        number: u32,
+        statement: u32,
     ) -> Result<(), AllocError>
-        requires among { IsAmong text.now tokens.now outline }
+        requires is_among_tokens { IsAmong text.now tokens.now outline }
         requires few_tokens { length tokens.now < 2 ^ 31 }
-        ensures symbols { OnOk result
+        ensures symbols_are_added { OnOk result
             ((w : List ℕ)
-            → entry_in self.new w
-            ≡ entry_after number (statement_of text.now tokens.now outline) w
-            (entry_in self.old w)) }
-        ensures labels { OnOk result
+            → word_entry_in self.new w
+            ≡ entry_after statement (statement_of text.now tokens.now outline) w
+            (word_entry_in self.old w)) }
+        ensures label_is_added { OnOk result
             ((w : List ℕ)
             → label_in self.new w
-            ≡ label_after number (label_of (statement_of text.now tokens.now outline)) w
+            ≡ label_after statement (label_of (statement_of text.now tokens.now outline)) w
             (label_in self.old w)) }
-        ensures blocks { self.new.blocks ≡ self.old.blocks }
-        ensures names { OnOk result
+        ensures blocks_stay { self.new.blocks ≡ self.old.blocks }
+        ensures names_are_declared { OnOk result
             (Declares self.old self.new
             (declared_words (statement_of text.now tokens.now outline))) }
     {
@@ -250,80 +252,80 @@ impl<'a, A: Allocator + Copy> Scope<'a, A> {
         match outline.kind {
             Kind::Constants => {
                 let is_variable = false;
-                self.declare(text, tokens, outline, is_variable, number)
+                self.declare(text, tokens, outline, is_variable, statement)
             }
             Kind::Variables => {
                 let is_variable = true;
-                self.declare(text, tokens, outline, is_variable, number)
+                self.declare(text, tokens, outline, is_variable, statement)
             }
             Kind::Floating => {
-                self.give_label(text, tokens, outline.keyword, number)?;
+                self.give_label(text, tokens, outline.keyword, statement)?;
                 if outline.middle - outline.keyword == 3 {
-                    self.give_type(text, tokens, from, number)?;
+                    self.give_type(text, tokens, from, statement)?;
                 }
                 Ok(())
             }
             Kind::Essential | Kind::Axiom | Kind::Theorem => {
-                self.give_label(text, tokens, outline.keyword, number)
+                self.give_label(text, tokens, outline.keyword, statement)
             }
             _ => Ok(()),
         }
     }
 
-    /// Makes the label before the keyword that of the statement `number`.
+    /// Makes the label before the keyword that of the statement.
     fn give_label(
         &mut self,
         text: &'a [u8],
         tokens: &[Word],
         keyword: u32,
-        number: u32,
+        statement: u32,
     ) -> Result<(), AllocError>
-        requires words { AreWithin text.now tokens.now }
-        requires label { 0 < keyword }
+        requires tokens_within { AreWithin text.now tokens.now }
+        requires keyword_gt_0 { 0 < keyword }
         requires keyword_lt_length { keyword < length tokens.now }
-        ensures labels { OnOk result
+        ensures label_is_added { OnOk result
             ((w : List ℕ)
             → label_in self.new w
-            ≡ label_after number (Some (token_at text.now tokens.now (keyword - 1))) w
+            ≡ label_after statement (Some (token_at text.now tokens.now (keyword - 1))) w
             (label_in self.old w)) }
-        ensures symbols { OnOk result (self.new.names.symbols ≡ self.old.names.symbols) }
-        ensures blocks { self.new.blocks ≡ self.old.blocks }
+        ensures symbols_stay { OnOk result (self.new.names.symbols ≡ self.old.names.symbols) }
+        ensures blocks_stay { self.new.blocks ≡ self.old.blocks }
     {
         let token = tokens[keyword as usize - 1];
-        self.names.set_label(token.bytes(text), number)
+        self.names.set_label(token.bytes(text), statement)
     }
 
-    /// Gives the variable after the typecode at `from` that type, by the `$f` `number`.
+    /// Gives the variable after the typecode at `from` that type, by the statement, a `$f`.
     fn give_type(
         &mut self,
         text: &'a [u8],
         tokens: &[Word],
         from: u32,
-        number: u32,
+        statement: u32,
     ) -> Result<(), AllocError>
-        requires words { AreWithin text.now tokens.now }
+        requires tokens_within { AreWithin text.now tokens.now }
         requires next_lt_length { from + 1 < length tokens.now }
-        ensures labels { OnOk result
+        ensures labels_stay { OnOk result
             ((w : List ℕ) → label_in self.new w ≡ label_in self.old w) }
-        ensures symbols { OnOk result
+        ensures variable_is_typed { OnOk result
             ((w : List ℕ)
-            → entry_in self.new w
-            ≡ after_typing number (token_at text.now tokens.now from).word
-            (token_at text.now tokens.now (from + 1)).word (entry_in self.old) w) }
-        ensures blocks { self.new.blocks ≡ self.old.blocks }
-        ensures names { OnOk result
+            → word_entry_in self.new w
+            ≡ after_typing statement (token_at text.now tokens.now from).word
+            (token_at text.now tokens.now (from + 1)).word (word_entry_in self.old) w) }
+        ensures blocks_stay { self.new.blocks ≡ self.old.blocks }
+        ensures names_stay { OnOk result
             (names_in self.new ≡ names_in self.old) }
     {
-        let first = tokens[from as usize];
-        let second = tokens[from as usize + 1];
-        let typecode = first.bytes(text);
-        let word = second.bytes(text);
+        let typecode_token = tokens[from as usize];
+        let variable_token = tokens[from as usize + 1];
+        let typecode = typecode_token.bytes(text);
+        let word = variable_token.bytes(text);
         match self.names.symbol(word) {
             Some(old) => {
                 let symbol = Symbol {
                     is_variable: old.is_variable,
-                    declared: old.declared,
-                    typed: number,
+                    declaration: old.declaration,
+                    typing: statement,
                     typecode,
                 };
                 self.names.set_symbol(word, symbol)
@@ -332,32 +334,32 @@ impl<'a, A: Allocator + Copy> Scope<'a, A> {
         }
     }
 
-    /// Declares the words of the statement `number`, a `$c` or `$v`.
+    /// Declares the words of the statement, a `$c` or `$v`.
     fn declare(
         &mut self,
         text: &'a [u8],
         tokens: &[Word],
         outline: Outline,
         is_variable: bool,
-        number: u32,
+        statement: u32,
     ) -> Result<(), AllocError>
-        requires among { IsAmong text.now tokens.now outline }
+        requires is_among_tokens { IsAmong text.now tokens.now outline }
         requires keyword_lt_middle { outline.keyword < outline.middle }
-        ensures labels { OnOk result
+        ensures labels_stay { OnOk result
             ((w : List ℕ) → label_in self.new w ≡ label_in self.old w) }
-        ensures symbols { OnOk result
+        ensures symbols_are_declared { OnOk result
             ((w : List ℕ)
-            → entry_in self.new w
-            ≡ after_declaring is_variable number (listed_words text.now tokens.now outline) w
-            (entry_in self.old w)) }
-        ensures blocks { self.new.blocks ≡ self.old.blocks }
-        ensures names { OnOk result
+            → word_entry_in self.new w
+            ≡ after_declaring is_variable statement (listed_words text.now tokens.now outline) w
+            (word_entry_in self.old w)) }
+        ensures blocks_stay { self.new.blocks ≡ self.old.blocks }
+        ensures names_are_declared { OnOk result
             (Declares self.old self.new (listed_words text.now tokens.now outline)) }
     {
         for token_index in outline.keyword + 1..outline.middle {
             let token = tokens[token_index as usize];
             let word = token.bytes(text);
-            let symbol = declared(&self.names, is_variable, number, word);
+            let symbol = declared_symbol(&self.names, is_variable, statement, word);
             self.names.set_symbol(word, symbol)?;
         }
         Ok(())

@@ -1,13 +1,32 @@
--- Labels are those of one forest of derivations at most, and steps stand for one plain list.
+-- Labels are those of one forest of derivations at most, and steps have one expansion.
 use Rattle.std.proofs.Common.{◌≡◌, ℕ, List, [], ◌∷◌, ◌++◌, sym, ap, ◌∙◌, subst, unwrap_or}
+use Rattle.std.proofs.Common.{append-nil, append_assoc}
 use Rattle.mm_spec.specs.Derivation.{Context, Trees, none, more, postfix, AreDerivations}
 use Rattle.mm_spec.specs.Steps.{Step, label, marked}
-use Rattle.mm_spec.specs.Valid.{IsLastTree, Adds, Plain}
+use Rattle.mm_spec.specs.Valid.{IsLastTree, Adds, Expands}
 use Rattle.mm_spec.proofs.UniqueLaw.{same_labels_same_derivations}
 use Rattle.mm_spec.proofs.StepsLaw.{forest_labels_are_good}
 use Rattle.mm_spec.specs.Laws.Complete.{HasCompleteFrame}
 
-module _ (c : Context) (all_complete : (l : ℕ) → HasCompleteFrame c (c.rule l)) where
+module _ (c : Context) where
+  -- the expansion only grows
+  adds_at_end : (lists : List (List ℕ)) (labels : List ℕ) (s : Step) (new_labels : List ℕ)
+      → Adds c lists labels s new_labels → (added : List ℕ) × (new_labels ≡ labels ++ added)
+  adds_at_end lists labels (label l) new_labels adds = (l ∷ [], adds)
+  adds_at_end lists labels (marked j) new_labels adds = (adds.1, adds.4)
+
+  pub expansion_grows : (steps : List Step) (lists : List (List ℕ)) (labels all_labels : List ℕ)
+      → Expands c lists labels steps all_labels → (added : List ℕ) × (all_labels ≡ labels ++ added)
+  expansion_grows [] lists labels all_labels expands = ([], expands ∙ sym (append-nil labels))
+  expansion_grows (s ∷ steps) lists labels all_labels expands =
+      let extended = adds_at_end lists labels s expands.0 expands.1 in
+      let extended_again = expansion_grows steps (lists ++ expands.0 ∷ []) expands.0 all_labels expands.2 in (
+        extended.0 ++ extended_again.0,
+        extended_again.1 ∙ ap (λ z. z ++ extended_again.0) extended.1
+            ∙ append_assoc labels extended.0 extended_again.0,
+      )
+
+module _ (c : Context) (all_complete : (l : ℕ) → HasCompleteFrame c (c.referent l)) where
   -- forests with the same labels are one forest
   pub same_labels_same_forest : (r s : Trees) → AreDerivations c r → AreDerivations c s
       → postfix r ≡ postfix s
@@ -35,11 +54,11 @@ module _ (c : Context) (all_complete : (l : ℕ) → HasCompleteFrame c (c.rule 
       (subst (λ r. IsLastTree r adds_a.1) forests_equal adds_a.3.3) adds_b.3.3 in
       adds_a.4 ∙ ap (λ z. before ++ z) last_trees_equal ∙ sym adds_b.4
 
-  pub plain_lists_are_equal : (steps : List Step) (lists : List (List ℕ)) (before a b : List ℕ)
-      → Plain c lists before steps a → Plain c lists before steps b → a ≡ b
-  plain_lists_are_equal [] lists before a b a_is_plain b_is_plain = a_is_plain ∙ sym b_is_plain
-  plain_lists_are_equal (s ∷ steps) lists before a b a_is_plain b_is_plain =
+  pub expansions_are_equal : (steps : List Step) (lists : List (List ℕ)) (before a b : List ℕ)
+      → Expands c lists before steps a → Expands c lists before steps b → a ≡ b
+  expansions_are_equal [] lists before a b a_expands b_expands = a_expands ∙ sym b_expands
+  expansions_are_equal (s ∷ steps) lists before a b a_expands b_expands =
       let next_lists_equal =
-      added_lists_are_equal lists before s a_is_plain.0 b_is_plain.0 a_is_plain.1 b_is_plain.1 in
-      plain_lists_are_equal steps (lists ++ b_is_plain.0 ∷ []) b_is_plain.0 a b
-      (subst (λ z. Plain c (lists ++ z ∷ []) z steps a) next_lists_equal a_is_plain.2) b_is_plain.2
+      added_lists_are_equal lists before s a_expands.0 b_expands.0 a_expands.1 b_expands.1 in
+      expansions_are_equal steps (lists ++ b_expands.0 ∷ []) b_expands.0 a b
+      (subst (λ z. Expands c (lists ++ z ∷ []) z steps a) next_lists_equal a_expands.2) b_expands.2

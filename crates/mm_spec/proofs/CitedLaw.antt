@@ -6,13 +6,13 @@ use Rattle.std.proofs.Common.{◌∙◌, subst, arith, true≢false, eqb-true, l
 use Rattle.std.proofs.lemmas.Bool.{or_cases}
 use Rattle.std.proofs.lemmas.List.Folds.{list_any-append}
 use Rattle.mm_spec.specs.Statement.{Statement}
-use Rattle.mm_spec.specs.Derivation.{Context, Rule, Trees, none, more, postfix, formulas}
+use Rattle.mm_spec.specs.Derivation.{Context, Referent, Trees, none, more, postfix, formulas}
 use Rattle.mm_spec.specs.Derivation.{AreDerivations, Follows, is_member}
 use Rattle.mm_spec.specs.Citation.{steps_at, IsProof, Cites}
 use Rattle.mm_spec.specs.Laws.Complete.{AreComplete}
 use Rattle.mm_spec.specs.Output.{is_theorem_at}
 use Rattle.mm_spec.proofs.BoolLaw.{passes_alone}
-use Rattle.mm_spec.proofs.CheckedLaw.{same_labels_same_forest, plain_lists_are_equal}
+use Rattle.mm_spec.proofs.CheckedLaw.{same_labels_same_forest, expansions_are_equal}
 use Rattle.mm_spec.proofs.FindsLaw.{active_lt_place}
 use Rattle.mm_spec.proofs.NodesLaw.{node_label_is_member}
 
@@ -20,21 +20,24 @@ member_append : (xs ys : List ℕ) (a : ℕ)
     → is_member (xs ++ ys) a ≡ (is_member xs a || is_member ys a)
 member_append xs ys a = list_any-append (λ y. a == y) xs ys
 
--- a label of a derivation stands for something
-no_label_without_rule : (c : Context) (a : ℕ) (forest : Trees) → AreDerivations c forest
-    → is_member (postfix forest) a ≡ true → c.rule a ≡ None → ⊥
-no_label_without_rule c a none are_derivations a_is_label no_rule = true≢false (sym a_is_label)
-no_label_without_rule c a (more ts l f cs) are_derivations a_is_label no_rule =
+-- a label of a derivation refers to something
+no_label_without_referent : (c : Context) (a : ℕ) (forest : Trees) → AreDerivations c forest
+    → is_member (postfix forest) a ≡ true → c.referent a ≡ None → ⊥
+no_label_without_referent c a none are_derivations a_is_label no_referent = true≢false
+    (sym a_is_label)
+no_label_without_referent c a (more ts l f cs) are_derivations a_is_label no_referent =
     not_in_earlier_nor_last
     (or_cases (is_member (postfix ts) a) (is_member (postfix cs ++ l ∷ []) a)
     (sym (member_append (postfix ts) (postfix cs ++ l ∷ []) a) ∙ a_is_label))
-    (λ is_label_there. no_label_without_rule c a ts are_derivations.0 is_label_there no_rule)
-    (λ is_label_there. no_label_without_rule c a cs are_derivations.1 is_label_there no_rule)
+    (λ is_label_there. no_label_without_referent c a ts are_derivations.0 is_label_there
+    no_referent)
+    (λ is_label_there. no_label_without_referent c a cs are_derivations.1 is_label_there
+    no_referent)
   where
     not_the_root : (a == l) ≡ true → ⊥
     not_the_root is_root =
-        subst (λ (r : Option Rule). Follows c r (formulas cs) f)
-        (ap c.rule (sym (eqb-true a l is_root)) ∙ no_rule) are_derivations.2
+        subst (λ (r : Option Referent). Follows c r (formulas cs) f)
+        (ap c.referent (sym (eqb-true a l is_root)) ∙ no_referent) are_derivations.2
 
     not_in_children_nor_root : (is_member (postfix cs) a ≡ true) ⊎ (((a == l) || false) ≡ true)
         → (is_member (postfix cs) a ≡ true → ⊥) → ⊥
@@ -55,7 +58,7 @@ module _ (db : List Statement) where
   pub label_lt_theorem : (t a : ℕ) (d : Trees) → IsProof db t d → is_member (postfix d) a ≡ true
       → a < t
   label_lt_theorem t a d is_proof a_is_label =
-      grind (arith, common_steps, active_lt_place, no_label_without_rule)
+      grind (arith, common_steps, active_lt_place, no_label_without_referent)
 
   -- what a theorem cites is earlier
   pub cited_lt_theorem : (by_essential : Bool) (t a : ℕ) → Cites db by_essential t a → a < t
@@ -74,4 +77,4 @@ pub two_proofs_are_equal : (db : List Statement) → AreComplete db → (t : ℕ
     → IsProof db t d
     → IsProof db t e → d ≡ e
 two_proofs_are_equal db all_complete t d e d_is_proof e_is_proof =
-    grind (arith, common_steps, plain_lists_are_equal, same_labels_same_forest)
+    grind (arith, common_steps, expansions_are_equal, same_labels_same_forest)

@@ -12,14 +12,14 @@ use Rattle.mm_spec.specs.Text.{Bytes, Fault, fault, is_in, words}
 use Rattle.mm_spec.specs.Output.{IsRead}
 use Rattle.mm_spec.specs.Statement.{Statement, constants, variables, disjoint, floating, essential}
 use Rattle.mm_spec.specs.Statement.{axiomatic, provable, opening, closing, symbols_of}
-use Rattle.mm_spec.specs.Scope.{Typing, names_before, depth, is_active, active, active_statements}
+use Rattle.mm_spec.specs.Scope.{Typing, names_before, depth, active_at, active, active_statements}
 use Rattle.mm_spec.specs.Scope.{statement_at, constants_of, variables_of, typings_of}
 use Rattle.mm_spec.specs.Lawful.{scope_faults, scope_fault, IsLawful}
 use Rattle.mm_spec.specs.Frame.{symbol_names, index_of, formula_of, formula_at, is_variable_number}
 use Rattle.mm_spec.specs.Frame.{is_floating, is_essential, active_of, mandatory_variables}
-use Rattle.mm_spec.specs.Frame.{mandatory_hypotheses, frame_at, pairs_of, disjoint_at}
+use Rattle.mm_spec.specs.Frame.{mandatory_hypotheses, frame_at, pairs_below, disjoint_at}
 use Rattle.mm_spec.specs.Derivation.{Formula, Pair, is_member}
-use Rattle.mm_spec.specs.Citation.{context_at, rule_of}
+use Rattle.mm_spec.specs.Citation.{context_at, referent_of}
 use Rattle.mm_spec.specs.Laws.Complete.{binds, IsBound, AreBound, IsComplete, HasCompleteFrame}
 use Rattle.mm_spec.specs.Laws.Complete.{AreComplete}
 use Rattle.mm_spec.specs.Lexed.{LexedText}
@@ -59,7 +59,7 @@ is_mandatory_pair db k p =
     && is_member (mandatory_variables db k) p.high && disjoint_at db k p.low p.high
 
 module _ (db : List Statement) (lawful : (k : ℕ) → k < length db → IsLawful db k) where
-  lawful_is_faultless : (k : ℕ) (s : Statement) → slice_get db k ≡ Some s
+  pub lawful_is_faultless : (k : ℕ) (s : Statement) → slice_get db k ≡ Some s
       → scope_faults (names_before db k) (depth db k) s ≡ []
   lawful_is_faultless k s s_at_k = grind (arith, common_steps, got_lt_length, no_least_no_faults)
 
@@ -69,21 +69,21 @@ module _ (db : List Statement) (lawful : (k : ℕ) → k < length db → IsLawfu
   no_constant_is_variable w is_constant is_variable =
       let constant_place = declaring_statement constants_of db w is_constant in
       let variable_place = declaring_statement variables_of db w is_variable in
-      absurd_by_order constant_place.0 variable_place.0 constant_place.1 variable_place.1
+      not_declared_as_both constant_place.0 variable_place.0 constant_place.1 variable_place.1
       constant_place.2 variable_place.2 constant_place.3 variable_place.3
       (cases_order constant_place.0 variable_place.0)
     where
-      absurd_by_order : (i j : ℕ) (s t : Statement) → slice_get db i ≡ Some s
+      not_declared_as_both : (i j : ℕ) (s t : Statement) → slice_get db i ≡ Some s
           → slice_get db j ≡ Some t
           → is_in w (constants_of s) ≡ true → is_in w (variables_of t) ≡ true
           → (i ≡ j) ⊎ ((i < j) ⊎ (j < i)) → ⊥
-      absurd_by_order i j s t s_at_i t_at_j s_declares_constant t_declares_variable
+      not_declared_as_both i j s t s_at_i t_at_j s_declares_constant t_declares_variable
           (inl i_is_j) =
           let s_is_t : s ≡ t = cc in
           not_constant_and_variable t w
           (subst (λ x. is_in w (constants_of x) ≡ true) s_is_t s_declares_constant)
           t_declares_variable
-      absurd_by_order i j s t s_at_i t_at_j s_declares_constant t_declares_variable
+      not_declared_as_both i j s t s_at_i t_at_j s_declares_constant t_declares_variable
           (inr (inl i_lt_j)) =
           true≢false
           (sym (later_place_knows_declared constants_of db j i s w s_at_i i_lt_j
@@ -91,7 +91,7 @@ module _ (db : List Statement) (lawful : (k : ℕ) → k < length db → IsLawfu
           ∙ variable_is_no_constant_before (names_before db j) (depth db j) t w
           (lawful_is_faultless j t t_at_j)
           t_declares_variable)
-      absurd_by_order i j s t s_at_i t_at_j s_declares_constant t_declares_variable
+      not_declared_as_both i j s t s_at_i t_at_j s_declares_constant t_declares_variable
           (inr (inr j_lt_i)) =
           true≢false
           (sym (later_place_knows_declared variables_of db i j t w t_at_j j_lt_i
@@ -157,7 +157,7 @@ module _ (db : List Statement) (lawful : (k : ℕ) → k < length db → IsLawfu
   pub formula_variable_is_typed : (j x : ℕ) (s : Statement) → slice_get db j ≡ Some s
       → has_formula s ≡ true
       → is_member (formula_at db j) x ≡ true → is_variable_number db x ≡ true
-      → (i : ℕ) × (is_active db i j ≡ true) × Types i x
+      → (i : ℕ) × (active_at db i j ≡ true) × Types i x
   formula_variable_is_typed j x s s_at_j has_formula_s x_in_formula is_variable =
       let word_of_x =
       word_of_member (symbol_names db) (words (symbols_of s)) x
@@ -172,7 +172,7 @@ module _ (db : List Statement) (lawful : (k : ℕ) → k < length db → IsLawfu
       typed_if_known : (word_of_x : Bytes) → x ≡ index_of word_of_x (symbol_names db)
           → is_in word_of_x (flat_map variables_of db) ≡ true → IsKnown (names_before db j)
           word_of_x
-          → (i : ℕ) × (is_active db i j ≡ true) × Types i x
+          → (i : ℕ) × (active_at db i j ≡ true) × Types i x
       typed_if_known word_of_x x_is_number is_declared (inl is_constant) =
           absurd
           (no_constant_is_variable word_of_x
@@ -203,7 +203,7 @@ module _ (db : List Statement) (lawful : (k : ℕ) → k < length db → IsLawfu
   pub mandatory_is_typed : (k x : ℕ) (s : Statement) → slice_get db k ≡ Some s
       → has_formula s ≡ true
       → is_member (mandatory_variables db k) x ≡ true
-      → (i : ℕ) × (is_active db i k ≡ true) × Types i x × (is_variable_number db x ≡ true)
+      → (i : ℕ) × (active_at db i k ≡ true) × Types i x × (is_variable_number db x ≡ true)
   mandatory_is_typed k x s s_at_k has_formula_s x_is_mandatory =
       let essential_symbols = flat_map (formula_at db) (active_of is_essential db k) in
       let variable_and_symbol =
@@ -217,7 +217,7 @@ module _ (db : List Statement) (lawful : (k : ℕ) → k < length db → IsLawfu
       typed_if_symbol : is_variable_number db x ≡ true
           → (is_member (formula_at db k) x ≡ true)
           ⊎ (is_member (flat_map (formula_at db) (active_of is_essential db k)) x ≡ true)
-          → (i : ℕ) × (is_active db i k ≡ true) × Types i x × (is_variable_number db x ≡ true)
+          → (i : ℕ) × (active_at db i k ≡ true) × Types i x × (is_variable_number db x ≡ true)
       typed_if_symbol is_variable (inl x_is_there) =
           let statement_there =
           formula_variable_is_typed k x s s_at_k has_formula_s x_is_there is_variable in
@@ -267,7 +267,7 @@ module _ (db : List Statement) (lawful : (k : ℕ) → k < length db → IsLawfu
       grind (arith, common_steps, filter_member, list_any-append, or_left)
 
   -- each variable of a mandatory hypothesis is a mandatory variable
-  pub hypothesis_variable_is_mandatory : (k j x : ℕ) → is_active db j k ≡ true
+  pub hypothesis_variable_is_mandatory : (k j x : ℕ) → active_at db j k ≡ true
       → is_mandatory db k j ≡ true
       → is_member (formula_at db j) x ≡ true → is_variable_number db x ≡ true
       → is_member (mandatory_variables db k) x ≡ true
@@ -357,7 +357,7 @@ module _ (db : List Statement) (lawful : (k : ℕ) → k < length db → IsLawfu
     frame_hypotheses = map (formula_at db) (mandatory_hypotheses db k)
 
     -- a mandatory hypothesis that binds
-    hypothesis_binds : (x j : ℕ) → is_active db j k ≡ true → is_mandatory db k j ≡ true
+    hypothesis_binds : (x j : ℕ) → active_at db j k ≡ true → is_mandatory db k j ≡ true
         → binds (context_at db m) x (formula_at db j) ≡ true
         → IsBound (context_at db m) frame_hypotheses x
     hypothesis_binds x j j_is_active j_is_mandatory j_binds =
@@ -394,9 +394,8 @@ module _ (db : List Statement) (lawful : (k : ℕ) → k < length db → IsLawfu
           (each_filter
           (λ j. is_mandatory db k j ≡ true
           → AreBound (context_at db m) frame_hypotheses (formula_at db j))
-          (λ j. is_active db j k) (range_with_len 0 k)
-          (each_any
-          (λ j. is_active db j k ≡ true → is_mandatory db k j ≡ true
+          (λ j. active_at db j k) (range_with_len 0 k)
+          (each_any (λ j. active_at db j k ≡ true → is_mandatory db k j ≡ true
           → AreBound (context_at db m) frame_hypotheses (formula_at db j)) (range_with_len 0 k)
           (λ j j_is_active j_is_mandatory. each_member
           (λ x. is_variable_number db x ≡ true → IsBound (context_at db m) frame_hypotheses x)
@@ -414,12 +413,12 @@ module _ (db : List Statement) (lawful : (k : ℕ) → k < length db → IsLawfu
           each_filter
           (λ p. IsBound (context_at db m) frame_hypotheses p.low
           × IsBound (context_at db m) frame_hypotheses p.high) (is_mandatory_pair db k)
-          (pairs_of (length (symbol_names db)))
+          (pairs_below (length (symbol_names db)))
           (each_any
           (λ p. is_mandatory_pair db k p ≡ true
           → IsBound (context_at db m) frame_hypotheses p.low
           × IsBound (context_at db m) frame_hypotheses p.high)
-          (pairs_of (length (symbol_names db))) bound_pair);
+          (pairs_below (length (symbol_names db))) bound_pair);
     }
       where
         bound_pair : (p : Pair) → is_mandatory_pair db k p ≡ true
@@ -429,12 +428,12 @@ module _ (db : List Statement) (lawful : (k : ℕ) → k < length db → IsLawfu
             let both_mandatory = pair_is_mandatory k p is_mandatory_p in
             (mandatory_is_bound p.low both_mandatory.0, mandatory_is_bound p.high both_mandatory.1)
 
-  -- each rule that a lawful statement stands for has all variables that it names in its hypotheses
+  -- the frame of each assertion to which a label refers is complete, if the statements are lawful
   pub lawful_complete : AreComplete db
-  lawful_complete m k = complete_if_active (is_active db k m)
+  lawful_complete m k = complete_if_active (active_at db k m)
     where
       complete_statement : (s : Statement) → slice_get db k ≡ Some s
-          → HasCompleteFrame (context_at db m) (rule_of db k s)
+          → HasCompleteFrame (context_at db m) (referent_of db k s)
       complete_statement (axiomatic l p xs d) s_at_k = complete m k (axiomatic l p xs d) s_at_k refl
       complete_statement (provable l p xs q ps d) s_at_k =
           complete m k (provable l p xs q ps d) s_at_k refl
@@ -447,7 +446,8 @@ module _ (db : List Statement) (lawful : (k : ℕ) → k < length db → IsLawfu
       complete_statement (closing p) s_at_k = tt
 
       complete_if_stands : (o : Option Statement) → slice_get db k ≡ o
-          → HasCompleteFrame (context_at db m) (elim o [ None ↦ None | Some s ↦ rule_of db k s ])
+          → HasCompleteFrame (context_at db m)
+          (elim o [ None ↦ None | Some s ↦ referent_of db k s ])
       complete_if_stands None o_at_k = tt
       complete_if_stands (Some s) o_at_k = complete_statement s o_at_k
 
@@ -455,7 +455,7 @@ module _ (db : List Statement) (lawful : (k : ℕ) → k < length db → IsLawfu
           → HasCompleteFrame (context_at db m)
           (elim b [
             | false ↦ None
-            | true ↦ elim (slice_get db k) [ None ↦ None | Some s ↦ rule_of db k s ]
+            | true ↦ elim (slice_get db k) [ None ↦ None | Some s ↦ referent_of db k s ]
           ])
       complete_if_active false = tt
       complete_if_active true = complete_if_stands (slice_get db k) refl

@@ -11,9 +11,9 @@ use Rattle.std.proofs.lemmas.Bool.{not-false}
 use Rattle.mm_spec.specs.Text.{Bytes, Token, Fault, fault, is_in, words}
 use Rattle.mm_spec.specs.Statement.{Statement, constants, variables, floating, essential, axiomatic}
 use Rattle.mm_spec.specs.Statement.{provable, symbols_of}
-use Rattle.mm_spec.specs.Scope.{Names, Typing, is_local, is_global, is_active}
+use Rattle.mm_spec.specs.Scope.{Names, Typing, is_local, is_global, active_at}
 use Rattle.mm_spec.specs.Scope.{constants_of, variables_of, typings_of, is_block_open}
-use Rattle.mm_spec.specs.Lawful.{when, at, at_each, symbol_codes}
+use Rattle.mm_spec.specs.Lawful.{when, faults_at, faults_at_each, symbol_codes}
 use Rattle.mm_spec.specs.Lawful.{is_typed, formula_faults, label_faults, floating_faults}
 use Rattle.mm_spec.specs.Lawful.{scope_faults, least}
 use Rattle.mm_spec.specs.Frame.{symbol_names, index_of, is_variable_number, is_floating}
@@ -35,7 +35,7 @@ pub both_are_empty : {X : Type 0} (xs ys : List X) → xs ++ ys ≡ [] → (xs �
 both_are_empty [] ys joined_is_empty = (refl, joined_is_empty)
 both_are_empty (x ∷ xs) ys joined_is_empty = absurd (cc)
 
-pub no_faults_no_codes : (p : ℕ) (cs : List Code) → at p cs ≡ [] → cs ≡ []
+pub no_faults_no_codes : (p : ℕ) (cs : List Code) → faults_at p cs ≡ [] → cs ≡ []
 no_faults_no_codes p [] no_faults = refl
 no_faults_no_codes p (c ∷ cs) no_faults = absurd (cc)
 
@@ -55,15 +55,15 @@ second_of_three a false c none_of_three = refl
 -- each symbol has no codes
 pub each_word_has_no_codes : (codes : List Bytes → Bytes → List Code) (earlier_words : List Bytes)
     (ts : List Token)
-    → at_each codes earlier_words ts ≡ [] → (w : Bytes) → is_in w (words ts) ≡ true
+    → faults_at_each codes earlier_words ts ≡ [] → (w : Bytes) → is_in w (words ts) ≡ true
     → (earlier : List Bytes) × (codes earlier w ≡ [])
 each_word_has_no_codes codes earlier_words [] no_faults w w_is_there =
     absurd (true≢false (sym w_is_there))
 each_word_has_no_codes codes earlier_words (t ∷ ts) no_faults w w_is_there =
     none_if_there (or_cases (bytes_eq w t.word) (is_in w (words ts)) w_is_there)
     (λ w_is_later. each_word_has_no_codes codes (t.word ∷ earlier_words) ts
-    (both_are_empty (at t.at (codes earlier_words t.word))
-    (at_each codes (t.word ∷ earlier_words) ts)
+    (both_are_empty (faults_at t.at (codes earlier_words t.word))
+    (faults_at_each codes (t.word ∷ earlier_words) ts)
     no_faults).1 w w_is_later)
   where
     none_if_there : (bytes_eq w t.word ≡ true) ⊎ (is_in w (words ts) ≡ true)
@@ -73,8 +73,8 @@ each_word_has_no_codes codes earlier_words (t ∷ ts) no_faults w w_is_there =
       earlier_words,
       ap (codes earlier_words) (equal_bytes_equal_words w t.word is_there)
           ∙ no_faults_no_codes t.at (codes earlier_words t.word)
-          (both_are_empty (at t.at (codes earlier_words t.word))
-          (at_each codes (t.word ∷ earlier_words) ts) no_faults).0,
+          (both_are_empty (faults_at t.at (codes earlier_words t.word))
+          (faults_at_each codes (t.word ∷ earlier_words) ts) no_faults).0,
     )
     none_if_there (inr is_there) none_later = none_later is_there
 
@@ -145,13 +145,13 @@ formula_symbols_are_known n (t ∷ ts) end no_faults w w_is_there =
         ∙ not-false (is_in t.word n.constants)
         (no_code_if_false (not (is_in t.word n.constants)) BadTypecode
         (no_faults_no_codes t.at (when (not (is_in t.word n.constants)) BadTypecode)
-        (both_are_empty (at t.at (when (not (is_in t.word n.constants)) BadTypecode))
-        (at_each (symbol_codes n) [] ts) no_faults).0)))
+        (both_are_empty (faults_at t.at (when (not (is_in t.word n.constants)) BadTypecode))
+        (faults_at_each (symbol_codes n) [] ts) no_faults).0)))
     known_if_there (inr w_is_there) =
         let codes_of_w =
         each_word_has_no_codes (symbol_codes n) [] ts
-        (both_are_empty (at t.at (when (not (is_in t.word n.constants)) BadTypecode))
-        (at_each (symbol_codes n) [] ts) no_faults).1 w w_is_there in
+        (both_are_empty (faults_at t.at (when (not (is_in t.word n.constants)) BadTypecode))
+        (faults_at_each (symbol_codes n) [] ts) no_faults).1 w w_is_there in
         let undeclared_codes =
         when (not (is_in w n.constants || is_in w n.active_variables)) UndeclaredSymbol in
         let untyped_codes =
@@ -295,13 +295,13 @@ essential_is_local_kind _ is_essential_s = absurd (true≢false (sym is_essentia
 
 local_is_active_in_block : (db : List Statement) (i k : ℕ) (s : Statement) → slice_get db i ≡ Some s
     → IsLocal s
-    → is_active db i k ≡ (nat_lt i k && is_block_open db i k)
+    → active_at db i k ≡ (nat_lt i k && is_block_open db i k)
 local_is_active_in_block db i k s s_at_i is_local_s = grind (arith, common_steps)
 
 -- what is active at a statement that is still active, is active too
 pub still_active : (db : List Statement) (i j k : ℕ) (s t : Statement) → slice_get db i ≡ Some s
-    → IsLocal s → slice_get db j ≡ Some t → IsLocal t → is_active db i j ≡ true
-    → is_active db j k ≡ true → is_active db i k ≡ true
+    → IsLocal s → slice_get db j ≡ Some t → IsLocal t → active_at db i j ≡ true
+    → active_at db j k ≡ true → active_at db i k ≡ true
 still_active db i j k s t s_at_i s_is_local t_at_j t_is_local i_active_at_j j_active_at_k =
     grind (
       arith,

@@ -11,7 +11,7 @@ use Rattle.std.proofs.lemmas.List.Folds.{list_any-append}
 use Rattle.std.proofs.lemmas.Slice.Eq.{bytes_eq-Decides}
 use Rattle.mm_spec.specs.Text.{Bytes, is_in}
 use Rattle.mm_spec.specs.Statement.{Statement}
-use Rattle.mm_spec.specs.Scope.{is_active, active, statement_at}
+use Rattle.mm_spec.specs.Scope.{active_at, active, statement_at}
 use Rattle.mm_spec.specs.Frame.{formula_of, formula_at}
 use Rattle.mm_spec.specs.Derivation.{is_member}
 use Rattle.mm_spec.proofs.BoolLaw.{passes_alone}
@@ -155,21 +155,21 @@ pub statement_passes : (db : List Statement) (q : Statement → Bool) (i : ℕ) 
 statement_passes db q i s s_at_i s_passes =
     ap (list_any q) (statement_at_place db i s s_at_i) ∙ or_left (q s) false s_passes
 
-pub active_lt_place : (db : List Statement) (i k : ℕ) → is_active db i k ≡ true → i < k
+pub active_lt_place : (db : List Statement) (i k : ℕ) → active_at db i k ≡ true → i < k
 active_lt_place db i k i_is_active = ltb-true i k (and_parts _ _ i_is_active).0
 
 pub passing_active : (db : List Statement) (k : ℕ) (q : ℕ → Bool) → list_any q (active db k) ≡ true
-    → (i : ℕ) × (is_active db i k ≡ true) × (q i ≡ true)
+    → (i : ℕ) × (active_at db i k ≡ true) × (q i ≡ true)
 passing_active db k q some_passes = grind (arith, common_steps, and_parts, any_filter, any_range)
 
 pub some_active_passes : (db : List Statement) (k : ℕ) (q : ℕ → Bool) (i : ℕ)
-    → is_active db i k ≡ true
+    → active_at db i k ≡ true
     → q i ≡ true → list_any q (active db k) ≡ true
 some_active_passes db k q i i_is_active i_passes =
     let i_lt_k = active_lt_place db i k i_is_active in
-    any_filter (λ i. is_active db i k) q (range_with_len 0 k)
-    ∙ range_any (λ i. is_active db i k && q i) k 0 i (omega arith) (omega arith)
-    (and_from (is_active db i k) (q i) i_is_active i_passes)
+    any_filter (λ i. active_at db i k) q (range_with_len 0 k)
+    ∙ range_any (λ i. active_at db i k && q i) k 0 i (omega arith) (omega arith)
+    (and_from (active_at db i k) (q i) i_is_active i_passes)
 
 -- ---- names
 

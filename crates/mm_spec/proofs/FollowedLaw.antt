@@ -17,9 +17,9 @@ use Rattle.mm_spec.specs.Statement.{Statement, constants, variables, disjoint, f
 use Rattle.mm_spec.specs.Statement.{axiomatic, provable, opening, closing, spelling_of, is_plain}
 use Rattle.mm_spec.specs.Statement.{is_complete, is_opening, is_closing, BeginStatements}
 
--- where the reading stands, with so many blocks open
+-- where the reading stands, with `depth` blocks open
 pub data State : Type 0 where
-  at_start at_label in_symbols in_formula in_proof : ℕ → State
+  at_start at_label in_symbols in_formula in_proof : (depth : ℕ) → State
 
 -- after a `$}`: one block less is open
 abbrev pub start_block : ℕ → Option State
@@ -255,7 +255,7 @@ beginnings_are_followed ts beginning = followed_by_state (follow (Some (at_start
         × (follow (Some (at_start 0)) (flat_map spelling_of beginning.0) ≡ Some (at_start e))
         × (e + count_by is_closing beginning.0 ≡ 0 + count_by is_opening beginning.0)
     list_followed =
-        statements_are_followed beginning.0 0 beginning.1.whole
+        statements_are_followed beginning.0 0 beginning.1.complete
         (λ n. let closings_le_openings = beginning.1.nested n in
         omega (arith, closings_le_openings))
 

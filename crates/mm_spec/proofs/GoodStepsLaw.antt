@@ -1,37 +1,37 @@
--- Each step of a proof without reading faults is a label that stands for something, or a mark of an
+-- Each step of a proof without reading faults is a label that refers to something, or a mark of an
 -- earlier step.
 use Rattle.std.proofs.lemmas.Grind.{common_steps}
-use Rattle.std.proofs.Common.{◌≡◌, ℕ, zero, suc, ◌+◌, ◌-◌, ◌*◌, ◌==◌, ◌<◌, ◌≤◌, Bool, true, false}
+use Rattle.std.proofs.Common.{◌≡◌, ℕ, zero, suc, ◌+◌, ◌-◌, ◌*◌, ◌<◌, ◌≤◌, Bool, true, false}
 use Rattle.std.proofs.Common.{◌&&◌, ◌⊎◌, inl, inr, List, [], ◌∷◌, ◌++◌, map, length, flat_map}
 use Rattle.std.proofs.Common.{Option, Some, None, slice_get, nat_le, nat_lt, bytes_eq, codes, refl}
-use Rattle.std.proofs.Common.{sym, subst, true≢false, arith, leb-true, ltb-false, eqb-true}
+use Rattle.std.proofs.Common.{sym, subst, true≢false, arith, leb-true}
 use Rattle.std.proofs.Common.{length-append}
 use Rattle.std.specs.List.{list_any, range_with_len, AllByRecursion}
-use Rattle.std.proofs.lemmas.Bool.{or_cases, and_parts, eqb-false}
+use Rattle.std.proofs.lemmas.Bool.{or_cases, and_parts}
 use Rattle.mm_spec.specs.Text.{Bytes, Token, Fault, fault}
 use Rattle.mm_spec.specs.Statement.{Statement, floating, essential, axiomatic, provable}
-use Rattle.mm_spec.specs.Scope.{is_active, active, statement_at}
-use Rattle.mm_spec.specs.Lawful.{when, at}
+use Rattle.mm_spec.specs.Scope.{active_at, active, statement_at}
+use Rattle.mm_spec.specs.Lawful.{when, faults_at}
 use Rattle.mm_spec.specs.Frame.{formula_at, is_floating, is_essential, mandatory_variables}
 use Rattle.mm_spec.specs.Frame.{mandatory_hypotheses}
 use Rattle.mm_spec.specs.Derivation.{is_member}
 use Rattle.mm_spec.specs.Steps.{Step, PlacedStep, placed, label, marked}
 use Rattle.mm_spec.specs.NormalProof.{is_labelled, usable, normal_steps, normal_faults}
 use Rattle.mm_spec.specs.NormalProof.{proof_label_faults}
-use Rattle.mm_spec.specs.CompressedProof.{Compressed, bracketed, Letter, letters_of, Group, is_last}
+use Rattle.mm_spec.specs.CompressedProof.{Compressed, bracketed, Letter, letters_of, Group}
+use Rattle.mm_spec.specs.CompressedProof.{is_last_letter}
 use Rattle.mm_spec.specs.CompressedProof.{groups, value, starts_at, step_of, group_steps}
 use Rattle.mm_spec.specs.CompressedProof.{group_faults, letter_faults, compressed_faults}
 use Rattle.mm_spec.specs.CompressedProof.{compressed_steps}
 use Rattle.mm_spec.specs.Proof.{steps, reading_faults}
-use Rattle.mm_spec.specs.Citation.{rule_at, context_at, steps_at, reading_faults_at}
+use Rattle.mm_spec.specs.Citation.{referent_at, context_at, steps_at, reading_faults_at}
 use Rattle.mm_spec.specs.Laws.Complete.{HasCompleteFrame}
-use Rattle.mm_spec.specs.declared.Code.TheVariants.{OpenBrackets, OpenNumber, MarkBeforeStep}
-use Rattle.mm_spec.specs.declared.Code.TheVariants.{NumberTooLarge, IncompleteProof}
-use Rattle.mm_spec.specs.declared.Code.TheVariants.{BadLetter}
-use Rattle.mm_spec.specs.Laws.Stack.{IsCompleteRule, AreGoodSteps, IsGoodStep}
+use Rattle.mm_spec.specs.declared.Code.TheVariants.{OpenBrackets, OpenNumber}
+use Rattle.mm_spec.specs.Laws.Stack.{IsCompleteReferent, AreGoodSteps, IsGoodStep}
 use Rattle.mm_spec.proofs.CompleteLaw.{is_mandatory}
 use Rattle.mm_spec.proofs.FindsLaw.{each_any, each_filter, passing_statement}
-use Rattle.mm_spec.proofs.FaultlessLaw.{both_are_empty, no_faults_no_codes, no_code_if_false}
+use Rattle.mm_spec.proofs.FaultlessLaw.{both_are_empty}
+use Rattle.mm_spec.proofs.GroupsLaw.{AreFaultless, groups_are_faultless}
 use Rattle.mm_spec.proofs.ListLaw.{got_none_is_past_end}
 
 abbrev steps_of : List PlacedStep → List Step
@@ -61,29 +61,29 @@ each_of_got P (y ∷ xs) (suc n) x each_of_xs got_x = each_of_got P xs n x each_
 
 -- ---- labels
 
-abbrev has_rule : Statement → Bool
-has_rule (floating l k xs d) = true
-has_rule (essential l k xs d) = true
-has_rule (axiomatic l k xs d) = true
-has_rule (provable l k xs e ps d) = true
-has_rule _ = false
+abbrev has_referent : Statement → Bool
+has_referent (floating l k xs d) = true
+has_referent (essential l k xs d) = true
+has_referent (axiomatic l k xs d) = true
+has_referent (provable l k xs e ps d) = true
+has_referent _ = false
 
-labelled_has_rule : (w : Bytes) (s : Statement) → is_labelled w s ≡ true → has_rule s ≡ true
-labelled_has_rule w (floating l k xs d) is_labelled_s = refl
-labelled_has_rule w (essential l k xs d) is_labelled_s = refl
-labelled_has_rule w (axiomatic l k xs d) is_labelled_s = refl
-labelled_has_rule w (provable l k xs e ps d) is_labelled_s = refl
-labelled_has_rule w _ is_labelled_s = absurd (true≢false (sym is_labelled_s))
+labelled_has_referent : (w : Bytes) (s : Statement) → is_labelled w s ≡ true → has_referent s ≡ true
+labelled_has_referent w (floating l k xs d) is_labelled_s = refl
+labelled_has_referent w (essential l k xs d) is_labelled_s = refl
+labelled_has_referent w (axiomatic l k xs d) is_labelled_s = refl
+labelled_has_referent w (provable l k xs e ps d) is_labelled_s = refl
+labelled_has_referent w _ is_labelled_s = absurd (true≢false (sym is_labelled_s))
 
-floating_has_rule : (s : Statement) → is_floating s ≡ true → has_rule s ≡ true
-floating_has_rule (floating l k xs d) is_floating_s = refl
-floating_has_rule _ is_floating_s = absurd (true≢false (sym is_floating_s))
+floating_has_referent : (s : Statement) → is_floating s ≡ true → has_referent s ≡ true
+floating_has_referent (floating l k xs d) is_floating_s = refl
+floating_has_referent _ is_floating_s = absurd (true≢false (sym is_floating_s))
 
-essential_has_rule : (s : Statement) → is_essential s ≡ true → has_rule s ≡ true
-essential_has_rule (essential l k xs d) is_essential_s = refl
-essential_has_rule _ is_essential_s = absurd (true≢false (sym is_essential_s))
+essential_has_referent : (s : Statement) → is_essential s ≡ true → has_referent s ≡ true
+essential_has_referent (essential l k xs d) is_essential_s = refl
+essential_has_referent _ is_essential_s = absurd (true≢false (sym is_essential_s))
 
-group_value_is_positive : (n b : ℕ) → 65 ≤ b → 0 < n * 20 + (b - 64)
+pub group_value_is_positive : (n b : ℕ) → 65 ≤ b → 0 < n * 20 + (b - 64)
 group_value_is_positive n b letter_le_b = omega arith
 
 -- each label is usable
@@ -103,13 +103,13 @@ faultless_labels_are_usable db k (t ∷ ts) no_faults =
     )
 
 module _ (db : List Statement) (k : ℕ)
-    (all_complete : (l : ℕ) → HasCompleteFrame (context_at db k) (rule_at db k l)) where
+    (all_complete : (l : ℕ) → HasCompleteFrame (context_at db k) (referent_at db k l)) where
   abbrev IsGoodLabel : ℕ → Type 0
-  IsGoodLabel j = IsCompleteRule (context_at db k) (rule_at db k j)
+  IsGoodLabel j = IsCompleteReferent (context_at db k) (referent_at db k j)
 
-  active_label_is_good : (j : ℕ) (s : Statement) → is_active db j k ≡ true → slice_get db j ≡ Some s
-      → has_rule s ≡ true → IsGoodLabel j
-  active_label_is_good j s j_is_active s_at_j has_rule_s = grind (arith, common_steps)
+  active_label_is_good : (j : ℕ) (s : Statement) → active_at db j k ≡ true → slice_get db j ≡ Some s
+      → has_referent s ≡ true → IsGoodLabel j
+  active_label_is_good j s j_is_active s_at_j has_referent_s = grind (arith, common_steps)
 
   usable_labels_are_good : (w : Bytes) → AllByRecursion IsGoodLabel (usable db k w)
   usable_labels_are_good w =
@@ -121,18 +121,18 @@ module _ (db : List Statement) (k : ℕ)
         each_filter,
         passing_statement,
         active_label_is_good,
-        labelled_has_rule,
+        labelled_has_referent,
       )
 
   mandatory_labels_are_good : AllByRecursion IsGoodLabel (mandatory_hypotheses db k)
   mandatory_labels_are_good =
       each_filter IsGoodLabel (is_mandatory db k) (active db k)
-      (each_filter (λ j. is_mandatory db k j ≡ true → IsGoodLabel j) (λ j. is_active db j k)
+      (each_filter (λ j. is_mandatory db k j ≡ true → IsGoodLabel j) (λ j. active_at db j k)
       (range_with_len 0 k)
-      (each_any (λ j. is_active db j k ≡ true → is_mandatory db k j ≡ true → IsGoodLabel j)
+      (each_any (λ j. active_at db j k ≡ true → is_mandatory db k j ≡ true → IsGoodLabel j)
       (range_with_len 0 k) active_mandatory_good))
     where
-      active_mandatory_good : (j : ℕ) → is_active db j k ≡ true → is_mandatory db k j ≡ true
+      active_mandatory_good : (j : ℕ) → active_at db j k ≡ true → is_mandatory db k j ≡ true
           → IsGoodLabel j
       active_mandatory_good j j_is_active j_is_mandatory =
           good_by_kind (or_cases (list_any is_essential (statement_at db j))
@@ -147,14 +147,14 @@ module _ (db : List Statement) (k : ℕ)
           good_by_kind (inl j_is_kind) =
               let statement_at_j = passing_statement db is_essential j j_is_kind in
               active_label_is_good j statement_at_j.0 j_is_active statement_at_j.1
-              (essential_has_rule statement_at_j.0 statement_at_j.2)
+              (essential_has_referent statement_at_j.0 statement_at_j.2)
           good_by_kind (inr j_is_kind) =
               let statement_at_j =
               passing_statement db is_floating j
               (and_parts (list_any is_floating (statement_at db j))
               (list_any (is_member (mandatory_variables db k)) (formula_at db j)) j_is_kind).0 in
               active_label_is_good j statement_at_j.0 j_is_active statement_at_j.1
-              (floating_has_rule statement_at_j.0 statement_at_j.2)
+              (floating_has_referent statement_at_j.0 statement_at_j.2)
 
   -- ---- normal proofs
 
@@ -213,18 +213,18 @@ module _ (db : List Statement) (k : ℕ)
 
   group_steps_are_good : (gs : List Group) (labels marks : List ℕ) (label_count count : ℕ)
       → AllByRecursion IsGoodLabel labels → AllByRecursion (λ i. i < count) marks
-      → label_count ≤ length labels → group_faults label_count (length marks) count gs ≡ []
+      → label_count ≤ length labels → AreFaultless label_count (length marks) count gs
       → AreGoodSteps (context_at db k) count (steps_of (group_steps labels marks count gs))
   group_steps_are_good [] labels marks label_count count labels_are_good marks_are_earlier
       enough_labels
-      no_faults = tt
+      are_faultless = tt
   group_steps_are_good (g ∷ gs) labels marks label_count count labels_are_good marks_are_earlier
-      enough_labels no_faults =
-      good_by_letter (is_last g.last.byte) refl (g.last.byte == 90) refl no_faults
-      (λ no_later_faults. group_steps_are_good gs labels marks label_count (count + 1)
+      enough_labels are_faultless =
+      good_number_or_mark are_faultless
+      (λ rest_is_faultless. group_steps_are_good gs labels marks label_count (count + 1)
       labels_are_good
-      (marks_still_earlier marks marks_are_earlier) enough_labels no_later_faults)
-      (λ count_is_positive no_later_faults. group_steps_are_good gs labels
+      (marks_still_earlier marks marks_are_earlier) enough_labels rest_is_faultless)
+      (λ count_is_positive rest_is_faultless. group_steps_are_good gs labels
       (marks ++ (count - 1) ∷ [])
       label_count count labels_are_good
       (each_of_appended (λ i. i < count) marks ((count - 1) ∷ []) marks_are_earlier
@@ -233,7 +233,7 @@ module _ (db : List Statement) (k : ℕ)
       (let mark_count_is : length marks + 1
       ≡ length (marks ++ (count - 1) ∷ []) = omega
       (arith, length-append marks ((count - 1) ∷ [])) in
-      subst (λ z. group_faults label_count z count gs ≡ []) mark_count_is no_later_faults))
+      subst (λ z. AreFaultless label_count z count gs) mark_count_is rest_is_faultless))
     where
       marks_still_earlier : (xs : List ℕ) → AllByRecursion (λ i. i < count) xs
           → AllByRecursion (λ i. i < count + 1) xs
@@ -242,95 +242,51 @@ module _ (db : List Statement) (k : ℕ)
           let x_lt_count = marks_are_earlier.0 in
           (omega arith, marks_still_earlier xs marks_are_earlier.1)
 
-      faults_of_group : Bool → Bool → List Fault
-      faults_of_group a b = elim a [
-        | true ↦ at (starts_at g)
-            (when (nat_lt (label_count + length marks) (value g)) NumberTooLarge)
-        | false ↦ elim b [
-          | true ↦ at g.last.at
-              (when (nat_lt 0 (length g.early)) OpenNumber ++ when (count == 0) MarkBeforeStep)
-          | false ↦ at g.last.at
-              (elim (g.last.byte == 63) [ true ↦ IncompleteProof ∷ [] | false ↦ BadLetter ∷ [] ])
-        ]
-      ]
-
-      faults_of_later_groups : Bool → List Fault
-      faults_of_later_groups b =
-          elim b [
-            | true ↦ group_faults label_count (length marks + 1) count gs
-            | false ↦ group_faults label_count (length marks) (count + 1) gs
-          ]
-
       steps_from_group : Bool → List PlacedStep
-      steps_from_group a = elim a [
+      steps_from_group is_number = elim is_number [
         | true ↦ map (placed (starts_at g)) (step_of labels marks (value g))
             ++ group_steps labels marks (count + 1) gs
         | false ↦ group_steps labels (marks ++ (count - 1) ∷ []) count gs
       ]
 
-      other_byte_is_fault : (b : Bool)
-          → ¬ (at g.last.at (elim b [ true ↦ IncompleteProof ∷ [] | false ↦ BadLetter ∷ [] ]) ≡ [])
-      other_byte_is_fault true no_fault = cc
-      other_byte_is_fault false no_fault = cc
-
-      good_by_letter : (a : Bool) → is_last g.last.byte ≡ a → (b : Bool) → (g.last.byte == 90) ≡ b
-          → faults_of_group a b ++ faults_of_later_groups b ≡ []
-          → (group_faults label_count (length marks) (count + 1) gs ≡ []
+      good_number_or_mark : AreFaultless label_count (length marks) count (g ∷ gs)
+          → (AreFaultless label_count (length marks) (count + 1) gs
           → AreGoodSteps (context_at db k) (count + 1)
           (steps_of (group_steps labels marks (count + 1) gs)))
-          → (0 < count → group_faults label_count (length marks + 1) count gs ≡ []
+          → (0 < count → AreFaultless label_count (length marks + 1) count gs
           → AreGoodSteps (context_at db k) count
           (steps_of (group_steps labels (marks ++ (count - 1) ∷ []) count gs)))
-          → AreGoodSteps (context_at db k) count (steps_of (steps_from_group a))
-      good_by_letter true is_last_letter true is_mark_letter no_faults after_number after_mark =
-          let letter_le_84 =
-          leb-true g.last.byte 84
-          (and_parts (nat_le 65 g.last.byte) (nat_le g.last.byte 84) is_last_letter).1 in
-          let letter_is_90 = eqb-true g.last.byte 90 is_mark_letter in
-          absurd (omega arith)
-      good_by_letter true is_last_letter false is_mark_letter no_faults after_number after_mark =
+          → AreGoodSteps (context_at db k) count (steps_of (steps_from_group (is_last_letter g.last.byte)))
+      good_number_or_mark (inl (is_number, value_is_within, rest_is_faultless)) after_number
+          after_mark =
           let letter_ge_65 =
           leb-true 65 g.last.byte
-          (and_parts (nat_le 65 g.last.byte) (nat_le g.last.byte 84) is_last_letter).0 in
-          let number_is_within =
-          no_code_if_false (nat_lt (label_count + length marks) (value g)) NumberTooLarge
-          (no_faults_no_codes (starts_at g)
-          (when (nat_lt (label_count + length marks) (value g)) NumberTooLarge)
-          (both_are_empty (faults_of_group true false) (faults_of_later_groups false)
-          no_faults).0) in
+          (and_parts (nat_le 65 g.last.byte) (nat_le g.last.byte 84) is_number).0 in
           let number_is_good =
           number_is_good_step labels marks count label_count (value g) labels_are_good
           marks_are_earlier
-          enough_labels (group_value_is_positive _ g.last.byte letter_ge_65)
-          (ltb-false (label_count + length marks) (value g) number_is_within) in
-          let later_are_good = after_number
-          (both_are_empty (faults_of_group true false) (faults_of_later_groups false)
-          no_faults).1 in
+          enough_labels (group_value_is_positive _ g.last.byte letter_ge_65) value_is_within in
           let suc_is_plus_one : suc count ≡ count + 1 = omega arith in
-          subst (λ ss. AreGoodSteps (context_at db k) count
+          subst (λ b. AreGoodSteps (context_at db k) count (steps_of (steps_from_group b)))
+          (sym is_number)
+          (subst (λ ss. AreGoodSteps (context_at db k) count
           (steps_of (map (placed (starts_at g)) ss ++ group_steps labels marks (count + 1) gs)))
           (sym number_is_good.1) (
             number_is_good.2,
             subst
                 (λ n. AreGoodSteps (context_at db k) n
                 (steps_of (group_steps labels marks (count + 1) gs))) (sym suc_is_plus_one)
-                later_are_good,
-          )
-      good_by_letter false is_last_letter true is_mark_letter no_faults after_number after_mark =
-          let no_codes =
-          no_faults_no_codes g.last.at
-          (when (nat_lt 0 (length g.early)) OpenNumber ++ when (count == 0) MarkBeforeStep)
-          (both_are_empty (faults_of_group false true) (faults_of_later_groups true) no_faults).0 in
-          let number_is_within =
-          eqb-false count 0
-          (no_code_if_false (count == 0) MarkBeforeStep
-          (both_are_empty (when (nat_lt 0 (length g.early)) OpenNumber)
-          (when (count == 0) MarkBeforeStep) no_codes).1) in
-          after_mark (omega arith)
-          (both_are_empty (faults_of_group false true) (faults_of_later_groups true) no_faults).1
-      good_by_letter false is_last_letter false is_mark_letter no_faults after_number after_mark =
-          absurd (other_byte_is_fault (g.last.byte == 63)
-          (both_are_empty (faults_of_group false false) (faults_of_later_groups false) no_faults).0)
+                (after_number rest_is_faultless),
+          ))
+      good_number_or_mark (inr (
+        is_no_number,
+        is_mark,
+        is_alone,
+        count_is_positive,
+        rest_is_faultless,
+      )) after_number after_mark =
+          subst (λ b. AreGoodSteps (context_at db k) count (steps_of (steps_from_group b)))
+          (sym is_no_number) (after_mark count_is_positive rest_is_faultless)
 
   compressed_steps_are_good : (end : ℕ) (p : Compressed) → compressed_faults db k end p ≡ []
       → AreGoodSteps (context_at db k) 0 (steps_of (compressed_steps db k p))
@@ -380,8 +336,9 @@ module _ (db : List Statement) (k : ℕ)
       letters_good (x ∷ xs) no_faults =
           group_steps_are_good
           (groups [] (x ∷ xs)).0 labels [] label_count 0 labels_are_good tt enough_labels
+          (groups_are_faultless (groups [] (x ∷ xs)).0 label_count 0 0
           (both_are_empty (group_faults label_count 0 0 (groups [] (x ∷ xs)).0)
-          (at end (when (nat_lt 0 (length (groups [] (x ∷ xs)).1)) OpenNumber)) no_faults).0
+          (faults_at end (when (nat_lt 0 (length (groups [] (x ∷ xs)).1)) OpenNumber)) no_faults).0)
 
       good_by_letters : (o : Option (List Token)) → faults_of_letters o ≡ []
           → AreGoodSteps (context_at db k) 0 (steps_of (steps_of_letters o))

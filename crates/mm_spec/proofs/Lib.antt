@@ -11,6 +11,7 @@ pub mod FaultlessLaw
 pub mod FindsLaw
 pub mod FollowedLaw
 pub mod GoodStepsLaw
+pub mod GroupsLaw
 pub mod LexedLaw
 pub mod ListLaw
 pub mod LocalLaw

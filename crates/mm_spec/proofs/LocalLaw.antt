@@ -6,8 +6,8 @@ use Rattle.std.proofs.Common.{slice_get, nat_le, nat_lt, refl, ap₂, arith}
 use Rattle.std.proofs.lemmas.List.{take-append-le}
 use Rattle.std.specs.List.{list_all, range_with_len, filter}
 use Rattle.mm_spec.specs.Statement.{Statement}
-use Rattle.mm_spec.specs.Scope.{names_before, depth, is_active, is_some_still_active}
-use Rattle.mm_spec.specs.Scope.{active_statements}
+use Rattle.mm_spec.specs.Scope.{names_before, depth, is_block_open, active_at}
+use Rattle.mm_spec.specs.Scope.{is_some_still_active, active_statements}
 use Rattle.mm_spec.specs.Lawful.{scope_fault, scope_faults, least}
 
 pub get_front : {X : Type 0} (xs ys : List X) (i : ℕ) → i < length xs
@@ -49,13 +49,18 @@ module _ (db later : List Statement) where
   pub depth_front : (i : ℕ) → i ≤ length db → depth (db ++ later) i ≡ depth db i
   depth_front i i_le_length = grind (arith, common_steps, take-append-le)
 
-  pub is_active_front : (j k : ℕ) → j < k → k ≤ length db
-      → is_active (db ++ later) j k ≡ is_active db j k
+  pub is_block_open_front : (j k : ℕ) → j < k → k ≤ length db
+      → is_block_open (db ++ later) j k ≡ is_block_open db j k
+  is_block_open_front j k j_lt_k k_le_length =
+      list_all_alike (depth (db ++ later) j) (depth db j) (depth (db ++ later)) (depth db) (k - j)
+      (j + 1)
+      (depth_front j (omega arith)) (λ i i_lt_end. depth_front i (omega arith))
+
+  is_active_front : (j k : ℕ) → j < k → k ≤ length db
+      → active_at (db ++ later) j k ≡ active_at db j k
   is_active_front j k j_lt_k k_le_length =
       ap₂ (λ o b. nat_lt j k && is_some_still_active o b) (get_front db later j (omega arith))
-      (list_all_alike (depth (db ++ later) j) (depth db j) (depth (db ++ later)) (depth db) (k - j)
-      (j + 1)
-      (depth_front j (omega arith)) (λ i i_lt_end. depth_front i (omega arith)))
+      (is_block_open_front j k j_lt_k k_le_length)
 
   active_front : (k : ℕ) → k ≤ length db
       → active_statements (db ++ later) k ≡ active_statements db k

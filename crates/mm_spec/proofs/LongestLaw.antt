@@ -164,8 +164,8 @@ TransitionHolds d part (completed e s) =
     (spelling_of s ≡ part) × (is_complete s ≡ true) × (is_closing s ≡ true → 0 < d) ×
     (depth_following s d ≡ e)
 
-open_if_not_closing : (s : Statement) (d : ℕ) → is_closing s ≡ false → is_closing s ≡ true → 0 < d
-open_if_not_closing s d not_closing is_closing_s =
+needs_no_open_block : (s : Statement) (d : ℕ) → is_closing s ≡ false → is_closing s ≡ true → 0 < d
+needs_no_open_block s d not_closing is_closing_s =
     absurd (true≢false (sym is_closing_s ∙ not_closing))
 
 transition_holds : (r : Progress) (part : List Token) (t : Token) (k : Class) → Meaning k t.word
@@ -209,7 +209,7 @@ transition_holds (start d) part t disjoint_keyword word_has_meaning part_is_read
 transition_holds (start d) part t open_block word_has_meaning part_is_read = (
   ap₂ (λ p v. p ++ token t.at v ∷ []) (sym part_is_read) (sym word_has_meaning),
   refl,
-  open_if_not_closing
+  needs_no_open_block
       (opening t.at) d refl,
   refl,
 )
@@ -221,12 +221,12 @@ transition_holds (start (suc d)) part t close_block word_has_meaning part_is_rea
   refl,
 )
 transition_holds (start d) part t plain word_has_meaning part_is_read =
-    holds_by_test (is_label t.word) refl
+    label_is_read_by_test (is_label t.word) refl
   where
-    holds_by_test : (b : Bool) → is_label t.word ≡ b
+    label_is_read_by_test : (b : Bool) → is_label t.word ≡ b
         → TransitionHolds d (part ++ t ∷ []) (label_transition b d t)
-    holds_by_test true test_is = (refl, (test_is, ap (λ p. p ++ t ∷ []) part_is_read))
-    holds_by_test false test_is = tt
+    label_is_read_by_test true test_is = (refl, (test_is, ap (λ p. p ++ t ∷ []) part_is_read))
+    label_is_read_by_test false test_is = tt
 transition_holds (labelled d l) part t floating_keyword word_has_meaning part_is_read = (
   refl,
   record {
@@ -319,7 +319,7 @@ transition_holds (words d make ws) part t dot word_has_meaning part_is_read = (
       ∙ sym (append_assoc part_is_read.front ws (token t.at (codes "$.") ∷ []))
       ∙ ap₂ (λ y v. y ++ token t.at v ∷ []) (sym part_is_read.part_is) (sym word_has_meaning),
   part_is_read.is_complete_if_plain ws t.at part_is_read.are_plain,
-  open_if_not_closing (make ws t.at) d (part_is_read.not_closing ws t.at),
+  needs_no_open_block (make ws t.at) d (part_is_read.not_closing ws t.at),
   part_is_read.keeps_depth ws t.at d,
 )
 transition_holds _ part t _ word_has_meaning part_is_read = tt
@@ -429,7 +429,7 @@ pub statements_are_read_at_start : (list : List Statement) (ts : List Token) →
     → (e : ℕ) × (e + count_by is_closing list ≡ 0 + count_by is_opening list)
     × (statements_of (flat_map spelling_of list ++ ts) ≡ list ++ statements_from (start e) ts)
 statements_are_read_at_start list ts are_statements =
-    statements_are_read list 0 ts are_statements.whole
+    statements_are_read list 0 ts are_statements.complete
     (λ n. let closings_le_openings = are_statements.nested n in
     omega (arith, closings_le_openings))
 
@@ -475,18 +475,19 @@ read_statements_are_longest ts =
 front_are_statements : (xs ys : List Statement) → AreStatements (xs ++ ys) → AreStatements xs
 front_are_statements xs ys are_statements =
     record {
-      whole = whole xs are_statements.whole;
+      complete = complete_front xs are_statements.complete;
       nested = λ n. nested n (leb n (length xs))
           refl;
     }
   where
-    whole : (zs : List Statement) → list_all is_complete (zs ++ ys) ≡ true
+    complete_front : (zs : List Statement) → list_all is_complete (zs ++ ys) ≡ true
         → list_all is_complete zs ≡ true
-    whole [] are_complete = refl
-    whole (z ∷ zs) are_complete =
+    complete_front [] are_complete = refl
+    complete_front (z ∷ zs) are_complete =
         ap₂ (λ a b. a && b)
         (and_parts (is_complete z) (list_all is_complete (zs ++ ys)) are_complete).0
-        (whole zs (and_parts (is_complete z) (list_all is_complete (zs ++ ys)) are_complete).1)
+        (complete_front zs
+        (and_parts (is_complete z) (list_all is_complete (zs ++ ys)) are_complete).1)
 
     nested_within : (n : ℕ) → n ≤ length xs
         → count_by is_closing (take n xs) ≤ count_by is_opening (take n xs)

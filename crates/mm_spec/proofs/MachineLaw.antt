@@ -1,5 +1,5 @@
--- A stack of formulas tells whether labels are the postfix list of a forest of derivations, and if
--- not, at which label and why.
+-- A step on a stack of formulas adds a tree to a forest of derivations, or it fails and that tells
+-- why. The labels of a forest run to its formulas.
 use Rattle.std.proofs.lemmas.Grind.{common_steps}
 use Rattle.std.proofs.Common.{◌≡◌, ℕ, zero, suc, ◌+◌, ◌-◌, ◌≤◌, Bool, true, false, List, [], ◌∷◌}
 use Rattle.std.proofs.Common.{◌++◌, map, length, take, drop, Option, Some, None, Result, Ok, Err}
@@ -8,7 +8,7 @@ use Rattle.std.proofs.Common.{append_assoc, length-append, take_at, drop_at, dro
 use Rattle.std.proofs.Common.{take_all, arith, le-leb, leb-true, leb-false}
 use Rattle.std.proofs.lemmas.List.{length-map}
 use Rattle.std.specs.List.{AllByRecursion}
-use Rattle.mm_spec.specs.Derivation.{Formula, Frame, Rule, hypothesis, assertion, Context}
+use Rattle.mm_spec.specs.Derivation.{Formula, Frame, Referent, hypothesis, assertion, Context}
 use Rattle.mm_spec.specs.Derivation.{Substitution, substitute, Matches, KeepsDisjoint}
 use Rattle.mm_spec.specs.Derivation.{Follows, Trees, none, more, formulas, postfix, AreDerivations}
 use Rattle.mm_spec.specs.Limits.{formula_limit}
@@ -17,7 +17,7 @@ use Rattle.mm_spec.proofs.UnifyLaw.{tested_equal_are_equal, equal_are_tested_equ
 use Rattle.mm_spec.proofs.UnifyLaw.{found_gives_formula, found_gives_formulas}
 use Rattle.mm_spec.proofs.UnifyLaw.{found_keeps_disjoint}
 use Rattle.mm_spec.specs.Laws.Stack.{substitution_from, are_equal, unless_failed, unless_too_long}
-use Rattle.mm_spec.specs.Laws.Stack.{apply, step, IsCompleteRule}
+use Rattle.mm_spec.specs.Laws.Stack.{apply, label_entries, IsCompleteReferent}
 use Rattle.mm_spec.specs.Laws.Complete.{IsComplete}
 
 -- the index of the label at which a run fails, and why it fails
@@ -35,12 +35,12 @@ module _ (c : Context) where
   -- the entries after the steps of the labels, the first of which has the index n
   abbrev pub run : ℕ → List ℕ → List Formula → Result (List Formula) RunFailure
   run n [] es = Ok es
-  run n (l ∷ ls) es = proceed (step c (c.rule l) es) n (run (suc n) ls)
+  run n (l ∷ ls) es = proceed (label_entries c (c.referent l) es) n (run (suc n) ls)
 
   -- a step that a derivation makes is made
   assertion_is_taken : (a : Frame) (es : List Formula) (τ : Substitution) → IsComplete c a
       → KeepsDisjoint c a τ → length (substitute c τ a.formula) ≤ formula_limit
-      → step c (Some (assertion a)) (es ++ map (substitute c τ) a.hypotheses)
+      → label_entries c (Some (assertion a)) (es ++ map (substitute c τ) a.hypotheses)
       ≡ Ok (es ++ substitute c τ a.formula ∷ [])
   assertion_is_taken a es τ is_complete keeps_disjoint formula_le_limit =
       let hs = a.hypotheses in
@@ -71,9 +71,10 @@ module _ (c : Context) where
           ap₂ (λ p q. unless_failed true p q r out) p_is_true q_is_true
           ∙ ap (λ r. unless_too_long r out) r_is_true
 
-  pub follows_is_taken : (r : Option Rule) (es ps : List Formula) (f : Formula) → IsCompleteRule c r
+  pub follows_is_taken : (r : Option Referent) (es ps : List Formula) (f : Formula)
+      → IsCompleteReferent c r
       → Follows c r ps f
-      → step c r (es ++ ps) ≡ Ok (es ++ f ∷ [])
+      → label_entries c r (es ++ ps) ≡ Ok (es ++ f ∷ [])
   follows_is_taken None es ps f is_complete follows = absurd follows
   follows_is_taken (Some (hypothesis g)) es ps f is_complete follows =
       grind (arith, common_steps, append-nil, le-leb)
@@ -82,7 +83,7 @@ module _ (c : Context) where
 
   -- each label is good
   abbrev pub AreGood : List ℕ → Type 0
-  AreGood ls = AllByRecursion (λ l. IsCompleteRule c (c.rule l)) ls
+  AreGood ls = AllByRecursion (λ l. IsCompleteReferent c (c.referent l)) ls
 
   pub good_append_is_good_parts : (xs ys : List ℕ) → AreGood (xs ++ ys) → AreGood xs × AreGood ys
   good_append_is_good_parts [] ys all_are_good = (tt, all_are_good)
@@ -113,7 +114,7 @@ module _ (c : Context) where
       ∙ forest_is_run cs are_derivations.1 split_at_label.0 (n + length p) (l ∷ ls)
       (es ++ formulas ts)
       ∙ ap (λ r. proceed r k (run (suc k) ls))
-      (follows_is_taken (c.rule l) (es ++ formulas ts) (formulas cs) f split_at_label.1.0
+      (follows_is_taken (c.referent l) (es ++ formulas ts) (formulas cs) f split_at_label.1.0
       are_derivations.2)
       ∙ ap₂ (λ m x. run m ls x) count_is (append_assoc es (formulas ts) (f ∷ []))
 
@@ -168,7 +169,7 @@ module _ (c : Context) where
 
   -- what the answer of a step means: premises on top of the entries, and a formula that follows
   -- from them; or why the step fails
-  abbrev pub StepOutcome : Option Rule → List Formula → Result (List Formula) Reason → Type 0
+  abbrev pub StepOutcome : Option Referent → List Formula → Result (List Formula) Reason → Type 0
   StepOutcome r es (Ok out) =
       (n : ℕ) × (f : Formula) × (n ≤ length es) × Follows c r (drop (length es - n) es) f
       × (out ≡ take (length es - n) es ++ f ∷ [])
@@ -189,12 +190,12 @@ module _ (c : Context) where
       grind (arith, common_steps, equal_are_tested_equal, found_gives_formulas)
 
   assertion_has_outcome : (a : Frame) (es : List Formula) → IsComplete c a
-      → StepOutcome (Some (assertion a)) es (step c (Some (assertion a)) es)
+      → StepOutcome (Some (assertion a)) es (label_entries c (Some (assertion a)) es)
   assertion_has_outcome a es is_complete =
       grind (arith, common_steps, leb-false, leb-true, found_matches_if_any, tested_equal_are_equal)
 
-  pub step_has_outcome : (r : Option Rule) (es : List Formula) → IsCompleteRule c r
-      → StepOutcome r es (step c r es)
+  pub step_has_outcome : (r : Option Referent) (es : List Formula) → IsCompleteReferent c r
+      → StepOutcome r es (label_entries c r es)
   step_has_outcome None es is_complete = absurd is_complete
   step_has_outcome (Some (hypothesis g)) es is_complete =
       hypothesis_has_outcome g es (nat_le (length g) formula_limit) refl
@@ -210,19 +211,12 @@ module _ (c : Context) where
     pub reached : Trees
     pub derivations : AreDerivations c reached
     pub labels : postfix reached ≡ postfix forest ++ before
-    pub fails : Fails c (c.rule label) (formulas reached) reason
-
-  -- what the answer of a run after a forest means
-  abbrev pub RunOutcome : Trees → List ℕ → Result (List Formula) RunFailure → Type 0
-  RunOutcome forest ls (Ok out) =
-      (reached : Trees) × AreDerivations c reached × (postfix reached ≡ postfix forest ++ ls)
-      × (formulas reached ≡ out)
-  RunOutcome forest ls (Err e) = StoppedRun forest ls e.reason
+    pub fails : Fails c (c.referent label) (formulas reached) reason
 
   -- a step after a forest gives one more forest
   pub step_grows_forest : (forest : Trees) (l : ℕ) (n : ℕ) (f : Formula) → AreDerivations c forest
       → n ≤ length (formulas forest)
-      → Follows c (c.rule l) (drop (length (formulas forest) - n) (formulas forest)) f
+      → Follows c (c.referent l) (drop (length (formulas forest) - n) (formulas forest)) f
       → (next : Trees) × AreDerivations c next × (postfix next ≡ postfix forest ++ l ∷ [])
       × (formulas next ≡ take (length (formulas forest) - n) (formulas forest) ++ f ∷ [])
   step_grows_forest forest l n f are_derivations n_le_length follows =
@@ -246,67 +240,10 @@ module _ (c : Context) where
         (
           parts.before_derivations,
           parts.last_derivations,
-          subst (λ x. Follows c (c.rule l) x f)
+          subst (λ x. Follows c (c.referent l) x f)
               last_formulas_are follows,
         ),
         sym (append_assoc (postfix parts.before) (postfix parts.last) (l ∷ []))
             ∙ ap (λ x. x ++ l ∷ []) (sym parts.all_labels),
         ap (λ x. x ++ f ∷ []) (sym first_formulas_are),
       )
-
-  -- a run after a forest is that of a longer forest, or stops where a label fails
-  pub run_has_outcome : (ls : List ℕ) (forest : Trees) (n : ℕ) → AreDerivations c forest
-      → AreGood ls
-      → RunOutcome forest ls (run n ls (formulas forest))
-  run_has_outcome [] forest n are_derivations are_good =
-      (forest, are_derivations, sym (append-nil (postfix forest)), refl)
-  run_has_outcome (l ∷ ls) forest n are_derivations are_good =
-      outcome_by_result (step c (c.rule l) (formulas forest))
-      (step_has_outcome (c.rule l) (formulas forest) are_good.0)
-      (λ next next_derivations. run_has_outcome ls next (suc n) next_derivations are_good.1)
-    where
-      outcome_of_rest : (next : Trees) → postfix next ≡ postfix forest ++ l ∷ []
-          → (r : Result (List Formula) RunFailure) → RunOutcome next ls r
-          → RunOutcome forest (l ∷ ls) r
-      outcome_of_rest next labels_are (Ok out) outcome_later = (
-        outcome_later.0,
-        outcome_later.1,
-        outcome_later.2 ∙ ap (λ x. x ++ ls) labels_are
-            ∙ append_assoc (postfix forest) (l ∷ []) ls,
-        outcome_later.3,
-      )
-      outcome_of_rest next labels_are (Err x) outcome_later = record {
-        before = l ∷ outcome_later.before;
-        label = outcome_later.label;
-        after = outcome_later.after;
-        splits = ap (λ x. l ∷ x) outcome_later.splits;
-        reached = outcome_later.reached;
-        derivations = outcome_later.derivations;
-        labels =
-            outcome_later.labels ∙ ap (λ x. x ++ outcome_later.before) labels_are
-            ∙ append_assoc (postfix forest) (l ∷ []) outcome_later.before;
-        fails = outcome_later.fails;
-      }
-
-      outcome_by_result : (r : Result (List Formula) Reason)
-          → StepOutcome (c.rule l) (formulas forest) r
-          → ((next : Trees) → AreDerivations c next
-          → RunOutcome next ls (run (suc n) ls (formulas next)))
-          → RunOutcome forest (l ∷ ls) (proceed r n (run (suc n) ls))
-      outcome_by_result (Err x) outcome rest_has_outcome =
-          record {
-            before = [];
-            label = l;
-            after = ls;
-            splits = refl;
-            reached = forest;
-            derivations = are_derivations;
-            labels = sym (append-nil (postfix forest));
-            fails = outcome;
-          }
-      outcome_by_result (Ok out) outcome rest_has_outcome =
-          let next =
-          step_grows_forest forest l outcome.0 outcome.1 are_derivations outcome.2 outcome.3 in
-          outcome_of_rest next.0 next.2 (run (suc n) ls out)
-          (subst (λ x. RunOutcome next.0 ls (run (suc n) ls x)) (next.3 ∙ sym outcome.4)
-          (rest_has_outcome next.0 next.1))

@@ -16,16 +16,16 @@ use Rattle.mm_spec.specs.Text.{Bytes, Token}
 use Rattle.mm_spec.specs.Statement.{Statement, constants, variables, disjoint, floating, essential}
 use Rattle.mm_spec.specs.Statement.{axiomatic, provable, opening, closing}
 use Rattle.mm_spec.specs.Opened.{as_axiom, counted}
-use Rattle.mm_spec.specs.Scope.{depth, is_active, is_still_active, is_some_still_active, active}
+use Rattle.mm_spec.specs.Scope.{depth, active_at, is_still_active, is_some_still_active, active}
 use Rattle.mm_spec.specs.Scope.{statement_at, label_words, is_block_open}
-use Rattle.mm_spec.specs.Derivation.{Formula, Pair, Frame, Context, Rule, hypothesis, assertion}
+use Rattle.mm_spec.specs.Derivation.{Formula, Pair, Frame, Context, Referent, hypothesis, assertion}
 use Rattle.mm_spec.specs.Derivation.{is_member}
 use Rattle.mm_spec.specs.Frame.{symbol_names, formula_at}
 use Rattle.mm_spec.specs.Frame.{is_variable_number, is_floating, is_essential}
 use Rattle.mm_spec.specs.Frame.{is_disjoint_statement, active_of, mandatory_variables}
-use Rattle.mm_spec.specs.Frame.{mandatory_hypotheses, mandatory_pairs, disjoint_at, pairs_of}
+use Rattle.mm_spec.specs.Frame.{mandatory_hypotheses, mandatory_pairs, disjoint_at, pairs_below}
 use Rattle.mm_spec.specs.Frame.{frame_at}
-use Rattle.mm_spec.specs.Citation.{rule_of, rule_at, context_at, is_theorem}
+use Rattle.mm_spec.specs.Citation.{referent_of, referent_at, context_at, is_theorem}
 use Rattle.mm_spec.specs.Laws.Complete.{HasCompleteFrame, AreComplete}
 use Rattle.mm_spec.specs.Output.{label_at}
 use Rattle.mm_spec.proofs.FindsLaw.{any_map, passing_statement, statement_passes}
@@ -108,7 +108,7 @@ module _ (db : List Statement) where
       (λ (f : ℕ → ℕ). list_all (λ i. nat_le (f j) (f i)) (range_with_len (j + 1) (k - j)))
       depth_is_kept))
 
-  activity_is_kept : is_active as_axioms ≡ is_active db
+  activity_is_kept : active_at as_axioms ≡ active_at db
   activity_is_kept = fun_ext (λ j. fun_ext (λ k.
       ap (λ o. nat_lt j k && is_some_still_active o (is_block_open as_axioms j k)) (got_axiom db j)
       ∙ ap (λ b. nat_lt j k && b) (still_active_kept (slice_get db j) (is_block_open as_axioms j k))
@@ -182,12 +182,12 @@ module _ (db : List Statement) where
   pairs_are_kept = fun_ext (λ k.
       ap₂ (λ (m : ℕ → List ℕ) (j : ℕ → ℕ → ℕ → Bool). filter
       (λ p. nat_lt p.low p.high && is_member (m k) p.low && is_member (m k) p.high
-      && j k p.low p.high) (pairs_of (length (symbol_names as_axioms)))) mandatory_are_kept
+      && j k p.low p.high) (pairs_below (length (symbol_names as_axioms)))) mandatory_are_kept
       disjoint_are_kept
       ∙ ap (λ (ns : List Bytes). filter
       (λ p. nat_lt p.low p.high && is_member (mandatory_variables db k) p.low
       && is_member (mandatory_variables db k) p.high && disjoint_at db k p.low p.high)
-      (pairs_of (length ns))) names_are_kept)
+      (pairs_below (length ns))) names_are_kept)
 
   abbrev frame : List Formula → List Pair → Formula → Frame
   frame hs ps f = record { hypotheses = hs; pairs = ps; formula = f }
@@ -201,51 +201,53 @@ module _ (db : List Statement) where
 
   -- ---- what a proof is made over
 
-  rules_are_equal : (j : ℕ) (s : Statement) → rule_of as_axioms j s ≡ rule_of db j s
-  rules_are_equal j (constants k xs d) = refl
-  rules_are_equal j (variables k xs d) = refl
-  rules_are_equal j (disjoint k xs d) = refl
-  rules_are_equal j (floating l k xs d) =
+  referents_are_equal : (j : ℕ) (s : Statement) → referent_of as_axioms j s ≡ referent_of db j s
+  referents_are_equal j (constants k xs d) = refl
+  referents_are_equal j (variables k xs d) = refl
+  referents_are_equal j (disjoint k xs d) = refl
+  referents_are_equal j (floating l k xs d) =
       ap (λ (f : ℕ → Formula). Some (hypothesis (f j))) formulas_are_kept
-  rules_are_equal j (essential l k xs d) =
+  referents_are_equal j (essential l k xs d) =
       ap (λ (f : ℕ → Formula). Some (hypothesis (f j))) formulas_are_kept
-  rules_are_equal j (axiomatic l k xs d) =
+  referents_are_equal j (axiomatic l k xs d) =
       ap (λ (f : ℕ → Frame). Some (assertion (f j))) frames_are_kept
-  rules_are_equal j (provable l k xs e ps d) =
+  referents_are_equal j (provable l k xs e ps d) =
       ap (λ (f : ℕ → Frame). Some (assertion (f j))) frames_are_kept
-  rules_are_equal j (opening k) = refl
-  rules_are_equal j (closing k) = refl
+  referents_are_equal j (opening k) = refl
+  referents_are_equal j (closing k) = refl
 
-  abbrev rule_if_any : ℕ → Option Statement → Option Rule
-  rule_if_any j o = elim o [ None ↦ None | Some s ↦ rule_of db j s ]
+  abbrev referent_if_any : ℕ → Option Statement → Option Referent
+  referent_if_any j o = elim o [ None ↦ None | Some s ↦ referent_of db j s ]
 
-  abbrev axiom_rule_if_any : ℕ → Option Statement → Option Rule
-  axiom_rule_if_any j o = elim o [ None ↦ None | Some s ↦ rule_of as_axioms j s ]
+  abbrev axiom_referent_if_any : ℕ → Option Statement → Option Referent
+  axiom_referent_if_any j o = elim o [ None ↦ None | Some s ↦ referent_of as_axioms j s ]
 
-  abbrev if_active : Bool → Option Rule → Option Rule
+  abbrev if_active : Bool → Option Referent → Option Referent
   if_active b r = elim b [ false ↦ None | true ↦ r ]
 
-  rules_are_kept : rule_at as_axioms ≡ rule_at db
-  rules_are_kept = fun_ext (λ k. fun_ext (λ j.
-      ap (λ (t : ℕ → ℕ → Bool). if_active (t j k) (axiom_rule_if_any j (slice_get as_axioms j)))
+  referents_are_kept : referent_at as_axioms ≡ referent_at db
+  referents_are_kept = fun_ext (λ k. fun_ext (λ j.
+      ap (λ (t : ℕ → ℕ → Bool). if_active (t j k) (axiom_referent_if_any j (slice_get as_axioms j)))
       activity_is_kept
-      ∙ ap (if_active (is_active db j k))
-      (ap (axiom_rule_if_any j) (got_axiom db j) ∙ rule_kept_if_any j (slice_get db j))))
+      ∙ ap (if_active (active_at db j k))
+      (ap (axiom_referent_if_any j) (got_axiom db j) ∙ referent_kept_if_any j (slice_get db j))))
     where
-      rule_kept_if_any : (j : ℕ) (o : Option Statement)
-          → axiom_rule_if_any j (option_map as_axiom o) ≡ rule_if_any j o
-      rule_kept_if_any j None = refl
-      rule_kept_if_any j (Some s) =
-          as_axiom_keeps (rule_of as_axioms j) (λ l k xs e ps d. refl) s ∙ rules_are_equal j s
+      referent_kept_if_any : (j : ℕ) (o : Option Statement)
+          → axiom_referent_if_any j (option_map as_axiom o) ≡ referent_if_any j o
+      referent_kept_if_any j None = refl
+      referent_kept_if_any j (Some s) =
+          as_axiom_keeps (referent_of as_axioms j) (λ l k xs e ps d. refl) s
+          ∙ referents_are_equal j s
 
-  abbrev context : (ℕ → Bool) → (ℕ → ℕ → Bool) → (ℕ → Option Rule) → Context
-  context v d r = record { is_variable = v; is_disjoint = d; rule = r }
+  abbrev context : (ℕ → Bool) → (ℕ → ℕ → Bool) → (ℕ → Option Referent) → Context
+  context v d r = record { is_variable = v; is_disjoint = d; referent = r }
 
   contexts_are_kept : context_at as_axioms ≡ context_at db
   contexts_are_kept = fun_ext (λ k.
-      ap₂ (λ (v : ℕ → Bool) (r : ℕ → ℕ → Option Rule). context v (disjoint_at as_axioms k) (r k))
-      variables_are_kept rules_are_kept
-      ∙ ap (λ (d : ℕ → ℕ → ℕ → Bool). context (is_variable_number db) (d k) (rule_at db k))
+      ap₂ (λ (v : ℕ → Bool) (r : ℕ → ℕ → Option Referent). context v (disjoint_at as_axioms k)
+      (r k))
+      variables_are_kept referents_are_kept
+      ∙ ap (λ (d : ℕ → ℕ → ℕ → Bool). context (is_variable_number db) (d k) (referent_at db k))
       disjoint_are_kept)
 
 -- ---- the statements as they count, with the flag or without
@@ -259,9 +261,6 @@ kept_in_either_case F kept_as_axioms false db = refl
 module _ (w : Bool) (db : List Statement) where
   pub counted_length : length (counted w db) ≡ length db
   counted_length = kept_in_either_case length (λ db. length-map db as_axiom) w db
-
-  pub counted_count : (p : Statement → Bool) → IsAlike p → count_by p (counted w db) ≡ count_by p db
-  counted_count p is_alike = kept_in_either_case (count_by p) (count_is_kept p is_alike) w db
 
   pub counted_any : (p : Statement → Bool) → IsAlike p → (j : ℕ)
       → list_any p (statement_at (counted w db) j) ≡ list_any p (statement_at db j)
@@ -295,14 +294,8 @@ module _ (w : Bool) (db : List Statement) where
       flat_map_is_and_then None = refl
       flat_map_is_and_then (Some s) = refl
 
-  pub counted_depth : depth (counted w db) ≡ depth db
-  counted_depth = kept_in_either_case depth depth_is_kept w db
-
-  pub counted_stays : is_block_open (counted w db) ≡ is_block_open db
-  counted_stays = kept_in_either_case is_block_open open_blocks_are_kept w db
-
-  pub counted_active : is_active (counted w db) ≡ is_active db
-  counted_active = kept_in_either_case is_active activity_is_kept w db
+  pub counted_active : active_at (counted w db) ≡ active_at db
+  counted_active = kept_in_either_case active_at activity_is_kept w db
 
   pub counted_names : symbol_names (counted w db) ≡ symbol_names db
   counted_names = kept_in_either_case symbol_names names_are_kept w db
@@ -331,7 +324,7 @@ module _ (w : Bool) (db : List Statement) where
 
   pub counted_complete : AreComplete db → AreComplete (counted w db)
   counted_complete are_complete k l =
-      subst (λ (c : ℕ → Context). HasCompleteFrame (c k) ((c k).rule l)) (sym counted_context)
+      subst (λ (c : ℕ → Context). HasCompleteFrame (c k) ((c k).referent l)) (sym counted_context)
       (are_complete k l)
 
 -- a theorem among the counted statements is the same statement in what was read
@@ -342,8 +335,8 @@ pub theorem_read : (w : Bool) (db : List Statement) (j : ℕ) (l : Token) (k : �
 theorem_read false db j l k xs e ps d theorem_is_at_j = theorem_is_at_j
 theorem_read true db j l k xs e ps d theorem_is_at_j = grind (arith, common_steps, got_axiom)
 
-pub theorem_still : (w : Bool) (db : List Statement) (j : ℕ)
+pub counted_theorem_is_theorem : (w : Bool) (db : List Statement) (j : ℕ)
     → list_any is_theorem (statement_at (counted w db) j) ≡ true
     → list_any is_theorem (statement_at db j) ≡ true
-theorem_still w db j is_theorem_at_j =
+counted_theorem_is_theorem w db j is_theorem_at_j =
     grind (arith, common_steps, statement_passes, passing_statement, theorem_read)

@@ -16,21 +16,21 @@ use Rattle.mm_spec.specs.declared.Role.TheVariants.{Token, Opening, Closing, Com
 -- a word that is read as a token is one
 pub read_as_token : (b : Bool) (w : List ℕ) → role_of b w ≡ Token → is_token w ≡ true
 unfolding role_of
-read_as_token false w role_is_token = token_by_tests (is_token w) (opens_comment w) role_is_token
+read_as_token false w role_is_token = token_outside (is_token w) (opens_comment w) role_is_token
   where
-    token_by_tests : (t o : Bool) → (if t then Token else (if o then Opening else Faulty)) ≡ Token
+    token_outside : (t o : Bool) → (if t then Token else (if o then Opening else Faulty)) ≡ Token
         → t ≡ true
-    token_by_tests true o role_is_token = refl
-    token_by_tests false true role_is_token = absurd (cc)
-    token_by_tests false false role_is_token = absurd (cc)
+    token_outside true o role_is_token = refl
+    token_outside false true role_is_token = absurd (cc)
+    token_outside false false role_is_token = absurd (cc)
 read_as_token true w role_is_token =
-    absurd (token_by_tests (closes_comment w) (is_comment_word w) role_is_token)
+    absurd (none_inside (closes_comment w) (is_comment_word w) role_is_token)
   where
-    token_by_tests : (c o : Bool) → (if c then Closing else (if o then Comment else Faulty)) ≡ Token
+    none_inside : (c o : Bool) → (if c then Closing else (if o then Comment else Faulty)) ≡ Token
         → ⊥
-    token_by_tests true o role_is_token = cc
-    token_by_tests false true role_is_token = cc
-    token_by_tests false false role_is_token = cc
+    none_inside true o role_is_token = cc
+    none_inside false true role_is_token = cc
+    none_inside false false role_is_token = cc
 
 with_tokens_push : (ts : List Word) (w : Word) (r : Reading)
     → with_tokens ts (with_tokens (w ∷ []) r) ≡ with_tokens (ts ++ w ∷ []) r

@@ -82,7 +82,7 @@ pub record Balanced (d : ℕ) (list : List Statement) : Type 0 where
 
 pub balanced_nothing : Balanced 0 []
 balanced_nothing =
-    record { are_statements = record { whole = refl; nested = none_closed }; count = refl }
+    record { are_statements = record { complete = refl; nested = none_closed }; count = refl }
   where
     none_closed : (n : ℕ) → count_by is_closing (take n []) ≤ count_by is_opening (take n [])
     none_closed zero = omega arith
@@ -98,8 +98,8 @@ pub balanced_with_one_more : (d : ℕ) (list : List Statement) (s : Statement) �
 balanced_with_one_more d list s is_balanced is_complete_s open_if_closing = record {
   are_statements =
       record {
-        whole = list_all-append is_complete list (s ∷ [])
-            ∙ ap₂ (λ x y. x && (y && true)) is_balanced.are_statements.whole is_complete_s;
+        complete = list_all-append is_complete list (s ∷ [])
+            ∙ ap₂ (λ x y. x && (y && true)) is_balanced.are_statements.complete is_complete_s;
         nested = nested;
       };
   count =

@@ -4,14 +4,15 @@ use Rattle.std.proofs.Common.{◌≡◌, ℕ, zero, suc, ◌<◌, List, [], ◌�
 use Rattle.std.proofs.Common.{None, Result, Ok, Err, refl, sym, ap, subst, arith}
 use Rattle.std.proofs.Common.{length-append, slice_get}
 use Rattle.std.specs.List.{AllZip}
-use Rattle.mm_spec.specs.Derivation.{Formula, Rule, hypothesis, assertion, Context, Follows, Trees}
+use Rattle.mm_spec.specs.Derivation.{Formula, Referent, hypothesis, assertion, Context, Follows}
+use Rattle.mm_spec.specs.Derivation.{Trees}
 use Rattle.mm_spec.specs.Derivation.{none, more, formulas, postfix, AreDerivations}
 use Rattle.mm_spec.specs.Steps.{Step, label, marked}
-use Rattle.mm_spec.specs.Valid.{Reason, StepFails, Adds, Plain}
+use Rattle.mm_spec.specs.Valid.{Reason, StepFails, Adds, Expands}
 use Rattle.mm_spec.specs.Laws.Complete.{HasCompleteFrame}
 use Rattle.mm_spec.proofs.MachineLaw.{RunFailure, proceed, AreGood, StepOutcome, step_has_outcome}
 use Rattle.mm_spec.proofs.MachineLaw.{step_grows_forest}
-use Rattle.mm_spec.specs.Laws.Stack.{IsCompleteRule, top, IsLastFormula, EndsInFormula}
+use Rattle.mm_spec.specs.Laws.Stack.{IsCompleteReferent, top, IsLastFormula, EndsInFormula}
 use Rattle.mm_spec.specs.Laws.Stack.{step_entries, IsGoodStep}
 use Rattle.mm_spec.specs.Laws.Stack.{AreGoodSteps}
 
@@ -21,21 +22,21 @@ top_of_appended (g ∷ []) f = refl
 top_of_appended (g ∷ h ∷ fs) f = top_of_appended (h ∷ fs) f
 
 module _ (c : Context) where
-  followed_rule_is_complete : (r : Option Rule) (ps : List Formula) (f : Formula)
+  followed_referent_is_complete : (r : Option Referent) (ps : List Formula) (f : Formula)
       → HasCompleteFrame c r
       → Follows c r ps f
-      → IsCompleteRule c r
-  followed_rule_is_complete None ps f all_complete follows = follows
-  followed_rule_is_complete (Some (hypothesis g)) ps f all_complete follows = tt
-  followed_rule_is_complete (Some (assertion a)) ps f all_complete follows = all_complete
+      → IsCompleteReferent c r
+  followed_referent_is_complete None ps f all_complete follows = follows
+  followed_referent_is_complete (Some (hypothesis g)) ps f all_complete follows = tt
+  followed_referent_is_complete (Some (assertion a)) ps f all_complete follows = all_complete
 
   appended_are_good : (xs ys : List ℕ) → AreGood c xs → AreGood c ys → AreGood c (xs ++ ys)
   appended_are_good [] ys xs_are_good ys_are_good = ys_are_good
   appended_are_good (x ∷ xs) ys xs_are_good ys_are_good =
       (xs_are_good.0, appended_are_good xs ys xs_are_good.1 ys_are_good)
 
-  -- in a forest of derivations each label stands for something
-  pub forest_labels_are_good : ((l : ℕ) → HasCompleteFrame c (c.rule l)) → (forest : Trees)
+  -- in a forest of derivations each label refers to something
+  pub forest_labels_are_good : ((l : ℕ) → HasCompleteFrame c (c.referent l)) → (forest : Trees)
       → AreDerivations c forest
       → AreGood c (postfix forest)
   forest_labels_are_good all_complete none are_derivations = tt
@@ -43,7 +44,7 @@ module _ (c : Context) where
       grind (
         arith,
         common_steps,
-        followed_rule_is_complete,
+        followed_referent_is_complete,
         appended_are_good,
         forest_labels_are_good all_complete ts are_derivations.0,
         forest_labels_are_good all_complete cs are_derivations.1,
@@ -82,20 +83,20 @@ module _ (c : Context) where
   pub record StoppedSteps (lists : List (List ℕ)) (labels_before : List ℕ) (steps : List Step)
       (reason : Reason) : Type 0 where
     pub before : List Step
-    pub first : Step
+    pub failing : Step
     pub after : List Step
-    pub splits : steps ≡ before ++ first ∷ after
+    pub splits : steps ≡ before ++ failing ∷ after
     pub labels : List ℕ
-    pub plain : Plain c lists labels_before before labels
+    pub expansion : Expands c lists labels_before before labels
     pub forest : Trees
     pub derivations : AreDerivations c forest
     pub labels_are : postfix forest ≡ labels
-    pub fails : StepFails c first (formulas forest) reason
+    pub fails : StepFails c failing (formulas forest) reason
 
   abbrev pub StepsOutcome : List (List ℕ) → List ℕ → List Step → Result (List Formula) RunFailure
       → Type 0
   StepsOutcome lists labels_before steps (Ok out) =
-      (all : List ℕ) × Plain c lists labels_before steps all × (forest : Trees) × AreDerivations c
+      (all : List ℕ) × Expands c lists labels_before steps all × (forest : Trees) × AreDerivations c
       forest
       × (postfix forest ≡ all) × (formulas forest ≡ out)
   StepsOutcome lists labels_before steps (Err e) = StoppedSteps lists labels_before steps e.reason
@@ -116,7 +117,7 @@ module _ (c : Context) where
 
   label_grows_forest : (lists : List (List ℕ)) (forest : Trees) (l : ℕ)
       (r : Result (List Formula) Reason)
-      → AreDerivations c forest → StepOutcome c (c.rule l) (formulas forest) r
+      → AreDerivations c forest → StepOutcome c (c.referent l) (formulas forest) r
       → GrownForest lists forest (label l) r
   label_grows_forest lists forest l (Err reason) are_derivations outcome = outcome
   label_grows_forest lists forest l (Ok out) are_derivations outcome =
@@ -208,11 +209,11 @@ module _ (c : Context) where
       )
       outcome_of_rest labels_after adds_labels (Err e) later_outcome = record {
         before = s ∷ later_outcome.before;
-        first = later_outcome.first;
+        failing = later_outcome.failing;
         after = later_outcome.after;
         splits = ap (λ x. s ∷ x) later_outcome.splits;
         labels = later_outcome.labels;
-        plain = (labels_after, adds_labels, later_outcome.plain);
+        expansion = (labels_after, adds_labels, later_outcome.expansion);
         forest = later_outcome.forest;
         derivations = later_outcome.derivations;
         labels_are = later_outcome.labels_are;
@@ -229,11 +230,11 @@ module _ (c : Context) where
       outcome_by_result (Err reason) forest_grown rest_has_outcome =
           record {
             before = [];
-            first = s;
+            failing = s;
             after = steps;
             splits = refl;
             labels = postfix forest;
-            plain = refl;
+            expansion = refl;
             forest = forest;
             derivations = are_derivations;
             labels_are = refl;

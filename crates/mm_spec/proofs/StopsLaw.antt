@@ -204,7 +204,7 @@ within_is_not_between : (ts : List Token) (r : Progress) (b : Bool)
     → ¬ IsBetween ts
 within_is_not_between ts r b state_is within_statement is_between =
     let list_followed =
-    statements_are_followed is_between.0 0 is_between.1.whole
+    statements_are_followed is_between.0 0 is_between.1.complete
     (λ n. let closings_le_openings = is_between.1.nested n in
     omega (arith, closings_le_openings)) in
     not_at_start r b
@@ -239,7 +239,7 @@ shape_fault ts f has_fault =
           λ beginning. begins_no_list first_one.before first_one.first
           (progress_from (start 0) first_one.before) followed_before.0 followed_before.1
           first_one.is_unexpected beginning;
-      code =
+      fault_is =
           code_by_place first_one.before first_one.first (progress_from (start 0) first_one.before)
           followed_before.0 followed_before.1 first_one.fault_is
           (is_between_statements (progress_from (start 0) first_one.before)) refl;
@@ -366,7 +366,7 @@ end_fault len ts f no_shape has_fault =
         record {
           statements = statements_of ts;
           are_statements = read_statements_are_longest ts;
-          code =
+          fault_is =
               inl (
                 something_left_within ts r b state_is within (read_statements_are_longest ts),
                 sym
@@ -384,7 +384,7 @@ end_fault len ts f no_shape has_fault =
         record {
           statements = statements_of ts;
           are_statements = read_statements_are_longest ts;
-          code = inr (
+          fault_is = inr (
             at_end.rest (read_statements_are_longest ts),
             omega (arith, block_count),
             sym (same_Some (fault len OpenBlock) f has_fault),
@@ -434,7 +434,7 @@ no_end_fault len ts no_shape no_fault_at_end f has_end_fault =
         → fault_at_end len r ≡ None → ⊥
     absurd_by_progress (start zero) b state_is no_fault_at_end =
         neither_fault has_end_fault.statements has_end_fault.are_statements
-        (ends_between ts 0 b state_is) has_end_fault.code
+        (ends_between ts 0 b state_is) has_end_fault.fault_is
     absurd_by_progress (start (suc d)) b state_is no_fault_at_end = cc
     absurd_by_progress (labelled d l) b state_is no_fault_at_end = cc
     absurd_by_progress (words d make ws) b state_is no_fault_at_end = cc

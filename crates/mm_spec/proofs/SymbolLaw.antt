@@ -11,7 +11,8 @@ use Rattle.mm_spec.specs.Statement.{Statement, constants, variables, disjoint, f
 use Rattle.mm_spec.specs.Statement.{axiomatic, provable, opening, closing, symbols_of}
 use Rattle.mm_spec.specs.Scope.{Names, names_before, depth, active, active_statements, constants_of}
 use Rattle.mm_spec.specs.Scope.{variables_of, statement_at}
-use Rattle.mm_spec.specs.Lawful.{when, at, at_each, symbol_codes, disjoint_codes, is_typed}
+use Rattle.mm_spec.specs.Lawful.{when, faults_at, faults_at_each, symbol_codes, disjoint_codes}
+use Rattle.mm_spec.specs.Lawful.{is_typed}
 use Rattle.mm_spec.specs.Lawful.{formula_faults, label_faults, floating_faults, scope_faults, least}
 use Rattle.mm_spec.specs.Lawful.{IsLawful}
 use Rattle.mm_spec.specs.declared.Code.TheVariants.{UndeclaredSymbol, UntypedVariable, BadTypecode}
@@ -44,24 +45,24 @@ formula_symbols_are_named n s (t ∷ ts) end no_faults w w_is_there =
         ∙ not-false (is_in t.word n.constants)
         (no_code_if_false (not (is_in t.word n.constants)) BadTypecode
         (no_faults_no_codes t.at (when (not (is_in t.word n.constants)) BadTypecode)
-        (both_are_empty (at t.at (when (not (is_in t.word n.constants)) BadTypecode))
-        (at_each (symbol_codes n) [] ts) no_faults).0)))
+        (both_are_empty (faults_at t.at (when (not (is_in t.word n.constants)) BadTypecode))
+        (faults_at_each (symbol_codes n) [] ts) no_faults).0)))
     named_if_there (inr is_there) =
         let codes_of_w =
         each_word_has_no_codes (symbol_codes n) [] ts
-        (both_are_empty (at t.at (when (not (is_in t.word n.constants)) BadTypecode))
-        (at_each (symbol_codes n) [] ts) no_faults).1 w is_there in
-        named_if_known (or_cases (is_in w n.constants) (is_in w n.active_variables)
+        (both_are_empty (faults_at t.at (when (not (is_in t.word n.constants)) BadTypecode))
+        (faults_at_each (symbol_codes n) [] ts) no_faults).1 w is_there in
+        named_if_declared (or_cases (is_in w n.constants) (is_in w n.active_variables)
         (not-false (is_in w n.constants || is_in w n.active_variables)
         (no_code_if_false (not (is_in w n.constants || is_in w n.active_variables)) UndeclaredSymbol
         (both_are_empty
         (when (not (is_in w n.constants || is_in w n.active_variables)) UndeclaredSymbol)
         (when (is_in w n.active_variables && not (is_typed n w)) UntypedVariable) codes_of_w.1).0)))
       where
-        named_if_known : (is_in w n.constants ≡ true) ⊎ (is_in w n.active_variables ≡ true)
+        named_if_declared : (is_in w n.constants ≡ true) ⊎ (is_in w n.active_variables ≡ true)
             → IsNamed n s w
-        named_if_known (inl is_constant) = constant is_constant
-        named_if_known (inr is_variable) = variable is_variable
+        named_if_declared (inl is_constant) = constant is_constant
+        named_if_declared (inr is_variable) = variable is_variable
 
 floating_symbols_are_named : (n : Names) (s : Statement) (keyword : ℕ) (xs : List Token)
     → floating_faults n keyword xs ≡ [] → (w : Bytes) → is_in w (words xs) ≡ true → IsNamed n s w
@@ -106,8 +107,8 @@ symbols_are_named n d (variables k xs e) no_faults w w_is_symbol = own_symbol w_
 symbols_are_named n d (disjoint k xs e) no_faults w w_is_symbol =
     let codes_of_w =
     each_word_has_no_codes (disjoint_codes n) [] xs
-    (both_are_empty (at e (when (nat_lt (length xs) 2) TooFewVariables))
-    (at_each (disjoint_codes n) [] xs) no_faults).1 w w_is_symbol in
+    (both_are_empty (faults_at e (when (nat_lt (length xs) 2) TooFewVariables))
+    (faults_at_each (disjoint_codes n) [] xs) no_faults).1 w w_is_symbol in
     variable
     (not-false (is_in w n.active_variables)
     (no_code_if_false (not (is_in w n.active_variables)) UndeclaredVariable

@@ -3,10 +3,10 @@ use Rattle.std.proofs.Common.{◌≡◌, ℕ, zero, suc, List, [], ◌∷◌, �
 use Rattle.std.proofs.Common.{refl, sym, ap, ◌∙◌, subst, append_assoc, length-append, arith}
 use Rattle.std.proofs.lemmas.List.{length-map}
 use Rattle.mm_spec.specs.Nodes.{tree_count}
-use Rattle.mm_spec.specs.Derivation.{Formula, Rule, hypothesis, assertion, Context, substitute}
+use Rattle.mm_spec.specs.Derivation.{Formula, Referent, hypothesis, assertion, Context, substitute}
 use Rattle.mm_spec.specs.Derivation.{Follows, Trees, none, more, formulas, postfix, AreDerivations}
 use Rattle.mm_spec.proofs.UnifyLaw.{found_gives_formula}
-use Rattle.mm_spec.specs.Laws.Stack.{substitution_from, IsCompleteRule}
+use Rattle.mm_spec.specs.Laws.Stack.{substitution_from, IsCompleteReferent}
 use Rattle.mm_spec.proofs.MachineLaw.{AreGood, good_append_is_good_parts}
 
 -- two forests, one after the other
@@ -26,23 +26,23 @@ split_last_join ts none = refl
 split_last_join ts (more cs l f ds) =
     ap {A = Trees × Trees} {B = Trees × Trees} (λ p. (p.0, more p.1 l f ds)) (split_last_join ts cs)
 
-tree_count_formulas : (cs : Trees) → length (formulas cs) ≡ tree_count cs
+pub tree_count_formulas : (cs : Trees) → length (formulas cs) ≡ tree_count cs
 tree_count_formulas none = refl
 tree_count_formulas (more cs l f ds) =
     omega (arith, length-append (formulas cs) (f ∷ []), tree_count_formulas cs)
 
 module _ (c : Context) where
-  arity : Option Rule → ℕ
+  arity : Option Referent → ℕ
   arity None = 0
   arity (Some (hypothesis g)) = 0
   arity (Some (assertion a)) = length a.hypotheses
 
-  result : Option Rule → List Formula → Formula
+  result : Option Referent → List Formula → Formula
   result None ps = []
   result (Some (hypothesis g)) ps = g
   result (Some (assertion a)) ps = substitute c (substitution_from c a.hypotheses ps) a.formula
 
-  follows_arity : (r : Option Rule) (ps : List Formula) (f : Formula) → Follows c r ps f
+  follows_arity : (r : Option Referent) (ps : List Formula) (f : Formula) → Follows c r ps f
       → length ps ≡ arity r
   unfolding arity
   follows_arity None ps f follows = absurd follows
@@ -50,7 +50,7 @@ module _ (c : Context) where
   follows_arity (Some (assertion a)) ps f follows =
       ap length follows.1 ∙ length-map a.hypotheses (substitute c follows.0)
 
-  follows_result : (r : Option Rule) (ps : List Formula) (f : Formula) → IsCompleteRule c r
+  follows_result : (r : Option Referent) (ps : List Formula) (f : Formula) → IsCompleteReferent c r
       → Follows c r ps f → result r ps ≡ f
   unfolding result
   follows_result None ps f is_complete follows = absurd follows
@@ -61,11 +61,11 @@ module _ (c : Context) where
 
   -- the forest that the labels make of a forest
   abbrev grow : ℕ → Trees × Trees → Trees
-  grow l p = more p.0 l (result (c.rule l) (formulas p.1)) p.1
+  grow l p = more p.0 l (result (c.referent l) (formulas p.1)) p.1
 
   abbrev build : List ℕ → Trees → Trees
   build [] forest = forest
-  build (l ∷ ls) forest = build ls (grow l (split_last (arity (c.rule l)) forest))
+  build (l ∷ ls) forest = build ls (grow l (split_last (arity (c.referent l)) forest))
 
   labels_build_forest : (forest : Trees) → AreDerivations c forest → AreGood c (postfix forest)
       → (ls : List ℕ) (base : Trees) → build (postfix forest ++ ls) base ≡ build ls (base ⧺ forest)
@@ -80,8 +80,9 @@ module _ (c : Context) where
       ≡ early_labels ++ (child_labels ++ l ∷ ls) =
       append_assoc early_labels (child_labels ++ l ∷ []) ls
       ∙ ap (λ x. early_labels ++ x) (append_assoc child_labels (l ∷ []) ls) in
-      let arity_is_tree_count : arity (c.rule l) ≡ tree_count cs =
-      sym (follows_arity (c.rule l) (formulas cs) f are_derivations.2) ∙ tree_count_formulas cs in
+      let arity_is_tree_count : arity (c.referent l) ≡ tree_count cs =
+      sym (follows_arity (c.referent l) (formulas cs) f are_derivations.2)
+      ∙ tree_count_formulas cs in
       ap (λ x. build x base) regroup
       ∙ labels_build_forest ts are_derivations.0 split_at_children.0 (child_labels ++ l ∷ ls) base
       ∙ labels_build_forest cs are_derivations.1 split_at_label.0 (l ∷ ls) (base ⧺ ts)
@@ -89,7 +90,7 @@ module _ (c : Context) where
       (ap (λ k. split_last k ((base ⧺ ts) ⧺ cs)) arity_is_tree_count
       ∙ split_last_join (base ⧺ ts) cs)
       ∙ ap (λ g. build ls (more (base ⧺ ts) l g cs))
-      (follows_result (c.rule l) (formulas cs) f split_at_label.1.0 are_derivations.2)
+      (follows_result (c.referent l) (formulas cs) f split_at_label.1.0 are_derivations.2)
 
   -- after no trees stands the forest itself
   none_before_is_itself : (forest : Trees) → none ⧺ forest ≡ forest

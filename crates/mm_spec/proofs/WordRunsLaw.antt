@@ -188,8 +188,3 @@ next_word_is text i e to i_lt_to to_le_length not_white starts_at_boundary ends_
           (words_between_skips text (e - (i + 1)) (i + 1) e to (omega arith) e_le_to
           (λ j i_lt_j j_lt_e. none_begins_inside text i e j e_is_end i_lt_j j_lt_e)),
     )
-
--- no word goes on after the end of one
-pub word_end_is_boundary : {text : List ℕ} {w : Word} → IsWord text w → IsBoundary text w.end
-word_end_is_boundary is_word i is_place_before end_lt_length not_white =
-    cc (is_word.white_after end_lt_length)

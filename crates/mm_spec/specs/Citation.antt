@@ -5,28 +5,28 @@ use Rattle.std.specs.Prelude.{slice_get, IsTrue}
 use Rattle.std.specs.List.{list_any}
 use Rattle.mm_spec.specs.Text.{Fault}
 use Rattle.mm_spec.specs.Statement.{Statement, floating, essential, axiomatic, provable}
-use Rattle.mm_spec.specs.Scope.{is_active, statement_at}
+use Rattle.mm_spec.specs.Scope.{active_at, statement_at}
 use Rattle.mm_spec.specs.Frame.{is_variable_number, disjoint_at, formula_at, frame_at}
-use Rattle.mm_spec.specs.Derivation.{Context, Rule, hypothesis, assertion, Trees}
+use Rattle.mm_spec.specs.Derivation.{Context, Referent, hypothesis, assertion, Trees}
 use Rattle.mm_spec.specs.Nodes.{IsNodeLabel}
 use Rattle.mm_spec.specs.Steps.{PlacedStep}
 use Rattle.mm_spec.specs.Proof.{steps, reading_faults}
 use Rattle.mm_spec.specs.Valid.{Derives}
 use Rattle.mm_spec.specs.Chains as chain
 
--- what an active statement stands for in a proof
-abbrev pub rule_of : List Statement → ℕ → Statement → Option Rule
-rule_of db j (floating l k xs d) = Some (hypothesis (formula_at db j))
-rule_of db j (essential l k xs d) = Some (hypothesis (formula_at db j))
-rule_of db j (axiomatic l k xs d) = Some (assertion (frame_at db j))
-rule_of db j (provable l k xs e ps d) = Some (assertion (frame_at db j))
-rule_of db j _ = None
+-- what the label of an active statement refers to in a proof
+abbrev pub referent_of : List Statement → ℕ → Statement → Option Referent
+referent_of db j (floating l k xs d) = Some (hypothesis (formula_at db j))
+referent_of db j (essential l k xs d) = Some (hypothesis (formula_at db j))
+referent_of db j (axiomatic l k xs d) = Some (assertion (frame_at db j))
+referent_of db j (provable l k xs e ps d) = Some (assertion (frame_at db j))
+referent_of db j _ = None
 
--- what the label of statement j stands for in the proof of statement k
-abbrev pub rule_at : List Statement → ℕ → ℕ → Option Rule
-rule_at db k j =
-    elim (is_active db j k)
-    [ false ↦ None | true ↦ elim (slice_get db j) [ None ↦ None | Some s ↦ rule_of db j s ] ]
+-- what the label of statement j refers to in the proof of statement k
+abbrev pub referent_at : List Statement → ℕ → ℕ → Option Referent
+referent_at db k j =
+    elim (active_at db j k)
+    [ false ↦ None | true ↦ elim (slice_get db j) [ None ↦ None | Some s ↦ referent_of db j s ] ]
 
 -- the context of the proof of statement k
 abbrev pub context_at : List Statement → ℕ → Context
@@ -34,7 +34,7 @@ context_at db k =
     record {
       is_variable = is_variable_number db;
       is_disjoint = disjoint_at db k;
-      rule = rule_at db k;
+      referent = referent_at db k;
     }
 
 -- the steps of the proof of statement k, if that is a theorem

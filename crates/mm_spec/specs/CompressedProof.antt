@@ -5,7 +5,7 @@ use Rattle.std.specs.Prelude.{◌++◌, map, length, Option, Some, None, nat_lt,
 use Rattle.std.specs.Prelude.{flat_map, slice_get, codes, fold}
 use Rattle.mm_spec.specs.Text.{Bytes, Token, Fault, fault}
 use Rattle.mm_spec.specs.Statement.{Statement}
-use Rattle.mm_spec.specs.Lawful.{when, at}
+use Rattle.mm_spec.specs.Lawful.{when, faults_at}
 use Rattle.mm_spec.specs.Frame.{mandatory_hypotheses}
 use Rattle.mm_spec.specs.Steps.{Step, PlacedStep, placed, label, marked}
 use Rattle.mm_spec.specs.NormalProof.{usable, proof_label_faults}
@@ -44,24 +44,32 @@ pub record Group : Type 0 where
   pub early : List Letter
   pub last : Letter
 
--- `U` to `Y`
-abbrev pub is_early : ℕ → Bool
-is_early b = nat_le 85 b && nat_le b 89
+-- `U` to `Y`, an earlier digit of a number
+abbrev pub is_early_letter : ℕ → Bool
+is_early_letter b = nat_le 85 b && nat_le b 89
 
--- `A` to `T`
-abbrev pub is_last : ℕ → Bool
-is_last b = nat_le 65 b && nat_le b 84
+-- `A` to `T`, the last digit of a number
+abbrev pub is_last_letter : ℕ → Bool
+is_last_letter b = nat_le 65 b && nat_le b 84
+
+-- `Z`, which marks the step before it
+abbrev pub mark_letter : ℕ
+mark_letter = 90
+
+-- `?`, which stands for steps that aren't known
+abbrev pub unknown_letter : ℕ
+unknown_letter = 63
 
 -- the groups, after the run `early` of early letters, and the run that is left at the end
 abbrev pub groups : List Letter → List Letter → List Group × List Letter
 groups early [] = ([], early)
-groups early (x ∷ xs) = elim (is_early x.byte) [
+groups early (x ∷ xs) = elim (is_early_letter x.byte) [
   | true ↦ groups (early ++ x ∷ []) xs
   | false ↦ let g = groups [] xs in (record { early = early; last = x } ∷ g.0, g.1)
 ]
 
--- The value of a number: the early letters in bijective base 5, times 20, plus the last. `U` is 85,
--- which counts 1, and `A` is 65, which counts 1.
+-- The value of a number: the early letters in bijective base 5, times 20, plus the last. `U` is 85
+-- and counts 1, and `A` is 65 and counts 1.
 abbrev pub value : Group → ℕ
 value g = fold (λ n x. 5 * n + (x.byte - 84)) 0 g.early * 20 + (g.last.byte - 64)
 
@@ -80,24 +88,24 @@ step_of labels marks (suc n) = elim (slice_get labels n) [
 -- the steps of the groups; `count` steps come before them, of which `marks` are marked
 abbrev pub group_steps : List ℕ → List ℕ → ℕ → List Group → List PlacedStep
 group_steps labels marks count [] = []
-group_steps labels marks count (g ∷ gs) = elim (is_last g.last.byte) [
+group_steps labels marks count (g ∷ gs) = elim (is_last_letter g.last.byte) [
   | true ↦ map (placed (starts_at g)) (step_of labels marks (value g))
       ++ group_steps labels marks (count + 1) gs
   | false ↦ group_steps labels (marks ++ (count - 1) ∷ []) count gs
 ]
 
 -- The fault of a group: a number above all that have a meaning (E45), a `Z` within a number (E43)
--- or before the first one (E44), a `?` (E32), another byte (E42). The code of `Z` is 90, and that
--- of `?` is 63. `labels` says how many labels have numbers, `marks` how many `Z` come before the
--- group, and `count` how many other groups do.
+-- or before the first one (E44), a `?` (E32), another byte (E42). `labels` says how many labels
+-- have numbers, `marks` how many `Z` come before the group, and `count` how many other groups do.
 abbrev pub group_fault : ℕ → ℕ → ℕ → Group → List Fault
-group_fault labels marks count g = elim (is_last g.last.byte) [
-  | true ↦ at (starts_at g) (when (nat_lt (labels + marks) (value g)) NumberTooLarge)
-  | false ↦ elim (g.last.byte == 90) [
-    | true ↦ at g.last.at
+group_fault labels marks count g = elim (is_last_letter g.last.byte) [
+  | true ↦ faults_at (starts_at g) (when (nat_lt (labels + marks) (value g)) NumberTooLarge)
+  | false ↦ elim (g.last.byte == mark_letter) [
+    | true ↦ faults_at g.last.at
         (when (nat_lt 0 (length g.early)) OpenNumber ++ when (count == 0) MarkBeforeStep)
-    | false ↦ at g.last.at
-        (elim (g.last.byte == 63) [ true ↦ IncompleteProof ∷ [] | false ↦ BadLetter ∷ [] ])
+    | false ↦ faults_at g.last.at
+        (elim (g.last.byte == unknown_letter)
+        [ true ↦ IncompleteProof ∷ [] | false ↦ BadLetter ∷ [] ])
   ]
 ]
 
@@ -105,7 +113,7 @@ group_fault labels marks count g = elim (is_last g.last.byte) [
 abbrev pub group_faults : ℕ → ℕ → ℕ → List Group → List Fault
 group_faults labels marks count [] = []
 group_faults labels marks count (g ∷ gs) =
-    group_fault labels marks count g ++ elim (g.last.byte == 90) [
+    group_fault labels marks count g ++ elim (g.last.byte == mark_letter) [
       | true ↦ group_faults labels (marks + 1) count gs
       | false ↦ group_faults labels marks (count + 1) gs
     ]
@@ -114,7 +122,7 @@ group_faults labels marks count (g ∷ gs) =
 abbrev pub letter_faults : ℕ → ℕ → List Letter → List Fault
 letter_faults labels end [] = fault end EmptyProof ∷ []
 letter_faults labels end (x ∷ xs) = let g = groups [] (x ∷ xs) in
-    group_faults labels 0 0 g.0 ++ at end (when (nat_lt 0 (length g.1)) OpenNumber)
+    group_faults labels 0 0 g.0 ++ faults_at end (when (nat_lt 0 (length g.1)) OpenNumber)
 
 -- the letters of the words
 abbrev pub letters_of : List Token → List Letter

@@ -22,14 +22,19 @@ when true code = code ∷ []
 when false code = []
 
 -- the codes as faults at the place
-abbrev pub at : ℕ → List Code → List Fault
-at place codes = map (fault place) codes
+abbrev pub faults_at : ℕ → List Code → List Fault
+faults_at place codes = map (fault place) codes
 
 -- the faults at each symbol; `codes` takes the words before it in the statement, and the symbol
-abbrev pub at_each : (List Bytes → Bytes → List Code) → List Bytes → List Token → List Fault
-at_each codes earlier [] = []
-at_each codes earlier (t ∷ ts) =
-    at t.at (codes earlier t.word) ++ at_each codes (t.word ∷ earlier) ts
+abbrev pub faults_at_each : (List Bytes → Bytes → List Code) → List Bytes → List Token → List Fault
+faults_at_each codes earlier [] = []
+faults_at_each codes earlier (t ∷ ts) =
+    faults_at t.at (codes earlier t.word) ++ faults_at_each codes (t.word ∷ earlier) ts
+
+-- whether a declaration has no symbols
+abbrev pub is_empty : List Token → Bool
+is_empty [] = true
+is_empty (t ∷ ts) = false
 
 module _ (names : Names) where
   -- A symbol of a `$c` wasn't declared before, as a constant or a variable or in this `$c` (E13),
@@ -65,21 +70,18 @@ module _ (names : Names) where
       when (not (is_in w names.constants || is_in w names.active_variables)) UndeclaredSymbol
       ++ when (is_in w names.active_variables && not (is_typed w)) UntypedVariable
 
-  -- whether a declaration has no symbols
-  abbrev pub is_empty : List Token → Bool
-  is_empty [] = true
-  is_empty (t ∷ ts) = false
-
   -- A formula, which ends at `end`, begins with a constant (E17).
   abbrev pub formula_faults : List Token → ℕ → List Fault
   formula_faults [] end = fault end BadTypecode ∷ []
   formula_faults (t ∷ ts) end =
-      at t.at (when (not (is_in t.word names.constants)) BadTypecode) ++ at_each symbol_codes [] ts
+      faults_at t.at (when (not (is_in t.word names.constants)) BadTypecode)
+      ++ faults_at_each symbol_codes [] ts
 
   -- A label is no symbol that was declared before (E14), and was not used before (E15).
   abbrev pub label_faults : Token → List Fault
   label_faults l =
-      at l.at (when (is_in l.word names.constants || is_in l.word names.all_variables) LabelIsSymbol
+      faults_at l.at
+      (when (is_in l.word names.constants || is_in l.word names.all_variables) LabelIsSymbol
       ++ when (is_in l.word names.labels) LabelUsedBefore)
 
   -- whether an earlier `$f` gives the variable another typecode
@@ -92,7 +94,7 @@ module _ (names : Names) where
   abbrev pub floating_faults : ℕ → List Token → List Fault
   floating_faults keyword (c ∷ v ∷ []) =
       elim (is_in c.word names.constants && is_in v.word names.active_variables) [
-        | true ↦ at v.at
+        | true ↦ faults_at v.at
             (when (is_typed v.word) TypedBefore
             ++ when (is_typed_otherwise c.word v.word) OtherTypecode)
         | false ↦ fault keyword BadFloating ∷ []
@@ -103,13 +105,14 @@ module _ (names : Names) where
   -- (E11), `$c` and `$v` declare something (E12), and a `$d` has two symbols or more (E23).
   abbrev pub scope_faults : ℕ → Statement → List Fault
   scope_faults open_blocks (constants k xs d) =
-      at k (when (nat_lt 0 open_blocks) ConstantInBlock)
-      ++ at d (when (is_empty xs) EmptyDeclaration)
-      ++ at_each constant_codes [] xs
+      faults_at k (when (nat_lt 0 open_blocks) ConstantInBlock)
+      ++ faults_at d (when (is_empty xs) EmptyDeclaration)
+      ++ faults_at_each constant_codes [] xs
   scope_faults open_blocks (variables k xs d) =
-      at d (when (is_empty xs) EmptyDeclaration) ++ at_each variable_codes [] xs
+      faults_at d (when (is_empty xs) EmptyDeclaration) ++ faults_at_each variable_codes [] xs
   scope_faults open_blocks (disjoint k xs d) =
-      at d (when (nat_lt (length xs) 2) TooFewVariables) ++ at_each disjoint_codes [] xs
+      faults_at d (when (nat_lt (length xs) 2) TooFewVariables)
+      ++ faults_at_each disjoint_codes [] xs
   scope_faults open_blocks (floating l k xs d) = label_faults l ++ floating_faults k xs
   scope_faults open_blocks (essential l k xs d) = label_faults l ++ formula_faults xs d
   scope_faults open_blocks (axiomatic l k xs d) = label_faults l ++ formula_faults xs d

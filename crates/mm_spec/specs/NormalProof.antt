@@ -5,7 +5,7 @@ use Rattle.std.specs.Prelude.{flat_map, codes}
 use Rattle.std.specs.List.{list_any, range_with_len, filter}
 use Rattle.mm_spec.specs.Text.{Bytes, Token, Fault, fault}
 use Rattle.mm_spec.specs.Statement.{Statement, label_of}
-use Rattle.mm_spec.specs.Scope.{is_active, statement_at}
+use Rattle.mm_spec.specs.Scope.{active_at, statement_at}
 use Rattle.mm_spec.specs.Steps.{PlacedStep, placed, label}
 use Rattle.mm_spec.specs.declared.Code.TheVariants.{EmptyProof, IncompleteProof, UnusableLabel}
 
@@ -16,7 +16,7 @@ is_labelled w s = elim (label_of s) [ None ↦ false | Some l ↦ bytes_eq l.wor
 -- the statement with this label, if it is usable: an active hypothesis or an earlier assertion
 abbrev pub usable : List Statement → ℕ → Bytes → List ℕ
 usable db k w =
-    filter (λ j. is_active db j k && list_any (is_labelled w) (statement_at db j))
+    filter (λ j. active_at db j k && list_any (is_labelled w) (statement_at db j))
     (range_with_len 0 k)
 
 -- the steps of a normal proof

@@ -143,8 +143,8 @@ IsCitingRowOf db request t r =
     × ((list : List ℕ) × AreCited db request t list × (r.cited ≡ map (label_at db) list))
 
 -- how many columns are open theorems, if these count as axioms
-abbrev pub open_columns : List Statement → Request → Option ℕ
-open_columns db request =
+abbrev pub open_theorem_count : List Statement → Request → Option ℕ
+open_theorem_count db request =
     if request.with_open then Some
     (count_by (λ a. list_any is_open_theorem (statement_at db a))
     (columns (counted true db) request.only))
@@ -169,4 +169,4 @@ IsOutput text request bytes =
     × (bytes ≡ refusal text f))
     ⊎ ((db : List Statement) × HasNoFault (length text) (lexed_of text) request.with_open db
     × IsReportOf request.choice (counted request.with_open db)
-    (open_columns db request) request bytes)
+    (open_theorem_count db request) request bytes)

@@ -1,4 +1,4 @@
--- Rows of words read as tokens and comments (Metamath book, "Preliminaries" and "Preprocessing").
+-- Words read as tokens and comments (Metamath book, "Preliminaries" and "Preprocessing").
 use Rattle.std.specs.Prelude.{ℕ, List, [], ◌∷◌, ◌++◌, Option, Some, None, is_some, slice_range}
 use Rattle.mm_spec.specs.Roles.{role_of, fault_of}
 use Rattle.mm_spec.specs.declared.Word.{Word}
@@ -9,8 +9,8 @@ use Rattle.mm_spec.specs.declared.Role.TheVariants.{Token, Opening, Closing, Com
 abbrev pub bytes_of : List ℕ → Word → List ℕ
 bytes_of text w = slice_range text w.start w.end
 
--- What a row of words gives: the tokens before its first faulty word and the fault of that word, or
--- all its tokens if no word is faulty; and the place of the comment that is open there, if one is.
+-- What a list of words gives: the tokens before its first faulty word and the fault of that word,
+-- or all its tokens if no word is faulty; and the place of the comment that is open there, if any.
 pub record Reading : Type 0 where
   pub tokens : List Word
   pub fault : Option Fault

@@ -28,8 +28,8 @@ abbrev pub line : List ℕ → List ℕ
 line text = text ++ 10 ∷ []
 
 -- a line of the head: a name and a number
-abbrev pub heading : List ℕ → ℕ → List ℕ
-heading name n = line (name ++ 32 ∷ decimal n)
+abbrev pub head_line : List ℕ → ℕ → List ℕ
+head_line name n = line (name ++ 32 ∷ decimal n)
 
 -- `1` for a marked cell, `0` for any other
 abbrev pub digit_of : Bool → ℕ
@@ -119,14 +119,14 @@ version Two = 2
 -- the line that says how many columns are open theorems, if these count as axioms
 abbrev pub open_line : Option ℕ → List ℕ
 open_line None = []
-open_line (Some n) = heading (codes "open") n
+open_line (Some n) = head_line (codes "open") n
 
 -- the first lines: the version, the number of columns, how many of them are open theorems if these
 -- count as axioms, and the number of theorems
 abbrev pub head : Form → ℕ → Option ℕ → ℕ → List ℕ
 head form axioms open_theorems theorems =
-    heading (codes "mmdepend") (version form) ++ heading (codes "axioms") axioms
-    ++ open_line open_theorems ++ heading (codes "theorems") theorems
+    head_line (codes "mmdepend") (version form) ++ head_line (codes "axioms") axioms
+    ++ open_line open_theorems ++ head_line (codes "theorems") theorems
 
 -- the report requested, with these labels of columns and these rows
 abbrev pub report : Request → Option ℕ → List Bytes → List Row → List ℕ

@@ -19,5 +19,6 @@ pub record Request : Type 0 where
   pub with_open : Bool
 
 -- what is requested where no option is given
-abbrev pub plain : Request
-plain = record { only = None; choice = All; form = One; essential = false; with_open = false }
+abbrev pub without_options : Request
+without_options =
+    record { only = None; choice = All; form = One; essential = false; with_open = false }

@@ -73,17 +73,17 @@ abbrev pub is_plain : List Token → Bool
 is_plain ts = list_all (λ t. not (has_dollar t.word)) ts
 
 -- whether the label, if the statement has one, is spelled as a label
-abbrev pub has_label : Option Token → Bool
-has_label None = true
-has_label (Some l) = is_label l.word
+abbrev pub is_label_if_any : Option Token → Bool
+is_label_if_any None = true
+is_label_if_any (Some l) = is_label l.word
 
 -- a complete statement: a label where one belongs, and words without `$` between the keywords
 abbrev pub is_complete : Statement → Bool
-is_complete s = has_label (label_of s) && is_plain (symbols_of s) && is_plain (proof_of s)
+is_complete s = is_label_if_any (label_of s) && is_plain (symbols_of s) && is_plain (proof_of s)
 
 -- complete statements, in their order, no prefix of which has more `$}` than `${`
 pub record AreStatements (statements : List Statement) : Type 0 where
-  pub whole : IsTrue (list_all is_complete statements)
+  pub complete : IsTrue (list_all is_complete statements)
   pub nested : (n : ℕ)
       → count_by is_closing (take n statements) ≤ count_by is_opening (take n statements)
 
@@ -123,7 +123,7 @@ pub record ShapeFault (tokens : List Token) (f : Fault) : Type 0 where
   pub splits : tokens ≡ before ++ first ∷ after
   pub begins : BeginStatements before
   pub no_more : ¬ BeginStatements (before ++ first ∷ [])
-  pub code : (IsBetween before × (f ≡ fault first.at (shape_code true first.word)))
+  pub fault_is : (IsBetween before × (f ≡ fault first.at (shape_code true first.word)))
       ⊎ ((¬ IsBetween before) × (f ≡ fault first.at (shape_code false first.word)))
 
 -- the longest such list at the beginning of the tokens
@@ -139,7 +139,7 @@ pub record AreLongestStatements (tokens : List Token) (statements : List Stateme
 pub record FileEndFault (len : ℕ) (tokens : List Token) (f : Fault) : Type 0 where
   pub statements : List Statement
   pub are_statements : AreLongestStatements tokens statements
-  pub code : ((are_statements.rest ≢ []) × (f ≡ fault len OpenStatement))
+  pub fault_is : ((are_statements.rest ≢ []) × (f ≡ fault len OpenStatement))
       ⊎ ((are_statements.rest ≡ [])
       × (count_by is_closing statements < count_by is_opening statements)
       × (f ≡ fault len OpenBlock))

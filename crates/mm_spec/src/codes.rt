@@ -9,8 +9,8 @@ use std::fmt;
 impl Code {
     /// The number of the code, below 100.
     pub fn number(self) -> u8
-        ensures number { result ≡ code_number self }
-        ensures small { result < 100 }
+        ensures is_code_number { result ≡ code_number self }
+        ensures number_lt_100 { result < 100 }
     {
         match self {
             Code::TextTooLong => 0,

@@ -8,7 +8,7 @@ use Rattle.std.proofs.lemmas.Bool.{or_right}
 use Rattle.mm_spec.specs.Steps.{marked}
 use Rattle.mm_spec.proofs.BoolLaw.{or_with_false}
 use Rattle.mm_steps.specs.declared.step_list.Placed.{Placed}
-use Rattle.mm_steps.specs.TheoremSteps.{is_marked, takes_up}
+use Rattle.mm_steps.specs.TheoremSteps.{is_marked, repeats}
 use Rattle.mm_steps.specs.Flags.{step_by, placed_of, placed_steps, no_step, AreFlags}
 
 -- a step that is stored as before changes no other
@@ -43,22 +43,22 @@ or_false_at_end false false = refl
 -- what one more step marks
 marked_by_one_more : (ps : List Placed) (p : Placed) (i : ℕ)
     → is_marked (placed_steps (ps ++ p ∷ [])) i
-    ≡ (is_marked (placed_steps ps) i || takes_up i (step_by p.kind p.number))
+    ≡ (is_marked (placed_steps ps) i || repeats i (step_by p.kind p.referent))
 marked_by_one_more ps p i =
     ap (λ z. is_marked z i) (placed_steps_push ps p)
-    ∙ list_any-append (λ s. takes_up i s.step) (placed_steps ps) (placed_of p ∷ [])
-    ∙ or_false_at_end (is_marked (placed_steps ps) i) (takes_up i (step_by p.kind p.number))
+    ∙ list_any-append (λ s. repeats i s.step) (placed_steps ps) (placed_of p ∷ [])
+    ∙ or_false_at_end (is_marked (placed_steps ps) i) (repeats i (step_by p.kind p.referent))
 
 -- one more step, which repeats the subproof of step j, and the flag of step j
 pub flags_with_marked_step : (ps qs : List Placed) (p q : Placed) (j : ℕ) → AreFlags ps
     → qs ≡ ps ++ p ∷ []
-    → p.is_marked ≡ false → step_by p.kind p.number ≡ marked j → j < length ps
+    → p.is_marked ≡ false → step_by p.kind p.referent ≡ marked j → j < length ps
     → placed_of q ≡ placed_of (get_or qs j no_step) → q.is_marked ≡ true
     → AreFlags (slice_set qs j q)
 flags_with_marked_step ps qs p q j old_flags is_appended not_marked repeats_j j_lt_length
     steps_equal
     q_is_marked i =
-    by_equality (i == j) refl
+    flag_tells_mark (i == j) refl
   where
     marked_after : is_marked (placed_steps (slice_set qs j q)) i
         ≡ (is_marked (placed_steps ps) i || (i == j))
@@ -66,12 +66,12 @@ flags_with_marked_step ps qs p q j old_flags is_appended not_marked repeats_j j_
         ap (λ z. is_marked z i) (placed_steps_unchanged_by_set qs j q steps_equal)
         ∙ ap (λ z. is_marked (placed_steps z) i) is_appended
         ∙ marked_by_one_more ps p i
-        ∙ ap (λ s. is_marked (placed_steps ps) i || takes_up i s) repeats_j
+        ∙ ap (λ s. is_marked (placed_steps ps) i || repeats i s) repeats_j
 
-    by_equality : (b : Bool) → (i == j) ≡ b
+    flag_tells_mark : (b : Bool) → (i == j) ≡ b
         → (get_or (slice_set qs j q) i no_step).is_marked
         ≡ is_marked (placed_steps (slice_set qs j q)) i
-    by_equality true i_is_j =
+    flag_tells_mark true i_is_j =
         ap (λ z. (get_or (slice_set qs j q) z no_step).is_marked) (eqb-true i j i_is_j)
         ∙ ap (λ z. z.is_marked)
         (get_or-set_same qs j q no_step
@@ -79,7 +79,7 @@ flags_with_marked_step ps qs p q j old_flags is_appended not_marked repeats_j j_
         omega (arith, pushed_length, length-append ps (p ∷ []))))
         ∙ q_is_marked ∙ sym (marked_after
         ∙ or_right (is_marked (placed_steps ps) i) (i == j) i_is_j)
-    by_equality false i_is_j =
+    flag_tells_mark false i_is_j =
         ap (λ z. z.is_marked)
         (get_or-set_other qs j i q no_step (λ i_eq_j. true≢false (sym (eq-eqb i j i_eq_j)
         ∙ i_is_j)))

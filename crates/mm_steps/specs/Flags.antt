@@ -7,14 +7,14 @@ use Rattle.mm_steps.specs.declared.step_list.StepKind.{StepKind}
 use Rattle.mm_steps.specs.declared.step_list.StepKind.TheVariants.{Label, Marked}
 use Rattle.mm_steps.specs.TheoremSteps.{is_marked}
 
--- the step of this kind that refers to the number
+-- the step of this kind that refers to the statement or the step n
 abbrev pub step_by : StepKind → ℕ → spec.Step
 step_by Label n = label n
 step_by Marked n = marked n
 
 -- the step that a stored one stands for
 abbrev pub placed_of : Placed → PlacedStep
-placed_of p = placed p.at (step_by p.kind p.number)
+placed_of p = placed p.at (step_by p.kind p.referent)
 
 -- the steps that the stored ones stand for
 abbrev pub placed_steps : List Placed → List PlacedStep
@@ -22,7 +22,7 @@ placed_steps ps = map placed_of ps
 
 -- what is taken for a step past the last one
 abbrev pub no_step : Placed
-no_step = record { at = 0; number = 0; kind = Label; is_marked = false }
+no_step = record { at = 0; referent = 0; kind = Label; is_marked = false }
 
 -- each step's flag says whether the step is marked, and past the last step none is
 abbrev pub AreFlags : List Placed → Type 0

@@ -25,13 +25,13 @@ abbrev pub step_at : List PlacedStep → ℕ → PlacedStep
 step_at steps i = get_or steps i (placed 0 (label 0))
 
 -- whether a step repeats the subproof that step `i` ended
-abbrev pub takes_up : ℕ → spec.Step → Bool
-takes_up i (label l) = false
-takes_up i (marked j) = i == j
+abbrev pub repeats : ℕ → spec.Step → Bool
+repeats i (label l) = false
+repeats i (marked j) = i == j
 
 -- whether some step repeats the subproof that step `i` ended
 abbrev pub is_marked : List PlacedStep → ℕ → Bool
-is_marked steps i = list_any (λ s. takes_up i s.step) steps
+is_marked steps i = list_any (λ s. repeats i s.step) steps
 
 -- a marked step repeats the subproof of one of the `n` steps before it
 abbrev pub IsEarlier : spec.Step → ℕ → Type 0

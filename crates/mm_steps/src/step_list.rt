@@ -3,8 +3,7 @@
 ghost use Rattle.std.specs.Prelude.{◌≡◌, ◌<◌, ◌++◌, ◌∷◌, [], length, OnOk, OnErr};
 ghost use Rattle.mm_spec.specs.Steps.{placed};
 ghost use Rattle.mm_steps.specs.TheoremSteps.{TheoremSteps, theorem_steps, as_step, step_at};
-ghost use Rattle.mm_steps.specs.TheoremSteps.{is_marked as marked_in};
-ghost use Rattle.mm_steps.specs.TheoremSteps.{IsEarlier};
+ghost use Rattle.mm_steps.specs.TheoremSteps.{is_marked as marked_in, IsEarlier};
 
 use std::alloc::{AllocError, Allocator};
 use std::marker::Model;
@@ -18,19 +17,20 @@ pub enum Step {
     Marked(u32),
 }
 
-/// What the number of a step refers to.
+/// What the referent of a step is: a statement, or an earlier step.
 #[derive(Clone, Copy, Drop)]
 enum StepKind {
     Label,
     Marked,
 }
 
-/// A step with its place, and whether it is marked. The kind and the number of a step are fields of
-/// their own, since with a `Step` as a field this would take a third more memory.
+/// A step with its place, and whether it is marked. The kind of a step and what it refers to are
+/// fields of their own, since with a `Step` as a field this would take a third more memory.
 #[derive(Clone, Copy, Drop)]
 struct Placed {
     at: u32,
-    number: u32,
+    /// The number of a statement or of an earlier step.
+    referent: u32,
     kind: StepKind,
     is_marked: bool,
 }
@@ -75,26 +75,26 @@ impl<A: Allocator> Steps<A> {
     /// nothing was appended.
     pub fn push(&mut self, at: u32, step: Step) -> Result<(), AllocError>
         requires { IsEarlier (as_step step) (length self.old.steps) }
-        ensures ok { OnOk result
+        ensures step_is_added { OnOk result
             (self.new
             ≡ theorem_steps self.old.theorem (self.old.steps ++ placed at (as_step step) ∷ [])) }
-        ensures err { OnErr result (self.new ≡ self.old) }
+        ensures nothing_changes { OnErr result (self.new ≡ self.old) }
     {
         match step {
-            Step::Label(number) => self.steps.push(Placed {
+            Step::Label(statement) => self.steps.push(Placed {
                 at,
-                number,
+                referent: statement,
                 kind: StepKind::Label,
                 is_marked: false,
             })?,
-            Step::Marked(number) => {
+            Step::Marked(earlier) => {
                 self.steps.push(Placed {
                     at,
-                    number,
+                    referent: earlier,
                     kind: StepKind::Marked,
                     is_marked: false,
                 })?;
-                self.steps[number as usize].is_marked = true;
+                self.steps[earlier as usize].is_marked = true;
             }
         }
         Ok(())
@@ -121,8 +121,8 @@ impl<A: Allocator> Steps<A> {
     {
         let placed = self.steps[i];
         match placed.kind {
-            StepKind::Label => Step::Label(placed.number),
-            StepKind::Marked => Step::Marked(placed.number),
+            StepKind::Label => Step::Label(placed.referent),
+            StepKind::Marked => Step::Marked(placed.referent),
         }
     }
 

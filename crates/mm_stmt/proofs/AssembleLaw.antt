@@ -51,8 +51,8 @@ module _ (text : List ℕ) (ws : List Word) (os : List Outline) (lexical fault :
       (b : BlockLists)
       → KnowsStatements (statements text ws os) look labels b → length os < 2 ^ 31
       → IsSound (statements text ws os)
-  statements_are_sound look labels b keeps outlines_are_few =
+  statements_are_sound look labels b knows outlines_are_few =
       let statement_count_is = length-map os (statement_of text ws) in
       read_is_sound (length text) (lexed text ws lexical)
-      (statements text ws os) fault is_read_here look labels b keeps
+      (statements text ws os) fault is_read_here look labels b knows
       (omega (arith, statement_count_is, outlines_are_few))

@@ -1,7 +1,7 @@
 -- The statements that reading keeps are sound.
-use Rattle.std.proofs.Common.{◌≡◌, ℕ, ◌<◌, ◌^◌, Bool, true, false, not, List, All, length, get_or}
+use Rattle.std.proofs.Common.{◌≡◌, ℕ, ◌<◌, ◌^◌, Bool, true, false, List, All, length, get_or}
 use Rattle.std.proofs.Common.{slice_get, flat_map, [], Option, None, Some, refl, sym, ap, ◌∙◌}
-use Rattle.std.proofs.Common.{true≢false}
+use Rattle.std.proofs.lemmas.Bool.{not-true}
 use Rattle.std.proofs.lemmas.Option.{slice_get-get_or}
 use Rattle.mm_spec.specs.Text.{is_in}
 use Rattle.mm_spec.specs.Scope.{variables_of}
@@ -14,8 +14,7 @@ use Rattle.mm_spec.specs.Lexed.{LexedText}
 use Rattle.mm_spec.specs.Output.{IsRead}
 use Rattle.mm_spec.proofs.LocalLaw.{scope_fault_front}
 use Rattle.mm_outline.specs.Blocks.{BlockLists}
-use Rattle.mm_scope.specs.WordEntry.{WordEntry, entry_of}
-use Rattle.mm_scope.specs.WordEntry.{is_constant_entry, is_variable_entry}
+use Rattle.mm_scope.specs.WordEntry.{WordEntry, entry_of, is_constant_entry, is_variable_entry}
 use Rattle.mm_scope.specs.ReadSoFar.{KnowsStatements}
 use Rattle.mm_database.specs.ParsedStatements.{IsSound}
 use Rattle.mm_database.specs.declared.names.Symbol.{Symbol}
@@ -25,11 +24,7 @@ constant_is_no_variable : (x : Option WordEntry) → is_constant_entry x ≡ tru
     → is_variable_entry x ≡ false
 constant_is_no_variable None is_constant = refl
 constant_is_no_variable (Some is_constant) is_constant_e =
-    no_variable_by_value is_constant.is_variable is_constant_e
-  where
-    no_variable_by_value : (b : Bool) → not b ≡ true → b ≡ false
-    no_variable_by_value true is_no_variable = absurd (true≢false (sym is_no_variable))
-    no_variable_by_value false is_no_variable = refl
+    not-true is_constant.is_variable is_constant_e
 
 pub known_lawful_is_sound : (db : List Statement) (look : List ℕ → Option Symbol)
     (labels : List ℕ → Option ℕ)
@@ -64,9 +59,9 @@ pub read_is_sound : (len : ℕ) (x : LexedText) (db : List Statement) (fault : O
     → IsRead len x db fault
     → (look : List ℕ → Option Symbol) (labels : List ℕ → Option ℕ) (b : BlockLists)
     → KnowsStatements db look labels b → length db < 2 ^ 31 → IsSound db
-read_is_sound len x db fault is_read look labels b keeps statements_lt_2_31 =
+read_is_sound len x db fault is_read look labels b knows statements_lt_2_31 =
     let lawful = read_is_lawful len x db fault is_read in
-    known_lawful_is_sound db look labels b keeps statements_lt_2_31 lawful
+    known_lawful_is_sound db look labels b knows statements_lt_2_31 lawful
     (λ k k_lt_length. symbols_have_names db lawful k k_lt_length (get_or db k (opening 0))
     (slice_get-get_or db k (opening 0) k_lt_length))
 

@@ -14,8 +14,8 @@ use std::alloc::{AllocError, Allocator};
 
 /// Whether the bytes of `word` are `name`.
 fn is_word(text: &[u8], word: Word, name: &[u8]) -> bool
-    requires order { word.start ≤ word.end }
-    requires within { word.end ≤ length text.now }
+    requires start_le_end { word.start ≤ word.end }
+    requires end_le_length { word.end ≤ length text.now }
     ensures { result ≡ bytes_eq (token_of text.now word).word name.now }
 {
     word.bytes(text) == name
@@ -39,9 +39,9 @@ fn is_open_proof(text: &[u8], words: &[Word]) -> bool
 
 /// Returns what the statement of an outline counts as.
 fn counted_kind(text: &[u8], tokens: &[Word], outline: Outline, with_open: bool) -> Kind
-    requires words { AreWithin text.now tokens.now }
-    requires outline { IsOutline outline }
-    requires within { outline.end < length tokens.now }
+    requires tokens_within { AreWithin text.now tokens.now }
+    requires is_outline { IsOutline outline }
+    requires end_lt_length { outline.end < length tokens.now }
     ensures { result ≡ kind_of (counted_as with_open (statement_of text.now tokens.now outline)) }
 {
     if with_open
@@ -65,8 +65,8 @@ pub(crate) fn kinds_of<A: Allocator + Copy>(
     outlines: &[Outline],
     with_open: bool,
 ) -> Result<Vec<Kind, A>, AllocError>
-    requires words { AreWithin text.now tokens.now }
-    requires outlines { All (λ o. IsOutline o × (o.end < length tokens.now)) outlines.now }
+    requires tokens_within { AreWithin text.now tokens.now }
+    requires are_outlines { All (λ o. IsOutline o × (o.end < length tokens.now)) outlines.now }
     ensures { IfOk result
         (λ kinds. kinds.items
         ≡ map kind_of (counted with_open (statements text.now tokens.now outlines.now))) }
@@ -94,8 +94,8 @@ pub(crate) fn assertions_of<A: Allocator + Copy>(
     kinds: &[Kind],
 ) -> Result<(Vec<u32, A>, Vec<u32, A>), AllocError>
     requires { length kinds.now < 2 ^ 31 }
-    ensures theorems { IfOk result (λ v. v.0.items ≡ numbers_of is_theorem_kind kinds.now) }
-    ensures axioms { IfOk result (λ v. v.1.items ≡ numbers_of is_axiom_kind kinds.now) }
+    ensures theorems_are { IfOk result (λ v. v.0.items ≡ numbers_of is_theorem_kind kinds.now) }
+    ensures axioms_are { IfOk result (λ v. v.1.items ≡ numbers_of is_axiom_kind kinds.now) }
 {
     let mut theorems = Vec::new(alloc);
     let mut axioms = Vec::new(alloc);

@@ -26,13 +26,13 @@ pub fn read<'a, A: Allocator + Copy>(
     lexed: &Lexed<A>,
     with_open: bool,
 ) -> Result<Database<'a, A>, AllocError>
-    requires tokens { lexed.now.tokens.items ≡ tokens_of text.now }
-    requires fault { lexed.now.fault ≡ lexical_fault text.now }
-    ensures text { IfOk result (λ database. database.text ≡ text.now) }
-    ensures flag { IfOk result (λ database. database.with_open ≡ with_open) }
-    ensures read { IfOk result
+    requires tokens_of_text { lexed.now.tokens.items ≡ tokens_of text.now }
+    requires fault_of_text { lexed.now.fault ≡ lexical_fault text.now }
+    ensures text_is { IfOk result (λ database. database.text ≡ text.now) }
+    ensures flag_is { IfOk result (λ database. database.with_open ≡ with_open) }
+    ensures is_read { IfOk result
         (λ database. IsRead (length text.now) (lexed_of text.now) database.read database.fault) }
-    ensures counted { IfOk result
+    ensures are_counted { IfOk result
         (λ database. database.statements ≡ counted with_open database.read) }
 {
     let tokens = lexed.tokens.to_vec(alloc)?;
@@ -51,13 +51,13 @@ pub fn read_owned<'a, A: Allocator + Copy>(
     lexed: Lexed<A>,
     with_open: bool,
 ) -> Result<Database<'a, A>, AllocError>
-    requires tokens { lexed.tokens.items ≡ tokens_of text.now }
-    requires fault { lexed.fault ≡ lexical_fault text.now }
-    ensures text { IfOk result (λ database. database.text ≡ text.now) }
-    ensures flag { IfOk result (λ database. database.with_open ≡ with_open) }
-    ensures read { IfOk result
+    requires tokens_of_text { lexed.tokens.items ≡ tokens_of text.now }
+    requires fault_of_text { lexed.fault ≡ lexical_fault text.now }
+    ensures text_is { IfOk result (λ database. database.text ≡ text.now) }
+    ensures flag_is { IfOk result (λ database. database.with_open ≡ with_open) }
+    ensures is_read { IfOk result
         (λ database. IsRead (length text.now) (lexed_of text.now) database.read database.fault) }
-    ensures counted { IfOk result
+    ensures are_counted { IfOk result
         (λ database. database.statements ≡ counted with_open database.read) }
 {
     let Lexed { tokens, fault } = lexed;

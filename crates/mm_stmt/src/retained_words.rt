@@ -15,8 +15,8 @@ fn retain_words<A: Allocator>(
     outline: Outline,
     words: &mut Vec<Word, A>,
 ) -> Result<(), AllocError>
-    requires outline { IsOutline outline }
-    requires within { outline.end < length tokens.now }
+    requires is_outline { IsOutline outline }
+    requires end_lt_length { outline.end < length tokens.now }
     ensures { OnOk result (words.new.items ≡ words.old.items ++ retained_words tokens.now outline) }
 {
     if outline.kind.has_label() {

@@ -12,9 +12,9 @@ use std::alloc::{AllocError, Allocator};
 
 /// Returns the label of a theorem.
 fn label_of<'a>(text: &'a [u8], tokens: &[Word], outlines: &[Outline], theorem: u32) -> &'a [u8]
-    requires words { AreWithin text.now tokens.now }
-    requires outlines { All (λ o. IsOutline o × (o.end < length tokens.now)) outlines.now }
-    requires theorem { IsTrue
+    requires tokens_within { AreWithin text.now tokens.now }
+    requires are_outlines { All (λ o. IsOutline o × (o.end < length tokens.now)) outlines.now }
+    requires is_theorem { IsTrue
         (is_theorem_at (statements text.now tokens.now outlines.now) theorem) }
     ensures { result.now ≡ label_at (statements text.now tokens.now outlines.now) theorem }
 {
@@ -31,9 +31,9 @@ pub fn spaced_labels_of<A: Allocator + Copy>(
     outlines: &[Outline],
     theorems: &[u32],
 ) -> Result<Lists<u8, A>, AllocError>
-    requires words { AreWithin text.now tokens.now }
-    requires outlines { All (λ o. IsOutline o × (o.end < length tokens.now)) outlines.now }
-    requires theorems { All
+    requires tokens_within { AreWithin text.now tokens.now }
+    requires are_outlines { All (λ o. IsOutline o × (o.end < length tokens.now)) outlines.now }
+    requires are_theorems { All
         (λ k. IsTrue (is_theorem_at (statements text.now tokens.now outlines.now) k))
         theorems.now }
     ensures { IfOk result

@@ -22,9 +22,9 @@ pub(crate) fn list_statements<A: Allocator + Copy>(
     outlines: &[Outline],
     with_open: bool,
 ) -> Result<StatementLists<A>, AllocError>
-    requires words { AreWithin text.now tokens.now }
-    requires outlines { All (λ o. IsOutline o × (o.end < length tokens.now)) outlines.now }
-    requires few { length outlines.now < 2 ^ 31 }
+    requires tokens_within { AreWithin text.now tokens.now }
+    requires are_outlines { All (λ o. IsOutline o × (o.end < length tokens.now)) outlines.now }
+    requires few_outlines { length outlines.now < 2 ^ 31 }
     ensures { IfOk result
         (λ l. AreStatementLists
         (counted with_open (statements text.now tokens.now outlines.now)) l) }

@@ -24,26 +24,27 @@ module _ {A : Type 0} (job : Job A) (seat : SeatValue) (fs : List (Findings A))
       → n < floor → IsValid db (theorem_of db n)
   valid_below_floor floor each_is_settled n n_lt_floor =
       let settled_once = each_is_settled n n_lt_floor in
-      let found_valid = are_gathered.settled_are_valid n (omega (arith, settled_once)) in
-      let are_findings : AreFindings db job.essential found_valid.0 =
-      subst (λ (x : Findings A). AreFindings db job.essential x) found_valid.1.2
-      (are_gathered.are_findings found_valid.1.0 found_valid.0 found_valid.1.1) in
+      let found = are_gathered.settled_are_valid n (omega (arith, settled_once)) in
+      let listed = found.are_listed in let index = found.has_index in
+      let are_findings : AreFindings db job.essential found.findings =
+      subst (λ (x : Findings A). AreFindings db job.essential x) listed.2
+      (are_gathered.are_findings listed.0 found.findings listed.1) in
       valid_if_has_citations db job.essential _ _
-      (subst (λ i. HasCitations db job.essential (theorem_of db i) (get_or found_valid.0.cites
-      found_valid.2.0 []))
-      (get_or_default found_valid.0.valid.items found_valid.2.0 0 n found_valid.2.1
-      ∙ found_valid.2.2) (are_findings.each_has_citations found_valid.2.0 found_valid.2.1))
+      (subst (λ i. HasCitations db job.essential (theorem_of db i)
+      (get_or found.findings.cites index.0 []))
+      (get_or_default found.findings.valid.items index.0 0 n index.1 ∙ index.2)
+      (are_findings.each_has_citations index.0 index.1))
 
   -- if the floor is below the count, a fault was found in the proof of the theorem with that index
   pub floor_is_found_faulty : (floor : ℕ) → IsLeastReported job.board.now.count (seat.view ∷ [])
       floor
       → floor < job.board.now.count → IsFoundFaulty fs floor
-  floor_is_found_faulty floor is_least floor_lt_count = by_floor is_least.is_count_or_reported
+  floor_is_found_faulty floor is_least floor_lt_count = is_faulty is_least.is_count_or_reported
     where
-      by_floor : (floor ≡ job.board.now.count) ⊎ (0 < times_reported (seat.view ∷ []) floor)
+      is_faulty : (floor ≡ job.board.now.count) ⊎ (0 < times_reported (seat.view ∷ []) floor)
           → IsFoundFaulty fs floor
-      by_floor (inl floor_is_count) = absurd (omega (arith, floor_is_count, floor_lt_count))
-      by_floor (inr is_reported) =
+      is_faulty (inl floor_is_count) = absurd (omega (arith, floor_is_count, floor_lt_count))
+      is_faulty (inr is_reported) =
           let count_splits : times_reported (seat.view ∷ []) floor
           ≡ times_in floor seat.view.reported + 0 = refl in
           are_gathered.reported_are_faulty floor (omega (arith, is_reported, count_splits))

@@ -22,14 +22,14 @@ use Rattle.mm_work.specs.Judged.{HasCitations, HaveCitationsUpTo, CitesAsDatabas
 index_of_member : (xs : List ℕ) (x : ℕ) → is_member xs x ≡ true
     → (i : ℕ) × (i < length xs) × (get_or xs i 0 ≡ x)
 index_of_member [] x x_is_member = absurd (true≢false (sym x_is_member))
-index_of_member (y ∷ xs) x x_is_member = by_head (or_cases (x == y) (is_member xs x) x_is_member)
+index_of_member (y ∷ xs) x x_is_member = index_of_x (or_cases (x == y) (is_member xs x) x_is_member)
     (index_of_member xs x)
   where
-    by_head : ((x == y) ≡ true) ⊎ (is_member xs x ≡ true)
+    index_of_x : ((x == y) ≡ true) ⊎ (is_member xs x ≡ true)
         → (is_member xs x ≡ true → (i : ℕ) × (i < length xs) × (get_or xs i 0 ≡ x))
         → (i : ℕ) × (i < suc (length xs)) × (get_or (y ∷ xs) i 0 ≡ x)
-    by_head (inl x_is_y) index_in_tail = (0, omega arith, sym (eqb-true x y x_is_y))
-    by_head (inr x_in_tail) index_in_tail = let in_tail = index_in_tail x_in_tail in (
+    index_of_x (inl x_is_y) index_in_tail = (0, omega arith, sym (eqb-true x y x_is_y))
+    index_of_x (inr x_in_tail) index_in_tail = let in_tail = index_in_tail x_in_tail in (
       suc in_tail.0,
       (let index_lt_length = in_tail.1 in omega (arith, index_lt_length)),
       in_tail.2,
@@ -38,14 +38,14 @@ index_of_member (y ∷ xs) x x_is_member = by_head (or_cases (x == y) (is_member
 member_of_range : (n a x : ℕ) → a ≤ x → x < a + n → is_member (range_with_len a n) x ≡ true
 member_of_range zero a x a_le_x x_lt_end = absurd (omega arith)
 member_of_range (suc n) a x a_le_x x_lt_end =
-    by_start (cases_lt a x) (λ a_lt_x. member_of_range n (a + 1) x (omega (arith, a_lt_x)) (omega
+    x_is_member (cases_lt a x) (λ a_lt_x. member_of_range n (a + 1) x (omega (arith, a_lt_x)) (omega
     arith))
   where
-    by_start : (a < x) ⊎ (x ≤ a) → (a < x → is_member (range_with_len (a + 1) n) x ≡ true)
+    x_is_member : (a < x) ⊎ (x ≤ a) → (a < x → is_member (range_with_len (a + 1) n) x ≡ true)
         → is_member (range_with_len a (suc n)) x ≡ true
-    by_start (inl a_lt_x) in_rest = or_right (x == a) (is_member (range_with_len (a + 1) n) x)
+    x_is_member (inl a_lt_x) in_rest = or_right (x == a) (is_member (range_with_len (a + 1) n) x)
         (in_rest a_lt_x)
-    by_start (inr x_le_a) in_rest =
+    x_is_member (inr x_le_a) in_rest =
         or_left (x == a) (is_member (range_with_len (a + 1) n) x) (eq-eqb x a (omega arith))
 
 -- a theorem has an index in the list of theorems
@@ -72,22 +72,21 @@ module _ (db : List Statement) (length_lt_limit : length db < 2 ^ 31) (are_compl
     db) where
   pub theorems_rise : IsStatementList (theorems db)
   theorems_rise = filtered_range_is_statement_list (λ j. list_any is_theorem (statement_at db j))
-      (length db)
-      length_lt_limit
+      (length db) length_lt_limit
 
   -- the theorems before theorem i are valid
   pub valid_before : (i : ℕ) → ((n : ℕ) → n < i → IsValid db (get_or (theorems db) n 0))
       → i < length (theorems db) → AreValid db (get_or (theorems db) i 0)
   valid_before i valid_before_i i_lt_count j j_lt_theorem_i j_is_theorem =
       let indexed = index_of_theorem db j j_is_theorem in
-      by_index indexed.0 indexed.1 indexed.2 (cases_lt indexed.0 i)
+      theorem_is_valid indexed.0 indexed.1 indexed.2 (cases_lt indexed.0 i)
     where
-      by_index : (n : ℕ) → n < length (theorems db) → get_or (theorems db) n 0 ≡ j
+      theorem_is_valid : (n : ℕ) → n < length (theorems db) → get_or (theorems db) n 0 ≡ j
           → (n < i) ⊎ (i ≤ n)
           → IsValid db j
-      by_index n n_lt_count n_is_index_of_j (inl n_lt_i) = subst (λ t. IsValid db t) n_is_index_of_j
-          (valid_before_i n n_lt_i)
-      by_index n n_lt_count n_is_index_of_j (inr i_le_n) = absurd (not_later (cases_lt i n))
+      theorem_is_valid n n_lt_count n_is_index_of_j (inl n_lt_i) = subst (λ t. IsValid db t)
+          n_is_index_of_j (valid_before_i n n_lt_i)
+      theorem_is_valid n n_lt_count n_is_index_of_j (inr i_le_n) = absurd (not_later (cases_lt i n))
         where
           not_later : (i < n) ⊎ (n ≤ i) → ⊥
           not_later (inl i_lt_n) = let theorem_rises = theorems_rise.rises i n i_lt_n n_lt_count in
@@ -116,9 +115,9 @@ module _ (db : List Statement) (length_lt_limit : length db < 2 ^ 31) (are_compl
 
       pub is_file_order : IsFileOrder c
       is_file_order = record {
-        rising = theorems_rise;
-        each = have_citations.list_count_is;
-        earlier =
+        theorems_rise = theorems_rise;
+        each_has_list = have_citations.list_count_is;
+        cited_are_earlier =
             λ i k i_lt_count k_lt_length. cited_lt_theorem db by_essential
             (get_or (theorems db) i 0) _
             (((have_citations.each_has_citations i i_lt_count).is_checked.cites_are_exact (get_or
@@ -138,11 +137,11 @@ module _ (db : List Statement) (length_lt_limit : length db < 2 ^ 31) (are_compl
           cites_if_has_citation t a has_citation =
               let l = get_or lists has_citation.row [] in
               let b = get_or l has_citation.list_index 0 in
-              subst (λ y. proof.Cites db by_essential t y) has_citation.cited
-              (subst (λ y. proof.Cites db by_essential y b) has_citation.theorem
+              subst (λ y. proof.Cites db by_essential t y) has_citation.cited_is
+              (subst (λ y. proof.Cites db by_essential y b) has_citation.theorem_is
               (((have_citations.each_has_citations has_citation.row
-              has_citation.within).is_checked.cites_are_exact b).0
-              (element_is_member l has_citation.list_index 0 has_citation.listed)))
+              has_citation.row_lt_count).is_checked.cites_are_exact b).0
+              (element_is_member l has_citation.list_index 0 has_citation.index_lt_length)))
 
           has_citation_if_cites : (t a : ℕ) → proof.Cites db by_essential t a → HasCitation c t a
           has_citation_if_cites t a cites_a =
@@ -156,8 +155,8 @@ module _ (db : List Statement) (length_lt_limit : length db < 2 ^ 31) (are_compl
               record {
                 row = indexed.0;
                 list_index = member_index.0;
-                within = indexed.1;
-                listed = member_index.1;
-                theorem = indexed.2;
-                cited = member_index.2;
+                row_lt_count = indexed.1;
+                index_lt_length = member_index.1;
+                theorem_is = indexed.2;
+                cited_is = member_index.2;
               }

@@ -66,20 +66,20 @@ module _ (first_positions positions : List ListPosition) (worker : ℕ) (valid :
       q 0))
       → (q : ℕ)
       → q < k + 1 → IsWithWorker positions' worker valid (get_or valid q 0)
-  with_worker_before_next with_worker_before q q_lt_suc_k = by_index (cases_eq (get_or valid q 0) x)
+  with_worker_before_next with_worker_before q q_lt_suc_k = is_with (cases_eq (get_or valid q 0) x)
     where
-      by_index : (get_or valid q 0 ≡ x) ⊎ (get_or valid q 0 ≡ x → ⊥)
+      is_with : (get_or valid q 0 ≡ x) ⊎ (get_or valid q 0 ≡ x → ⊥)
           → IsWithWorker positions' worker valid (get_or valid q 0)
-      by_index (inl index_is_x) = subst (λ i. IsWithWorker positions' worker valid i) (sym
+      is_with (inl index_is_x) = subst (λ i. IsWithWorker positions' worker valid i) (sym
           index_is_x) is_with_worker_at_index
-      by_index (inr index_is_not_x) = by_order (cases_lt q k)
+      is_with (inr index_is_not_x) = still_with (cases_lt q k)
         where
-          by_order : (q < k) ⊎ (k ≤ q) → IsWithWorker positions' worker valid (get_or valid q 0)
-          by_order (inl q_lt_k) =
+          still_with : (q < k) ⊎ (k ≤ q) → IsWithWorker positions' worker valid (get_or valid q 0)
+          still_with (inl q_lt_k) =
               still_with_worker positions positions' worker valid (get_or valid q 0)
               (others_unchanged positions x (get_or valid q 0) position index_is_not_x)
               (with_worker_before q q_lt_k)
-          by_order (inr k_le_q) =
+          still_with (inr k_le_q) =
               absurd (index_is_not_x (ap (λ j. get_or valid j 0) (let q_is_k : q
               ≡ k = omega arith in q_is_k) ∙ x_is_at_k))
 
@@ -87,24 +87,24 @@ module _ (first_positions positions : List ListPosition) (worker : ℕ) (valid :
       ⊎ (slice_get positions i ≡ slice_get first_positions i))
       → (i : ℕ) → IsWithWorker positions' worker valid i ⊎ (slice_get positions' i
       ≡ slice_get first_positions i)
-  others_stay_or_with_worker others_stay i = by_index (cases_eq i x)
+  others_stay_or_with_worker others_stay i = stays_or_with (cases_eq i x)
     where
-      by_index : (i ≡ x) ⊎ (i ≡ x → ⊥)
+      stays_or_with : (i ≡ x) ⊎ (i ≡ x → ⊥)
           → IsWithWorker positions' worker valid i ⊎ (slice_get positions' i
           ≡ slice_get first_positions i)
-      by_index (inl i_is_x) =
+      stays_or_with (inl i_is_x) =
           inl (subst (λ j. IsWithWorker positions' worker valid j) (sym i_is_x)
           is_with_worker_at_index)
-      by_index (inr i_is_not_x) = by_position (others_stay i)
+      stays_or_with (inr i_is_not_x) = other_stays (others_stay i)
         where
-          by_position : IsWithWorker positions worker valid i ⊎ (slice_get positions i
+          other_stays : IsWithWorker positions worker valid i ⊎ (slice_get positions i
               ≡ slice_get first_positions i)
               → IsWithWorker positions' worker valid i ⊎ (slice_get positions' i
               ≡ slice_get first_positions i)
-          by_position (inl was_with_worker) =
+          other_stays (inl was_with_worker) =
               inl (still_with_worker positions positions' worker valid i (others_unchanged positions
               x i position i_is_not_x) was_with_worker)
-          by_position (inr position_stays) = inr (others_unchanged positions x i position i_is_not_x
+          other_stays (inr position_stays) = inr (others_unchanged positions x i position i_is_not_x
               ∙ position_stays)
 
 module _ {A : Type 0} (fs : List (Findings A)) where
@@ -123,7 +123,7 @@ module _ {A : Type 0} (fs : List (Findings A)) where
       → (v : ℕ) (f : Findings A) (i : ℕ) → v < w + 1 → slice_get fs v ≡ Some f
       → Contains f.valid.items i → HasPosition positions' fs i
   has_position_up_to_next positions positions' w findings findings_are is_with_worker others_stay
-      has_position_before v f i v_lt_suc_w f_is_at_v is_in_f = by_worker (cases_lt v w)
+      has_position_before v f i v_lt_suc_w f_is_at_v is_in_f = is_positioned (cases_lt v w)
     where
       has_position_here : IsWithWorker positions' w findings.valid.items i
           → HasPosition positions' fs i
@@ -135,16 +135,16 @@ module _ {A : Type 0} (fs : List (Findings A)) where
         is_with_worker = with_this;
       }
 
-      by_worker : (v < w) ⊎ (w ≤ v) → HasPosition positions' fs i
-      by_worker (inl v_lt_w) = by_earlier_position (has_position_before v f i v_lt_w f_is_at_v
+      is_positioned : (v < w) ⊎ (w ≤ v) → HasPosition positions' fs i
+      is_positioned (inl v_lt_w) = still_positioned (has_position_before v f i v_lt_w f_is_at_v
           is_in_f) (others_stay i)
         where
-          by_earlier_position : HasPosition positions fs i
+          still_positioned : HasPosition positions fs i
               → IsWithWorker positions' w findings.valid.items i ⊎ (slice_get positions' i
               ≡ slice_get positions i)
               → HasPosition positions' fs i
-          by_earlier_position has_position (inl with_this) = has_position_here with_this
-          by_earlier_position has_position (inr position_stays) =
+          still_positioned has_position (inl with_this) = has_position_here with_this
+          still_positioned has_position (inr position_stays) =
               record {
                 worker = has_position.worker;
                 findings = has_position.findings;
@@ -154,7 +154,7 @@ module _ {A : Type 0} (fs : List (Findings A)) where
                     has_position.findings.valid.items i position_stays
                     has_position.is_with_worker;
               }
-      by_worker (inr w_le_v) =
+      is_positioned (inr w_le_v) =
           let v_is_w : v ≡ w = omega arith in
           let f_is : f ≡ findings =
           sym (get_or_from_slice_get fs v f findings f_is_at_v)
@@ -169,9 +169,9 @@ module _ {A : Type 0} (fs : List (Findings A)) where
       → Contains f.valid.items i → HasPosition positions fs i)
       → (i : ℕ) → IsFoundValid fs i → HasPosition positions fs i
   every_valid_has_position positions has_position i is_found_valid =
-      has_position is_found_valid.1.0 is_found_valid.0 i is_found_valid.1.1 (slice_get-get_or fs
-      is_found_valid.1.0 is_found_valid.0 is_found_valid.1.1 ∙ ap Some is_found_valid.1.2)
-      is_found_valid.2
+      let findings = is_found_valid.findings in let listed = is_found_valid.are_listed in
+      has_position listed.0 findings i listed.1
+      (slice_get-get_or fs listed.0 findings listed.1 ∙ ap Some listed.2) is_found_valid.has_index
 
 -- a list written back whole
 pub written_back : {X : Type 0} (len : ℕ) (new_list old_list : List X) → length new_list ≡ len

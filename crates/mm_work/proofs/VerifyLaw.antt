@@ -8,7 +8,7 @@ use Rattle.mm_spec.specs.Laws.Complete.{AreComplete}
 use Rattle.mm_spec.specs.Citation.{IsValid}
 use Rattle.mm_spec.specs.Output.{theorems}
 use Rattle.mm_spec.specs.declared.Fault.{Fault}
-use Rattle.mm_proof.proofs.TheoremsLaw.{theorems_are}
+use Rattle.mm_database.proofs.SpacedLaw.{theorems_are}
 use Rattle.mm_cites.specs.Citing.{citing, IsFileOrder}
 use Rattle.mm_work.specs.Judged.{HasCitations, HaveCitationsUpTo, AllHaveCitations, IsFirstFault}
 use Rattle.mm_work.specs.Judged.{HasFault}
@@ -25,17 +25,17 @@ citations_push db by_essential ts n lists cites have_citations has_citations = r
   list_count_is = (let length_is = length-append lists (cites ∷ []) in let count_is =
       have_citations.list_count_is in
       omega (arith, length_is, count_is));
-  each_has_citations = λ i i_lt_suc_n. by_index i (cases_lt i n) i_lt_suc_n;
+  each_has_citations = λ i i_lt_suc_n. has_citations_at i (cases_lt i n) i_lt_suc_n;
 }
   where
-    by_index : (i : ℕ) → (i < n) ⊎ (n ≤ i) → i < n + 1
+    has_citations_at : (i : ℕ) → (i < n) ⊎ (n ≤ i) → i < n + 1
         → HasCitations db by_essential (get_or ts i 0) (get_or (lists ++ cites ∷ []) i [])
-    by_index i (inl i_lt_n) i_lt_suc_n =
+    has_citations_at i (inl i_lt_n) i_lt_suc_n =
         let list_count_is = have_citations.list_count_is in
         subst (λ ys. HasCitations db by_essential (get_or ts i 0) ys)
         (sym (get_or_append_left lists (cites ∷ []) [] i (omega (arith, i_lt_n, list_count_is))))
         (have_citations.each_has_citations i i_lt_n)
-    by_index i (inr n_le_i) i_lt_suc_n =
+    has_citations_at i (inr n_le_i) i_lt_suc_n =
         let i_is_n : i ≡ n = omega (arith, n_le_i, i_lt_suc_n) in
         let cites_at_n : get_or (lists ++ cites ∷ []) n [] ≡ cites =
         get_or-append_right lists (cites ∷ []) n n [] have_citations.list_count_is (omega arith)

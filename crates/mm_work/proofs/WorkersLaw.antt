@@ -32,26 +32,26 @@ use Rattle.mm_work.specs.declared.worker.WorkerState.{WorkerState}
 -- a number of two lists is one of either
 times_in_either : (x : ℕ) (l m : List ℕ) → 0 < times_in x (l ++ m)
     → (0 < times_in x l) ⊎ (0 < times_in x m)
-times_in_either x l m x_is_counted = by_first_list (cases_lt 0 (times_in x l))
+times_in_either x l m x_is_counted = counted_in_either (cases_lt 0 (times_in x l))
   where
-    by_first_list : (0 < times_in x l) ⊎ (times_in x l ≤ 0) → (0 < times_in x l)
+    counted_in_either : (0 < times_in x l) ⊎ (times_in x l ≤ 0) → (0 < times_in x l)
         ⊎ (0 < times_in x m)
-    by_first_list (inl x_in_part) = inl x_in_part
-    by_first_list (inr x_in_part) = let counts_add = times_in_append x l m in inr (omega arith)
+    counted_in_either (inl x_in_part) = inl x_in_part
+    counted_in_either (inr x_in_part) = let counts_add = times_in_append x l m in inr (omega arith)
 
 -- a number that stands in a list is an element of it
 times_contains : (x : ℕ) (l : List ℕ) → 0 < times_in x l → Contains l x
 times_contains x [] x_is_counted = absurd (omega arith)
-times_contains x (y ∷ l) x_is_counted = by_tail (cases_lt 0 (times_in x l)) (times_contains x l)
+times_contains x (y ∷ l) x_is_counted = contains_x (cases_lt 0 (times_in x l)) (times_contains x l)
   where
-    by_tail : (0 < times_in x l) ⊎ (times_in x l ≤ 0) → (0 < times_in x l → Contains l x)
+    contains_x : (0 < times_in x l) ⊎ (times_in x l ≤ 0) → (0 < times_in x l → Contains l x)
         → Contains (y ∷ l) x
-    by_tail (inl x_in_tail) tail_contains = let in_tail = tail_contains x_in_tail in (
+    contains_x (inl x_in_tail) tail_contains = let in_tail = tail_contains x_in_tail in (
       suc in_tail.0,
       (let index_lt_length = in_tail.1 in omega (arith, index_lt_length)),
       in_tail.2,
     )
-    by_tail (inr x_not_in_tail) tail_contains = (
+    contains_x (inr x_not_in_tail) tail_contains = (
       0,
       omega arith,
       counted_is_equal x y
@@ -77,7 +77,7 @@ module _ {A : Type 0} (db : List Statement) (by_essential : Bool) where
             i_lt_count);
         each_has_citations =
             λ k k_lt_length. rw (valid_is, cites_is)
-            (by_index k (subst (λ n. k < n) (ap length valid_is
+            (has_citations_at k (subst (λ n. k < n) (ap length valid_is
             ∙ length-append f.valid.items (i ∷ []))
             k_lt_length)
             (cases_lt k (length f.valid.items)));
@@ -85,11 +85,11 @@ module _ {A : Type 0} (db : List Statement) (by_essential : Bool) where
             (sym faulty_is) are_findings.fault_is_found;
       }
     where
-      by_index : (k : ℕ) → k < length f.valid.items + 1
+      has_citations_at : (k : ℕ) → k < length f.valid.items + 1
           → (k < length f.valid.items) ⊎ (length f.valid.items ≤ k)
           → HasCitations db by_essential (theorem_of db (get_or (f.valid.items ++ i ∷ []) k 0))
           (get_or (f.cites ++ cites ∷ []) k [])
-      by_index k k_lt_length (inl k_is_before) =
+      has_citations_at k k_lt_length (inl k_is_before) =
           rw (
             get_or_append_left f.valid.items (i ∷ []) 0 k k_is_before,
             get_or_append_left f.cites
@@ -99,7 +99,7 @@ module _ {A : Type 0} (db : List Statement) (by_essential : Bool) where
                   k_is_before,
                 )),
           ) (are_findings.each_has_citations k k_is_before)
-      by_index k k_lt_suc (inr k_is_at_end) =
+      has_citations_at k k_lt_suc (inr k_is_at_end) =
           let list_count_is = are_findings.list_count_is in
           let index_is_0 : k - length f.valid.items ≡ 0 = omega (arith, k_lt_suc, k_is_at_end) in
           let list_index_is_0 : k - length f.cites ≡ 0 = omega (
@@ -140,8 +140,7 @@ module _ {A : Type 0} (job : Job A) where
       → i < length (theorems db) → FindsValid job i f g → AreFindings db job.essential g
   findings_after_valid f g i are_findings i_lt_count finds_valid =
       findings_with_valid db job.essential f g i finds_valid.cites are_findings i_lt_count
-      finds_valid.has_citations finds_valid.valid_are
-      finds_valid.cites_are finds_valid.faulty_is
+      finds_valid.has_citations finds_valid.valid_are finds_valid.cites_are finds_valid.faulty_is
 
   findings_after_fault : (f g : Findings A) (i : ℕ) → AreFindings db job.essential f
       → i < length (theorems db) → FindsFault job i f g → AreFindings db job.essential g
@@ -260,13 +259,13 @@ module _ {A : Type 0} (job : Job A) where
     pub number_stays_open : is_some s.view.open_number ≡ true → s.view.open_number ≡ Some i
     number_stays_open is_open =
         open_number_is
-        ∙ open_by_floor (nat_lt f i) (sym (ap (λ (o : Option ℕ). is_some o) open_number_is)
+        ∙ stays_open (nat_lt f i) (sym (ap (λ (o : Option ℕ). is_some o) open_number_is)
         ∙ is_open)
       where
-        open_by_floor : (b : Bool) → is_some (cond b None (Some i)) ≡ true
+        stays_open : (b : Bool) → is_some (cond b None (Some i)) ≡ true
             → cond b None (Some i) ≡ Some i
-        open_by_floor true is_open = absurd (true≢false (sym is_open))
-        open_by_floor false is_open = refl
+        stays_open true is_open = absurd (true≢false (sym is_open))
+        stays_open false is_open = refl
 
     module _ (u : SeatValue) (x : ℕ) (g : Findings A) (is_open : is_some s.view.open_number ≡ true)
         (is_seat : IsSeatOf job.board.now u)
@@ -368,16 +367,16 @@ pub unrecorded_drops : (n i : ℕ) (v w : View) → ((x : ℕ) → times_recorde
 unrecorded_drops zero i v w recorded_rises i_lt_0 i_unrecorded_before i_recorded_after = absurd
     (omega arith)
 unrecorded_drops (suc n) i v w recorded_rises i_below_n i_unrecorded_before i_recorded_after =
-    by_number (cases_lt i n) (λ i_lt_n. unrecorded_drops n i v w recorded_rises i_lt_n
+    unrecorded_lt (cases_lt i n) (λ i_lt_n. unrecorded_drops n i v w recorded_rises i_lt_n
     i_unrecorded_before i_recorded_after)
   where
-    by_number : (i < n) ⊎ (n ≤ i) → (i < n → unrecorded n w < unrecorded n v)
+    unrecorded_lt : (i < n) ⊎ (n ≤ i) → (i < n → unrecorded n w < unrecorded n v)
         → unrecorded (suc n) w < unrecorded (suc n) v
-    by_number (inl i_lt_n) drops_if_lt =
+    unrecorded_lt (inl i_lt_n) drops_if_lt =
         let rest_drops = drops_if_lt i_lt_n in let test_falls = zero_test_falls (times_recorded n v)
         (times_recorded n w) (recorded_rises n) in
         omega (arith, rest_drops, test_falls)
-    by_number (inr n_le_i) drops_if_lt =
+    unrecorded_lt (inr n_le_i) drops_if_lt =
         let i_is_n : i ≡ n = omega (arith, i_below_n, n_le_i) in
         let rest_falls = unrecorded_falls n v w recorded_rises in
         let test_drops =
@@ -401,18 +400,19 @@ module _ {A : Type 0} (job : Job A) where
             All-push (AreFindings job.database.now.statements job.essential) [] w.findings
             (λ k d k_lt_0. absurd (omega arith)) seat_tells.are_findings;
         settled_are_valid =
-            λ i i_is_settled. (
-              w.findings,
-              (0, omega arith, refl),
-              times_contains i w.findings.valid.items
+            λ i i_is_settled. record {
+              findings = w.findings;
+              are_listed = (0, omega arith, refl);
+              has_index =
+                  times_contains i w.findings.valid.items
                   (subst (λ (l : List ℕ). 0 < times_in i l) seat_tells.settled_are_valid
-                  i_is_settled),
-            );
-        reported_are_faulty = λ i i_is_reported. (
-          w.findings,
-          (0, omega arith, refl),
-          seat_tells.reported_is_faulty i i_is_reported,
-        );
+                  i_is_settled);
+            };
+        reported_are_faulty = λ i i_is_reported. record {
+          findings = w.findings;
+          are_listed = (0, omega arith, refl);
+          index_is = seat_tells.reported_is_faulty i i_is_reported;
+        };
       })
 
   -- one more worker's seat
@@ -448,32 +448,36 @@ module _ {A : Type 0} (job : Job A) where
           w.seat.view.settled)
           → IsFoundValid (fs ++ w.findings ∷ []) i
       settled_is_valid i (inl i_is_settled) =
-          let found_valid = are_gathered.settled_are_valid i i_is_settled in (
-            found_valid.0,
-            Contains-append_left fs (w.findings ∷ []) found_valid.0 found_valid.1,
-            found_valid.2,
-          )
+          let found = are_gathered.settled_are_valid i i_is_settled in record {
+            findings = found.findings;
+            are_listed = Contains-append_left fs (w.findings ∷ []) found.findings found.are_listed;
+            has_index = found.has_index;
+          }
       settled_is_valid i (inr i_is_settled) =
-          let seat_tells = is_done.is_between.seat_tells not_short in (
-            w.findings,
-            Contains-push fs w.findings,
-            times_contains i w.findings.valid.items
+          let seat_tells = is_done.is_between.seat_tells not_short in record {
+            findings = w.findings;
+            are_listed = Contains-push fs w.findings;
+            has_index =
+                times_contains i w.findings.valid.items
                 (subst (λ (l : List ℕ). 0 < times_in i l) seat_tells.settled_are_valid
-                i_is_settled),
-          )
+                i_is_settled);
+          }
 
       reported_is_faulty : (i : ℕ) → (0 < times_in i s.view.reported) ⊎ (0 < times_in i
           w.seat.view.reported)
           → IsFoundFaulty (fs ++ w.findings ∷ []) i
       reported_is_faulty i (inl i_is_reported) =
-          let found_faulty = are_gathered.reported_are_faulty i i_is_reported in (
-            found_faulty.0,
-            Contains-append_left fs (w.findings ∷ []) found_faulty.0 found_faulty.1,
-            found_faulty.2,
-          )
+          let found = are_gathered.reported_are_faulty i i_is_reported in record {
+            findings = found.findings;
+            are_listed = Contains-append_left fs (w.findings ∷ []) found.findings found.are_listed;
+            index_is = found.index_is;
+          }
       reported_is_faulty i (inr i_is_reported) =
-          let seat_tells = is_done.is_between.seat_tells not_short in
-          (w.findings, Contains-push fs w.findings, seat_tells.reported_is_faulty i i_is_reported)
+          let seat_tells = is_done.is_between.seat_tells not_short in record {
+            findings = w.findings;
+            are_listed = Contains-push fs w.findings;
+            index_is = seat_tells.reported_is_faulty i i_is_reported;
+          }
 
 -- a number drawn and judged
 pub unrecorded_drops_after_draw : (n i : ℕ) (v w u : View) → v.open_number ≡ None
@@ -501,12 +505,12 @@ unrecorded_drops_after_draw n i v w u no_number_open w_is i_lt_n i_above_recorde
         record_when_closed x in omega (arith, stays, with_open, without_open)
 
     unrecorded_before : times_recorded i v ≡ 0
-    unrecorded_before = by_record (cases_lt 0 (times_recorded i v))
+    unrecorded_before = is_unrecorded (cases_lt 0 (times_recorded i v))
       where
-        by_record : (0 < times_recorded i v) ⊎ (times_recorded i v ≤ 0) → times_recorded i v ≡ 0
-        by_record (inl is_recorded) = absurd (let i_lt_i = i_above_recorded i is_recorded in omega
-            (arith, i_lt_i))
-        by_record (inr not_recorded) = omega (arith, not_recorded)
+        is_unrecorded : (0 < times_recorded i v) ⊎ (times_recorded i v ≤ 0) → times_recorded i v ≡ 0
+        is_unrecorded (inl is_recorded) = absurd (let i_lt_i = i_above_recorded i is_recorded in
+            omega (arith, i_lt_i))
+        is_unrecorded (inr not_recorded) = omega (arith, not_recorded)
 
     recorded_after : 0 < times_recorded i u
     recorded_after = let stays = record_stays i in let with_open = record_when_open i in let

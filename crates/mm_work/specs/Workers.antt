@@ -107,12 +107,16 @@ module _ {A : Type 0} where
     pub is_over : w.findings.short_of_memory ≡ false → w.seat.view.over ≡ true
 
   -- one of the workers found the proof of the theorem with this index valid
-  abbrev pub IsFoundValid : List (Findings A) → ℕ → Type 0
-  IsFoundValid fs i = (f : Findings A) × Contains fs f × Contains f.valid.items i
+  pub record IsFoundValid (fs : List (Findings A)) (i : ℕ) : Type 0 where
+    pub findings : Findings A
+    pub are_listed : Contains fs findings
+    pub has_index : Contains findings.valid.items i
 
   -- one of the workers found a fault in the proof of the theorem with this index
-  abbrev pub IsFoundFaulty : List (Findings A) → ℕ → Type 0
-  IsFoundFaulty fs i = (f : Findings A) × Contains fs f × (faulty_index f.faulty ≡ Some i)
+  pub record IsFoundFaulty (fs : List (Findings A)) (i : ℕ) : Type 0 where
+    pub findings : Findings A
+    pub are_listed : Contains fs findings
+    pub index_is : faulty_index findings.faulty ≡ Some i
 
   -- the workers' seats were joined to this one, none of them ran out of memory, and this is what
   -- they found

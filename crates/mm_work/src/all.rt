@@ -4,12 +4,12 @@ ghost use Rattle.std.specs.Prelude.{◌≡◌, ◌≤◌, IfOk};
 ghost use Rattle.mm_spec.specs.Limits.{worker_limit};
 ghost use Rattle.mm_work.specs.Judged.{IsJudgement};
 
+use crate::capacity::citation_capacity;
 use crate::gate::Gate;
 use crate::in_order::{check_in_order, judged_valid};
 use crate::job::Job;
 use crate::judged::Judged;
 use crate::merge::{found_fault, merge};
-use crate::room::citations_room;
 use crate::threads::work_all;
 use mm_board::{Board, MOST_SEATS};
 use mm_database::Database;
@@ -46,7 +46,7 @@ pub fn check_all<'d, R: Threads + Wait + Sync, A: Allocator + Copy + Send + Sync
         rules: &rules,
         board: &board,
         essential,
-        room: citations_room(database) / workers as usize,
+        citation_capacity: citation_capacity(database) / workers as usize,
     };
     let gathered = work_all(rt, alloc, &job, gate, seat, workers)?;
     if gathered.seat.share() < MOST_SEATS {

@@ -5,9 +5,9 @@ ghost use Rattle.mm_rules.specs.Rules.{AreRules};
 ghost use Rattle.mm_work.specs.Judged.{IsJudgement, HaveCitationsUpTo};
 ghost use Rattle.mm_spec.specs.Output.{theorems};
 
+use crate::capacity::citation_capacity;
 use crate::judged::Judged;
 use crate::proof::{VerifyRefused, verify};
-use crate::room::citations_room;
 use mm_check::Checker;
 use mm_cites::Citations;
 use mm_database::Database;
@@ -48,7 +48,11 @@ pub(crate) fn check_in_order<'a, A: Allocator + Copy>(
     // The number isn't needed, but the proof needs what `len` promises of the database.
     let _ = database.len();
     let mut checker = Checker::new(alloc, database, rules)?;
-    let mut lists = Lists::with_room(alloc, database.theorems().len(), citations_room(database));
+    let mut lists = Lists::with_room(
+        alloc,
+        database.theorems().len(),
+        citation_capacity(database),
+    );
     let theorems = database.theorems();
     for theorem in theorems {
         match verify(alloc, database, &mut checker, *theorem, essential) {

@@ -16,7 +16,7 @@ pub(crate) struct Job<'j, 'd, A: Allocator> {
     pub board: &'j Board<A>,
     /// Whether a theorem cites only by the essential nodes of its proof.
     pub essential: bool,
-    /// For how many citations a worker reserves room: its share of at least as many as all theorems
+    /// For how many citations a worker reserves memory: its share of at least as many as all theorems
     /// have.
-    pub room: usize,
+    pub citation_capacity: usize,
 }

@@ -12,13 +12,13 @@
 #![tactic(auto)]
 
 mod all;
+mod capacity;
 mod gate;
 mod in_order;
 mod job;
 mod judged;
 mod merge;
 mod proof;
-mod room;
 mod threads;
 mod worker;
 

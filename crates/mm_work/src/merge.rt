@@ -25,7 +25,7 @@ pub(crate) struct ListPosition {
 /// indices `valid`.
 fn set_positions(positions: &mut [ListPosition], worker: usize, valid: &[u32])
     requires { All (λ i. i < length positions.old) valid.now }
-    ensures count { length positions.new ≡ length positions.old }
+    ensures length_stays { length positions.new ≡ length positions.old }
     ensures are_with_worker { All (λ i. IsWithWorker positions.new worker valid.now i) valid.now }
     ensures others_stay { (i : ℕ)
         → IsWithWorker positions.new worker valid.now i
@@ -43,8 +43,8 @@ fn positions_of<A: Allocator + Copy>(
     count: usize,
 ) -> Result<Vec<ListPosition, A>, AllocError>
     requires { All (λ f. All (λ i. i < count) f.valid.items) all_findings.now }
-    ensures count { IfOk result (λ positions. length positions.items ≡ count) }
-    ensures positions { IfOk result
+    ensures length_is { IfOk result (λ positions. length positions.items ≡ count) }
+    ensures have_positions { IfOk result
         (λ positions. (i : ℕ) → IsFoundValid all_findings.now i
         → HasPosition positions.items all_findings.now i) }
 {

@@ -30,11 +30,11 @@ pub(crate) fn verify<'a, A: Allocator + Copy>(
     essential: bool,
 ) -> Result<Checked<A>, VerifyRefused>
     requires made_for { IsMadeFor database.now.statements checker.old }
-    requires theorem { IsTrue (is_theorem_at database.now.statements theorem) }
+    requires is_theorem { IsTrue (is_theorem_at database.now.statements theorem) }
     ensures made_for { IsMadeFor database.now.statements checker.new }
-    ensures valid { IfOk result
+    ensures has_citations { IfOk result
         (λ checked. HasCitations database.now.statements essential theorem checked.cites) }
-    ensures refused { IfErr result (λ e. IsRefusalOf database.now.statements theorem e) }
+    ensures refusal_is_right { IfErr result (λ e. IsRefusalOf database.now.statements theorem e) }
 {
     let steps = match read_proof(alloc, database, theorem) {
         Ok(steps) => steps,

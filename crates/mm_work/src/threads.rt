@@ -29,9 +29,9 @@ pub(crate) struct Gathered<A: Allocator> {
 /// A seat for one more worker, split off this one. `None` if this one has only its own share.
 fn split_off<A: Allocator>(board: &Board<A>, seat: &mut Seat) -> Option<Seat>
     requires { IsFreshSeat board.now seat.old }
-    ensures old_seat { IsFreshSeat board.now seat.new }
-    ensures new_seat { IfSome result (λ new. IsFreshSeat board.now new) }
-    ensures last_share { IfNone result (seat.old.view.share ≡ 1) }
+    ensures old_is_fresh { IsFreshSeat board.now seat.new }
+    ensures new_is_fresh { IfSome result (λ new. IsFreshSeat board.now new) }
+    ensures share_is_one { IfNone result (seat.old.view.share ≡ 1) }
 {
     board.split(seat).ok()
 }
@@ -61,8 +61,8 @@ fn join_all<A: Allocator + Copy>(
     first: WorkerState<A>,
     mut others: Vec<WorkerState<A>, A>,
 ) -> Result<Gathered<A>, AllocError>
-    requires first { IsDone job.now first }
-    requires others { All (IsDone job.now) others.items }
+    requires first_is_done { IsDone job.now first }
+    requires others_are_done { All (IsDone job.now) others.items }
     ensures { IfOk result (λ g. AreGathered job.now g.seat g.all_findings.items) }
 {
     let WorkerState { mut seat, findings } = first;
@@ -90,7 +90,7 @@ pub(crate) fn work_all<R: Threads + Wait + Sync, A: Allocator + Copy + Send + Sy
     seat: Seat,
     workers: u32,
 ) -> Result<Gathered<A>, AllocError>
-    requires job { IsOfDatabase job.now }
+    requires is_of_database { IsOfDatabase job.now }
     requires seat_is_fresh { IsFreshSeat job.now.board.now seat }
     ensures { IfOk result (λ g. AreGathered job.now g.seat g.all_findings.items) }
 {
@@ -98,7 +98,7 @@ pub(crate) fn work_all<R: Threads + Wait + Sync, A: Allocator + Copy + Send + Sy
         thread::scope_env(),
         rt,
         move |scope| -> Result<Gathered<A>, AllocError>
-            requires job { IsOfDatabase job.now }
+            requires is_of_database { IsOfDatabase job.now }
             requires seat_is_fresh { IsFreshSeat job.now.board.now seat }
             ensures { IfOk result (λ g. AreGathered job.entry.now g.seat g.all_findings.items) }
         {
@@ -109,7 +109,7 @@ pub(crate) fn work_all<R: Threads + Wait + Sync, A: Allocator + Copy + Send + Sy
                     if let Ok(handle) = scope.spawn_with(
                         job,
                         move || -> WorkerState<A>
-                            requires job { IsOfDatabase job.now }
+                            requires is_of_database { IsOfDatabase job.now }
                             requires seat_is_fresh { IsFreshSeat job.now.board.now new_seat }
                             ensures { IsDone job.entry.now result }
                         { work(alloc, job, gate, new_seat, worker) },

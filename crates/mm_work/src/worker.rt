@@ -49,9 +49,9 @@ impl<A: Allocator> Drop for Findings<A> {
 }
 
 impl<A: Allocator> Findings<A> {
-    /// Nothing found yet. There is room for the lists of `theorems` theorems, with `room` citations
-    /// in all.
-    fn new(alloc: A, theorems: usize, room: usize) -> Findings<A>
+    /// Nothing found yet. Memory is reserved for the lists of `theorems` theorems, with
+    /// `citation_capacity` citations in all.
+    fn new(alloc: A, theorems: usize, citation_capacity: usize) -> Findings<A>
     where
         A: Copy,
         ensures none_valid { result.valid.items ≡ [] }
@@ -60,7 +60,7 @@ impl<A: Allocator> Findings<A> {
     {
         Findings {
             valid: Vec::new(alloc),
-            cites: Lists::with_room(alloc, theorems, room),
+            cites: Lists::with_room(alloc, theorems, citation_capacity),
             faulty: None,
             short_of_memory: false,
         }
@@ -96,7 +96,7 @@ fn check_theorem<A: Allocator + Copy>(
     findings: &mut Findings<A>,
     index: u32,
 ) -> bool
-    requires index { index < length (theorems job.now.database.now.statements) }
+    requires index_lt_count { index < length (theorems job.now.database.now.statements) }
     requires made_for { IsMadeFor job.now.database.now.statements checker.old }
     ensures made_for { IsMadeFor job.now.database.now.statements checker.new }
     ensures memory_lasted { findings.new.short_of_memory ≡ false
@@ -156,13 +156,13 @@ pub(crate) fn work<A: Allocator + Copy, G: Gate>(
     seat: Seat,
     worker: u32,
 ) -> WorkerState<A>
-    requires job { IsOfDatabase job.now }
+    requires is_of_database { IsOfDatabase job.now }
     requires seat_is_fresh { IsFreshSeat job.now.board.now seat }
     ensures { IsDone job.now result }
 {
     let mut state = WorkerState {
         seat,
-        findings: Findings::new(alloc, job.database.theorems().len(), job.room),
+        findings: Findings::new(alloc, job.database.theorems().len(), job.citation_capacity),
     };
     let Ok(mut checker) = Checker::new(alloc, job.database, job.rules) else {
         state.findings.short_of_memory = true;

@@ -20,8 +20,8 @@ use Rattle.mmdepend.specs.declared.ending.Ending.TheVariants.{NotOpened, NoMemor
 
 -- a prefix of the text was written, or the whole text
 abbrev pub IsPrefixWritten : (bytes_before bytes_after : Option (List ℕ)) → List ℕ → Type 0
-IsPrefixWritten bytes_before bytes_after text = (k : ℕ) × Appends bytes_before bytes_after (take k
-    text)
+IsPrefixWritten bytes_before bytes_after text =
+    (k : ℕ) × Appends bytes_before bytes_after (take k text)
 
 -- the file that is opened: `None` if no file is named, or if it is `-`
 abbrev pub opened_name : Option (List ℕ) → Option (List ℕ)
@@ -69,6 +69,7 @@ module _ {File : Type 0} (remaining : File → Option (List ℕ)) where
   IsEndingOf words NoMemory input_before input_after output_before output_after =
       Keeps input_before input_after × Keeps output_before output_after
 
+-- the program's status after a run that ended so
 abbrev pub run_status_of : RunEnd → ℕ
 run_status_of Accepted = 0
 run_status_of (Refused f) = 1
@@ -85,9 +86,11 @@ status_of (Misread text) = 2
 status_of NotOpened = 3
 status_of NoMemory = 4
 
+-- a message of the program, whose line ends with a line feed (10)
 abbrev pub message : List ℕ → List ℕ
 message text = codes "mmdepend: " ++ text ++ 10 ∷ []
 
+-- the message after a run that ended so
 abbrev pub run_message_of : RunEnd → List ℕ
 run_message_of Accepted = []
 run_message_of (Refused f) = []

@@ -19,8 +19,9 @@ use std::thread::Threads;
 /// Writes the text and returns `true`, or returns `false` after a failed write, when a prefix of
 /// the text was written.
 fn write_text<W: Write>(to: &mut W, text: &[u8]) -> bool
-    ensures whole { IsTrue result → Appends (W.contents to.old) (W.contents to.new) text.now }
-    ensures beginning { IsPrefixWritten (W.contents to.old) (W.contents to.new) text.now }
+    ensures whole_is_written { IsTrue result
+        → Appends (W.contents to.old) (W.contents to.new) text.now }
+    ensures prefix_is_written { IsPrefixWritten (W.contents to.old) (W.contents to.new) text.now }
 {
     match write_whole(to, text) {
         Ok(()) => true,

@@ -2,7 +2,7 @@
 use Rattle.std.proofs.Common.{◌≡◌, ℕ, ◌-◌, ◌<◌, List, length, get_or, sym, ap, subst, arith, IsTrue}
 use Rattle.mm_spec.specs.Statement.{Statement}
 use Rattle.mm_spec.specs.Output.{theorems, is_theorem_at}
-use Rattle.mm_proof.proofs.TheoremsLaw.{theorems_are}
+use Rattle.mm_database.proofs.SpacedLaw.{theorems_are}
 
 pub last_theorem_is_theorem : (db : List Statement) (ts : List ℕ) → ts ≡ theorems db → 0 < length ts
     → IsTrue (is_theorem_at db (get_or ts (length ts - 1) 0))

@@ -3,7 +3,7 @@
 use mm_bytes::{Classes, class_block, class_tail, dollars_block, dollars_tail};
 
 /// The classes of the bytes, and the dollar signs among them, a byte at a time.
-fn plain_masks(bytes: &[u8]) -> (Classes, u64) {
+fn defined_masks(bytes: &[u8]) -> (Classes, u64) {
     let mut classes = Classes { white: 0, bad: 0 };
     let mut dollars = 0u64;
     for (i, byte) in bytes.iter().take(64).enumerate() {
@@ -42,11 +42,11 @@ fn mixed() -> [u8; 194] {
 }
 
 /// Whether the blocks of at most 191 bytes, and the tail after them, have the plain masks.
-fn have_plain_masks(bytes: &[u8]) -> bool {
+fn have_defined_masks(bytes: &[u8]) -> bool {
     for block in 0..3 {
         let from = bytes.len().min(block * 64);
         let to = bytes.len().min(block * 64 + 64);
-        if masks(&bytes[from..to]) != plain_masks(&bytes[from..to]) {
+        if masks(&bytes[from..to]) != defined_masks(&bytes[from..to]) {
             return false;
         }
     }
@@ -60,7 +60,7 @@ fn blocks_and_tails_have_the_plain_masks(rt: HostRuntime) {
     for from in 0..64 {
         for len in 0..131 {
             assert!(&rt;
-                have_plain_masks(&bytes[from..from + len]),
+                have_defined_masks(&bytes[from..from + len]),
                 "{len} bytes from {from}"
             );
         }

@@ -10,6 +10,9 @@ use std::alloc::Global;
 const HELP: &str =
     "Verifies a Metamath database and reports on which axioms each theorem rests\n\nUsage: mmdepend [OPTIONS] [FILE]\n\nArguments:\n  [FILE]  The database; without it, or where it is -, the standard input is read\n\nOptions:\n      --workers <N>    Check the proofs by N threads, 1 to 64 [default: 4]\n      --pieces <N>     Read the text in N pieces, 1 to 64 [default: 4]\n      --only <T>       Report on the axioms of typecode T alone, such as '|-'\n      --report <PART>  Write this part of the report [default: all] [possible values: all, matrix, counts, usage, citations]\n      --form <N>       Write the matrix as a digit for each column, or for each four [default: 1] [possible values: 1, 2]\n      --essential      Count what the logical part of a proof cites, and not what builds its formulas\n      --open           Count a theorem whose proof is ? as an axiom\n  -h, --help           Print help\n  -V, --version        Print version\n\nThe standard output gets the report, or one line with the first fault and its place.\nStatus: 0 accepted, 1 refused, 2 invalid command line, 3 reading or writing failed,\n4 out of memory. For 2 to 4 the standard error says why.\nThe codes of faults (E00 to E45) are explained in docs/FAULTS.md.\n";
 
+/// The number of pieces and of workers of a line that names none.
+const DEFAULT: u32 = 4;
+
 /// The text with which the words are refused, and whether it is help.
 fn refusal(alloc: Global, words: &[&str]) -> Option<(bool, String)> {
     match line(alloc, words) {
@@ -51,13 +54,23 @@ fn is_line_of(
 #[test]
 fn defaults_stand_for_what_is_left_out(rt: HostRuntime) {
     let alloc = rt.alloc();
-    assert!(&rt; is_line_of(alloc, &["mmdepend"], 4, 4, None, Choice::All, None));
+    assert!(&rt;
+        is_line_of(
+            alloc,
+            &["mmdepend"],
+            DEFAULT,
+            DEFAULT,
+            None,
+            Choice::All,
+            None
+        )
+    );
     assert!(&rt;
         is_line_of(
             alloc,
             &["mmdepend", "set.mm"],
-            4,
-            4,
+            DEFAULT,
+            DEFAULT,
             None,
             Choice::All,
             Some("set.mm")
@@ -101,8 +114,8 @@ fn options_stand_before_and_after_the_file(rt: HostRuntime) {
             is_line_of(
                 alloc,
                 &["mmdepend", "--report", word],
-                4,
-                4,
+                DEFAULT,
+                DEFAULT,
                 None,
                 choice,
                 None
@@ -110,7 +123,17 @@ fn options_stand_before_and_after_the_file(rt: HostRuntime) {
         );
     }
     let after = ["mmdepend", "--", "--help"];
-    assert!(&rt; is_line_of(alloc, &after, 4, 4, None, Choice::All, Some("--help")));
+    assert!(&rt;
+        is_line_of(
+            alloc,
+            &after,
+            DEFAULT,
+            DEFAULT,
+            None,
+            Choice::All,
+            Some("--help")
+        )
+    );
 }
 
 /// Words, and the form, the nodes and the open theorems that they ask for.
@@ -156,10 +179,10 @@ fn options_of_the_report(rt: HostRuntime) {
 fn the_version_is_told(rt: HostRuntime) {
     for words in [["mmdepend", "--version"], ["mmdepend", "-V"]] {
         match refusal(rt.alloc(), &words) {
-            Some((is_help, told)) => {
+            Some((is_help, message)) => {
                 assert!(&rt; is_help);
-                assert!(&rt; told.as_str().starts_with("mmdepend 0.1.0, proved with "));
-                assert!(&rt; told.as_str().ends_with("\n"));
+                assert!(&rt; message.as_str().starts_with("mmdepend 0.1.0, proved with "));
+                assert!(&rt; message.as_str().ends_with("\n"));
             }
             None => assert!(&rt; false),
         }
@@ -211,9 +234,9 @@ fn faults_are_told_by_their_texts(rt: HostRuntime) {
     let alloc = rt.alloc();
     for (words, text) in FAULTS {
         match refusal(alloc, words) {
-            Some((is_help, told)) => {
+            Some((is_help, message)) => {
                 assert!(&rt; !is_help);
-                assert_eq!(rt; told.as_str(), text);
+                assert_eq!(rt; message.as_str(), text);
             }
             None => assert!(&rt; false),
         }
@@ -224,9 +247,9 @@ fn faults_are_told_by_their_texts(rt: HostRuntime) {
 fn help_has_a_line_for_each_argument(rt: HostRuntime) {
     for words in [["mmdepend", "--help"], ["mmdepend", "-h"]] {
         match refusal(rt.alloc(), &words) {
-            Some((is_help, told)) => {
+            Some((is_help, message)) => {
                 assert!(&rt; is_help);
-                assert_eq!(rt; told.as_str(), HELP);
+                assert_eq!(rt; message.as_str(), HELP);
             }
             None => assert!(&rt; false),
         }

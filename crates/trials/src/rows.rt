@@ -2,8 +2,9 @@
 
 use crate::databases::database_of;
 use crate::flags::{BY_ALL_NODES, WITHOUT_OPEN};
-use crate::texts::{chain, seventy, through_a_theorem};
-use mm_rows::{Columns, Matrix, matrix, ones, or_row, waves};
+use crate::texts::{chain_text, seventy_axioms_text, through_a_theorem};
+use crate::runs::many::wide_text;
+use mm_rows::{Columns, Matrix, matrix, matrix_alone, ones, or_row, waves};
 use mm_work::{Judged, Open, check_all};
 use std::alloc::{AllocError, Global};
 use std::sync::Wait;
@@ -24,24 +25,24 @@ fn words() -> [u64; 33] {
 fn or_by_lanes_is_the_plain_loop(rt: HostRuntime) {
     for count in 0..34 {
         let mut into = [0x00FF_00FF_00FF_00FFu64; 33];
-        let mut plain = into;
+        let mut expected = into;
         let from = words();
         or_row(&mut into[..count], &from[..count]);
         for i in 0..count {
-            plain[i] |= from[i];
+            expected[i] |= from[i];
         }
-        assert_eq!(rt; into.as_slice(), plain.as_slice());
+        assert_eq!(rt; into.as_slice(), expected.as_slice());
     }
 }
 
 #[test]
 fn ones_by_lanes_are_the_plain_sum(rt: HostRuntime) {
     let row = words();
-    let mut plain = 0u64;
+    let mut expected = 0u64;
     for count in 0..34 {
-        assert_eq!(rt; ones(&row[..count]), plain);
+        assert_eq!(rt; ones(&row[..count]), expected);
         if count < 33 {
-            plain = plain.wrapping_add(u64::from(row[count].count_ones()));
+            expected = expected.wrapping_add(u64::from(row[count].count_ones()));
         }
     }
     assert_eq!(rt; ones(&[u64::MAX; 5]), 320);
@@ -86,7 +87,7 @@ fn is_row_written_as(table: &Matrix<Global>, row: u32, digits: &[u8; 32]) -> boo
 
 #[test]
 fn digits_of_more_than_a_word(rt: HostRuntime) -> Result<(), AllocError> {
-    let text = seventy(rt.alloc())?;
+    let text = seventy_axioms_text(rt.alloc())?;
     let table = matrix_of(&rt, rt.alloc(), &text)?;
     let digits_of_t = [8, 0, 0, 0, 0, 0, 0, 0, 0, 0, 0, 0, 0, 0, 0, 1, 8, 4];
     assert!(&rt; is_row_of_digits(&table, 0, &digits_of_t));
@@ -113,13 +114,46 @@ fn waves_of<R: Threads + Wait + Sync>(
 #[test]
 fn waves_are_the_longest_chains(rt: HostRuntime) -> Result<(), AllocError> {
     let alloc = rt.alloc();
-    for text in [through_a_theorem(alloc)?, seventy(alloc)?] {
+    for text in [through_a_theorem(alloc)?, seventy_axioms_text(alloc)?] {
         assert_eq!(rt; waves_of(&rt, alloc, &text)?.as_slice(), [0, 1].as_slice());
     }
-    let chained = waves_of(&rt, alloc, &chain(alloc)?)?;
+    let chained = waves_of(&rt, alloc, &chain_text(alloc)?)?;
     assert_eq!(rt; chained.len(), 130);
     for (row, wave) in chained.iter().enumerate() {
         assert_eq!(rt; *wave as usize, row);
+    }
+    Ok(())
+}
+
+/// Whether two tables have the same marks.
+fn have_equal_marks(left: &Matrix<Global>, right: &Matrix<Global>) -> bool {
+    if left.rows() != right.rows() || left.columns() != right.columns() {
+        return false;
+    }
+    for row in 0..left.rows() {
+        for column in 0..left.columns() {
+            if left.cell(row, column) != right.cell(row, column) {
+                return false;
+            }
+        }
+    }
+    true
+}
+
+// How many threads make the rows of a wave is the runtime's choice.
+#[test]
+fn rows_by_waves_are_those_in_file_order(rt: HostRuntime) -> Result<(), AllocError> {
+    let alloc = rt.alloc();
+    let text = wide_text(alloc)?;
+    let database = database_of(&rt, alloc, &text, WITHOUT_OPEN)?;
+    let columns = Columns::new(alloc, &database, None)?;
+    match check_all(&rt, alloc, &database, 1, BY_ALL_NODES, &Open)? {
+        Judged::Valid(citations) => {
+            let by_waves = matrix(&rt, alloc, &citations, &columns)?;
+            let in_order = matrix_alone(alloc, &citations, &columns)?;
+            assert!(&rt; have_equal_marks(&by_waves, &in_order));
+        }
+        Judged::Faulty(_) => assert!(&rt; false),
     }
     Ok(())
 }

@@ -1,7 +1,7 @@
 //! Where statements stop, and what the calls of a database answer.
 
 use crate::databases::database_of;
-use crate::examples::{scopes, shapes};
+use crate::examples::{SCOPES, SHAPES};
 use crate::flags::WITHOUT_OPEN;
 use mm_rule::is_assertion;
 use mm_stmt::{Database, Kind, Sym, Word};
@@ -26,15 +26,15 @@ fn fault_and_count<R: Threads + Sync>(
 
 #[test]
 fn stops_where_a_statement_is_at_fault(rt: HostRuntime) -> Result<(), AllocError> {
-    for example in shapes() {
-        let (fault, before) = fault_and_count(&rt, rt.alloc(), example.text)?;
-        assert_eq!(rt; fault, example.fault);
-        assert_eq!(rt; before as usize, example.before);
+    for (text, statements, fault, _) in SHAPES {
+        let (fault_found, count) = fault_and_count(&rt, rt.alloc(), text)?;
+        assert_eq!(rt; fault_found, fault);
+        assert_eq!(rt; count as usize, statements);
     }
-    for example in scopes() {
-        let (fault, before) = fault_and_count(&rt, rt.alloc(), example.text)?;
-        assert_eq!(rt; fault, example.fault);
-        assert_eq!(rt; before as usize, example.before);
+    for (text, statements, fault, _) in SCOPES {
+        let (fault_found, count) = fault_and_count(&rt, rt.alloc(), text)?;
+        assert_eq!(rt; fault_found, fault);
+        assert_eq!(rt; count as usize, statements);
     }
     Ok(())
 }
@@ -80,10 +80,10 @@ const PROVED: u32 = 10;
 const AXIOM: u32 = 4;
 
 /// How many statements there are.
-const STATEMENTS: u32 = 11;
+const STATEMENT_COUNT: u32 = 11;
 
 /// The byte offset of the question mark that is the open theorem's proof.
-const QUESTION_MARK_AT: u32 = 105;
+const QUESTION_MARK_PLACE: u32 = 105;
 
 /// The numbers of the text's symbols: its constant, and its two variables.
 const WFF: u32 = 0;
@@ -99,15 +99,15 @@ fn by_flag<T: Copy>(with_open: bool, with: T, without: T) -> T {
 
 /// Asserts that the open theorem counts as an axiom with the flag, and as a theorem without it.
 fn assert_counted_as<R: Abort>(rt: &R, database: &Database<Global>, with_open: bool) {
-    assert_eq!(rt; database.len(), STATEMENTS);
+    assert_eq!(rt; database.len(), STATEMENT_COUNT);
     assert_eq!(rt;
         database.kind(OPEN),
         by_flag(with_open, Kind::Axiom, Kind::Theorem)
     );
     assert_eq!(rt; database.is_open(OPEN), with_open);
     let question_mark: &[Word] = &[Word {
-        start: QUESTION_MARK_AT,
-        end: QUESTION_MARK_AT + 1,
+        start: QUESTION_MARK_PLACE,
+        end: QUESTION_MARK_PLACE + 1,
     }];
     let proof: &[Word] = by_flag(with_open, &[], question_mark);
     assert_eq!(rt; database.proof_words(OPEN), proof);
@@ -126,8 +126,8 @@ fn assert_counted_as<R: Abort>(rt: &R, database: &Database<Global>, with_open: b
 fn assert_open_statement<R: Abort>(rt: &R, database: &Database<Global>) {
     assert!(rt; database.text() == TEXT_WITH_OPEN);
     assert!(rt; database.fault().is_none());
-    assert_eq!(rt; database.len(), STATEMENTS);
-    assert_eq!(rt; database.end_at(OPEN), QUESTION_MARK_AT + 2);
+    assert_eq!(rt; database.len(), STATEMENT_COUNT);
+    assert_eq!(rt; database.end_at(OPEN), QUESTION_MARK_PLACE + 2);
     assert!(rt; database.label(OPEN) == Some(b"o".as_slice()));
     assert_eq!(rt; database.find(b"o"), Some(OPEN));
     assert_eq!(rt;
@@ -135,7 +135,7 @@ fn assert_open_statement<R: Abort>(rt: &R, database: &Database<Global>) {
         [Sym::new(WFF), Sym::new(P)].as_slice()
     );
     assert_eq!(rt; database.typecode(OPEN), Some(Sym::new(WFF)));
-    assert!(rt; database.active_at(OPEN, STATEMENTS));
+    assert!(rt; database.active_at(OPEN, STATEMENT_COUNT));
     assert!(rt; database.disjoint_at(OPEN, Sym::new(P), Sym::new(Q)));
 }
 
@@ -151,7 +151,7 @@ fn assert_symbols<R: Abort>(rt: &R, database: &Database<Global>) {
 
 /// Asserts what the open theorem's frame is, with the flag and without.
 fn assert_open_frame<R: Abort>(rt: &R, database: &Database<Global>) {
-    assert_eq!(rt; database.len(), STATEMENTS);
+    assert_eq!(rt; database.len(), STATEMENT_COUNT);
     if is_assertion(database, OPEN) {
         let frame = database.frame(OPEN);
         assert_eq!(rt; frame.hyps.as_slice(), [2u32, 3, 7].as_slice());

@@ -1,5 +1,5 @@
-//! A caller of the layers who knows only their public calls: each is made once, by its name and with
-//! its arguments in their order, on the text with the first theorem. `status` is called in the tests
+//! A caller of the layers who knows only their public calls: each call of a run with threads is made
+//! once, by its name and with its arguments in their order, on the text with the first theorem. `status` is called in the tests
 //! of the program.
 
 ghost use Rattle.std.specs.Prelude.{◌≡◌, IfOk, Option, false, length};
@@ -16,7 +16,7 @@ use mm_check::check;
 use mm_lex::{Cuts, Piece, join, lex, lex_piece};
 use mm_line::line;
 use mm_plan::{Cutting, Plan};
-use mm_proof::{Step, number, read_proof};
+use mm_proof::{Step, read_proof, value_of_letters};
 use mm_report::{write_citations, write_refusal, write_report};
 use mm_rows::{Columns, Matrix, matrix, ones, or_row, waves};
 use mm_rule::is_assertion;
@@ -29,11 +29,13 @@ use std::process::Abort;
 use std::sync::Wait;
 use std::thread::Threads;
 
-/// How many tokens, statements and symbols the text has.
+/// How many tokens the text has.
 const TOKEN_COUNT: usize = 62;
 
+/// How many statements it has.
 const STATEMENT_COUNT: u32 = 7;
 
+/// How many symbols it has.
 const SYMBOL_COUNT: u32 = 7;
 
 /// The numbers of the statements with these labels; `wi2` is the theorem.
@@ -56,16 +58,19 @@ const P: u32 = 5;
 
 const Q: u32 = 6;
 
-/// Places in the text: the end of the statement `wi`, the first step of the proof, and the end.
+/// The place of the last token of the statement `wi`.
 const WI_END: u32 = 81;
 
-const FIRST_STEP_AT: u32 = 152;
+/// The place of the first step of the proof.
+const FIRST_STEP_PLACE: u32 = 152;
 
+/// The length of the text in bytes.
 const TEXT_END: u32 = 170;
 
-/// How many symbols the formula of `wi` has, and how many words and steps the theorem's proof has.
+/// How many symbols the formula of `wi` has.
 const WI_LEN: usize = 6;
 
+/// How many words the theorem's proof has, each of them a step.
 const PROOF_LEN: usize = 5;
 
 #[test]
@@ -181,14 +186,14 @@ fn proofs(rt: HostRuntime) -> Result<(), AllocError> {
         return Err(AllocError);
     };
     assert!(&rt; steps.theorem() == WI2 && steps.len() == PROOF_LEN);
-    assert!(&rt; steps.step(0) == Step::Label(WP) && steps.place(0) == FIRST_STEP_AT);
+    assert!(&rt; steps.step(0) == Step::Label(WP) && steps.place(0) == FIRST_STEP_PLACE);
     match check(rt.alloc(), &database, theorem, &steps, BY_ALL_NODES) {
         Ok(checked) => {
             assert!(&rt; checked.theorem() == WI2 && checked.cites() == [WI].as_slice());
         }
         Err(_) => assert!(&rt; false),
     }
-    assert!(&rt; number(b"UA") == Some(21));
+    assert!(&rt; value_of_letters(b"UA") == Some(21));
     Ok(())
 }
 
@@ -272,9 +277,9 @@ fn is_report_written(
     chosen: &Columns<Global>,
     matrix: &Matrix<Global>,
 ) -> bool
-    requires columns { (only : Option Bytes) × (chosen.now ≡ columns database.now.statements only) }
-    requires width { length chosen.now ≡ matrix.now.columns }
-    requires rows { length (theorems database.now.statements) ≡ matrix.now.rows }
+    requires are_columns { (only : Option Bytes) × (chosen.now ≡ columns database.now.statements only) }
+    requires width_is { length chosen.now ≡ matrix.now.columns }
+    requires row_count_is { length (theorems database.now.statements) ≡ matrix.now.rows }
 {
     let mut report = Vec::new(alloc);
     let written = write_report(
@@ -338,7 +343,7 @@ fn refusals(rt: HostRuntime) {
 
 #[test]
 fn runs(rt: HostRuntime) {
-    let plan = Plan::plain(Cutting::Places(Vec::new(rt.alloc())), 1);
+    let plan = Plan::without_options(Cutting::Places(Vec::new(rt.alloc())), 1);
     assert!(&rt; plan.is_lawful());
     let mut from = FIRST_TEXT;
     let mut to = Vec::new(rt.alloc());

@@ -33,7 +33,7 @@ pub(crate) const A1I_REPORT: &[u8] =
     b"mmdepend 1\naxioms 3\ntheorems 1\nmatrix\na1i:111\ncounts\na1i:3\nusage\nwi:1:a1i\nax-1:1:a1i\nax-mp:1:a1i\nend\n";
 
 /// A theorem that cites the theorem before it, twice.
-pub(crate) const THROUGH: &[u8] =
+pub(crate) const THROUGH_THEOREM: &[u8] =
     b"${ g $e |- p $. a2 $p |- ( q -> ( q -> p ) ) $= wq wp wi wq wp wq g a1i a1i $. $}\n";
 
 /// The report on a text with that theorem and the one before it.
@@ -41,13 +41,14 @@ pub(crate) const THROUGH_REPORT: &[u8] =
     b"mmdepend 1\naxioms 3\ntheorems 2\nmatrix\na1i:111\na2:111\ncounts\na1i:3\na2:3\nusage\nwi:2:a1i a2\nax-1:2:a1i a2\nax-mp:2:a1i a2\nend\n";
 
 /// A theorem that cites nothing.
-pub(crate) const SAME: &[u8] =
+pub(crate) const NO_CITATIONS: &[u8] =
     b"$c wff |- $. $v p $. wp $f wff p $.\n${ h $e |- p $. same $p |- p $= h $. $}\n";
 
-/// Two theorems whose proofs aren't valid; the first takes longer to check.
-pub(crate) const LONG: &[u8] = b"long $p wff p $= wp wq wp wi wp wi wp wi wp wi $.\n";
+/// A theorem whose proof isn't valid.
+pub(crate) const LONG_PROOF: &[u8] = b"long $p wff p $= wp wq wp wi wp wi wp wi wp wi $.\n";
 
-pub(crate) const SHORT: &[u8] = b"short $p wff p $= wq $.\n";
+/// Another one, whose proof takes less time to check.
+pub(crate) const SHORT_PROOF: &[u8] = b"short $p wff p $= wq $.\n";
 
 /// The report on a text without axioms and theorems.
 pub(crate) const NOTHING_REPORT: &[u8] =
@@ -73,7 +74,7 @@ pub(crate) fn consequent(alloc: Global) -> Result<Vec<u8>, AllocError> {
 /// The same, and a theorem by that theorem.
 pub(crate) fn through_a_theorem(alloc: Global) -> Result<Vec<u8>, AllocError> {
     let mut text = consequent(alloc)?;
-    text.extend_from_slice(THROUGH)?;
+    text.extend_from_slice(THROUGH_THEOREM)?;
     Ok(text)
 }
 
@@ -91,7 +92,7 @@ pub(crate) fn add_number(text: &mut Vec<u8>, number: u32) -> Result<(), AllocErr
 }
 
 /// Seventy axioms, and two theorems that rest on some of them.
-pub(crate) fn seventy(alloc: Global) -> Result<Vec<u8>, AllocError> {
+pub(crate) fn seventy_axioms_text(alloc: Global) -> Result<Vec<u8>, AllocError> {
     let mut text = joined(alloc, &[b"$c wff $.\n$v p $.\nwp $f wff p $.\n"])?;
     for k in 0..70 {
         text.push(b'a')?;
@@ -103,7 +104,7 @@ pub(crate) fn seventy(alloc: Global) -> Result<Vec<u8>, AllocError> {
 }
 
 /// A theorem, and 129 more, each of which cites the one before it.
-pub(crate) fn chain(alloc: Global) -> Result<Vec<u8>, AllocError> {
+pub(crate) fn chain_text(alloc: Global) -> Result<Vec<u8>, AllocError> {
     let mut text = joined(
         alloc,
         &[
@@ -121,14 +122,17 @@ pub(crate) fn chain(alloc: Global) -> Result<Vec<u8>, AllocError> {
     Ok(text)
 }
 
-/// How many theorems the text of many theorems has.
-pub(crate) const MANY: u32 = 3000;
+/// How many theorems `many_theorems_text` has.
+pub(crate) const THEOREM_COUNT: u32 = 3000;
 
-/// The theorems of that text whose proofs lack their last step, in tests of its first fault: the
-/// first one and another.
+/// The first theorem of that text whose proof lacks its last step, in tests of its first fault.
 pub(crate) const FIRST_FAULTY: u32 = 2000;
 
+/// Another such theorem.
 pub(crate) const ANOTHER_FAULTY: u32 = 2900;
+
+/// That all proofs of that text are valid.
+pub(crate) const NONE_FAULTY: &[u32] = &[];
 
 /// How many bytes `BASE` has.
 const BASE_BYTES: u32 = 118;
@@ -138,7 +142,7 @@ const BYTES_OF_EACH: u32 = 54;
 
 /// The place of the first fault of that text: the `$.` of the first theorem whose proof lacks its
 /// last step, 48 bytes from its beginning.
-pub(crate) const MANY_FAULT_AT: u32 = BASE_BYTES + FIRST_FAULTY * BYTES_OF_EACH + 48;
+pub(crate) const FIRST_FAULT_PLACE: u32 = BASE_BYTES + FIRST_FAULTY * BYTES_OF_EACH + 48;
 
 /// Adds a label: a letter, and the four digits of a number below ten thousand.
 pub(crate) fn add_label(text: &mut Vec<u8>, letter: u8, number: u32) -> Result<(), AllocError> {
@@ -149,11 +153,11 @@ pub(crate) fn add_label(text: &mut Vec<u8>, letter: u8, number: u32) -> Result<(
     Ok(())
 }
 
-/// A text of `MANY` theorems, all with the same formula. The proofs of some of them lack their last
-/// step.
-pub(crate) fn many(alloc: Global, faulty: &[u32]) -> Result<Vec<u8>, AllocError> {
+/// A text of `THEOREM_COUNT` theorems, all with the same formula. The proofs of those whose numbers
+/// are in `faulty` lack their last step.
+pub(crate) fn many_theorems_text(alloc: Global, faulty: &[u32]) -> Result<Vec<u8>, AllocError> {
     let mut text = BASE.to_vec(alloc)?;
-    for k in 0..MANY {
+    for k in 0..THEOREM_COUNT {
         add_label(&mut text, b't', k)?;
         text.extend_from_slice(b" $p wff ( p -> ( q -> p ) ) $= wp wq wp wi")?;
         if !faulty.contains(&k) {

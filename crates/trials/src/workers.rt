@@ -6,8 +6,8 @@ ghost use Rattle.std.specs.Prelude.{◌≤◌};
 use crate::databases::database_of;
 use crate::flags::{BY_ALL_NODES, WITHOUT_OPEN};
 use crate::texts::{
-    ANOTHER_FAULTY, BASE, FIRST_FAULTY, LONG, MANY, MANY_FAULT_AT, SHORT, joined, many,
-    through_a_theorem,
+    ANOTHER_FAULTY, BASE, FIRST_FAULT_PLACE, FIRST_FAULTY, LONG_PROOF, NONE_FAULTY, SHORT_PROOF,
+    THEOREM_COUNT, joined, many_theorems_text, through_a_theorem,
 };
 use mm_spec::{Code, Fault};
 use mm_work::{Citations, Gate, Judged, Open, check_all};
@@ -56,7 +56,7 @@ fn assert_cites_through_a_theorem<R: Abort>(rt: &R, citations: &Citations<Global
 
 /// Asserts that each of the many theorems cites the same assertion.
 fn assert_many_cite_one<R: Abort>(rt: &R, citations: &Citations<Global>) {
-    assert_eq!(rt; citations.rows(), MANY);
+    assert_eq!(rt; citations.rows(), THEOREM_COUNT);
     for row in 0..citations.rows() {
         assert_eq!(rt; citations.theorem(row), row + 6);
         assert_eq!(rt; citations.of(row), [4u32].as_slice());
@@ -66,7 +66,7 @@ fn assert_many_cite_one<R: Abort>(rt: &R, citations: &Citations<Global>) {
 #[test]
 fn two_theorems_by_any_workers(rt: HostRuntime) -> Result<(), AllocError> {
     let valid = through_a_theorem(rt.alloc())?;
-    let faulty = joined(rt.alloc(), &[BASE, LONG, SHORT])?;
+    let faulty = joined(rt.alloc(), &[BASE, LONG_PROOF, SHORT_PROOF])?;
     for workers in [1, 2, 64] {
         match check_proofs(&rt, rt.alloc(), &valid, workers, BY_ALL_NODES, &Open)? {
             Judged::Valid(citations) => assert_cites_through_a_theorem(&rt, &citations),
@@ -80,15 +80,15 @@ fn two_theorems_by_any_workers(rt: HostRuntime) -> Result<(), AllocError> {
 
 #[test]
 fn many_theorems_by_any_workers(rt: HostRuntime) -> Result<(), AllocError> {
-    let valid = many(rt.alloc(), &[])?;
-    let faulty = many(rt.alloc(), &[FIRST_FAULTY, ANOTHER_FAULTY])?;
+    let valid = many_theorems_text(rt.alloc(), NONE_FAULTY)?;
+    let faulty = many_theorems_text(rt.alloc(), &[FIRST_FAULTY, ANOTHER_FAULTY])?;
     for workers in [1, 2, 64] {
         match check_proofs(&rt, rt.alloc(), &valid, workers, BY_ALL_NODES, &Open)? {
             Judged::Valid(citations) => assert_many_cite_one(&rt, &citations),
             Judged::Faulty(fault) => panic!(&rt; "a fault at {}", fault.at),
         }
         let judged_faulty = check_proofs(&rt, rt.alloc(), &faulty, workers, BY_ALL_NODES, &Open)?;
-        assert!(&rt; is_faulty_at(&judged_faulty, MANY_FAULT_AT, Code::NotOneEntry));
+        assert!(&rt; is_faulty_at(&judged_faulty, FIRST_FAULT_PLACE, Code::NotOneEntry));
     }
     Ok(())
 }
@@ -160,7 +160,7 @@ fn two_at_the_gate(rt: HostRuntime) -> Result<(), AllocError> {
 
 #[test]
 fn four_at_the_gate(rt: HostRuntime) -> Result<(), AllocError> {
-    let text = many(rt.alloc(), &[])?;
+    let text = many_theorems_text(rt.alloc(), NONE_FAULTY)?;
     let gate = Meeting::of(0b1111);
     match check_proofs(&rt, rt.alloc(), &text, 4, BY_ALL_NODES, &gate)? {
         Judged::Valid(citations) => assert_many_cite_one(&rt, &citations),

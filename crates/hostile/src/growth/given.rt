@@ -6,8 +6,7 @@ ghost use Rattle.std.specs.Prelude.{◌≡◌, IfOk};
 ghost use Rattle.mm_spec.specs.Lexed.{tokens_of, lexical_fault};
 
 use super::words::{CUT_AT, is_summary};
-use super::{MOST_GROWTHS, was_refused};
-use crate::flags::WITHOUT_OPEN;
+use super::{MOST_GROWTHS, WITHOUT_OPEN, was_refused};
 use crate::heap::Refusing;
 use crate::texts::{DISJOINT, FIRST_TEXT};
 use linked_list_allocator::LocalHeap;
@@ -27,8 +26,8 @@ fn lexed_in<'h, R: Threads + Sync>(
     heap: &'h Refusing<&'h LocalHeap>,
     text: &[u8],
 ) -> Result<Lexed<&'h Refusing<&'h LocalHeap>>, AllocError>
-    ensures tokens { IfOk result (λ lexed. lexed.tokens.items ≡ tokens_of text.now) }
-    ensures fault { IfOk result (λ lexed. lexed.fault ≡ lexical_fault text.now) }
+    ensures tokens_are { IfOk result (λ lexed. lexed.tokens.items ≡ tokens_of text.now) }
+    ensures fault_is { IfOk result (λ lexed. lexed.fault ≡ lexical_fault text.now) }
 {
     if text.len() > TEXT_LIMIT {
         return Err(AllocError);
@@ -62,10 +61,10 @@ fn tokens_are_given_back_and_the_text_is_as_it_was(rt: HostRuntime) -> Result<()
     let heap = Refusing::new(&local);
     let text = DISJOINT.to_vec(rt.alloc())?;
     let unused = local.used();
-    for number in 1..MOST_GROWTHS {
+    for growth in 1..MOST_GROWTHS {
         let lexed = lexed_in(&rt, rt.alloc(), &heap, &text)?;
         assert!(&rt; local.used() > unused);
-        heap.refuse(number);
+        heap.refuse(growth);
         let refused = was_refused(
             &rt,
             &heap,
@@ -74,7 +73,7 @@ fn tokens_are_given_back_and_the_text_is_as_it_was(rt: HostRuntime) -> Result<()
         assert_eq!(rt; local.used(), unused);
         assert_eq!(rt; text.as_slice(), DISJOINT);
         if !refused {
-            assert!(&rt; number > 10);
+            assert!(&rt; growth > 10);
             return Ok(());
         }
     }
@@ -86,11 +85,11 @@ fn pieces_are_given_back(rt: HostRuntime) -> Result<(), AllocError> {
     let local = LocalHeap::new(rt.alloc(), HEAP_SIZE)?;
     let heap = Refusing::new(&local);
     let unused = local.used();
-    for number in 1..MOST_GROWTHS {
+    for growth in 1..MOST_GROWTHS {
         let first = lex_piece(&heap, FIRST_TEXT, 0, CUT_AT)?;
         let second = lex_piece(&heap, FIRST_TEXT, CUT_AT, FIRST_TEXT.len())?;
         assert!(&rt; local.used() > unused);
-        heap.refuse(number);
+        heap.refuse(growth);
         let refused = was_refused(
             &rt,
             &heap,
@@ -98,7 +97,7 @@ fn pieces_are_given_back(rt: HostRuntime) -> Result<(), AllocError> {
         );
         assert_eq!(rt; local.used(), unused);
         if !refused {
-            assert!(&rt; number > 1);
+            assert!(&rt; growth > 1);
             return Ok(());
         }
     }

@@ -17,9 +17,9 @@ const SECOND_CITES: [u32; 2] = [4, 13];
 
 /// Refuses a growth of appending a list to none. Asserts that after a refusal the next list is the
 /// first. Returns whether there was such a growth.
-fn list_refused<R: Abort>(rt: &R, heap: &Refusing<Global>, number: u64) -> bool {
+fn list_refused<R: Abort>(rt: &R, heap: &Refusing<Global>, growth: u64) -> bool {
     let mut lists = Lists::new(heap);
-    heap.refuse(number);
+    heap.refuse(growth);
     match lists.push(&FIRST_CITES) {
         Ok(()) => was_refused(rt, heap, Some(lists.get(0) == FIRST_CITES.as_slice())),
         Err(_) => {
@@ -36,9 +36,9 @@ fn list_refused<R: Abort>(rt: &R, heap: &Refusing<Global>, number: u64) -> bool 
 #[test]
 fn a_list_that_is_refused_is_not_appended(rt: HostRuntime) {
     let heap = Refusing::new(rt.alloc());
-    for number in 1..MOST_GROWTHS {
-        if !list_refused(&rt, &heap, number) {
-            assert!(&rt; number > 2);
+    for growth in 1..MOST_GROWTHS {
+        if !list_refused(&rt, &heap, growth) {
+            assert!(&rt; growth > 2);
             return;
         }
     }
@@ -48,12 +48,12 @@ fn a_list_that_is_refused_is_not_appended(rt: HostRuntime) {
 /// The statement number of a theorem.
 const THEOREM: u32 = 13;
 
-/// Refuses a growth of appending a step to none, with room for `room` steps. Asserts that after a
+/// Refuses a growth of appending a step to none, with capacity for `capacity` steps. Asserts that after a
 /// refusal there is no step, and that the next one is the first. Returns whether there was such a
 /// growth.
-fn step_refused<R: Abort>(rt: &R, heap: &Refusing<Global>, room: usize, number: u64) -> bool {
-    heap.refuse(number);
-    let mut steps = Steps::none(heap, THEOREM, room);
+fn step_refused<R: Abort>(rt: &R, heap: &Refusing<Global>, capacity: usize, growth: u64) -> bool {
+    heap.refuse(growth);
+    let mut steps = Steps::none(heap, THEOREM, capacity);
     match steps.push(20, Step::Label(2)) {
         Ok(()) => was_refused(rt, heap, Some(steps.step(0) == Step::Label(2))),
         Err(_) => {
@@ -71,9 +71,9 @@ fn step_refused<R: Abort>(rt: &R, heap: &Refusing<Global>, room: usize, number: 
 #[test]
 fn a_step_that_is_refused_is_not_appended(rt: HostRuntime) {
     let heap = Refusing::new(rt.alloc());
-    for room in [0, 4] {
-        assert!(&rt; step_refused(&rt, &heap, room, 1));
-        assert!(&rt; !step_refused(&rt, &heap, room, 2));
+    for capacity in [0, 4] {
+        assert!(&rt; step_refused(&rt, &heap, capacity, 1));
+        assert!(&rt; !step_refused(&rt, &heap, capacity, 2));
     }
 }
 
@@ -115,12 +115,12 @@ fn repeated(heap: &Refusing<Global>) -> Option<bool> {
 #[test]
 fn entries_without_memory(rt: HostRuntime) {
     let heap = Refusing::new(rt.alloc());
-    for number in 1..MOST_GROWTHS {
-        heap.refuse(number);
+    for growth in 1..MOST_GROWTHS {
+        heap.refuse(growth);
         let refused = was_refused(&rt, &heap, repeated(&heap));
         assert!(&rt; repeated(&heap) == Some(true));
         if !refused {
-            assert!(&rt; number > 7);
+            assert!(&rt; growth > 7);
             return;
         }
     }

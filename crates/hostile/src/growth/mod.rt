@@ -1,6 +1,9 @@
 //! Each growth of memory refused in turn: in runs, and in each single call that takes an allocator.
 //! `line` of `mm_line` and `status` of the program take only the process's allocator, as clap does,
 //! so their growths can't be refused here; `bench/failures` refuses those of the program.
+//!
+//! A loop refuses growth 1 of a call, then growth 2, and so on, up to the first call that meets no
+//! refusal. The number with which it compares that growth is how many have to be refused at least.
 
 mod given;
 mod lists;
@@ -12,6 +15,9 @@ mod words;
 use crate::heap::Refusing;
 use std::alloc::Allocator;
 use std::process::Abort;
+
+/// Open theorems don't count as axioms.
+const WITHOUT_OPEN: bool = false;
 
 /// More growths of memory than any of the calls has.
 const MOST_GROWTHS: u64 = 10_000;

@@ -5,11 +5,10 @@ ghost use Rattle.mm_spec.specs.Citation.{steps_at, reading_faults_at};
 ghost use Rattle.mm_spec.specs.Output.{is_theorem_at};
 ghost use Rattle.mm_steps.specs.TheoremSteps.{theorem_steps};
 
-use super::{MOST_GROWTHS, was_refused};
+use super::{MOST_GROWTHS, WITHOUT_OPEN, was_refused};
 use crate::calls::{all_checked, checked, checked_by};
-use crate::flags::WITHOUT_OPEN;
 use crate::heap::Refusing;
-use crate::texts::THROUGH;
+use crate::texts::CITED_TWICE;
 use mm_board::{Board, BoardFault, Seat};
 use mm_check::{CheckRefused, Checked, Checker, Rules};
 use mm_lex::{Cuts, lex};
@@ -26,9 +25,9 @@ pub(crate) fn database_of<R: Threads + Sync, A: Allocator + Copy + Send + Sync>(
     rt: &R,
     alloc: A,
 ) -> Result<Database<'static, A>, AllocError> {
-    let cuts = Cuts::equal(alloc, THROUGH.len(), 1)?;
-    let lexed = lex(rt, alloc, THROUGH, &cuts)?;
-    read_statements(alloc, THROUGH, &lexed, WITHOUT_OPEN)
+    let cuts = Cuts::equal(alloc, CITED_TWICE.len(), 1)?;
+    let lexed = lex(rt, alloc, CITED_TWICE, &cuts)?;
+    read_statements(alloc, CITED_TWICE, &lexed, WITHOUT_OPEN)
 }
 
 /// The first theorem, if there is one.
@@ -67,12 +66,12 @@ fn read_in_turn<'h, R: Abort>(
 ) -> bool
     requires { IsTrue (is_theorem_at database.now.statements theorem) }
 {
-    for number in 1..MOST_GROWTHS {
-        heap.refuse(number);
+    for growth in 1..MOST_GROWTHS {
+        heap.refuse(growth);
         let refused = was_refused(rt, heap, are_steps(read_proof(heap, database, theorem)));
         assert!(rt; are_steps(read_proof(heap, database, theorem)) == Some(true));
         if !refused {
-            return number > 1;
+            return growth > 1;
         }
     }
     false
@@ -121,12 +120,12 @@ fn rules_in_turn<'h, R: Abort>(
     heap: &'h Refusing<Global>,
     database: &Database<'static, &'h Refusing<Global>>,
 ) -> bool {
-    for number in 1..MOST_GROWTHS {
-        heap.refuse(number);
+    for growth in 1..MOST_GROWTHS {
+        heap.refuse(growth);
         let refused = was_refused(rt, heap, are_rules(Rules::new(heap, database)));
         assert!(rt; are_rules(Rules::new(heap, database)) == Some(true));
         if !refused {
-            return number > 5;
+            return growth > 5;
         }
     }
     false
@@ -155,12 +154,12 @@ fn checker_made_in_turn<'h, R: Abort>(
     database: &Database<'static, &'h Refusing<Global>>,
 ) -> bool {
     let rules = Rules::none(heap);
-    for number in 1..MOST_GROWTHS {
-        heap.refuse(number);
+    for growth in 1..MOST_GROWTHS {
+        heap.refuse(growth);
         let refused = was_refused(rt, heap, is_checker(Checker::new(heap, database, &rules)));
         assert!(rt; is_checker(Checker::new(heap, database, &rules)) == Some(true));
         if !refused {
-            return number > 3;
+            return growth > 3;
         }
     }
     false
@@ -182,12 +181,13 @@ fn checked_in_turn<'h, R: Abort>(
     theorem: u32,
     steps: &Steps<&'h Refusing<Global>>,
 ) -> bool
-    requires theorem { IsTrue (is_theorem_at database.now.statements theorem) }
-    requires steps { steps.now ≡ theorem_steps theorem (steps_at database.now.statements theorem) }
-    requires sound { reading_faults_at database.now.statements theorem ≡ [] }
+    requires is_theorem { IsTrue (is_theorem_at database.now.statements theorem) }
+    requires steps_are_read { steps.now ≡ theorem_steps theorem (steps_at database.now.statements
+        theorem) }
+    requires no_reading_faults { reading_faults_at database.now.statements theorem ≡ [] }
 {
-    for number in 1..MOST_GROWTHS {
-        heap.refuse(number);
+    for growth in 1..MOST_GROWTHS {
+        heap.refuse(growth);
         let refused = was_refused(
             rt,
             heap,
@@ -195,7 +195,7 @@ fn checked_in_turn<'h, R: Abort>(
         );
         assert!(rt; is_checked(checked(heap, database, theorem, steps)) == Some(true));
         if !refused {
-            return number > 10;
+            return growth > 10;
         }
     }
     false
@@ -209,17 +209,18 @@ fn checker_refused<'h, R: Abort>(
     database: &Database<'static, &'h Refusing<Global>>,
     theorem: u32,
     steps: &Steps<&'h Refusing<Global>>,
-    number: u64,
+    growth: u64,
 ) -> Option<bool>
-    requires theorem { IsTrue (is_theorem_at database.now.statements theorem) }
-    requires steps { steps.now ≡ theorem_steps theorem (steps_at database.now.statements theorem) }
-    requires sound { reading_faults_at database.now.statements theorem ≡ [] }
+    requires is_theorem { IsTrue (is_theorem_at database.now.statements theorem) }
+    requires steps_are_read { steps.now ≡ theorem_steps theorem (steps_at database.now.statements
+        theorem) }
+    requires no_reading_faults { reading_faults_at database.now.statements theorem ≡ [] }
 {
     let rules = Rules::none(heap);
     let Ok(mut checker) = Checker::new(heap, database, &rules) else {
         return None;
     };
-    heap.refuse(number);
+    heap.refuse(growth);
     let is_right = is_checked(checked_by(&mut checker, heap, database, theorem, steps));
     let refused = was_refused(rt, heap, is_right);
     let is_right_again = is_checked(checked_by(&mut checker, heap, database, theorem, steps));
@@ -235,14 +236,15 @@ fn checkers_in_turn<'h, R: Abort>(
     theorem: u32,
     steps: &Steps<&'h Refusing<Global>>,
 ) -> bool
-    requires theorem { IsTrue (is_theorem_at database.now.statements theorem) }
-    requires steps { steps.now ≡ theorem_steps theorem (steps_at database.now.statements theorem) }
-    requires sound { reading_faults_at database.now.statements theorem ≡ [] }
+    requires is_theorem { IsTrue (is_theorem_at database.now.statements theorem) }
+    requires steps_are_read { steps.now ≡ theorem_steps theorem (steps_at database.now.statements
+        theorem) }
+    requires no_reading_faults { reading_faults_at database.now.statements theorem ≡ [] }
 {
-    for number in 1..MOST_GROWTHS {
-        match checker_refused(rt, heap, database, theorem, steps, number) {
+    for growth in 1..MOST_GROWTHS {
+        match checker_refused(rt, heap, database, theorem, steps, growth) {
             Some(true) => {}
-            Some(false) => return number > 5,
+            Some(false) => return growth > 5,
             None => return false,
         }
     }
@@ -289,12 +291,12 @@ fn is_board<A: Allocator>(answer: Result<(Board<A>, Seat), BoardFault>) -> Optio
 #[test]
 fn a_board_without_memory(rt: HostRuntime) {
     let heap = Refusing::new(rt.alloc());
-    for number in 1..MOST_GROWTHS {
-        heap.refuse(number);
+    for growth in 1..MOST_GROWTHS {
+        heap.refuse(growth);
         let refused = was_refused(&rt, &heap, is_board(Board::new(&heap, 3)));
         assert!(&rt; is_board(Board::new(&heap, 3)) == Some(true));
         if !refused {
-            assert!(&rt; number > 1);
+            assert!(&rt; growth > 1);
             return;
         }
     }
@@ -323,12 +325,12 @@ fn judged_in_turn<'h, R: Abort + Threads + Wait + Sync>(
     heap: &'h Refusing<Global>,
     database: &Database<'static, &'h Refusing<Global>>,
 ) -> bool {
-    for number in 1..MOST_GROWTHS {
-        heap.refuse(number);
+    for growth in 1..MOST_GROWTHS {
+        heap.refuse(growth);
         let refused = was_refused(rt, heap, is_judged(all_checked(rt, heap, database, 2)));
         assert!(rt; is_judged(all_checked(rt, heap, database, 2)) == Some(true));
         if !refused {
-            return number > 10;
+            return growth > 10;
         }
     }
     false

@@ -39,12 +39,12 @@ fn waves_in_turn<'h, R: Abort>(
     heap: &'h Refusing<Global>,
     citations: &Citations<&'h Refusing<Global>>,
 ) -> bool {
-    for number in 1..MOST_GROWTHS {
-        heap.refuse(number);
+    for growth in 1..MOST_GROWTHS {
+        heap.refuse(growth);
         let refused = was_refused(rt, heap, are_waves(waves(heap, citations)));
         assert!(rt; are_waves(waves(heap, citations)) == Some(true));
         if !refused {
-            return number > 1;
+            return growth > 1;
         }
     }
     false
@@ -74,12 +74,12 @@ fn columns_in_turn<R: Abort>(
     database: &Database<'static, Global>,
 ) -> bool {
     let only = Some(b"|-".as_slice());
-    for number in 1..MOST_GROWTHS {
-        heap.refuse(number);
+    for growth in 1..MOST_GROWTHS {
+        heap.refuse(growth);
         let refused = was_refused(rt, heap, are_columns(Columns::new(heap, database, only)));
         assert!(rt; are_columns(Columns::new(heap, database, only)) == Some(true));
         if !refused {
-            return number > 1;
+            return growth > 1;
         }
     }
     false
@@ -116,8 +116,8 @@ fn rows_in_turn<'h, R: Abort + Threads + Sync>(
     citations: &Citations<&'h Refusing<Global>>,
     columns: &Columns<&'h Refusing<Global>>,
 ) -> bool {
-    for number in 1..MOST_GROWTHS {
-        heap.refuse(number);
+    for growth in 1..MOST_GROWTHS {
+        heap.refuse(growth);
         let refused = was_refused(
             rt,
             heap,
@@ -125,7 +125,7 @@ fn rows_in_turn<'h, R: Abort + Threads + Sync>(
         );
         assert!(rt; is_full_matrix(matrix(rt, heap, citations, columns)) == Some(true));
         if !refused {
-            return number > 5;
+            return growth > 5;
         }
     }
     false
@@ -161,8 +161,8 @@ fn rows_alone_in_turn<'h, R: Abort + Threads + Sync>(
     citations: &Citations<&'h Refusing<Global>>,
     columns: &Columns<&'h Refusing<Global>>,
 ) -> bool {
-    for number in 1..MOST_GROWTHS {
-        heap.refuse(number);
+    for growth in 1..MOST_GROWTHS {
+        heap.refuse(growth);
         let refused = was_refused(
             rt,
             heap,
@@ -170,7 +170,7 @@ fn rows_alone_in_turn<'h, R: Abort + Threads + Sync>(
         );
         assert!(rt; are_full_rows(marked_rows(rt, heap, citations, columns)) == Some(true));
         if !refused {
-            return number > 3;
+            return growth > 3;
         }
     }
     false

@@ -5,8 +5,9 @@ use crate::calls::{ended, plan_of};
 use crate::ends::GrowthWatching;
 use crate::heap::Refusing;
 use crate::texts::{
-    BASE, COMPRESSED, COMPRESSED_REPORT, DISJOINT, DISJOINT_REPORT, FIRST_REPORT, FIRST_TEXT,
-    NOT_DISJOINT, NOT_DISJOINT_REFUSAL, THROUGH, THROUGH_REPORT, TWO_FAULTS, TWO_FAULTS_REFUSAL,
+    BEGINNING, CITED_TWICE, CITED_TWICE_REPORT, COMPRESSED, COMPRESSED_REPORT, DISJOINT,
+    DISJOINT_REPORT, FIRST_REPORT, FIRST_TEXT, NOT_DISJOINT, NOT_DISJOINT_REFUSAL, TWO_FAULTS,
+    TWO_FAULTS_REFUSAL,
 };
 use mm_plan::Cutting;
 use mm_run::RunEnd;
@@ -16,14 +17,15 @@ use std::process::Abort;
 use std::sync::Wait;
 use std::thread::Threads;
 
-/// How many pieces the text is cut into, and how many workers a run has.
+/// How many pieces the text is cut into.
 const PIECES: u32 = 3;
 
+/// How many workers a run has.
 const WORKERS: u32 = 2;
 
 /// Whether a run wrote exactly this output, and allocated nothing while it wrote. `None` if it ran
 /// out of memory and wrote nothing.
-fn is_right_run<R: Threads + Wait + Sync>(
+fn writes_without_growth<R: Threads + Wait + Sync>(
     rt: &R,
     alloc: Global,
     heap: &Refusing<Global>,
@@ -47,20 +49,20 @@ fn has_output(end: Option<RunEnd>) -> bool {
     }
 }
 
-/// Asserts that a run whose growth of that number is refused runs out of memory or writes this
-/// output, and that the run after it writes the output. Returns whether the growth came.
+/// Asserts that a run with that growth refused runs out of memory or writes this output, and that
+/// the run after it writes the output. Returns whether the growth came.
 fn assert_right_with_refusal<R: Abort + Threads + Wait + Sync>(
     rt: &R,
     heap: &Refusing<Global>,
     alloc: Global,
     text: &[u8],
     output: &[u8],
-    number: u64,
+    growth: u64,
 ) -> bool {
-    heap.refuse(number);
-    let is_right = is_right_run(rt, alloc, heap, text, output);
+    heap.refuse(growth);
+    let is_right = writes_without_growth(rt, alloc, heap, text, output);
     let refused = was_refused(rt, heap, is_right);
-    let is_right_again = is_right_run(rt, alloc, heap, text, output);
+    let is_right_again = writes_without_growth(rt, alloc, heap, text, output);
     assert!(rt; is_right_again == Some(true));
     refused
 }
@@ -99,7 +101,7 @@ fn assert_right_with_each_refusal<R: Abort + Threads + Wait + Sync>(
 fn a_run_without_memory_writes_nothing(rt: HostRuntime) {
     let rows = [
         (FIRST_TEXT, FIRST_REPORT),
-        (THROUGH, THROUGH_REPORT),
+        (CITED_TWICE, CITED_TWICE_REPORT),
         (COMPRESSED, COMPRESSED_REPORT),
         (NOT_DISJOINT, NOT_DISJOINT_REFUSAL),
         (DISJOINT, DISJOINT_REPORT),
@@ -113,11 +115,11 @@ fn a_run_without_memory_writes_nothing(rt: HostRuntime) {
 /// A database of `count` theorems. Its report is written in several pieces, and several threads
 /// compute its rows.
 fn many_theorems(alloc: Global, count: u32) -> Result<Vec<u8>, AllocError> {
-    let mut text = BASE.to_vec(alloc)?;
-    for number in 0..count {
+    let mut text = BEGINNING.to_vec(alloc)?;
+    for theorem in 0..count {
         text.push(b't')?;
         for unit in [1000, 100, 10, 1] {
-            text.push(b'0' + (number / unit % 10) as u8)?;
+            text.push(b'0' + (theorem / unit % 10) as u8)?;
         }
         text.extend_from_slice(b" $p wff ( p -> ( q -> p ) ) $= wp wq wp wi wi $.\n")?;
     }

@@ -1,12 +1,14 @@
 //! The calls that turn a text into statements.
 
-use super::{MOST_GROWTHS, was_refused};
-use crate::flags::{OUTSIDE_COMMENT, WITHOUT_OPEN};
+use super::{MOST_GROWTHS, WITHOUT_OPEN, was_refused};
 use crate::heap::Refusing;
-use crate::texts::{FIRST_TEXT, THROUGH};
+use crate::texts::{CITED_TWICE, FIRST_TEXT};
 use mm_lex::{Cuts, Lexed, Piece, Word, join, lex, lex_piece};
 use mm_stmt::{Database, read};
 use std::alloc::{AllocError, Allocator, Global};
+
+/// No comment is open after the head of a piece.
+const OUTSIDE_COMMENT: bool = false;
 
 /// How many tokens the first text has.
 const TOKENS: usize = 62;
@@ -14,6 +16,7 @@ const TOKENS: usize = 62;
 /// Where that text is cut, in the middle of a word.
 pub(crate) const CUT_AT: usize = 58;
 
+/// A word, by its first byte and the byte behind its last.
 fn word(start: u32, end: u32) -> Word {
     Word { start, end }
 }
@@ -31,8 +34,8 @@ fn are_cuts<A: Allocator + Copy>(answer: Result<Cuts<A>, AllocError>) -> Option<
 #[test]
 fn equal_cuts_without_memory(rt: HostRuntime) {
     let heap = Refusing::new(rt.alloc());
-    for number in 1..MOST_GROWTHS {
-        heap.refuse(number);
+    for growth in 1..MOST_GROWTHS {
+        heap.refuse(growth);
         let refused = was_refused(
             &rt,
             &heap,
@@ -40,7 +43,7 @@ fn equal_cuts_without_memory(rt: HostRuntime) {
         );
         assert!(&rt; are_cuts(Cuts::equal(&heap, FIRST_TEXT.len(), 3)) == Some(true));
         if !refused {
-            assert!(&rt; number > 1);
+            assert!(&rt; growth > 1);
             return;
         }
     }
@@ -65,8 +68,8 @@ fn is_beginning<A: Allocator>(answer: Result<Piece<A>, AllocError>) -> Option<bo
 #[test]
 fn a_piece_without_memory(rt: HostRuntime) {
     let heap = Refusing::new(rt.alloc());
-    for number in 1..MOST_GROWTHS {
-        heap.refuse(number);
+    for growth in 1..MOST_GROWTHS {
+        heap.refuse(growth);
         let refused = was_refused(
             &rt,
             &heap,
@@ -74,7 +77,7 @@ fn a_piece_without_memory(rt: HostRuntime) {
         );
         assert!(&rt; is_beginning(lex_piece(&heap, FIRST_TEXT, 0, CUT_AT)) == Some(true));
         if !refused {
-            assert!(&rt; number > 1);
+            assert!(&rt; growth > 1);
             return;
         }
     }
@@ -100,12 +103,12 @@ pub(crate) fn is_summary<A: Allocator>(answer: Result<Piece<A>, AllocError>) -> 
 /// join fails, both parts are dropped.
 fn join_pieces(
     heap: &Refusing<Global>,
-    number: Option<u64>,
+    growth: Option<u64>,
 ) -> Result<Result<Piece<&Refusing<Global>>, AllocError>, AllocError> {
     let first = lex_piece(heap, FIRST_TEXT, 0, CUT_AT)?;
     let second = lex_piece(heap, FIRST_TEXT, CUT_AT, FIRST_TEXT.len())?;
-    if let Some(number) = number {
-        heap.refuse(number);
+    if let Some(growth) = growth {
+        heap.refuse(growth);
     }
     Ok(join(heap, FIRST_TEXT, first, second))
 }
@@ -113,11 +116,11 @@ fn join_pieces(
 #[test]
 fn pieces_joined_without_memory(rt: HostRuntime) -> Result<(), AllocError> {
     let heap = Refusing::new(rt.alloc());
-    for number in 1..MOST_GROWTHS {
-        let refused = was_refused(&rt, &heap, is_summary(join_pieces(&heap, Some(number))?));
+    for growth in 1..MOST_GROWTHS {
+        let refused = was_refused(&rt, &heap, is_summary(join_pieces(&heap, Some(growth))?));
         assert!(&rt; is_summary(join_pieces(&heap, None)?) == Some(true));
         if !refused {
-            assert!(&rt; number > 1);
+            assert!(&rt; growth > 1);
             return Ok(());
         }
     }
@@ -141,12 +144,12 @@ fn is_lexed<A: Allocator>(answer: Result<Lexed<A>, AllocError>) -> Option<bool> 
 fn lexing_without_memory(rt: HostRuntime) -> Result<(), AllocError> {
     let heap = Refusing::new(rt.alloc());
     let cuts = Cuts::equal(&heap, FIRST_TEXT.len(), 3)?;
-    for number in 1..MOST_GROWTHS {
-        heap.refuse(number);
+    for growth in 1..MOST_GROWTHS {
+        heap.refuse(growth);
         let refused = was_refused(&rt, &heap, is_lexed(lex(&rt, &heap, FIRST_TEXT, &cuts)));
         assert!(&rt; is_lexed(lex(&rt, &heap, FIRST_TEXT, &cuts)) == Some(true));
         if !refused {
-            assert!(&rt; number > 1);
+            assert!(&rt; growth > 1);
             return Ok(());
         }
     }
@@ -157,7 +160,7 @@ fn lexing_without_memory(rt: HostRuntime) -> Result<(), AllocError> {
 fn is_read<A: Allocator>(answer: Result<Database<'_, A>, AllocError>) -> Option<bool> {
     match answer {
         Ok(database) => Some(
-            database.text() == THROUGH
+            database.text() == CITED_TWICE
                 && database.len() == 19
                 && database.fault().is_none()
                 && database.theorems() == [13u32, 17].as_slice()
@@ -170,21 +173,21 @@ fn is_read<A: Allocator>(answer: Result<Database<'_, A>, AllocError>) -> Option<
 #[test]
 fn statements_without_memory(rt: HostRuntime) -> Result<(), AllocError> {
     let heap = Refusing::new(rt.alloc());
-    let cuts = Cuts::equal(&heap, THROUGH.len(), 1)?;
-    let lexed = lex(&rt, &heap, THROUGH, &cuts)?;
+    let cuts = Cuts::equal(&heap, CITED_TWICE.len(), 1)?;
+    let lexed = lex(&rt, &heap, CITED_TWICE, &cuts)?;
     let tokens = lexed.tokens.to_vec(&heap)?;
-    for number in 1..MOST_GROWTHS {
-        heap.refuse(number);
+    for growth in 1..MOST_GROWTHS {
+        heap.refuse(growth);
         let refused = was_refused(
             &rt,
             &heap,
-            is_read(read(&heap, THROUGH, &lexed, WITHOUT_OPEN)),
+            is_read(read(&heap, CITED_TWICE, &lexed, WITHOUT_OPEN)),
         );
         assert!(&rt; lexed.tokens.as_slice() == tokens.as_slice());
         assert!(&rt; lexed.fault.is_none());
-        assert!(&rt; is_read(read(&heap, THROUGH, &lexed, WITHOUT_OPEN)) == Some(true));
+        assert!(&rt; is_read(read(&heap, CITED_TWICE, &lexed, WITHOUT_OPEN)) == Some(true));
         if !refused {
-            assert!(&rt; number > 10);
+            assert!(&rt; growth > 10);
             return Ok(());
         }
     }

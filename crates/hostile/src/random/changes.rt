@@ -65,7 +65,7 @@ const INSERTED: [Word; 54] = [
 const COMPRESSED_FAULTS: [Word; 2] = [b"x1 $p wff p $= ( ) ZA $.", b"x1 $p wff p $= ( ) B $."];
 
 /// One of the words or statements that are inserted.
-fn inserted_by(chance: &mut Chance) -> Word {
+fn random_insertion(chance: &mut Chance) -> Word {
     if chance.once_in(12) {
         COMPRESSED_FAULTS[chance.below(COMPRESSED_FAULTS.len())]
     } else {
@@ -73,21 +73,21 @@ fn inserted_by(chance: &mut Chance) -> Word {
     }
 }
 
-/// Where a statement begins: after the first end of a statement or block at or after this place, or
-/// at the end.
+/// The index at which a statement begins: after the first end of a statement or block at or after
+/// index `from`, or at the end.
 fn beginning_from(words: &[Word], from: usize) -> usize {
-    for (at, word) in words.iter().enumerate() {
-        if from <= at && (*word == b"$.".as_slice() || *word == b"$}".as_slice()) {
-            return at + 1;
+    for (index, word) in words.iter().enumerate() {
+        if from <= index && (*word == b"$.".as_slice() || *word == b"$}".as_slice()) {
+            return index + 1;
         }
     }
     words.len()
 }
 
-/// Inserts a word at this place, which may be the end. Does nothing if there is no such place.
-fn insert(words: &mut Words, word: Word, at: usize) {
-    if at <= words.list.len() {
-        let _ = words.list.insert(at, word);
+/// Inserts a word at this index, which may be the end. Does nothing if there is no such index.
+fn insert(words: &mut Words, word: Word, index: usize) {
+    if index <= words.list.len() {
+        let _ = words.list.insert(index, word);
     }
 }
 
@@ -98,23 +98,23 @@ fn change(words: &mut Words, chance: &mut Chance) {
     if count == 0 {
         return;
     }
-    let at = chance.below(count);
-    let word = words.list[at];
+    let index = chance.below(count);
+    let word = words.list[index];
     match chance.below(8) {
         0 => {
-            let _ = words.list.remove(at);
+            let _ = words.list.remove(index);
         }
-        1 => insert(words, word, at),
-        2 => words.list[at] = words.list[chance.below(count)],
-        3 => words.list[at] = inserted_by(chance),
+        1 => insert(words, word, index),
+        2 => words.list[index] = words.list[chance.below(count)],
+        3 => words.list[index] = random_insertion(chance),
         4 => {
-            let _ = words.list.remove(at);
-            insert(words, word, at + 1);
+            let _ = words.list.remove(index);
+            insert(words, word, index + 1);
         }
-        5 => insert(words, inserted_by(chance), at),
+        5 => insert(words, random_insertion(chance), index),
         _ => {
-            let at = beginning_from(&words.list, at);
-            insert(words, inserted_by(chance), at);
+            let index = beginning_from(&words.list, index);
+            insert(words, random_insertion(chance), index);
         }
     }
 }

@@ -18,20 +18,20 @@ fn index_of(words: &[Word], word: Word) -> Option<usize> {
     words.iter().position(|other| *other == word)
 }
 
-/// Appends the letters of the number `below + 1`, which is at most 120.
-fn add_number(into: &mut Words, below: usize) {
-    if 20 <= below {
-        into.add(EARLIER_LETTERS[(below / 20 - 1) % 5]);
+/// Appends the letters of the number `index + 1`, which is at most 120.
+fn add_number(into: &mut Words, index: usize) {
+    if 20 <= index {
+        into.add(EARLIER_LETTERS[(index / 20 - 1) % 5]);
     }
-    into.add(LAST_LETTERS[below % 20]);
+    into.add(LAST_LETTERS[index % 20]);
 }
 
 /// The mandatory hypotheses of a theorem whose proof has these labels, and then the other labels,
 /// each once.
-fn numbered(alloc: Global, proof: &[Word], hypothesis: Word) -> (Words, Words) {
+fn split_labels(alloc: Global, proof: &[Word], hypothesis_label: Word) -> (Words, Words) {
     let mut hypotheses = Words::new(alloc);
     let mut others = Words::new(alloc);
-    for label in [FLOATING[0], FLOATING[1], FLOATING[2], hypothesis] {
+    for label in [FLOATING[0], FLOATING[1], FLOATING[2], hypothesis_label] {
         if index_of(proof, label).is_some() {
             hypotheses.add(label);
         }
@@ -50,24 +50,25 @@ fn numbered(alloc: Global, proof: &[Word], hypothesis: Word) -> (Words, Words) {
 pub(crate) fn compressed(
     alloc: Global,
     proof: &[Word],
-    hypothesis: Word,
+    hypothesis_label: Word,
     chance: &mut Chance,
 ) -> Words {
-    let (hypotheses, others) = numbered(alloc, proof, hypothesis);
-    let mut numbers = Words::new(alloc);
-    numbers.add_all(&hypotheses.list);
-    numbers.add_all(&others.list);
-    let labels = numbers.list.len();
+    let (hypotheses, others) = split_labels(alloc, proof, hypothesis_label);
+    // For each number, from 1 on, the label that it stands for.
+    let mut numbered = Words::new(alloc);
+    numbered.add_all(&hypotheses.list);
+    numbered.add_all(&others.list);
+    let label_count = numbered.list.len();
     let mut written = Words::new(alloc);
     written.add(b"(");
     written.add_all(&others.list);
     written.add(b")");
     for label in proof {
-        add_step(&mut written, &mut numbers, label, labels, chance);
+        add_step(&mut written, &mut numbered, label, label_count, chance);
         if chance.once_in(4) {
             written.add(b"Z");
             let is_hypothesis = index_of(&hypotheses.list, label).is_some();
-            numbers.add(if is_hypothesis { label } else { b"" });
+            numbered.add(if is_hypothesis { label } else { b"" });
         }
     }
     written
@@ -76,19 +77,19 @@ pub(crate) fn compressed(
 /// Appends a step for the label: its number, or that of a mark at a step with the same label.
 fn add_step(
     written: &mut Words,
-    numbers: &mut Words,
+    numbered: &mut Words,
     label: Word,
-    labels: usize,
+    label_count: usize,
     chance: &mut Chance,
 ) {
-    let marks = &numbers.list[labels.min(numbers.list.len())..];
+    let marks = &numbered.list[label_count.min(numbered.list.len())..];
     match index_of(marks, label) {
-        Some(mark) if mark < 60 && labels < 60 && chance.once_in(2) => {
-            add_number(written, labels + mark);
+        Some(mark) if mark < 60 && label_count < 60 && chance.once_in(2) => {
+            add_number(written, label_count + mark);
         }
         _ => {
-            if let Some(number) = index_of(&numbers.list, label) {
-                add_number(written, number % 120);
+            if let Some(index) = index_of(&numbered.list, label) {
+                add_number(written, index % 120);
             }
         }
     }

@@ -2,7 +2,7 @@
 
 use super::chance::Chance;
 use super::compressed::compressed;
-use super::formulas::{ALL_VARIABLES, Formula, VariableRange, conditional, formula_by};
+use super::formulas::{ALL_VARIABLES, Formula, VariableRange, conditional, random_formula};
 use super::words::{Word, Words};
 use std::alloc::Global;
 
@@ -21,10 +21,11 @@ const HEAD: [Word; 10] = [
     b"$. $}",
 ];
 
-/// The labels of theorems and of their hypotheses.
+/// The labels of theorems.
 const LABELS: [Word; 6] = [b"t0", b"t1", b"t2", b"t3", b"t4", b"t5"];
 
-const HYPOTHESES: [Word; 6] = [b"h0", b"h1", b"h2", b"h3", b"h4", b"h5"];
+/// The labels of their hypotheses.
+const HYPOTHESIS_LABELS: [Word; 6] = [b"h0", b"h1", b"h2", b"h3", b"h4", b"h5"];
 
 /// A theorem: its formula, its hypothesis if it has one, whether `p` and `q` have to be disjoint,
 /// and the labels of its proof in postfix order.
@@ -39,7 +40,7 @@ struct Theorem {
 
 /// The theorem that a random formula is one.
 fn wff_theorem(alloc: Global, chance: &mut Chance) -> Theorem {
-    let formula = formula_by(alloc, ALL_VARIABLES, chance);
+    let formula = random_formula(alloc, ALL_VARIABLES, chance);
     let mut proof = Words::new(alloc);
     proof.add_all(&formula.proof.list);
     Theorem {
@@ -53,8 +54,8 @@ fn wff_theorem(alloc: Global, chance: &mut Chance) -> Theorem {
 
 /// An instance of the first axiom.
 fn axiom_instance(alloc: Global, chance: &mut Chance) -> Theorem {
-    let first = formula_by(alloc, ALL_VARIABLES, chance);
-    let second = formula_by(alloc, ALL_VARIABLES, chance);
+    let first = random_formula(alloc, ALL_VARIABLES, chance);
+    let second = random_formula(alloc, ALL_VARIABLES, chance);
     let mut proof = Words::new(alloc);
     proof.add_all(&first.proof.list);
     proof.add_all(&second.proof.list);
@@ -70,18 +71,18 @@ fn axiom_instance(alloc: Global, chance: &mut Chance) -> Theorem {
 
 /// A conditional whose second part is the hypothesis, proved by the theorem of the head, or by
 /// detachment as that theorem is.
-fn by_consequent(alloc: Global, label: Word, chance: &mut Chance) -> Theorem {
-    let first = formula_by(alloc, ALL_VARIABLES, chance);
-    let second = formula_by(alloc, ALL_VARIABLES, chance);
+fn consequent_theorem(alloc: Global, hypothesis_label: Word, chance: &mut Chance) -> Theorem {
+    let first = random_formula(alloc, ALL_VARIABLES, chance);
+    let second = random_formula(alloc, ALL_VARIABLES, chance);
     let formula = conditional(alloc, &second, &first);
     let mut proof = Words::new(alloc);
     proof.add_all(&first.proof.list);
     if chance.once_in(2) {
         proof.add_all(&second.proof.list);
-        proof.add_all(&[label, b"a1i"]);
+        proof.add_all(&[hypothesis_label, b"a1i"]);
     } else {
         proof.add_all(&formula.proof.list);
-        proof.add(label);
+        proof.add(hypothesis_label);
         proof.add_all(&first.proof.list);
         proof.add_all(&second.proof.list);
         proof.add_all(&[b"ax-1", b"ax-mp"]);
@@ -96,9 +97,9 @@ fn by_consequent(alloc: Global, label: Word, chance: &mut Chance) -> Theorem {
 }
 
 /// A conditional of two formulas without a common variable.
-fn with_disjoint(alloc: Global, chance: &mut Chance) -> Theorem {
-    let first = formula_by(alloc, VariableRange { first: 0, count: 1 }, chance);
-    let second = formula_by(alloc, VariableRange { first: 1, count: 1 }, chance);
+fn disjoint_theorem(alloc: Global, chance: &mut Chance) -> Theorem {
+    let first = random_formula(alloc, VariableRange { first: 0, count: 1 }, chance);
+    let second = random_formula(alloc, VariableRange { first: 1, count: 1 }, chance);
     let mut proof = Words::new(alloc);
     proof.add_all(&first.proof.list);
     proof.add_all(&second.proof.list);
@@ -112,21 +113,23 @@ fn with_disjoint(alloc: Global, chance: &mut Chance) -> Theorem {
     }
 }
 
-/// Appends the theorem's statement, with its proof in normal or in compressed form.
+/// Appends the statement of a theorem and its label, with its proof in normal or in compressed
+/// form.
 fn add_statement(
     alloc: Global,
     words: &mut Words,
     theorem: &Theorem,
-    labels: (Word, Word),
+    label: Word,
+    hypothesis_label: Word,
     chance: &mut Chance,
 ) {
-    words.add_all(&[labels.0, b"$p", theorem.typecode]);
+    words.add_all(&[label, b"$p", theorem.typecode]);
     words.add_all(&theorem.formula.symbols.list);
     words.add(b"$=");
     if chance.once_in(2) {
         words.add_all(&theorem.proof.list);
     } else {
-        let proof = compressed(alloc, &theorem.proof.list, labels.1, chance);
+        let proof = compressed(alloc, &theorem.proof.list, hypothesis_label, chance);
         words.add_all(&proof.list);
     }
     words.add(b"$.");
@@ -137,7 +140,8 @@ fn add_theorem(
     alloc: Global,
     words: &mut Words,
     theorem: &Theorem,
-    labels: (Word, Word),
+    label: Word,
+    hypothesis_label: Word,
     chance: &mut Chance,
 ) {
     words.add(b"${");
@@ -145,32 +149,33 @@ fn add_theorem(
         words.add_all(&[b"$d", b"p", b"q", b"$."]);
     }
     if let Some(hypothesis) = &theorem.hypothesis {
-        words.add_all(&[labels.1, b"$e", b"|-"]);
+        words.add_all(&[hypothesis_label, b"$e", b"|-"]);
         words.add_all(&hypothesis.symbols.list);
         words.add(b"$.");
     }
-    add_statement(alloc, words, theorem, labels, chance);
+    add_statement(alloc, words, theorem, label, hypothesis_label, chance);
     words.add(b"$}");
 }
 
 /// A random theorem.
-fn theorem_by(alloc: Global, hypothesis: Word, chance: &mut Chance) -> Theorem {
+fn random_theorem(alloc: Global, hypothesis_label: Word, chance: &mut Chance) -> Theorem {
     match chance.below(5) {
         0 => wff_theorem(alloc, chance),
         1 => axiom_instance(alloc, chance),
-        2 => with_disjoint(alloc, chance),
-        _ => by_consequent(alloc, hypothesis, chance),
+        2 => disjoint_theorem(alloc, chance),
+        _ => consequent_theorem(alloc, hypothesis_label, chance),
     }
 }
 
 /// A database with the head and up to six more theorems.
-pub(crate) fn database_by(alloc: Global, chance: &mut Chance) -> Words {
+pub(crate) fn random_database(alloc: Global, chance: &mut Chance) -> Words {
     let mut words = Words::new(alloc);
     words.add_all(&HEAD);
-    for number in 0..chance.below(7) {
-        let labels = (LABELS[number % 6], HYPOTHESES[number % 6]);
-        let theorem = theorem_by(alloc, labels.1, chance);
-        add_theorem(alloc, &mut words, &theorem, labels, chance);
+    for index in 0..chance.below(7) {
+        let label = LABELS[index % 6];
+        let hypothesis_label = HYPOTHESIS_LABELS[index % 6];
+        let theorem = random_theorem(alloc, hypothesis_label, chance);
+        add_theorem(alloc, &mut words, &theorem, label, hypothesis_label, chance);
     }
     words
 }

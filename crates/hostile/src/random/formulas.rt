@@ -4,9 +4,10 @@ use super::chance::Chance;
 use super::words::{Word, Words};
 use std::alloc::Global;
 
-/// The variables, and the labels of their `$f`.
+/// The variables.
 const VARIABLES: [Word; 3] = [b"p", b"q", b"r"];
 
+/// The labels of their `$f`.
 pub(crate) const FLOATING: [Word; 3] = [b"wp", b"wq", b"wr"];
 
 /// A formula: its symbols, and the labels of a proof that it is one, in postfix order.
@@ -16,7 +17,7 @@ pub(crate) struct Formula {
     pub proof: Words,
 }
 
-/// Which variables a formula may have: `count` of them, from the number `first` on.
+/// Which variables a formula may have: `count` of them, from the index `first` on.
 #[derive(Clone, Copy)]
 pub(crate) struct VariableRange {
     pub first: usize,
@@ -28,9 +29,9 @@ pub(crate) const ALL_VARIABLES: VariableRange = VariableRange { first: 0, count:
 
 /// Appends one of these variables.
 fn add_variable(formula: &mut Formula, range: VariableRange, chance: &mut Chance) {
-    let number = range.first.min(2) + chance.below(range.count.max(1).min(3));
-    formula.symbols.add(VARIABLES[number % 3]);
-    formula.proof.add(FLOATING[number % 3]);
+    let index = range.first.min(2) + chance.below(range.count.max(1).min(3));
+    formula.symbols.add(VARIABLES[index % 3]);
+    formula.proof.add(FLOATING[index % 3]);
 }
 
 /// Appends a variable, or a conditional of two.
@@ -47,7 +48,7 @@ fn add_small(formula: &mut Formula, range: VariableRange, chance: &mut Chance) {
 }
 
 /// A formula with up to four occurrences of these variables.
-pub(crate) fn formula_by(alloc: Global, range: VariableRange, chance: &mut Chance) -> Formula {
+pub(crate) fn random_formula(alloc: Global, range: VariableRange, chance: &mut Chance) -> Formula {
     let mut formula = Formula {
         symbols: Words::new(alloc),
         proof: Words::new(alloc),

@@ -13,7 +13,7 @@ mod words;
 use crate::calls::{ended, plan_of};
 use chance::Chance;
 use changes::change_some;
-use database::database_by;
+use database::random_database;
 use mm_plan::Cutting;
 use mm_run::RunEnd;
 use mm_spec::Choice;
@@ -39,7 +39,7 @@ const CODES: [u8; 37] = [
 ];
 
 /// Random cuts: into equal pieces, or at some places, of which the last may be past the end.
-fn cuts_by(alloc: Global, len: usize, chance: &mut Chance) -> Cutting<Global> {
+fn random_cuts(alloc: Global, len: usize, chance: &mut Chance) -> Cutting<Global> {
     if chance.once_in(2) {
         return Cutting::Count(WORKERS_OR_PIECES[chance.below(WORKERS_OR_PIECES.len())]);
     }
@@ -55,14 +55,14 @@ fn cuts_by(alloc: Global, len: usize, chance: &mut Chance) -> Cutting<Global> {
 }
 
 /// How a run ends and what it writes, with random cuts and a random number of workers.
-fn run_by<R: Threads + Wait + Sync>(
+fn run_randomly<R: Threads + Wait + Sync>(
     rt: &R,
     alloc: Global,
     mut text: &[u8],
     choice: Choice,
     chance: &mut Chance,
 ) -> (Option<RunEnd>, Vec<u8>) {
-    let cuts = cuts_by(alloc, text.len(), chance);
+    let cuts = random_cuts(alloc, text.len(), chance);
     let workers = WORKERS_OR_PIECES[chance.below(WORKERS_OR_PIECES.len())];
     let plan = plan_of(cuts, workers, choice);
     let mut written = Vec::new(alloc);
@@ -126,9 +126,9 @@ fn assert_sections<R: Abort + Threads + Wait + Sync>(
     report: &[u8],
     chance: &mut Chance,
 ) {
-    let (_, matrix_report) = run_by(rt, alloc, text, Choice::Matrix, chance);
-    let (_, counts_report) = run_by(rt, alloc, text, Choice::Counts, chance);
-    let (_, usage_report) = run_by(rt, alloc, text, Choice::Usage, chance);
+    let (_, matrix_report) = run_randomly(rt, alloc, text, Choice::Matrix, chance);
+    let (_, counts_report) = run_randomly(rt, alloc, text, Choice::Counts, chance);
+    let (_, usage_report) = run_randomly(rt, alloc, text, Choice::Usage, chance);
     let sections = [
         section_of(&matrix_report),
         section_of(&counts_report),
@@ -148,20 +148,20 @@ fn end_of_all_runs<R: Abort + Threads + Wait + Sync>(
     chance: &mut Chance,
 ) -> Option<RunEnd> {
     let (end, written) = run_plainly(rt, alloc, text);
-    let (other_end, other_written) = run_by(rt, alloc, text, Choice::All, chance);
+    let (other_end, other_written) = run_randomly(rt, alloc, text, Choice::All, chance);
     assert!(rt; other_end == end && other_written.as_slice() == written.as_slice());
     if end == Some(RunEnd::Accepted) {
         assert_sections(rt, alloc, text, &written, chance);
     } else {
-        let (_, refusal) = run_by(rt, alloc, text, Choice::Counts, chance);
+        let (_, refusal) = run_randomly(rt, alloc, text, Choice::Counts, chance);
         assert!(rt; refusal.as_slice() == written.as_slice());
     }
     end
 }
 
 /// A random text, and whether it is an unchanged database.
-fn text_by(alloc: Global, chance: &mut Chance) -> (Vec<u8>, bool) {
-    let mut words = database_by(alloc, chance);
+fn random_text(alloc: Global, chance: &mut Chance) -> (Vec<u8>, bool) {
+    let mut words = random_database(alloc, chance);
     let is_unchanged = chance.once_in(4);
     if !is_unchanged {
         change_some(&mut words, chance);
@@ -174,11 +174,14 @@ fn text_by(alloc: Global, chance: &mut Chance) -> (Vec<u8>, bool) {
     (text, is_unchanged)
 }
 
+/// One more than the greatest number of a code.
+const CODE_LIMIT: usize = 46;
+
 /// How many texts were accepted, and how many had the fault of each code, by its number.
 #[derive(Drop)]
 struct Tally {
     accepted: usize,
-    faults: [usize; 46],
+    faults: [usize; CODE_LIMIT],
 }
 
 impl Tally {
@@ -187,7 +190,7 @@ impl Tally {
         match end {
             Some(RunEnd::Accepted) => self.accepted = self.accepted.saturating_add(1),
             Some(RunEnd::Refused(fault)) => {
-                let number = fault.code.number() as usize % 46;
+                let number = fault.code.number() as usize % CODE_LIMIT;
                 self.faults[number] = self.faults[number].saturating_add(1);
             }
             _ => {}
@@ -201,11 +204,11 @@ impl Tally {
 fn texts_by_chance_have_one_answer(rt: HostRuntime) {
     let mut tally = Tally {
         accepted: 0,
-        faults: [0; 46],
+        faults: [0; CODE_LIMIT],
     };
     for seed in 0..TEXTS {
         let mut chance = Chance::new(seed as u64);
-        let (text, is_unchanged) = text_by(rt.alloc(), &mut chance);
+        let (text, is_unchanged) = random_text(rt.alloc(), &mut chance);
         let end = end_of_all_runs(&rt, rt.alloc(), &text, &mut chance);
         assert!(&rt;
             !is_unchanged || end == Some(RunEnd::Accepted),
@@ -216,7 +219,7 @@ fn texts_by_chance_have_one_answer(rt: HostRuntime) {
     assert!(&rt; tally.accepted > TEXTS / 4);
     for code in CODES {
         assert!(&rt;
-            tally.faults[code as usize % 46] > 0,
+            tally.faults[code as usize % CODE_LIMIT] > 0,
             "no text has fault {code}"
         );
     }

@@ -4,7 +4,7 @@ use Rattle.mm_spec.specs.Statement.{Statement}
 use Rattle.mm_spec.specs.Derivation.{Trees, AreDerivations, postfix}
 use Rattle.mm_spec.specs.Citation.{context_at, IsProof}
 
--- rows of derivations with the same labels in postfix order are the same
+-- forests of derivations with the same labels in postfix order are equal
 abbrev pub LabelsDetermine : List Statement → ℕ → Type 0
 LabelsDetermine db k =
     (r s : Trees) → AreDerivations (context_at db k) r → AreDerivations (context_at db k) s

@@ -12,8 +12,8 @@ IsFaultOf db k f = ProofFault db k (proof_end (slice_get db k)) f
 abbrev pub IsValidOrFaulty : List Statement → ℕ → Type 0
 IsValidOrFaulty db k = IsTrue (is_theorem_at db k) → IsValid db k ⊎ ((f : Fault) × IsFaultOf db k f)
 
-abbrev pub IsNeverBoth : List Statement → ℕ → Type 0
-IsNeverBoth db k = (f : Fault) → IsValid db k → ¬ IsFaultOf db k f
+abbrev pub ValidHasNoFault : List Statement → ℕ → Type 0
+ValidHasNoFault db k = (f : Fault) → IsValid db k → ¬ IsFaultOf db k f
 
 abbrev pub FaultIsUnique : List Statement → ℕ → Type 0
 FaultIsUnique db k = (f g : Fault) → IsFaultOf db k f → IsFaultOf db k g → f ≡ g

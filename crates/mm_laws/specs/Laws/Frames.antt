@@ -9,10 +9,10 @@ use Rattle.mm_spec.specs.Frame.{mandatory_hypotheses, mandatory_pairs}
 use Rattle.mm_spec.specs.Citation.{is_assertion, context_at}
 use Rattle.mm_spec.specs.Laws.Complete.{HasCompleteFrame}
 
--- the frame of each assertion for which a label stands at k is complete
+-- the frame of each assertion to which a label refers at k is complete
 abbrev pub FramesAreComplete : List Statement → ℕ → Type 0
 FramesAreComplete db k =
-    (label : ℕ) → HasCompleteFrame (context_at db k) ((context_at db k).rule label)
+    (label : ℕ) → HasCompleteFrame (context_at db k) ((context_at db k).referent label)
 
 -- statement j is the `$f` of x: its formula is a typecode, which is no variable, and x
 pub record IsTyping (db : List Statement) (j x : ℕ) : Type 0 where

@@ -1,4 +1,4 @@
--- The letters of a proof spell one row of items. (This project's own.)
+-- The letters of a proof spell one list of items. (This project's own.)
 use Rattle.std.specs.Prelude.{◌≡◌, ◌≢◌, ℕ, List, [], ◌∷◌, codes}
 use Rattle.mm_spec.specs.Text.{Token}
 use Rattle.mm_spec.specs.Statement.{Statement}
@@ -12,13 +12,13 @@ PartsAreUnique =
     → IsCompressed ts other_labels other_letters
     → (labels ≡ other_labels) × (letters ≡ other_letters)
 
--- letters spell at most one row of items
+-- letters spell at most one list of items
 abbrev pub SpellingIsUnique : Type 0
 SpellingIsUnique =
     (letters : List ℕ) (items other_items : List Item)
     → Spells letters items → Spells letters other_items → items ≡ other_items
 
--- the letters of a compressed proof spell a row of items, which isn't empty
+-- the letters of a compressed proof spell a list of items, which isn't empty
 pub record IsSpelledOut (ts : List Token) : Type 0 where
   pub labels : List Token
   pub letters : List Token

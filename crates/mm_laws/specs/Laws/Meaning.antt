@@ -37,13 +37,13 @@ Says db k (t ∷ ts) ss = ((t.word ≡ codes "(") × SaysCompressed db k (t ∷ 
 abbrev pub proof_words : List Statement → ℕ → List Token
 proof_words db k = elim (slice_get db k) [ Some (provable l p xs e ps d) ↦ ps | _ ↦ [] ]
 
--- the words of its proof say steps that stand for a derivation of its formula
+-- the words of its proof say steps that expand to the labels of a derivation of its formula
 pub record IsProved (db : List Statement) (k : ℕ) : Type 0 where
   pub steps : List Step
   pub says_steps : Says db k (proof_words db k) steps
   pub derivation : Trees
   pub derives_formula : Derives (context_at db k) steps (formula_at db k) derivation
 
--- a theorem is valid exactly if this holds for it
-abbrev pub ValidOnTheMeaning : List Statement → ℕ → Type 0
-ValidOnTheMeaning db k = IsTrue (is_theorem_at db k) → IsValid db k ↔ IsProved db k
+-- a theorem is valid exactly if it is proved in this sense
+abbrev pub ValidIsProved : List Statement → ℕ → Type 0
+ValidIsProved db k = IsTrue (is_theorem_at db k) → IsValid db k ↔ IsProved db k

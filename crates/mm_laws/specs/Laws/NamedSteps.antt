@@ -17,7 +17,7 @@ StepsAreNamed db k =
     → (js : List ℕ) × AllZip (λ t j. IsUsable db k t.word j) labels js
     × AreSteps (mandatory_hypotheses db k) js items (bare_steps db k ts)
 
--- hypotheses, labels and items name at most one row of steps
+-- hypotheses, labels and items name at most one list of steps
 abbrev pub NamedStepsAreUnique : Type 0
 NamedStepsAreUnique =
     (hypotheses labels : List ℕ) (items : List Item) (ss other_steps : List Step)

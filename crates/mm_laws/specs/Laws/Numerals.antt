@@ -2,7 +2,7 @@
 use Rattle.std.specs.Prelude.{◌≡◌, ◌≤◌, ℕ, List, codes}
 use Rattle.mm_laws.specs.Spelling.{AreLettersOf}
 
--- each number from 1 on is spelled by one row of letters
+-- each number from 1 on is spelled by one list of letters
 abbrev pub NumbersHaveOneSpelling : Type 0
 NumbersHaveOneSpelling =
     (n : ℕ) → 1 ≤ n

@@ -1,5 +1,5 @@
--- The block of a statement is open as long as no block is less deep (Metamath book, "Basic
--- Syntax"). The test is `stays`.
+-- The block of a statement is open as long as the depth isn't less than there (Metamath book,
+-- "Basic Syntax"). The test is `is_block_open`.
 use Rattle.std.specs.Prelude.{ℕ, ◌<◌, ◌≤◌, List}
 use Rattle.mm_spec.specs.Statement.{Statement}
 use Rattle.mm_spec.specs.Scope.{depth}

@@ -5,7 +5,7 @@ use Rattle.std.specs.Prelude.{ℕ, Bool, false, ◌&&◌, not, List, [], ◌∷�
 use Rattle.std.specs.Prelude.{IsTrue}
 use Rattle.std.specs.List.{list_any, AllByRecursion}
 use Rattle.mm_spec.specs.Statement.{Statement}
-use Rattle.mm_spec.specs.Derivation.{Formula, Frame, Context, Rule, hypothesis, assertion}
+use Rattle.mm_spec.specs.Derivation.{Formula, Frame, Context, Referent, hypothesis, assertion}
 use Rattle.mm_spec.specs.Citation.{context_at}
 
 module _ (c : Context) where
@@ -31,12 +31,17 @@ module _ (c : Context) where
     pub pairs : AllByRecursion
         (λ p. IsBound a.hypotheses p.low × IsBound a.hypotheses p.high) a.pairs
 
-  -- if the label stands for an assertion, its frame is complete
-  abbrev pub HasCompleteFrame : Option Rule → Type 0
+  -- if the label refers to an assertion, its frame is complete
+  abbrev pub HasCompleteFrame : Option Referent → Type 0
   HasCompleteFrame None = Unit {0}
   HasCompleteFrame (Some (hypothesis g)) = Unit {0}
   HasCompleteFrame (Some (assertion a)) = IsComplete a
 
--- the frame of each assertion for which a label stands is complete
+-- the context of the proof of a statement, where it doesn't matter which: that a symbol is a
+-- variable is the same for all
+abbrev pub variables_context : List Statement → Context
+variables_context db = context_at db 0
+
+-- the frame of each assertion to which a label refers is complete
 abbrev pub AreComplete : List Statement → Type 0
-AreComplete db = (k l : ℕ) → HasCompleteFrame (context_at db k) ((context_at db k).rule l)
+AreComplete db = (k l : ℕ) → HasCompleteFrame (context_at db k) ((context_at db k).referent l)

@@ -5,7 +5,7 @@ use Rattle.std.specs.Prelude.{map, length, take, drop, Option, Some, None, Resul
 use Rattle.std.specs.Prelude.{bytes_eq, slice_get}
 use Rattle.std.specs.List.{list_all}
 use Rattle.mm_spec.specs.Limits.{formula_limit}
-use Rattle.mm_spec.specs.Derivation.{Formula, Frame, Rule, hypothesis, assertion, Context}
+use Rattle.mm_spec.specs.Derivation.{Formula, Frame, Referent, hypothesis, assertion, Context}
 use Rattle.mm_spec.specs.Derivation.{Substitution, substitute, are_all_disjoint, Trees, none, more}
 use Rattle.mm_spec.specs.Derivation.{postfix, AreDerivations}
 use Rattle.mm_spec.specs.Steps.{Step, label, marked}
@@ -66,22 +66,22 @@ module _ (c : Context) where
       (nat_le (length (substitute c σ a.formula)) formula_limit)
       (below ++ substitute c σ a.formula ∷ [])
 
-  -- the step of a label, by what it stands for
-  abbrev pub step : Option Rule → List Formula → Result (List Formula) Reason
-  step None es = Err too_few
-  step (Some (hypothesis g)) es =
+  -- the entries after the step of a label, by what it refers to
+  abbrev pub label_entries : Option Referent → List Formula → Result (List Formula) Reason
+  label_entries None es = Err too_few
+  label_entries (Some (hypothesis g)) es =
       unless_too_long (nat_le (length g) formula_limit) (es ++ g ∷ [])
-  step (Some (assertion a)) es = let n = length es - length a.hypotheses in
+  label_entries (Some (assertion a)) es = let n = length es - length a.hypotheses in
       apply a (nat_le (length a.hypotheses) (length es)) (take n es) (drop n es)
 
-  -- the label stands for something, and the frame is complete if that is an assertion
-  abbrev pub IsCompleteRule : Option Rule → Type 0
-  IsCompleteRule None = ⊥
-  IsCompleteRule (Some (hypothesis g)) = Unit {0}
-  IsCompleteRule (Some (assertion a)) = IsComplete c a
+  -- the label refers to something, and the frame is complete if that is an assertion
+  abbrev pub IsCompleteReferent : Option Referent → Type 0
+  IsCompleteReferent None = ⊥
+  IsCompleteReferent (Some (hypothesis g)) = Unit {0}
+  IsCompleteReferent (Some (assertion a)) = IsComplete c a
 
   -- f is the formula of the last tree of a forest of derivations whose postfix list is the labels:
-  -- the formula after the steps that stand for these labels
+  -- the formula after the steps that expand to these labels
   abbrev pub EndsInFormula : List ℕ → Formula → Type 0
   EndsInFormula labels f =
       (forest : Trees) × AreDerivations c forest × (postfix forest ≡ labels)
@@ -89,13 +89,13 @@ module _ (c : Context) where
 
   -- the entries after a step; `last_entries` has the last entry after each step so far
   abbrev pub step_entries : Step → List Formula → List Formula → Result (List Formula) Reason
-  step_entries (label l) last_entries es = step (c.rule l) es
+  step_entries (label l) last_entries es = label_entries (c.referent l) es
   step_entries (marked j) last_entries es =
       elim (slice_get last_entries j) [ None ↦ Ok es | Some f ↦ Ok (es ++ f ∷ []) ]
 
-  -- the step is a label that stands for something, or names one of the n earlier steps
+  -- the step is a label that refers to something, or names one of the n earlier steps
   abbrev pub IsGoodStep : ℕ → Step → Type 0
-  IsGoodStep n (label l) = IsCompleteRule (c.rule l)
+  IsGoodStep n (label l) = IsCompleteReferent (c.referent l)
   IsGoodStep n (marked j) = j < n
 
   -- each step is good in this sense, the first of them as step n

@@ -1,6 +1,6 @@
 //! What is written doesn't depend on where a text is cut.
 
-use super::{PLAIN, writes};
+use super::{NO_OPTIONS, writes};
 use crate::texts::{FIRST_REPORT, FIRST_TEXT, THROUGH_REPORT, joined, through_a_theorem};
 use mm_plan::{Cutting, Plan};
 use mm_run::{RunEnd, run};
@@ -16,7 +16,8 @@ fn is_report_with_cuts<R: Threads + Wait + Sync>(
     mut text: &[u8],
     report: &[u8],
 ) -> Result<bool, AllocError> {
-    let plan = Plan::plain(Cutting::Places(places.to_vec(alloc)?), 4);
+    let workers = 4;
+    let plan = Plan::without_options(Cutting::Places(places.to_vec(alloc)?), workers);
     let mut written = Vec::new(alloc);
     Ok(
         plan.is_lawful()
@@ -67,7 +68,7 @@ fn spaces_in_front_change_nothing(rt: HostRuntime) -> Result<(), AllocError> {
         let mut text = Vec::new(rt.alloc());
         text.extend_from_slice(&spaces[..count])?;
         text.extend_from_slice(&FIRST_TEXT[..FIRST_TEXT.len() - 1])?;
-        assert!(&rt; writes(&rt, rt.alloc(), PLAIN, &text, FIRST_REPORT));
+        assert!(&rt; writes(&rt, rt.alloc(), NO_OPTIONS, &text, FIRST_REPORT));
     }
     Ok(())
 }

@@ -1,22 +1,22 @@
 //! Each fault with the line that is written for it (the examples of `docs/FAULTS.md`), and proofs
 //! that come close to one.
 
-use super::{PLAIN, assert_each_writes, writes};
-use crate::examples::{scopes, shapes, words};
+use super::{NO_OPTIONS, assert_each_writes, writes};
+use crate::examples::{SCOPES, SHAPES, WORDS};
 use crate::texts::{A1I_REPORT, A1I_UP_TO_PROOF, AFTER_PROOF, BASE, DETACHMENT, joined};
 use std::alloc::AllocError;
 
 #[test]
 fn faults_of_words_and_statements(rt: HostRuntime) {
     let alloc = rt.alloc();
-    for example in words() {
-        assert!(&rt; writes(&rt, alloc, PLAIN, example.text, example.output));
+    for (text, _, _, output) in WORDS {
+        assert!(&rt; writes(&rt, alloc, NO_OPTIONS, text, output));
     }
-    for example in shapes() {
-        assert!(&rt; writes(&rt, alloc, PLAIN, example.text, example.output));
+    for (text, _, _, output) in SHAPES {
+        assert!(&rt; writes(&rt, alloc, NO_OPTIONS, text, output));
     }
-    for example in scopes() {
-        assert!(&rt; writes(&rt, alloc, PLAIN, example.text, example.output));
+    for (text, _, _, output) in SCOPES {
+        assert!(&rt; writes(&rt, alloc, NO_OPTIONS, text, output));
     }
 }
 
@@ -52,7 +52,14 @@ const FAULTS_OF_PROOFS: [(&[u8], &[u8]); 14] = [
 
 #[test]
 fn faults_of_proofs(rt: HostRuntime) -> Result<(), AllocError> {
-    assert_each_writes(&rt, rt.alloc(), PLAIN, b"$c a $. ", &FAULTS_OF_PROOFS, b"")
+    assert_each_writes(
+        &rt,
+        rt.alloc(),
+        NO_OPTIONS,
+        b"$c a $. ",
+        &FAULTS_OF_PROOFS,
+        b"",
+    )
 }
 
 /// Proofs of one theorem, and what is written for them.
@@ -103,7 +110,7 @@ const PROOFS: [(&[u8], &[u8]); 31] = [
 fn proofs_of_one_theorem(rt: HostRuntime) -> Result<(), AllocError> {
     let alloc = rt.alloc();
     let before = joined(alloc, &[BASE, DETACHMENT, A1I_UP_TO_PROOF])?;
-    assert_each_writes(&rt, alloc, PLAIN, &before, &PROOFS, AFTER_PROOF)
+    assert_each_writes(&rt, alloc, NO_OPTIONS, &before, &PROOFS, AFTER_PROOF)
 }
 
 /// Statements at the end of a text. The bad byte stands in the second row before the end of the
@@ -162,9 +169,10 @@ const STATEMENTS: [(&[u8], &[u8]); 12] = [
 
 #[test]
 fn faults_of_whole_texts(rt: HostRuntime) -> Result<(), AllocError> {
-    assert_each_writes(&rt, rt.alloc(), PLAIN, BASE, &STATEMENTS, b"")
+    assert_each_writes(&rt, rt.alloc(), NO_OPTIONS, BASE, &STATEMENTS, b"")
 }
 
+/// Symbols, and statements that the theorems in `STEPS` cite.
 const HEAD: &[u8] = b"$c ( ) -> A. = wff set |- $. $v p q x $.
 wp $f wff p $. wq $f wff q $. vx $f set x $.
 wi $a wff ( p -> q ) $. we $a wff x = x $. ax $a |- p $.

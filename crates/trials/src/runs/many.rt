@@ -1,7 +1,10 @@
 //! Runs on texts of many theorems, with 1, with 2 and with 64 workers.
 
 use super::writes;
-use crate::texts::{ANOTHER_FAULTY, FIRST_FAULTY, MANY, add_label, add_number, joined, many};
+use crate::texts::{
+    ANOTHER_FAULTY, FIRST_FAULTY, NONE_FAULTY, THEOREM_COUNT, add_label, add_number, joined,
+    many_theorems_text,
+};
 use std::alloc::{AllocError, Global};
 use std::sync::Wait;
 use std::thread::Threads;
@@ -24,11 +27,11 @@ fn is_written_by_any_workers<R: Threads + Wait + Sync>(
 /// The report on the many theorems, all of which rest on the first of two axioms.
 fn many_report(alloc: Global) -> Result<Vec<u8>, AllocError> {
     let mut report = joined(alloc, &[b"mmdepend 1\naxioms 2\ntheorems 3000\nmatrix\n"])?;
-    add_lines(&mut report, b't', MANY, b":10\n")?;
+    add_lines(&mut report, b't', THEOREM_COUNT, b":10\n")?;
     report.extend_from_slice(b"counts\n")?;
-    add_lines(&mut report, b't', MANY, b":1\n")?;
+    add_lines(&mut report, b't', THEOREM_COUNT, b":1\n")?;
     report.extend_from_slice(b"usage\nwi:3000:")?;
-    add_lines(&mut report, b't', MANY - 1, b" ")?;
+    add_lines(&mut report, b't', THEOREM_COUNT - 1, b" ")?;
     report.extend_from_slice(b"t2999\nax-1:0:\nend\n")?;
     Ok(report)
 }
@@ -36,10 +39,10 @@ fn many_report(alloc: Global) -> Result<Vec<u8>, AllocError> {
 #[test]
 fn many_theorems(rt: HostRuntime) -> Result<(), AllocError> {
     let alloc = rt.alloc();
-    let text = many(alloc, &[])?;
+    let text = many_theorems_text(alloc, NONE_FAULTY)?;
     let report = many_report(alloc)?;
     assert!(&rt; is_written_by_any_workers(&rt, alloc, &text, &report));
-    let faulty = many(alloc, &[FIRST_FAULTY, ANOTHER_FAULTY])?;
+    let faulty = many_theorems_text(alloc, &[FIRST_FAULTY, ANOTHER_FAULTY])?;
     assert!(&rt; is_written_by_any_workers(&rt, alloc, &faulty, b"refused 2007:49 E37\n"));
     Ok(())
 }
@@ -48,7 +51,7 @@ fn many_theorems(rt: HostRuntime) -> Result<(), AllocError> {
 const AXIOMS: u32 = 70;
 
 /// How many theorems each of its two waves has: so many that threads compute their rows.
-const WIDE: u32 = 700;
+const WAVE_LENGTH: u32 = 700;
 
 /// Adds the labels with this letter, each with this end.
 fn add_lines(report: &mut Vec<u8>, letter: u8, count: u32, end: &[u8]) -> Result<(), AllocError> {
@@ -71,7 +74,7 @@ fn axiom_of(letter: u8, k: u32) -> u32 {
 
 /// Adds a wave of theorems to the wide text.
 fn add_wave(text: &mut Vec<u8>, letter: u8) -> Result<(), AllocError> {
-    for k in 0..WIDE {
+    for k in 0..WAVE_LENGTH {
         add_label(text, letter, k)?;
         text.extend_from_slice(b" $p wff p $= wp ")?;
         if letter == b'u' {
@@ -87,7 +90,7 @@ fn add_wave(text: &mut Vec<u8>, letter: u8) -> Result<(), AllocError> {
 
 /// Seventy axioms, 700 theorems that cite one of them each, and 700 that cite one of these theorems
 /// and another axiom.
-fn wide(alloc: Global) -> Result<Vec<u8>, AllocError> {
+pub(crate) fn wide_text(alloc: Global) -> Result<Vec<u8>, AllocError> {
     let mut text = joined(alloc, &[b"$c wff $.\n$v p $.\nwp $f wff p $.\n"])?;
     for axiom in 0..AXIOMS {
         text.push(b'a')?;
@@ -106,7 +109,7 @@ fn rests_on(letter: u8, k: u32, axiom: u32) -> bool {
 
 /// Adds the rows of the wave with this letter.
 fn add_rows(report: &mut Vec<u8>, letter: u8) -> Result<(), AllocError> {
-    for k in 0..WIDE {
+    for k in 0..WAVE_LENGTH {
         add_label(report, letter, k)?;
         report.push(b':')?;
         for axiom in 0..AXIOMS {
@@ -128,7 +131,7 @@ const SPACED_LABEL_BYTES: usize = 6;
 fn add_usage(report: &mut Vec<u8>, alloc: Global, axiom: u32) -> Result<(), AllocError> {
     let mut users = Vec::new(alloc);
     for letter in [b't', b'u'] {
-        for k in 0..WIDE {
+        for k in 0..WAVE_LENGTH {
             if rests_on(letter, k, axiom) {
                 users.push(b' ')?;
                 add_label(&mut users, letter, k)?;
@@ -151,8 +154,8 @@ fn wide_report(alloc: Global) -> Result<Vec<u8>, AllocError> {
     add_rows(&mut report, b't')?;
     add_rows(&mut report, b'u')?;
     report.extend_from_slice(b"counts\n")?;
-    add_lines(&mut report, b't', WIDE, b":1\n")?;
-    add_lines(&mut report, b'u', WIDE, b":2\n")?;
+    add_lines(&mut report, b't', WAVE_LENGTH, b":1\n")?;
+    add_lines(&mut report, b'u', WAVE_LENGTH, b":2\n")?;
     report.extend_from_slice(b"usage\n")?;
     for axiom in 0..AXIOMS {
         add_usage(&mut report, alloc, axiom)?;
@@ -161,12 +164,11 @@ fn wide_report(alloc: Global) -> Result<Vec<u8>, AllocError> {
     Ok(report)
 }
 
-// The rows of each wave differ, and those of the second are made from those of the first. How many
-// threads make them is the runtime's choice.
+// The rows of each wave differ, and those of the second are made from those of the first.
 #[test]
-fn rows_made_by_threads(rt: HostRuntime) -> Result<(), AllocError> {
+fn rows_of_wide_waves(rt: HostRuntime) -> Result<(), AllocError> {
     let alloc = rt.alloc();
-    let text = wide(alloc)?;
+    let text = wide_text(alloc)?;
     let report = wide_report(alloc)?;
     assert!(&rt; is_written_by_any_workers(&rt, alloc, &text, &report));
     Ok(())

@@ -2,7 +2,7 @@
 
 mod cuts;
 mod faults;
-mod many;
+pub(crate) mod many;
 mod reports;
 
 use crate::texts::joined;
@@ -14,7 +14,7 @@ use std::sync::Wait;
 use std::thread::Threads;
 
 /// The command line without options.
-const PLAIN: &[&str] = &["mmdepend"];
+const NO_OPTIONS: &[&str] = &["mmdepend"];
 
 /// A run: its command line, the parts of its text, and what it writes.
 #[derive(Clone, Copy)]

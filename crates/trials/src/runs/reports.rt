@@ -1,24 +1,25 @@
 //! What reports show: the chosen sections and columns, citations by essential nodes, open theorems,
 //! the second form, and direct citations.
 
-use super::{Case, PLAIN, assert_all_write, writes};
+use super::{Case, NO_OPTIONS, assert_all_write, writes};
 use crate::texts::{
     A1I_PROOF, A1I_REPORT, A1I_UP_TO_PROOF, AFTER_PROOF, BASE, DETACHMENT, FIRST_REPORT,
-    FIRST_TEXT, NOTHING_REPORT, SAME, THROUGH, THROUGH_REPORT, add_number, chain, joined, seventy,
+    FIRST_TEXT, NO_CITATIONS, NOTHING_REPORT, THROUGH_REPORT, THROUGH_THEOREM, add_number,
+    chain_text, joined, seventy_axioms_text,
 };
 use std::alloc::{AllocError, Global};
 
 /// A text with a theorem, `a1i`.
-const ONE: &[&[u8]] = &[BASE, DETACHMENT, A1I_UP_TO_PROOF, A1I_PROOF, AFTER_PROOF];
+const ONE_THEOREM: &[&[u8]] = &[BASE, DETACHMENT, A1I_UP_TO_PROOF, A1I_PROOF, AFTER_PROOF];
 
 /// The same, and a theorem that rests on it, `a2`.
-const TWO: &[&[u8]] = &[
+const TWO_THEOREMS: &[&[u8]] = &[
     BASE,
     DETACHMENT,
     A1I_UP_TO_PROOF,
     A1I_PROOF,
     AFTER_PROOF,
-    THROUGH,
+    THROUGH_THEOREM,
 ];
 
 /// The first of them in compressed form, with an axiom that its proof mentions and doesn't cite.
@@ -34,43 +35,43 @@ const MENTIONING: &[&[u8]] = &[
 /// Runs that choose sections and columns.
 const SECTIONS: [Case<'static>; 8] = [
     Case {
-        words: PLAIN,
+        words: NO_OPTIONS,
         parts: &[FIRST_TEXT],
         output: FIRST_REPORT,
     },
     Case {
-        words: PLAIN,
+        words: NO_OPTIONS,
         parts: &[],
         output: NOTHING_REPORT,
     },
     Case {
-        words: PLAIN,
-        parts: TWO,
+        words: NO_OPTIONS,
+        parts: TWO_THEOREMS,
         output: THROUGH_REPORT,
     },
     Case {
-        words: PLAIN,
-        parts: &[SAME],
+        words: NO_OPTIONS,
+        parts: &[NO_CITATIONS],
         output: b"mmdepend 1\naxioms 0\ntheorems 1\nmatrix\nsame:\ncounts\nsame:0\nusage\nend\n",
     },
     Case {
-        words: PLAIN,
+        words: NO_OPTIONS,
         parts: MENTIONING,
         output: b"mmdepend 1\naxioms 4\ntheorems 1\nmatrix\na1i:1110\ncounts\na1i:3\nusage\nwi:1:a1i\nax-1:1:a1i\nax-mp:1:a1i\nax-u:0:\nend\n",
     },
     Case {
         words: &["mmdepend", "--only", "|-", "--report", "counts"],
-        parts: TWO,
+        parts: TWO_THEOREMS,
         output: b"mmdepend 1\naxioms 2\ntheorems 2\ncounts\na1i:2\na2:2\nend\n",
     },
     Case {
         words: &["mmdepend", "--only", "|-", "--report", "matrix"],
-        parts: ONE,
+        parts: ONE_THEOREM,
         output: b"mmdepend 1\naxioms 2\ntheorems 1\nmatrix\na1i:11\nend\n",
     },
     Case {
         words: &["mmdepend", "--only", "x", "--report", "usage"],
-        parts: ONE,
+        parts: ONE_THEOREM,
         output: b"mmdepend 1\naxioms 0\ntheorems 1\nusage\nend\n",
     },
 ];
@@ -90,7 +91,7 @@ const ESSENTIAL: &[&str] = &["mmdepend", "--essential"];
 const ESSENTIAL_CASES: [Case<'static>; 7] = [
     Case {
         words: ESSENTIAL,
-        parts: ONE,
+        parts: ONE_THEOREM,
         output: LOGICAL_REPORT,
     },
     Case {
@@ -122,12 +123,12 @@ const ESSENTIAL_CASES: [Case<'static>; 7] = [
     },
     Case {
         words: &["mmdepend", "--essential", "--report", "matrix"],
-        parts: TWO,
+        parts: TWO_THEOREMS,
         output: b"mmdepend 1\naxioms 3\ntheorems 2\nmatrix\na1i:011\na2:011\nend\n",
     },
     Case {
         words: &["mmdepend", "--essential", "--report", "counts"],
-        parts: TWO,
+        parts: TWO_THEOREMS,
         output: b"mmdepend 1\naxioms 3\ntheorems 2\ncounts\na1i:2\na2:2\nend\n",
     },
     Case {
@@ -157,7 +158,7 @@ const SECOND_FORM_CASES: [Case<'static>; 4] = [
     },
     Case {
         words: SECOND_FORM,
-        parts: ONE,
+        parts: ONE_THEOREM,
         output: b"mmdepend 2\naxioms 3\ntheorems 1\nmatrix\na1i:e\nend\n",
     },
     Case {
@@ -167,7 +168,7 @@ const SECOND_FORM_CASES: [Case<'static>; 4] = [
     },
     Case {
         words: &["mmdepend", "--form", "2"],
-        parts: &[SAME],
+        parts: &[NO_CITATIONS],
         output: b"mmdepend 2\naxioms 0\ntheorems 1\nmatrix\nsame:\ncounts\nsame:0\nusage\nend\n",
     },
 ];
@@ -178,7 +179,15 @@ fn the_second_form(rt: HostRuntime) -> Result<(), AllocError> {
     assert_all_write(&rt, alloc, &SECOND_FORM_CASES)?;
     let digits =
         b"mmdepend 2\naxioms 70\ntheorems 2\nmatrix\nt:800000000000000184\nu:c00000000000000184\nend\n";
-    assert!(&rt; writes(&rt, alloc, SECOND_FORM, &seventy(alloc)?, digits));
+    assert!(&rt;
+        writes(
+            &rt,
+            alloc,
+            SECOND_FORM,
+            &seventy_axioms_text(alloc)?,
+            digits
+        )
+    );
     Ok(())
 }
 
@@ -192,22 +201,22 @@ const ESSENTIAL_CITATIONS: &[&str] = &["mmdepend", "--report", "citations", "--e
 const CITATIONS_CASES: [Case<'static>; 6] = [
     Case {
         words: CITATIONS,
-        parts: TWO,
+        parts: TWO_THEOREMS,
         output: b"mmdepend 1\naxioms 3\ntheorems 2\ncitations\na1i:3:wi ax-1 ax-mp\na2:2:wi a1i\nend\n",
     },
     Case {
         words: LOGICAL_CITATIONS,
-        parts: TWO,
+        parts: TWO_THEOREMS,
         output: b"mmdepend 1\naxioms 2\ntheorems 2\ncitations\na1i:2:ax-1 ax-mp\na2:1:a1i\nend\n",
     },
     Case {
         words: ESSENTIAL_CITATIONS,
-        parts: TWO,
+        parts: TWO_THEOREMS,
         output: b"mmdepend 1\naxioms 3\ntheorems 2\ncitations\na1i:2:ax-1 ax-mp\na2:1:a1i\nend\n",
     },
     Case {
         words: &["mmdepend", "--report", "citations", "--only", "x"],
-        parts: ONE,
+        parts: ONE_THEOREM,
         output: b"mmdepend 1\naxioms 0\ntheorems 1\ncitations\na1i:0:\nend\n",
     },
     Case {
@@ -302,7 +311,7 @@ fn open_theorems_are_columns(rt: HostRuntime) -> Result<(), AllocError> {
 /// Runs whose proofs are incomplete.
 const INCOMPLETE_CASES: [Case<'static>; 3] = [
     Case {
-        words: PLAIN,
+        words: NO_OPTIONS,
         parts: OPEN,
         output: b"refused 8:23 E32\n",
     },
@@ -352,16 +361,16 @@ fn seventy_report(alloc: Global) -> Result<Vec<u8>, AllocError> {
 #[test]
 fn rows_of_more_than_a_word(rt: HostRuntime) -> Result<(), AllocError> {
     let alloc = rt.alloc();
-    let text = seventy(alloc)?;
+    let text = seventy_axioms_text(alloc)?;
     let report = seventy_report(alloc)?;
-    assert!(&rt; writes(&rt, alloc, PLAIN, &text, &report));
+    assert!(&rt; writes(&rt, alloc, NO_OPTIONS, &text, &report));
     Ok(())
 }
 
 #[test]
 fn a_chain_has_the_same_row_all_along(rt: HostRuntime) -> Result<(), AllocError> {
     let alloc = rt.alloc();
-    let text = chain(alloc)?;
+    let text = chain_text(alloc)?;
     let mut report = joined(alloc, &[b"mmdepend 1\naxioms 2\ntheorems 130\nmatrix\n"])?;
     for k in 0..130 {
         report.push(b't')?;

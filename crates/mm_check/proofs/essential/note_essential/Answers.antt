@@ -16,14 +16,14 @@ use Rattle.mm_check.proofs.essential.note_essential.Goals as goal
 pub loop-i-init : goal.loop-i-init
 loop-i-init g c =
     let steps = c.args.steps.now.steps in
-    let step_flags_are = c.in_ok-reset_flags.ensures.step_flags
+    let step_flags_are = c.in_ok-reset_flags.ensures.no_step_is_set
     ∙ ap (λ n. replicate n false) c.len.ensures in
     rw c.len-i.ensures
     (walked_at_start c.args.database.now.statements c.args.theorem steps
-    c.requires.steps.is_complete
+    c.requires.are_steps.is_complete
     c.reset_flags.new.entry_flags.items c.reset_flags.new.step_flags.items c.clear.new.self
-    c.requires.steps.steps_are c.requires.has_proof c.in_ok-reset_flags.ensures.entry_flags
-    step_flags_are
+    c.requires.are_steps.steps_are c.requires.has_proof
+    c.in_ok-reset_flags.ensures.root_is_essential step_flags_are
     c.clear.ensures)
 
 pub pop_flag-flag-requires : goal.pop_flag-flag-requires
@@ -45,7 +45,7 @@ undo_step-requires-clause-label_is_below g c =
     omega (arith, c.loop-i-test.true, c.loop-i.auto.i, c.len-i.ensures) in
     good_step_label_is_below db c.args.theorem i (as_step c.step.result)
     (step_at_is_good (context_at db c.args.theorem) steps i i
-    (as_step c.step.result) i_lt_length_steps c.requires.steps.are_good refl c.step.ensures)
+    (as_step c.step.result) i_lt_length_steps c.requires.are_steps.are_good refl c.step.ensures)
 
 pub undo_step-requires-clause-repeats_earlier : goal.undo_step-requires-clause-repeats_earlier
 undo_step-requires-clause-repeats_earlier g c =
@@ -58,7 +58,7 @@ undo_step-requires-clause-repeats_earlier g c =
     good_step_is_earlier (context_at db c.args.theorem) i (length c.deref_mut.result.now)
     (as_step c.step.result) (omega (arith, i_lt_length_steps, step_flags_fit))
     (step_at_is_good (context_at db c.args.theorem) steps i i
-    (as_step c.step.result) i_lt_length_steps c.requires.steps.are_good refl c.step.ensures)
+    (as_step c.step.result) i_lt_length_steps c.requires.are_steps.are_good refl c.step.ensures)
 
 pub loop-i-preserved : goal.loop-i-preserved
 loop-i-preserved g c =
@@ -81,7 +81,7 @@ loop-i-preserved g c =
     ] in
     let step_flags_are : c.undo_step.new.step_flags
     ≡ step_flags_after c.if-flag.is_essential
-    (as_step c.step.result) step_flags = c.in_ok-undo_step.ensures.step_flags
+    (as_step c.step.result) step_flags = c.in_ok-undo_step.ensures.sets_step_flag
     ∙ ap (step_flags_after c.if-flag.is_essential (as_step c.step.result))
     c.deref_mut.ensures.value in
     let length_is : length step_flags ≡ c.loop-i.step_flags.len = search rules in
@@ -94,18 +94,17 @@ loop-i-preserved g c =
     ∙ length_is) in
     walked_by_value db c.args.theorem steps c.loop-i.i i c.loop-i.entry_flags.items step_flags
     c.loop-i.noted c.loop-i.invariant i_lt_length_steps i_is_suc
-    c.pop_flag-flag.new.entry_flags.items
-    c.pop_flag-flag.result c.if-flag.is_essential
+    c.pop_flag-flag.new.entry_flags.items c.pop_flag-flag.result c.if-flag.is_essential
     (as_step c.step.result) c.undo_step.new.entry_flags.items _ c.undo_step.new.noted
-    c.pop_flag-flag.ensures is_essential_is c.requires.steps.are_good c.step.ensures
-    c.in_ok-undo_step.ensures.entry_flags
-    (step_flags_written_back ∙ step_flags_are) c.in_ok-undo_step.ensures.noted
+    c.pop_flag-flag.ensures is_essential_is c.requires.are_steps.are_good c.step.ensures
+    c.in_ok-undo_step.ensures.pushes_taken_flags
+    (step_flags_written_back ∙ step_flags_are) c.in_ok-undo_step.ensures.notes_applied
 
 pub returns : goal.returns
 returns g c =
     let i_is_0 : c.loop-i.i ≡ 0 = omega (arith, c.loop-i-test.false) in
     walked_to_start c.args.database.now.statements c.args.theorem c.args.steps.now.steps
-    c.requires.steps.is_complete
+    c.requires.are_steps.is_complete
     c.loop-i.entry_flags.items c.loop-i.step_flags.items c.loop-i.noted
     (subst (λ n. AreFoundFrom c.args.database.now.statements c.args.theorem c.args.steps.now.steps n
     c.loop-i.entry_flags.items c.loop-i.step_flags.items c.loop-i.noted) i_is_0 c.loop-i.invariant)

@@ -7,7 +7,7 @@ use Rattle.mm_check.proofs.essential.push_flags.Goals as goal
 
 pub returns : goal.returns
 returns g c =
-    let hs = c.hyps-hypothesis-items.result.now in
+    let hs = c.mandatory_hypotheses-hypothesis-items.result.now in
     let length_hs_le : length hs ≤ c.loop-hypothesis.hypothesis-index = omega
     (arith, c.loop-hypothesis-test.false) in
     c.loop-hypothesis.invariant
@@ -15,4 +15,4 @@ returns g c =
     ++ map (λ h. c.args.is_essential
     && list_any is_essential (statement_at c.args.database.now.statements h)) ks)
     (take_all c.loop-hypothesis.hypothesis-index hs length_hs_le
-    ∙ c.hyps-hypothesis-items.ensures.are)
+    ∙ c.mandatory_hypotheses-hypothesis-items.ensures.hypotheses_are)

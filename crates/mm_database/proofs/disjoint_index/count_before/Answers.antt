@@ -4,28 +4,28 @@ use Rattle.mm_database.proofs.StartsLaw.{slice_is_partitioned, pair_before_point
 use Rattle.mm_database.proofs.StartsLaw.{pair_after_point_is_not_before}
 use Rattle.mm_database.proofs.disjoint_index.count_before.Goals as goal
 
-pub returns-clause-before : goal.returns-clause-before
-returns-clause-before c =
+pub returns-clause-earlier_are_before : goal.returns-clause-earlier_are_before
+returns-clause-earlier_are_before c =
     let is_partitioned =
-    slice_is_partitioned c.args.pairs.now c.requires.rising c.args.symbol c.args.at _ _
+    slice_is_partitioned c.args.by_symbol.now c.requires.rising c.args.symbol c.args.at _ _
     c.start_of-from.ensures c.start_of-to.ensures in
     let is_partition_point =
     IsPartitionPoint-from_clause
     (λ p. nat_lt p.1 c.args.at) _ _ c.partition_point-earlier.ensures.partitioned is_partitioned
     (λ a r q k. search rules) in
-    pair_before_point_is_before c.args.pairs.now c.requires.rising c.args.symbol c.args.at _ _
+    pair_before_point_is_before c.args.by_symbol.now c.requires.rising c.args.symbol c.args.at _ _
     c.start_of-from.ensures c.start_of-to.ensures _ c.partition_point-earlier.ensures.bound
     is_partition_point
 
-pub returns-clause-after : goal.returns-clause-after
-returns-clause-after c =
+pub returns-clause-later_are_not_before : goal.returns-clause-later_are_not_before
+returns-clause-later_are_not_before c =
     let is_partitioned =
-    slice_is_partitioned c.args.pairs.now c.requires.rising c.args.symbol c.args.at _ _
+    slice_is_partitioned c.args.by_symbol.now c.requires.rising c.args.symbol c.args.at _ _
     c.start_of-from.ensures c.start_of-to.ensures in
     let is_partition_point =
     IsPartitionPoint-from_clause
     (λ p. nat_lt p.1 c.args.at) _ _ c.partition_point-earlier.ensures.partitioned is_partitioned
     (λ a r q k. search rules) in
-    pair_after_point_is_not_before c.args.pairs.now c.requires.rising c.args.symbol c.args.at _ _
-    c.start_of-from.ensures c.start_of-to.ensures _ c.partition_point-earlier.ensures.bound
+    pair_after_point_is_not_before c.args.by_symbol.now c.requires.rising c.args.symbol c.args.at _
+    _ c.start_of-from.ensures c.start_of-to.ensures _ c.partition_point-earlier.ensures.bound
     is_partition_point

@@ -8,12 +8,13 @@ use Rattle.mm_frame.proofs.LatestLaw.{each_latest_with_next}
 use Rattle.mm_frame.proofs.active.latest_essentials.Goals as goal
 use Rattle.mm_frame.proofs.active.latest_essentials.Goals.{then-is_essential, else-is_essential}
 
-pub last_open-last-requires-clause-candidate : goal.last_open-last-requires-clause-candidate
-last_open-last-requires-clause-candidate g c =
+pub latest_essential-essential-requires-clause-is_candidate :
+    goal.latest_essential-essential-requires-clause-is_candidate
+latest_essential-essential-requires-clause-is_candidate g c =
     let k = c.loop-statement.statement in
     let t = is_essential in
     let db = c.args.statements.now.list in
-    let length_lt_2_31 = c.len-statement-end.ensures.sound.few_statements in
+    let length_lt_2_31 = c.len-statement-end.ensures.is_sound.few_statements in
     let end_is_len = c.loop-statement.auto.statement-end in
     let len_is_length = c.len-statement-end.ensures.len in
     let k_lt_end = c.loop-statement-test.true in
@@ -41,6 +42,6 @@ loop-statement-preserved g c =
     let latest_count = c.loop-statement.invariant.count in
     each_latest_with_next is_essential c.args.statements.now.list c.loop-statement.latest.items
     c.push-in-loop-statement.new.self.items
-    c.last_open-last.result c.loop-statement.statement latest_count c.in_ok-push-2.ensures.items
-    c.loop-statement.invariant.each_is_latest
-    c.last_open-last.ensures
+    c.latest_essential-essential.result c.loop-statement.statement latest_count
+    c.in_ok-push-2.ensures.items c.loop-statement.invariant.each_is_latest
+    c.latest_essential-essential.ensures

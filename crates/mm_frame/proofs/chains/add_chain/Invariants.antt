@@ -3,14 +3,14 @@ use Rattle.mm_frame.specs.Chains.{IsLinkChain}
 use Rattle.mm_frame.proofs.ChainsLaw.{IsRest}
 use Rattle.mm_frame.proofs.chains.add_chain.Given as goal
 
-abbrev pub invariant-loop-number : goal.invariant-loop-number
-invariant-loop-number g l = record {
-  number_le_length : l.number ≤ length l.chains.links.items;
+abbrev pub invariant-loop-link : goal.invariant-loop-link
+invariant-loop-link g l = record {
+  link_le_length : l.link ≤ length l.chains.links.items;
   rest_is_chain : (statements : List ℕ)
       → IsLinkChain l.chains.links.items (get_or l.chains.heads.items l.symbol 0) statements
-      → IsRest l.chains.links.items l.symbol l.number l.initial.pairs.items l.pairs.items
+      → IsRest l.chains.links.items l.symbol l.link l.initial.by_symbol.items l.by_symbol.items
       statements;
 }
 
-abbrev pub decreases-loop-number : goal.decreases-loop-number
-decreases-loop-number g l = l.number
+abbrev pub decreases-loop-link : goal.decreases-loop-link
+decreases-loop-link g l = l.link

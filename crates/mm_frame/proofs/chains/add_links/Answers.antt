@@ -6,17 +6,17 @@ use Rattle.mm_frame.proofs.chains.add_links.Goals as goal
 
 pub loop-symbol-preserved : goal.loop-symbol-preserved
 loop-symbol-preserved g c = record {
-  count = c.in_ok-add_link.ensures.count ∙ c.loop-symbol.invariant.count;
-  linked = c.in_ok-add_link.ensures.linked;
+  count = c.in_ok-add_link.ensures.head_count_stays ∙ c.loop-symbol.invariant.count;
+  linked = c.in_ok-add_link.ensures.are_linked;
   chains = λ has are_chains.
       chains_for_equal_tests _ _ c.args.statement c.args.statement _ _ (omega arith)
       (test_with_next_symbol has c.args.symbols.now c.loop-symbol.symbol-index _ _ c.args.statement
       c.loop-symbol-test.true c.symbol-item.is)
-      (c.in_ok-add_link.ensures.chains _ (c.loop-symbol.invariant.chains has are_chains));
+      (c.in_ok-add_link.ensures.adds_in_front _ (c.loop-symbol.invariant.chains has are_chains));
 }
 
-pub returns-clause-chains : goal.returns-clause-chains
-returns-clause-chains g c =
+pub returns-clause-adds_in_front : goal.returns-clause-adds_in_front
+returns-clause-adds_in_front g c =
     subst (λ (ys : List ℕ). AddsInFront (is_member ys) c.args.statement c.args.chains.now
     c.loop-symbol.chains)
     (take_all c.loop-symbol.symbol-index c.args.symbols.now c.loop-symbol-test.false)

@@ -20,7 +20,7 @@ loop-statement-init g c =
     record {
       statement_le_length = let len_is_length = c.len-statement.ensures.len in
           omega (arith, len_is_length);
-      count = length_heads_is_n ∙ c.symbol_count.ensures.count;
+      count = length_heads_is_n ∙ c.symbol_count.ensures.count_is;
       linked = rw c.new.ensures.items (no_links_are_linked heads heads_are_0);
       chains = rw (c.new.ensures.items, c.len-statement.ensures.len)
           (no_chains_at_start db heads heads_are_0);
@@ -37,14 +37,14 @@ loop-statement-preserved-in-Continue-branch-2 g c =
       statement_le_length = let statement_le_length =
           c.loop-statement.invariant.statement_le_length in
           omega (arith, statement_le_length);
-      count = c.in_ok-add_links.ensures.count ∙ c.loop-statement.invariant.count;
-      linked = c.in_ok-add_links.ensures.linked;
+      count = c.in_ok-add_links.ensures.head_count_stays ∙ c.loop-statement.invariant.count;
+      linked = c.in_ok-add_links.ensures.are_linked;
       chains =
           chains_for_equal_tests _ _ (statement - 1) (statement - 1) _ _ (omega arith)
           (λ x j. has_symbol_with_disjoint db (statement - 1) x j statement c.formula.result.now
           statement_is_next
           c.formula.ensures.formula (sym c.is_disjoint.ensures ∙ c.if-is_disjoint.true))
-          (c.in_ok-add_links.ensures.chains _
+          (c.in_ok-add_links.ensures.adds_in_front _
           (chains_for_equal_tests _ _ (statement - 1) statement _ _ (omega arith) (λ x j. refl)
           c.loop-statement.invariant.chains));
     }
@@ -68,8 +68,9 @@ loop-statement-preserved g c =
           c.loop-statement.invariant.chains;
     }
 
-pub returns-clause-all : goal.returns-clause-all
-returns-clause-all g c = λ x j j_has_x.
+pub returns-clause-symbols_have_heads : goal.returns-clause-symbols_have_heads
+returns-clause-symbols_have_heads g c = λ x j j_has_x.
     let x_lt_symbol_count =
-    symbol_lt_symbol_count c.args.statements.now.list c.len-statement.ensures.sound x j j_has_x in
+    symbol_lt_symbol_count c.args.statements.now.list c.len-statement.ensures.is_sound x j j_has_x
+    in
     omega (arith, x_lt_symbol_count, c.loop-statement.invariant.count)

@@ -14,12 +14,11 @@ loop-symbol-preserved g c =
       arith,
       symbol_lt_end,
       end_is_count,
-      c.symbol_count-symbol-end.ensures.count,
-      c.in_ok-chains.ensures.count,
-    )
-    in
-    let chain = c.in_ok-chains.ensures.chains x x_lt_length_heads in
+      c.symbol_count-symbol-end.ensures.count_is,
+      c.in_ok-chains.ensures.head_count_is,
+    ) in
+    let chain = c.in_ok-chains.ensures.are_chains x x_lt_length_heads in
     pairs_with_symbol c.args.statements.now.list x
-    (get_or heads x 0) links c.loop-symbol.pairs.items
-    c.add_chain.new.pairs.items chain c.loop-symbol.invariant
+    (get_or heads x 0) links c.loop-symbol.by_symbol.items
+    c.add_chain.new.by_symbol.items chain c.loop-symbol.invariant
     (c.in_ok-add_chain.ensures chain.statements chain.chain)

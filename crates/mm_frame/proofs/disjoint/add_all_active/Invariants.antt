@@ -7,8 +7,8 @@ use Rattle.mm_frame.proofs.disjoint.add_all_active.Given as goal
 abbrev pub invariant-loop-symbol : goal.invariant-loop-symbol
 invariant-loop-symbol g l =
     (j y : ℕ)
-    → has_pair l.into.items j y
-    ≡ (has_pair l.initial.into.items j y
+    → has_pair l.by_statement.items j y
+    ≡ (has_pair l.initial.by_statement.items j y
     || (is_member (take l.symbol-index l.symbols) y
-    && (has_pair l.disjoint_index.pairs y j
+    && (has_pair l.disjoint_index.by_symbol y j
     && is_active_local l.blocks j l.fn.at)))

@@ -13,22 +13,20 @@ returns g c = ok_then c.symbol_pairs.result c.symbol_pairs.ensures (λ v pairs_a
     let db = c.args.sources.now.statements.now.list in
     let b = c.args.sources.now.statements.now.blocks in
     let k = c.args.assertion in
-    let assertion_lt_length = c.requires.assertion in
+    let assertion_lt_length = c.requires.assertion_lt_length in
     let k_le_length_db : k ≤ length db = omega (arith, assertion_lt_length) in
-    let ps = c.args.sources.now.disjoint_index.now.pairs in
+    let ps = c.args.sources.now.disjoint_index.now.by_symbol in
     let variables = c.args.variables.now in
     pairs_are_symbol_pairs ∙ ap (map (λ p. pair p.0 p.1)) c.deref-2.ensures.value
-    ∙ pairs_are_mandatory_pairs db b c.blocks-2.ensures.theirs k k_le_length_db ps
-    c.requires.sources.index_is.members_are
-    variables
-    c.sort_and_dedup_pairs.new.pairs.items
-    c.requires.variables
-    (λ j y. c.sort_and_dedup_pairs.ensures.same j y
-    ∙ rw (← c.blocks-2.ensures.blocks) (c.in_ok-add_all_active.ensures j y)
+    ∙ pairs_are_mandatory_pairs db b c.blocks-2.ensures.are_blocks k k_le_length_db ps
+    c.requires.are_sources.index_is.members_are variables c.sort_and_dedup_pairs.new.pairs.items
+    c.requires.are_mandatory
+    (λ j y. c.sort_and_dedup_pairs.ensures.members_stay j y
+    ∙ rw (← c.blocks-2.ensures.blocks_are) (c.in_ok-add_all_active.ensures j y)
     ∙ ap (λ (xs : List (ℕ × ℕ)). has_pair xs j y
     || (is_member variables y && (has_pair ps y j && is_active_local b j k))) c.clear.ensures.items)
     c.sort_and_dedup_pairs-2.new.pairs.items c.sort_and_dedup_pairs-2.ensures.rising
-    (λ x y. c.sort_and_dedup_pairs-2.ensures.same x y ∙ c.in_ok-add_together.ensures x y
+    (λ x y. c.sort_and_dedup_pairs-2.ensures.members_stay x y ∙ c.in_ok-add_together.ensures x y
     ∙ ap (λ (xs : List (ℕ × ℕ)). has_pair xs x y
     || list_any (λ p. has_later c.deref.result.now p x y) c.deref.result.now)
     c.clear-2.ensures.items

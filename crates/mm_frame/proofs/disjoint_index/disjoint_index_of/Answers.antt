@@ -6,28 +6,28 @@ use Rattle.mm_frame.proofs.disjoint_index.disjoint_index_of.Goals as goal
 pub skips_of-requires : goal.skips_of-requires
 skips_of-requires g c =
     record {
-      known =
-          rw (c.blocks-2.ensures.blocks, c.deref.ensures.value)
-          (have_blocks c.args.statements.now.list _ c.blocks-2.ensures.theirs
-          c.in_ok-pairs.pairs.items c.in_ok-pairs.ensures.members_are);
+      all_have_blocks =
+          rw (c.blocks-2.ensures.blocks_are, c.deref.ensures.value)
+          (have_blocks c.args.statements.now.list _ c.blocks-2.ensures.are_blocks
+          c.in_ok-by_symbol.by_symbol.items c.in_ok-by_symbol.ensures.members_are);
     }
 
 pub returns : goal.returns
 returns g c =
     let b = c.args.statements.now.blocks in
-    let ps = c.in_ok-pairs.pairs.items in
+    let ps = c.in_ok-by_symbol.by_symbol.items in
     let ss = c.in_ok-skips.skips.items in
     let is_disjoint_index : IsDisjointIndex c.args.statements.now.list b (pair_lists ps ss) =
     record {
-      members_are = c.in_ok-pairs.ensures.members_are;
+      members_are = c.in_ok-by_symbol.ensures.members_are;
       ordered = record {
-        rising = c.in_ok-pairs.ensures.rising;
+        rising = c.in_ok-by_symbol.ensures.rising;
         known =
-            have_blocks c.args.statements.now.list b c.blocks-2.ensures.theirs ps
-            c.in_ok-pairs.ensures.members_are;
+            have_blocks c.args.statements.now.list b c.blocks-2.ensures.are_blocks ps
+            c.in_ok-by_symbol.ensures.members_are;
         skips_are =
             subst (λ (ps : List (ℕ × ℕ)). AreSkips b ps ss) c.deref.ensures.value
-            (rw (← c.blocks-2.ensures.blocks) c.in_ok-skips.ensures);
+            (rw (← c.blocks-2.ensures.blocks_are) c.in_ok-skips.ensures);
       };
     } in
     rw c.new.ensures is_disjoint_index

@@ -9,7 +9,7 @@ loop-index-init g c = (ap length c.new-skips.ensures.items, λ q q_lt_0. absurd 
 pub loop-covered_from-init : goal.loop-covered_from-init
 loop-covered_from-init g c = (
   omega arith,
-  covers_itself c.args.blocks.now c.args.pairs.now
+  covers_itself c.args.blocks.now c.args.by_symbol.now
       c.loop-index.index,
 )
 
@@ -20,7 +20,7 @@ loop-covered_from-smaller g c =
     let covered_from_le_index = c.loop-covered_from.invariant.0 in
     let covered_from_gt_0 = c.loop-covered_from-test.true in
     let skip_covers_index =
-    skip_covers c.args.blocks.now c.args.pairs.now index c.loop-index.skips.items
+    skip_covers c.args.blocks.now c.args.by_symbol.now index c.loop-index.skips.items
     c.loop-index.invariant
     (covered_from - 1)
     c.index-covered_from.result.now _ (omega (arith, covered_from_le_index, covered_from_gt_0))
@@ -35,10 +35,10 @@ loop-covered_from-preserved g c =
     let invariant = c.loop-covered_from.invariant in
     let covered_from_le_index = invariant.0 in
     let covered_from_gt_0 = c.loop-covered_from-test.true in
-    covers_before c.args.blocks.now c.args.pairs.now covered_from index
+    covers_before c.args.blocks.now c.args.by_symbol.now covered_from index
     c.index-covered_from.result.now covered_from_gt_0 covered_from_le_index invariant.1
     (sym c.is_covered.ensures ∙ c.if-is_covered.true)
-    (skip_covers c.args.blocks.now c.args.pairs.now index c.loop-index.skips.items
+    (skip_covers c.args.blocks.now c.args.by_symbol.now index c.loop-index.skips.items
     c.loop-index.invariant
     (covered_from - 1)
     c.index-covered_from.result.now _ (omega (arith, covered_from_le_index, covered_from_gt_0))
@@ -46,7 +46,7 @@ loop-covered_from-preserved g c =
 
 pub loop-index-preserved : goal.loop-index-preserved
 loop-index-preserved g c =
-    skips_with_next c.args.blocks.now c.args.pairs.now c.loop-index.index
+    skips_with_next c.args.blocks.now c.args.by_symbol.now c.loop-index.index
     c.loop-covered_from.covered_from
     c.loop-index.skips.items
     c.loop-index.invariant c.loop-covered_from.invariant c.push.new.self.items
@@ -54,19 +54,22 @@ loop-index-preserved g c =
 
 pub returns : goal.returns
 returns g c =
-    so_far_are_skips c.args.blocks.now c.args.pairs.now c.loop-index.index c.loop-index.skips.items
+    so_far_are_skips c.args.blocks.now c.args.by_symbol.now c.loop-index.index
+    c.loop-index.skips.items
     c.loop-index.invariant c.loop-index.auto.index-end c.loop-index-test.false
 
-pub is_covered-requires-clause-pair : goal.is_covered-requires-clause-pair
-is_covered-requires-clause-pair g c =
+pub is_covered-requires-clause-pair_has_block : goal.is_covered-requires-clause-pair_has_block
+is_covered-requires-clause-pair_has_block g c =
     let covered_from_le_index = c.loop-covered_from.invariant.0 in
     let index_lt_end = c.loop-index-test.true in
     let covered_from_gt_0 = c.loop-covered_from-test.true in
-    c.requires.known (c.loop-covered_from.covered_from - 1)
+    c.requires.all_have_blocks (c.loop-covered_from.covered_from - 1)
     (omega (arith, covered_from_le_index, index_lt_end, covered_from_gt_0))
 
-pub is_covered-requires-clause-covering : goal.is_covered-requires-clause-covering
-is_covered-requires-clause-covering g c = c.requires.known c.loop-index.index c.loop-index-test.true
+pub is_covered-requires-clause-covering_has_block :
+    goal.is_covered-requires-clause-covering_has_block
+is_covered-requires-clause-covering_has_block g c =
+    c.requires.all_have_blocks c.loop-index.index c.loop-index-test.true
 
 pub index-covered_from-requires : goal.index-covered_from-requires
 index-covered_from-requires g c =

@@ -20,31 +20,31 @@ pub loop-statement-init : goal.loop-statement-init
 loop-statement-init g c = record {
   last_floats =
       last_floats_at_start c.args.statements.now.list c.in_ok-last_floats.last_floats.items
-      c.symbol_count.result
-      c.symbol_count.ensures.count c.in_ok-last_floats.ensures.count
-      c.in_ok-last_floats.ensures.each;
+      c.symbol_count.result c.symbol_count.ensures.count_is c.in_ok-last_floats.ensures.length_is
+      c.in_ok-last_floats.ensures.each_is_value;
   stamps = record {
-    count = c.in_ok-filled.ensures.count ∙ c.symbol_count-2.ensures.count;
+    count = c.in_ok-filled.ensures.length_is ∙ c.symbol_count-2.ensures.count_is;
     stamps_le_stamp =
         λ x x_lt_count.
-        let counts_equal = c.symbol_count-2.ensures.count in
-        let stamp_is_0 = c.in_ok-filled.ensures.each x (omega (arith, x_lt_count, counts_equal)) in
+        let counts_equal = c.symbol_count-2.ensures.count_is in
+        let stamp_is_0 =
+        c.in_ok-filled.ensures.each_is_value x (omega (arith, x_lt_count, counts_equal)) in
         omega (arith, stamp_is_0);
   };
   frames = c.none-frames.ensures;
 }
 
-pub add_frame-requires-clause-sources : goal.add_frame-requires-clause-sources
-add_frame-requires-clause-sources g c = record {
-  sound = c.len-count.ensures.sound;
+pub add_frame-requires-clause-are_sources : goal.add_frame-requires-clause-are_sources
+add_frame-requires-clause-are_sources g c = record {
+  sound = c.len-count.ensures.is_sound;
   essentials_are =
       subst (λ xs. AreLatest is_essential c.args.statements.now.list xs) (sym c.deref.ensures.value)
       c.in_ok-essentials.ensures;
   index_is = c.requires;
 }
 
-pub add_frame-requires-clause-ready : goal.add_frame-requires-clause-ready
-add_frame-requires-clause-ready g c = record {
+pub add_frame-requires-clause-are_ready : goal.add_frame-requires-clause-are_ready
+add_frame-requires-clause-are_ready g c = record {
   last_floats_are =
       subst (λ xs. AreLastFloats c.args.statements.now.list c.loop-statement.statement xs)
       (sym c.deref-in-loop-statement.ensures.value)
@@ -52,12 +52,14 @@ add_frame-requires-clause-ready g c = record {
   stamps_are_fresh = c.loop-statement.invariant.stamps;
 }
 
-pub add_frame-requires-clause-statement : goal.add_frame-requires-clause-statement
-add_frame-requires-clause-statement g c =
+pub add_frame-requires-clause-statement_lt_length :
+    goal.add_frame-requires-clause-statement_lt_length
+add_frame-requires-clause-statement_lt_length g c =
     let statement_lt_count = c.loop-statement-test.true in
     let len_is_length = c.len-count.ensures.len in omega (arith, statement_lt_count, len_is_length)
 
-pub set_last_float-requires-clause-statement : goal.set_last_float-requires-clause-statement
-set_last_float-requires-clause-statement g c =
+pub set_last_float-requires-clause-statement_lt_length :
+    goal.set_last_float-requires-clause-statement_lt_length
+set_last_float-requires-clause-statement_lt_length g c =
     let statement_lt_count = c.loop-statement-test.true in
     let len_is_length = c.len-count.ensures.len in omega (arith, statement_lt_count, len_is_length)

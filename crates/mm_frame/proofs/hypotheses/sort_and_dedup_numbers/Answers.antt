@@ -12,8 +12,8 @@ returns-clause-rising g c =
     rw numbers_are_deduped
     (IsStrictlyIncreasing-dedup c.sort_unstable.new.self.items c.sort_unstable.ensures.sorted)
 
-pub returns-clause-same : goal.returns-clause-same
-returns-clause-same g c =
+pub returns-clause-members_stay : goal.returns-clause-members_stay
+returns-clause-members_stay g c =
     sort_and_dedup_keeps_members c.args.numbers.now.items c.sort_unstable.new.self.items
     c.dedup.new.self.items
     c.sort_unstable.ensures.permutation (dedup_is nat_eq _ _ c.dedup.ensures.filtered)

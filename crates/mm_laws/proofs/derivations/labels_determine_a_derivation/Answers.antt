@@ -2,4 +2,5 @@ use Rattle.mm_laws.proofs.TheoremLaw.{labels_determine_derivations, proof_is_uni
 use Rattle.mm_laws.proofs.derivations.labels_determine_a_derivation.Goals as goal
 
 pub returns : goal.returns
-returns c = record { labels = labels_determine_derivations; proof = proof_is_unique }
+returns c =
+    record { labels_determine = labels_determine_derivations; proof_is_unique = proof_is_unique }

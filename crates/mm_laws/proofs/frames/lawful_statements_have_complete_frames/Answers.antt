@@ -8,6 +8,5 @@ returns c =
     record {
       frames_are_complete = frames_are_complete;
       variables_are_typed = variables_are_typed_where_read;
-      mandatory =
-          variables_are_mandatory_where_read;
+      variables_are_mandatory = variables_are_mandatory_where_read;
     }

@@ -5,8 +5,7 @@ use Rattle.mm_laws.proofs.steps.steps_are_what_is_named.Goals as goal
 
 pub returns : goal.returns
 returns c = record {
-  compressed = steps_are_named;
+  steps_are_named = steps_are_named;
   steps_are_unique = named_steps_are_unique;
-  normal
-      = steps_are_labels_where_read;
+  steps_are_labels = steps_are_labels_where_read;
 }

@@ -10,7 +10,7 @@ loop-place-preserved c = record {
   place_le_to = omega (arith, c.loop-place.invariant.place_le_to);
   not_white = λ i from_le_i i_lt_to. ⊎_elim {C = white_at c.args.text.now i ≡ false}
       (λ i_lt_place. block_not_white c.args.text.now
-      (c.loop-place.place - 64) c.classes_of.result.white c.classes_of.ensures.white
+      (c.loop-place.place - 64) c.classes_of.result.white c.classes_of.ensures.white_is
       c.if-classes_of-eq0.true
       (omega (
         arith,

@@ -12,7 +12,7 @@ loop-place-preserved c = record {
       λ i from_le_i i_lt_to. ⊎_elim {C = white_at c.args.text.now i ≡ false}
       (λ i_lt_place. c.loop-place.invariant.not_white i from_le_i i_lt_place)
       (λ place_le_i. block_not_white c.args.text.now c.loop-place.place c.classes_of.result.white
-      c.classes_of.ensures.white c.if-classes_of-eq0.true
+      c.classes_of.ensures.white_is c.if-classes_of-eq0.true
       (omega (arith, c.loop-place-test.true, c.requires.to_le_length)) i place_le_i i_lt_to)
       (cases_lt i c.loop-place.place);
 }

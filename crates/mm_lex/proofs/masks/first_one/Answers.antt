@@ -12,8 +12,8 @@ pub returns-then-rest-eq0-clause-zeros : goal.returns-then-rest-eq0-clause-zeros
 returns-then-rest-eq0-clause-zeros c i from_le_i i_lt_next =
     no_bits_left c.args.mask c.args.from c.if-rest-eq0.true i from_le_i
 
-pub returns-else-rest-eq0-clause-place_le_64 : goal.returns-else-rest-eq0-clause-place_le_64
-returns-else-rest-eq0-clause-place_le_64 c =
+pub returns-else-rest-eq0-clause-index_le_64 : goal.returns-else-rest-eq0-clause-index_le_64
+returns-else-rest-eq0-clause-index_le_64 c =
     let next_lt_64_holds =
     next_bit_lt_64 c.args.mask c.args.from c.ranges.mask.fits (shifted_fits c)
     (omega (arith, c.if-rest-eq0.false)) in

@@ -8,8 +8,8 @@ use Rattle.mm_lex.proofs.pieces.join_between.Goals as goal
 use Rattle.mm_lex.proofs.pieces.join_between.Goals.{then-before-after+in_ok-read_word+in_ok-read_word-2}
 use Rattle.mm_lex.proofs.pieces.join_between.Goals.{else-before-after}
 
-pub returns-clause-readings : goal.returns-clause-readings
-returns-clause-readings g c ws us readings_before readings_after =
+pub returns-clause-are_joined : goal.returns-clause-are_joined
+returns-clause-are_joined g c ws us readings_before readings_after =
     let outside_joined : (p : ℕ)
     → side_reading p (side c.if-before-after.outside)
     ≡ append_reading c.args.text.now (side_reading p (side c.args.before.outside))

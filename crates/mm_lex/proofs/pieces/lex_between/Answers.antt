@@ -25,9 +25,9 @@ loop-scanner-preserved g c =
     let next_word_is =
     next_word_of_equal_texts _ text c.loop-scanner.scanner.from c.next_word.new.self.from
     c.args.tail_start word
-    invariant_before.texts_equal c.in-Some.ensures.words in
+    invariant_before.texts_equal c.in-Some.ensures.is_next_word in
     record {
-      texts_equal = c.in-Some.ensures.text ∙ invariant_before.texts_equal;
+      texts_equal = c.in-Some.ensures.text_is ∙ invariant_before.texts_equal;
       outside_reading =
           λ p. append_reading_continues text _ (side_reading p (side c.loop-scanner.outside)) _ word
           _ _
@@ -43,20 +43,20 @@ loop-scanner-preserved-then-ignores_plain-2 g c =
     let invariant_before = c.loop-scanner.invariant in
     let text = c.args.text.now in
     let word = c.in-Some.found.word in
-    let texts_equal = c.in-Some.ensures.text ∙ invariant_before.texts_equal in
+    let texts_equal = c.in-Some.ensures.text_is ∙ invariant_before.texts_equal in
     let next_from = c.next_word.new.self.from in
     let upto = c.skip_plain.new.self.from in
     let next_word_is =
     next_word_of_equal_texts _ text c.loop-scanner.scanner.from next_from c.args.tail_start word
     invariant_before.texts_equal
-    c.in-Some.ensures.words in
+    c.in-Some.ensures.is_next_word in
     let is_plain_word =
     subst (λ (t : List ℕ). IsPlainWord (bytes_of t word)) invariant_before.texts_equal
-    (c.in-Some.ensures.plain c.if-found.true) in
+    (c.in-Some.ensures.plain_if_known c.if-found.true) in
     let others_are_plain =
-    subst (λ (t : List ℕ). ArePlain t next_from upto) texts_equal c.skip_plain.ensures.plain in
+    subst (λ (t : List ℕ). ArePlain t next_from upto) texts_equal c.skip_plain.ensures.are_plain in
     record {
-      texts_equal = c.skip_plain.ensures.text ∙ texts_equal;
+      texts_equal = c.skip_plain.ensures.text_is ∙ texts_equal;
       outside_reading =
           λ p. appended_skips_plain text _
           (side_reading p (side c.loop-scanner.outside)) word _ next_from upto
@@ -90,8 +90,8 @@ next_word-requires-clause-text_fits_limit g c =
     subst (λ (t : List ℕ). length t ≤ TEXT_LIMIT) (sym c.loop-scanner.invariant.texts_equal)
     c.requires.text_fits_limit
 
-pub returns-clause-readings : goal.returns-clause-readings
-returns-clause-readings g c =
+pub returns-clause-are_readings : goal.returns-clause-are_readings
+returns-clause-are_readings g c =
     let invariant_before = c.loop-scanner.invariant in
     let text = c.args.text.now in
     let from = c.loop-scanner.scanner.from in

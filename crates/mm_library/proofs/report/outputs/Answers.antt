@@ -6,7 +6,7 @@ use Rattle.mm_library.proofs.report.outputs.Goals as goal
 pub write_outputs-requires : goal.write_outputs-requires
 write_outputs-requires g c =
     record {
-      judged =
+      is_judged =
           subst
           (λ (r : Request). IsJudgedText c.args.text.now r.essential r.with_open
           c.in-Ok.judged) c.request.view_is c.in-Ok.ensures;

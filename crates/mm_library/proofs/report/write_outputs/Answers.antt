@@ -12,10 +12,10 @@ use Rattle.mm_library.proofs.report.write_outputs.Goals as goal
 pub write_output-requires-then-with_citations : goal.write_output-requires-then-with_citations
 write_output-requires-then-with_citations g c =
     record {
-      judged =
+      is_judged =
           subst
           (λ (r : Request). IsJudgedText c.args.text.now r.essential r.with_open
-          c.args.judged.now) (sym c.citing.ensures) c.requires.judged;
+          c.args.judged.now) (sym c.citing.ensures) c.requires.is_judged;
     }
 
 pub returns : goal.returns
@@ -30,8 +30,7 @@ returns g c =
     (subst (λ (out : List ℕ). ends_with c.status-2.result out) {x = front.out.now} (search rules)
     (subst (λ (s : Status). ends_with s front.out.now) (sym c.status-2.ensures)
     (writing_ends c.in-Ok.verdict request.with_open (request ∷ []) text (front.len ∷ [])
-    front.out.now
-    front.len written.0
+    front.out.now front.len written.0
     (one_output request text front.out.now written.1.0 front.written.bytes front.len written.1.1
     (search rules) front.len_is front.is_at_front) (omega arith))))
 
@@ -56,8 +55,7 @@ returns-in-Ok-write_output g c =
     (writing_ends c.in-Ok.verdict request.with_open requests text lengths front.out.now front.len
     written.0
     (two_outputs request (citing request) text front.out.now written.1.0 other_written.0
-    front_before.written.bytes
-    front.written.bytes front_before.len front.len written.1.1
+    front_before.written.bytes front.written.bytes front_before.len front.len written.1.1
     (subst (λ (r : Request). IsOutput text r other_written.0) c.citing.ensures other_written.1)
     (search rules) other_written.2 front_before.len_is front.len_is front.is_at_front)
     (let first_length_is = front_before.len_is in let length_is = front.len_is in omega (

@@ -22,7 +22,7 @@ returns-then-len-gt-FORMULA_LIMIT-clause-tells_length_le_limit g c =
     let u = c.formula.result.now in
     let i_lt_length_f : i < length f = c.loop-part-test.true in
     let replaced_part_is_u : replaced_part xs es c.part-item.result ≡ u =
-    ap (replaced_part xs es) (sym c.symbol.ensures ∙ c.in-Variable.is)
+    ap (replaced_part xs es) (sym c.unpack.ensures ∙ c.in-Variable.is)
     ∙ sym (c.formula.ensures ∙ ap (span_formula xs) c.replacement_of.ensures) in
     let front_and_u_le : length (replaced xs es (take i f)) + length u ≤ length (replaced xs es f) =
     front_and_part_le_replaced xs es f i c.part-item.result u i_lt_length_f (sym c.part-item.is)
@@ -37,10 +37,9 @@ returns-then-len-gt-FORMULA_LIMIT-clause-tells_length_le_limit g c =
 pub formula-requires : goal.formula-requires
 formula-requires g c =
     variable_replacement_is_in c.args.symbols.now c.args.premises.now c.args.formula.now
-    c.loop-part.part-index
-    c.part-item.result c.in-Variable.number c.replacement_of.result c.requires.premises
-    c.requires.formula
-    c.loop-part-test.true c.part-item.is (sym c.symbol.ensures ∙ c.in-Variable.is)
+    c.loop-part.part-index c.part-item.result c.in-Variable.floating_index c.replacement_of.result
+    c.requires.premises_in_arena c.requires.variables_in_range
+    c.loop-part-test.true c.part-item.is (sym c.unpack.ensures ∙ c.in-Variable.is)
     c.replacement_of.ensures
 
 pub returns-then-len-gt-FORMULA_LIMIT-clause-list_is_formula :
@@ -58,17 +57,17 @@ loop-part-preserved g c =
     ≡ replaced xs es (take i f) ++ replaced_part xs es p =
     replaced_take_suc xs es f i p c.loop-part-test.true
     ∙ ap (λ z. replaced xs es (take i f) ++ replaced_part xs es z) (sym c.part-item.is) in
-    elim c.match-symbol.branch [
+    elim c.match-unpack.branch [
       | in-Variable+in_ok-append_symbols-in-Variable+else-len-gt-FORMULA_LIMIT w ↦
           let formula_is_replaced_part : w.formula.result.now ≡ replaced_part xs es p =
           w.formula.ensures ∙ ap (span_formula xs) w.replacement_of.ensures
-          ∙ sym (ap (replaced_part xs es) (sym c.symbol.ensures ∙ w.in-Variable.is)) in
+          ∙ sym (ap (replaced_part xs es) (sym c.unpack.ensures ∙ w.in-Variable.is)) in
           rw (w.list-is, w.in_ok-append_symbols-in-Variable.ensures)
           (ap₂ (λ u v. u ++ v) c.loop-part.invariant formula_is_replaced_part ∙ sym replaced_next)
       | in-Constant+in_ok-push-in-Constant w ↦
           rw (w.list-is, w.in_ok-push-in-Constant.ensures.items)
           (ap₂ (λ u v. u ++ v) c.loop-part.invariant
-          (sym (ap (replaced_part xs es) (sym c.symbol.ensures ∙ w.in-Constant.is)))
+          (sym (ap (replaced_part xs es) (sym c.unpack.ensures ∙ w.in-Constant.is)))
           ∙ sym replaced_next)
     ]
 
@@ -78,8 +77,7 @@ returns-clause-tells_length_le_limit g c =
     ≡ replaced c.args.symbols.now c.args.premises.now c.args.formula.now =
     c.loop-part.invariant ∙ ap (replaced c.args.symbols.now c.args.premises.now)
     (take_all c.loop-part.part-index c.args.formula.now c.loop-part-test.false) in
-    ap (λ n. nat_le n formula_limit)
-    (c.len-2.ensures ∙ c.loop-part.list.ok.0 ∙ ap length list_is)
+    ap (λ n. nat_le n formula_limit) (c.len-2.ensures ∙ c.loop-part.list.ok.0 ∙ ap length list_is)
 
 pub returns-clause-list_is_formula : goal.returns-clause-list_is_formula
 returns-clause-list_is_formula g c = λ short.

@@ -3,13 +3,13 @@ use Rattle.std.proofs.lemmas.List.{length-take-le, length-drop, take_rest}
 use Rattle.mm_machine.proofs.FillLaw.{put_twice}
 use Rattle.mm_machine.proofs.fill.put_ends.Goals as goal
 
-pub returns-clause-written : goal.returns-clause-written
-returns-clause-written c =
+pub returns-clause-are_written : goal.returns-clause-are_written
+returns-clause-are_written c =
     let symbols = c.args.symbols.now in
     let w = c.args.width in
     let width_le_count = c.requires.width_le_count in
     let count_le_double_width = c.requires.count_le_double_width in
-    let room = c.requires.room in
+    let room = c.requires.fits in
     let tail_is_dropped = take_rest symbols (length symbols - w) in
     let tail_length_is = ap length tail_is_dropped in
     let length_dropped = length-drop (length symbols - w) symbols in
@@ -22,5 +22,5 @@ returns-clause-written c =
       tail_length_is,
       length_dropped,
       width_le_count,
-    )) c.put_width.ensures.written
-    c.put_width-2.ensures.written
+    )) c.put_width.ensures.are_written
+    c.put_width-2.ensures.are_written

@@ -17,41 +17,41 @@ returns-in_err-append-in-Unmarked-clause-moves_symbols g c =
 pub returns-in-Marked-clause-moves_symbols : goal.returns-in-Marked-clause-moves_symbols
 returns-in-Marked-clause-moves_symbols g c = nothing_moves c.args.unmarked.now c.args.marked.now
 
-pub returns-in-Marked-clause-entry_is : goal.returns-in-Marked-clause-entry_is
-returns-in-Marked-clause-entry_is g c =
+pub returns-in-Marked-clause-returns_top_formula : goal.returns-in-Marked-clause-returns_top_formula
+returns-in-Marked-clause-returns_top_formula g c =
     let unmarked = c.args.unmarked.now in
     let marked = c.args.marked.now in
     let es = c.args.stack.now.items in
-    let last_index = c.len-last.result - 1 in
+    let top_index = c.len-top_index.result - 1 in
     let e = c.index-entry.result.now in
-    let len_is : c.len-last.result ≡ length es = search rules in
-    let is_last : last_index + 1 ≡ length es = omega (arith, len_is, c.requires.entry) in
-    let e_is_last : e ≡ get_or es last_index no_symbols =
-    c.index-entry.ensures ∙ sym (get_or_default es last_index no_symbols e (omega (arith, is_last)))
+    let len_is : c.len-top_index.result ≡ length es = search rules in
+    let is_last : top_index + 1 ≡ length es = omega (arith, len_is, c.requires.has_entry) in
+    let e_is_last : e ≡ get_or es top_index no_symbols =
+    c.index-entry.ensures ∙ sym (get_or_default es top_index no_symbols e (omega (arith, is_last)))
     in (
-      last_is_marked_entry unmarked marked es last_index e is_last e_is_last c.requires.stack
+      last_is_marked_entry unmarked marked es top_index e is_last e_is_last c.requires.is_stack
           c.in-Marked.is,
       marked_formula_is_top unmarked marked es
-          last_index e is_last e_is_last c.requires.stack c.in-Marked.is,
+          top_index e is_last e_is_last c.requires.is_stack c.in-Marked.is,
     )
 
 -- the formula on top is an unmarked one, and has been moved
 top_is_moved : (g : Over) (c : goal.After-stack-1 g)
     → IsMoved c.args.unmarked.now c.args.marked.now c.args.stack.now.items
     c.truncate.new.self c.append.new.self
-    (slice_set c.args.stack.now.items (c.len-last.result - 1)
+    (slice_set c.args.stack.now.items (c.len-top_index.result - 1)
     (span Marked c.len-start.result c.len.result))
     (span Marked c.len-start.result c.len.result)
 top_is_moved g c =
     let unmarked = c.args.unmarked.now in
     let marked = c.args.marked.now in
     let es = c.args.stack.now.items in
-    let last_index = c.len-last.result - 1 in
+    let top_index = c.len-top_index.result - 1 in
     let e = c.index-entry.result.now in
-    let len_is : c.len-last.result ≡ length es = search rules in
-    let is_last : last_index + 1 ≡ length es = omega (arith, len_is, c.requires.entry) in
-    let e_is_last : e ≡ get_or es last_index no_symbols =
-    c.index-entry.ensures ∙ sym (get_or_default es last_index no_symbols e (omega (arith, is_last)))
+    let len_is : c.len-top_index.result ≡ length es = search rules in
+    let is_last : top_index + 1 ≡ length es = omega (arith, len_is, c.requires.has_entry) in
+    let e_is_last : e ≡ get_or es top_index no_symbols =
+    c.index-entry.ensures ∙ sym (get_or_default es top_index no_symbols e (omega (arith, is_last)))
     in
     let moved_symbols = slice_range unmarked e.start e.end in
     let marked_grown : c.append.new.self ≡ marked ++ moved_symbols =
@@ -62,24 +62,23 @@ top_is_moved g c =
     let new_span_is : span Marked c.len-start.result c.len.result
     ≡ span Marked (length marked) (length (marked ++ moved_symbols)) = ap₂ (span Marked) start_is
     (end_is ∙ ap length marked_grown) in
-    is_moved unmarked marked es last_index e is_last e_is_last c.requires.stack c.in-Unmarked.is
-    c.truncate.new.self
-    c.append.new.self
+    is_moved unmarked marked es top_index e is_last e_is_last c.requires.is_stack c.in-Unmarked.is
+    c.truncate.new.self c.append.new.self
     (span Marked c.len-start.result c.len.result) c.truncate.ensures marked_grown new_span_is
 
-pub returns-in_ok-append-in-Unmarked-clause-stack :
-    goal.returns-in_ok-append-in-Unmarked-clause-stack
-returns-in_ok-append-in-Unmarked-clause-stack g c = (top_is_moved g c).is_stack
+pub returns-in_ok-append-in-Unmarked-clause-is_stack :
+    goal.returns-in_ok-append-in-Unmarked-clause-is_stack
+returns-in_ok-append-in-Unmarked-clause-is_stack g c = (top_is_moved g c).is_stack
 
-pub returns-in_ok-append-in-Unmarked-clause-formulas :
-    goal.returns-in_ok-append-in-Unmarked-clause-formulas
-returns-in_ok-append-in-Unmarked-clause-formulas g c = (top_is_moved g c).formulas_stay
+pub returns-in_ok-append-in-Unmarked-clause-formulas_stay :
+    goal.returns-in_ok-append-in-Unmarked-clause-formulas_stay
+returns-in_ok-append-in-Unmarked-clause-formulas_stay g c = (top_is_moved g c).formulas_stay
 
 pub returns-in_ok-append-in-Unmarked-clause-moves_symbols :
     goal.returns-in_ok-append-in-Unmarked-clause-moves_symbols
 returns-in_ok-append-in-Unmarked-clause-moves_symbols g c = (top_is_moved g c).moves_symbols
 
-pub returns-in_ok-append-in-Unmarked-clause-entry_is :
-    goal.returns-in_ok-append-in-Unmarked-clause-entry_is
-returns-in_ok-append-in-Unmarked-clause-entry_is g c =
+pub returns-in_ok-append-in-Unmarked-clause-returns_top_formula :
+    goal.returns-in_ok-append-in-Unmarked-clause-returns_top_formula
+returns-in_ok-append-in-Unmarked-clause-returns_top_formula g c =
     ((top_is_moved g c).is_marked, (top_is_moved g c).is_top_formula)

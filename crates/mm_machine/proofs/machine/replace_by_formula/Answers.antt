@@ -13,47 +13,45 @@ use Rattle.mm_machine.proofs.machine.replace_by_formula.Goals as goal
 formula_is : (g : Over) (c : In-Some g)
     → take c.in-Some.count c.fill.new.list
     ≡ replaced (arena c.args.unmarked.now c.args.marked.now)
-    (drop c.args.below c.args.stack.now.items)
-    c.args.formula.now
+    (drop c.args.below c.args.stack.now.items) c.args.formula.now
 formula_is g c =
-    c.in-Some.ensures.written
+    c.in-Some.ensures.formula_is_written
     ∙ replaced_by_value c.args.unmarked.now c.args.marked.now c.args.stack.now.items c.args.below
     c.args.formula.now c.as_slice.result.now c.deref.result.now c.as_slice.ensures
     c.deref.ensures.value
 
-pub returns-in-Err-clause-stack : goal.returns-in-Err-clause-stack
-returns-in-Err-clause-stack g c = λ w parts_in_range is_stack_of.
-    c.replace_from.ensures.stack w c.args.marked.now
+pub returns-in-Err-clause-stays_stack : goal.returns-in-Err-clause-stays_stack
+returns-in-Err-clause-stays_stack g c = λ w parts_in_range is_stack_of.
+    c.replace_from.ensures.stays_stack w c.args.marked.now
     (formula_known c.args.unmarked.now c.args.marked.now c.args.stack.now.items c.args.below
     c.args.formula.now (take c.in-Some.count c.fill.new.list)
-    (formula_is g (goal.at.returns-in-Err-clause-stack g c).In-Some) w is_stack_of parts_in_range)
-    is_stack_of
+    (formula_is g (goal.at.returns-in-Err-clause-stays_stack g c).In-Some) w is_stack_of
+    parts_in_range) is_stack_of
 
-pub returns-in-Ok-clause-stack : goal.returns-in-Ok-clause-stack
-returns-in-Ok-clause-stack g c = λ w parts_in_range is_stack_of.
-    c.replace_from.ensures.stack w c.args.marked.now
+pub returns-in-Ok-clause-stays_stack : goal.returns-in-Ok-clause-stays_stack
+returns-in-Ok-clause-stays_stack g c = λ w parts_in_range is_stack_of.
+    c.replace_from.ensures.stays_stack w c.args.marked.now
     (formula_known c.args.unmarked.now c.args.marked.now c.args.stack.now.items c.args.below
     c.args.formula.now (take c.in-Some.count c.fill.new.list)
-    (formula_is g (goal.at.returns-in-Ok-clause-stack g c).In-Some) w is_stack_of parts_in_range)
-    is_stack_of
+    (formula_is g (goal.at.returns-in-Ok-clause-stays_stack g c).In-Some) w is_stack_of
+    parts_in_range) is_stack_of
 
-pub returns-in-Ok-clause-entries : goal.returns-in-Ok-clause-entries
-returns-in-Ok-clause-entries g c =
+pub returns-in-Ok-clause-entries_are : goal.returns-in-Ok-clause-entries_are
+returns-in-Ok-clause-entries_are g c =
     entries_if_short c.args.unmarked.now c.args.marked.now c.args.stack.now.items c.args.below
-    c.args.formula.now
-    (take c.in-Some.count c.fill.new.list)
-    (formula_is g (goal.at.returns-in-Ok-clause-entries g c).In-Some)
+    c.args.formula.now (take c.in-Some.count c.fill.new.list)
+    (formula_is g (goal.at.returns-in-Ok-clause-entries_are g c).In-Some)
     (taken_length_le_limit c.in-Some.count c.fill.new.list c.in-Some.ensures.count_le_limit)
-    ∙ ap Ok (sym (c.in-Ok.ensures.formulas c.args.marked.now c.requires.stack))
+    ∙ ap Ok (sym (c.in-Ok.ensures.formulas_are c.args.marked.now c.requires.is_stack))
 
-pub fill-requires-clause-premises : goal.fill-requires-clause-premises
-fill-requires-clause-premises g c =
+pub fill-requires-clause-premises_in_arena : goal.fill-requires-clause-premises_in_arena
+fill-requires-clause-premises_in_arena g c =
     slice_entries_are_in (arena c.as_slice.result.now c.args.marked.now) c.deref.result.now
     c.args.below (length c.deref.result.now)
-    (rw (c.as_slice.ensures, c.deref.ensures.value) c.requires.stack.entries_in_arena)
+    (rw (c.as_slice.ensures, c.deref.ensures.value) c.requires.is_stack.entries_in_arena)
 
-pub fill-requires-clause-formula : goal.fill-requires-clause-formula
-fill-requires-clause-formula g c =
+pub fill-requires-clause-variables_in_range : goal.fill-requires-clause-variables_in_range
+fill-requires-clause-variables_in_range g c =
     variables_below_by_value c.args.unmarked.now c.args.marked.now c.args.stack.now.items
     c.args.below
-    c.args.formula.now c.deref.result.now c.deref.ensures.value c.requires.formula
+    c.args.formula.now c.deref.result.now c.deref.ensures.value c.requires.variables_in_range

@@ -19,25 +19,27 @@ constant_is_disjoint db t s not_variable (x ∷ v) =
     (not (a && is_variable_number db x) || (not (s == x) && (context_at db t).is_disjoint s x))
     && b) not_variable (constant_is_disjoint db t s not_variable v)
 
-pub returns-then-not-is_variable-clause-value : goal.returns-then-not-is_variable-clause-value
-returns-then-not-is_variable-clause-value g c =
+pub returns-then-not-is_variable-clause-tells_disjoint :
+    goal.returns-then-not-is_variable-clause-tells_disjoint
+returns-then-not-is_variable-clause-tells_disjoint g c =
     sym (constant_is_disjoint c.args.database.now.statements c.args.theorem c.args.symbol
     (sym c.is_variable.ensures ∙ c.if-not-is_variable.true) c.args.others.now)
 
-pub returns-then-not-are_disjoint-clause-value : goal.returns-then-not-are_disjoint-clause-value
-returns-then-not-are_disjoint-clause-value g c =
+pub returns-then-not-are_disjoint-clause-tells_disjoint :
+    goal.returns-then-not-are_disjoint-clause-tells_disjoint
+returns-then-not-are_disjoint-clause-tells_disjoint g c =
     let disjoint = are_disjoint (context_at c.args.database.now.statements c.args.theorem)
     c.args.symbol in
     sym (list_all_at disjoint c.args.others.now c.loop-other.other-index c.other-item.result
     c.loop-other-test.true
-    (ap disjoint (sym c.other-item.is) ∙ sym c.are_disjoint.ensures.value
+    (ap disjoint (sym c.other-item.is) ∙ sym c.are_disjoint.ensures.tells_disjoint
     ∙ c.if-not-are_disjoint.true))
 
 pub loop-other-preserved : goal.loop-other-preserved
 loop-other-preserved g c = grind (arith, common_steps)
 
-pub returns-clause-value : goal.returns-clause-value
-returns-clause-value g c =
+pub returns-clause-tells_disjoint : goal.returns-clause-tells_disjoint
+returns-clause-tells_disjoint g c =
     sym (ap (is_disjoint_from (context_at c.args.database.now.statements c.args.theorem)
     c.args.symbol)
     (sym (take_all c.loop-other.other-index c.args.others.now c.loop-other-test.false))

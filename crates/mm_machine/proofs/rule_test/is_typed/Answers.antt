@@ -9,7 +9,7 @@ returns-then-premise c =
     let xs = symbols_of c.args.symbols.now c.args.premise.store in
     let a = c.args.premise.start in
     let r = c.index-list-premise.result in
-    let end_le_length = c.requires.premise.end_le_length in
+    let end_le_length = c.requires.premise_in_arena.end_le_length in
     let start_lt_end = c.if-premise.true in
     let r_is_first_symbol : r ≡ get_or xs a 0 =
     c.index-list-premise.is ∙ ap (λ z. get_or z a r) c.list.ensures

@@ -22,9 +22,9 @@ list_all_fails is_disjoint (q ∷ ps) (suc i) i_lt_length pair_fails =
     ap (λ b. is_disjoint q && b) (list_all_fails is_disjoint ps i (omega arith) pair_fails)
     ∙ and-false (is_disjoint q)
 
-pub returns-then-not-are_all_disjoint-clause-value :
-    goal.returns-then-not-are_all_disjoint-clause-value
-returns-then-not-are_all_disjoint-clause-value g c =
+pub returns-then-not-are_all_disjoint-clause-tells_disjoint :
+    goal.returns-then-not-are_all_disjoint-clause-tells_disjoint
+returns-then-not-are_all_disjoint-clause-tells_disjoint g c =
     let context = context_at c.args.database.now.statements c.args.theorem in
     let xs = c.args.symbols.now in
     let es = c.args.premises.now in
@@ -34,48 +34,51 @@ returns-then-not-are_all_disjoint-clause-value g c =
     ap₂ (are_all_disjoint context)
     (sym (c.formula-first.ensures ∙ ap (span_formula xs) c.replacement_of.ensures))
     (sym (c.formula-second.ensures ∙ ap (span_formula xs) c.replacement_of-in-loop-pair.ensures))
-    ∙ sym c.are_all_disjoint.ensures.value ∙ c.if-not-are_all_disjoint.true in
+    ∙ sym c.are_all_disjoint.ensures.tells_disjoint ∙ c.if-not-are_all_disjoint.true in
     sym (list_all_fails
     (λ (q : ℕ × ℕ). are_all_disjoint context (replacement xs es q.0) (replacement xs es q.1))
     c.args.pairs.now
     c.loop-pair.pair-index c.loop-pair-test.true pair_fails)
 
-pub are_all_disjoint-requires-clause-second : goal.are_all_disjoint-requires-clause-second
-are_all_disjoint-requires-clause-second g c =
+pub are_all_disjoint-requires-clause-second_are_symbols :
+    goal.are_all_disjoint-requires-clause-second_are_symbols
+are_all_disjoint-requires-clause-second_are_symbols g c =
     let n = length (symbol_names c.args.database.now.statements) in
     subst (All (λ s. s < n)) (sym c.formula-second.ensures)
     (formula_in_range n c.args.symbols.now c.replacement_of-in-loop-pair.result
-    c.requires.premises.arena_in_range.unmarked_in_range
-    c.requires.premises.arena_in_range.marked_in_range)
+    c.requires.are_entries.arena_in_range.unmarked_in_range
+    c.requires.are_entries.arena_in_range.marked_in_range)
 
 pub formula-first-requires : goal.formula-first-requires
 formula-first-requires g c =
     replacement_is_in c.args.symbols.now c.args.premises.now _ c.replacement_of.result
-    c.requires.premises.entries_in_arena
-    (c.requires.pairs c.loop-pair.pair-index (0, 0) c.loop-pair-test.true).0
+    c.requires.are_entries.entries_in_arena
+    (c.requires.pairs_in_range c.loop-pair.pair-index (0, 0) c.loop-pair-test.true).0
     c.replacement_of.ensures
 
 pub formula-second-requires : goal.formula-second-requires
 formula-second-requires g c =
     replacement_is_in c.args.symbols.now c.args.premises.now _ c.replacement_of-in-loop-pair.result
-    c.requires.premises.entries_in_arena
-    (c.requires.pairs c.loop-pair.pair-index (0, 0) c.loop-pair-test.true).1
+    c.requires.are_entries.entries_in_arena
+    (c.requires.pairs_in_range c.loop-pair.pair-index (0, 0) c.loop-pair-test.true).1
     c.replacement_of-in-loop-pair.ensures
 
-pub are_all_disjoint-requires-clause-first : goal.are_all_disjoint-requires-clause-first
-are_all_disjoint-requires-clause-first g c = let n = length
+pub are_all_disjoint-requires-clause-first_are_symbols :
+    goal.are_all_disjoint-requires-clause-first_are_symbols
+are_all_disjoint-requires-clause-first_are_symbols g c = let n = length
     (symbol_names c.args.database.now.statements)
     in
     subst (All (λ s. s < n)) (sym c.formula-first.ensures)
     (formula_in_range n c.args.symbols.now c.replacement_of.result
-    c.requires.premises.arena_in_range.unmarked_in_range
-    c.requires.premises.arena_in_range.marked_in_range)
+    c.requires.are_entries.arena_in_range.unmarked_in_range
+    c.requires.are_entries.arena_in_range.marked_in_range)
 
 pub loop-pair-preserved : goal.loop-pair-preserved
 loop-pair-preserved g c = grind (arith, common_steps)
 
-pub returns-clause-value : goal.returns-clause-value
-returns-clause-value g c = let context = context_at c.args.database.now.statements c.args.theorem in
+pub returns-clause-tells_disjoint : goal.returns-clause-tells_disjoint
+returns-clause-tells_disjoint g c = let context = context_at c.args.database.now.statements
+    c.args.theorem in
     let xs = c.args.symbols.now in
     let es = c.args.premises.now in
     sym (ap

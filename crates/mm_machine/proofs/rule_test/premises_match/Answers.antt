@@ -15,17 +15,17 @@ pub offset_bounds-premises-j : goal.offset_bounds-premises-j
 offset_bounds-premises-j c =
     let j_lt_length_hs = subst (λ z. c.loop-j.j < length z)
     (ap (λ (r : CompiledRule). r.hypotheses) c.rule.view_is) c.loop-j-test.true in
-    omega (arith, j_lt_length_hs, c.requires.count)
+    omega (arith, j_lt_length_hs, c.requires.premise_count_is)
 
 pub offset_bounds-premises-j-in-Essential : goal.offset_bounds-premises-j-in-Essential
 offset_bounds-premises-j-in-Essential c =
     let j_lt_length_hs = subst (λ z. c.loop-j.j < length z)
     (ap (λ (r : CompiledRule). r.hypotheses) c.rule.view_is) c.loop-j-test.true in
-    omega (arith, j_lt_length_hs, c.requires.count)
+    omega (arith, j_lt_length_hs, c.requires.premise_count_is)
 
-pub is_wanted_formula-is_fitting-requires-clause-wanted :
-    goal.is_wanted_formula-is_fitting-requires-clause-wanted
-is_wanted_formula-is_fitting-requires-clause-wanted c = grind (arith, common_steps)
+pub is_wanted_formula-is_fitting-requires-clause-variables_in_range :
+    goal.is_wanted_formula-is_fitting-requires-clause-variables_in_range
+is_wanted_formula-is_fitting-requires-clause-variables_in_range c = grind (arith, common_steps)
 
 pub returns-then-not-is_fitting : goal.returns-then-not-is_fitting
 returns-then-not-is_fitting c =
@@ -43,7 +43,8 @@ returns-then-not-is_fitting c =
     let parts_are : c.rule.inside.parts.now ≡ parts =
     ap (λ (r : CompiledRule). r.parts) c.rule.view_is in
     let j_lt_length_hs : j < length hs = subst (λ z. j < length z) hs_are c.loop-j-test.true in
-    let j_lt_length_es : j < length es = omega (arith, j_lt_length_hs, c.requires.count) in
+    let j_lt_length_es : j < length es = omega (arith, j_lt_length_hs, c.requires.premise_count_is)
+    in
     let h_is : h ≡ get_or hs j h =
     c.hypothesis-item.is ∙ ap (λ z. get_or z j h) hs_are in
     let tested : IsTested xs es parts hs j part_index h is_fitting next_part_index =
@@ -80,7 +81,8 @@ loop-j-preserved c =
     let parts_are : c.rule.inside.parts.now ≡ parts =
     ap (λ (r : CompiledRule). r.parts) c.rule.view_is in
     let j_lt_length_hs : j < length hs = subst (λ z. j < length z) hs_are c.loop-j-test.true in
-    let j_lt_length_es : j < length es = omega (arith, j_lt_length_hs, c.requires.count) in
+    let j_lt_length_es : j < length es = omega (arith, j_lt_length_hs, c.requires.premise_count_is)
+    in
     let h_is : h ≡ get_or hs j h =
     c.hypothesis-item.is ∙ ap (λ z. get_or z j h) hs_are in
     let tested : IsTested xs es parts hs j part_index h is_fitting next_part_index =
@@ -98,13 +100,11 @@ loop-j-preserved c =
     ] in
     record {
       part_count_is = part_count_stays xs es parts hs j part_index h is_fitting next_part_index
-          tested j_lt_length_hs
-          j_lt_length_es h_is
+          tested j_lt_length_hs j_lt_length_es h_is
           c.loop-j.invariant.part_count_is;
       test_is_rest_test = c.loop-j.invariant.test_is_rest_test
           ∙ fit_from_splits xs es parts hs j part_index h is_fitting next_part_index tested
-          j_lt_length_hs j_lt_length_es
-          h_is
+          j_lt_length_hs j_lt_length_es h_is
           ∙ ap (λ b. b && fit_from xs es parts hs (j + 1) next_part_index)
           c.if-not-is_fitting.false;
     }
@@ -118,6 +118,5 @@ returns c =
     c.loop-j-test.false in
     sym (c.loop-j.invariant.test_is_rest_test
     ∙ fit_from_end_is_true c.args.symbols.now c.args.premises.now c.args.rule.now.parts hs j
-    c.loop-j.part_index
-    length_hs_le_j
-    (omega (arith, length_hs_le_j, c.requires.count)))
+    c.loop-j.part_index length_hs_le_j
+    (omega (arith, length_hs_le_j, c.requires.premise_count_is)))

@@ -12,14 +12,14 @@ returns-in_default c =
       from_le_to = keyword_found.from_le_result;
       to_le_count = keyword_found.result_le_count;
       is_part =
-          part_stays_part c.args.part c.args.at c.next_keyword.result takes_words
+          part_stays_part c.args.part c.args.token_index c.next_keyword.result takes_words
           keyword_found.from_le_result
-          c.requires.part;
+          c.requires.is_part_before;
       leads =
           λ d. plain_words_are_passed_up_to c.args.text.now c.args.tokens.now d c.args.part
-          c.args.at
-          c.next_keyword.result takes_words c.requires.part keyword_found.from_le_result
-          keyword_found.result_le_count keyword_found.plain;
+          c.args.token_index
+          c.next_keyword.result takes_words c.requires.is_part_before keyword_found.from_le_result
+          keyword_found.result_le_count keyword_found.none_has_dollar;
     }
   where
     takes_by_part : (p : Part) → c.args.part ≡ p → TakesWords p

@@ -4,8 +4,8 @@ use Rattle.mm_spec.specs.Laws.Table as table
 use Rattle.mm_outline.specs.Parts.{IfAtStart, progress, token_at}
 use Rattle.mm_outline.proofs.parts.transition_at.Goals as goal
 
-pub transition_for-requires-clause-label : goal.transition_for-requires-clause-label
-transition_for-requires-clause-label c =
+pub transition_for-requires-clause-label_is_told : goal.transition_for-requires-clause-label_is_told
+transition_for-requires-clause-label_is_told c =
     subst (λ b. IfAtStart c.args.part (c.is_label_at-is_label.result ≡ is_label b))
     c.bytes-word.ensures
     c.is_label_at-is_label.ensures
@@ -15,5 +15,6 @@ returns-clause-transition_is c =
     let text = c.args.text.now in
     let ws = c.args.tokens.now in
     c.transition_for.ensures.transition_is
-    ∙ ap (λ k. table.transition (progress text ws c.args.deep c.args.part c.args.at) k
-    (token_at text ws c.args.at)) (c.classify-class.ensures ∙ ap table.class c.bytes-word.ensures)
+    ∙ ap (λ k. table.transition (progress text ws c.args.depth c.args.part c.args.token_index) k
+    (token_at text ws c.args.token_index)) (c.classify-class.ensures ∙ ap table.class
+    c.bytes-word.ensures)

@@ -11,12 +11,12 @@ use Rattle.mm_proof.proofs.LettersLaw.{on_same_err}
 use Rattle.mm_proof.specs.declared.refused.ProofRefused.TheVariants.{Memory}
 use Rattle.mm_proof.proofs.compressed.read_labels.Goals as goal
 
-pub returns-in-None-clause-fault : goal.returns-in-None-clause-fault
-returns-in-None-clause-fault g c =
+pub returns-in-None-clause-fault_is_first : goal.returns-in-None-clause-fault_is_first
+returns-in-None-clause-fault_is_first g c =
     let db = c.args.database.now.statements in
     let text = c.args.database.now.text in
     let words = c.args.words.now in
-    let n = c.loop-n.n in
+    let n = c.loop-index.index in
     let no_word : Word = record { start = 0; end = 0 } in
     let w = get_or words n no_word in
     let earlier_labels = as_tokens text (take n words) in
@@ -26,43 +26,43 @@ returns-in-None-clause-fault g c =
     ap₂ bytes_eq (sym label_is_word) (sym c.as_slice.ensures) ∙ sym c.eq.ensures ∙ c.if-eq.false in
     let first_fault =
     unusable_label_is_first_fault db c.args.theorem c.args.end earlier_labels (token_of text w)
-    (as_tokens text (drop (n + 1) words)) c.loop-n.invariant.labels_are_faultless word_closes_not
-    (ap (usable db c.args.theorem) (sym label_is_word) ∙ c.in-None.ensures) in
+    (as_tokens text (drop (n + 1) words)) c.loop-index.invariant.labels_are_faultless
+    word_closes_not (ap (usable db c.args.theorem) (sym label_is_word) ∙ c.in-None.ensures) in
     rw c.refused.ensures (
       first_fault.0,
       ap (compressed_faults db c.args.theorem c.args.end)
-          (c.loop-n.invariant.bracketed
+          (c.loop-index.invariant.bracketed
           ∙ ap (λ ts. with_labels_before earlier_labels (bracketed ts))
-          (tokens_begin_with_word text words n no_word c.loop-n-test.true))
-          ∙ first_fault.1,
+          (tokens_begin_with_word text words n no_word c.loop-index-test.true)) ∙ first_fault.1,
     )
 
-pub returns-clause-fault : goal.returns-clause-fault
-returns-clause-fault g c =
+pub returns-clause-fault_is_first : goal.returns-clause-fault_is_first
+returns-clause-fault_is_first g c =
     let db = c.args.database.now.statements in
     let text = c.args.database.now.text in
     let words = c.args.words.now in
-    let n = c.loop-n.n in
+    let n = c.loop-index.index in
     let earlier_labels = as_tokens text (take n words) in
     rw c.refused-2.ensures (
       [],
       ap (compressed_faults db c.args.theorem c.args.end)
-          (c.loop-n.invariant.bracketed
+          (c.loop-index.invariant.bracketed
           ∙ ap (λ ts. with_labels_before earlier_labels (bracketed ts))
-          (no_tokens_past_end text words n c.loop-n-test.false))
+          (no_tokens_past_end text words n c.loop-index-test.false))
           ∙ open_brackets_is_first_fault db c.args.theorem c.args.end earlier_labels
-          c.loop-n.invariant.labels_are_faultless,
+          c.loop-index.invariant.labels_are_faultless,
     )
 
-pub returns-in_err-push-in-Some-clause-fault : goal.returns-in_err-push-in-Some-clause-fault
-returns-in_err-push-in-Some-clause-fault g c =
+pub returns-in_err-push-in-Some-clause-fault_is_first :
+    goal.returns-in_err-push-in-Some-clause-fault_is_first
+returns-in_err-push-in-Some-clause-fault_is_first g c =
     on_same_err c.from_residual.result Memory _ c.from_residual.ensures.1 tt
 
-pub returns-then-eq-clause-labels : goal.returns-then-eq-clause-labels
-returns-then-eq-clause-labels g c =
+pub returns-then-eq-clause-reads : goal.returns-then-eq-clause-reads
+returns-then-eq-clause-reads g c =
     let text = c.args.database.now.text in
     let words = c.args.words.now in
-    let n = c.loop-n.n in
+    let n = c.loop-index.index in
     let no_word : Word = record { start = 0; end = 0 } in
     let w = get_or words n no_word in
     let earlier_labels = as_tokens text (take n words) in
@@ -71,24 +71,26 @@ returns-then-eq-clause-labels g c =
     let word_closes : bytes_eq (slice_range text w.start w.end) (codes ")") ≡ true =
     ap₂ bytes_eq (sym label_is_word) (sym c.as_slice.ensures) ∙ sym c.eq.ensures ∙ c.if-eq.true in
     record {
-      n_lt_length = c.loop-n-test.true;
+      n_lt_length = c.loop-index-test.true;
       brackets =
-          c.loop-n.invariant.bracketed
+          c.loop-index.invariant.bracketed
           ∙ ap (λ ts. with_labels_before earlier_labels (bracketed ts))
-          (tokens_begin_with_word text words n no_word c.loop-n-test.true)
+          (tokens_begin_with_word text words n no_word c.loop-index-test.true)
           ∙ brackets_close earlier_labels (token_of text w)
           (as_tokens text (drop (n + 1) words)) word_closes;
-      labels = c.loop-n.invariant.labels;
-      label_count = c.loop-n.invariant.label_count;
-      labels_are_faultless = c.loop-n.invariant.labels_are_faultless;
+      labels = c.loop-index.invariant.labels;
+      label_count = c.loop-index.invariant.label_count;
+      labels_are_faultless = c.loop-index.invariant.labels_are_faultless;
     }
 
-pub bytes-label-requires-clause-order : goal.bytes-label-requires-clause-order
-bytes-label-requires-clause-order g c = (c.requires.within c.loop-n.n _ c.loop-n-test.true).0
+pub bytes-label-requires-clause-start_le_end : goal.bytes-label-requires-clause-start_le_end
+bytes-label-requires-clause-start_le_end g c =
+    (c.requires.words_within c.loop-index.index _ c.loop-index-test.true).0
 
-pub bytes-label-requires-clause-within : goal.bytes-label-requires-clause-within
-bytes-label-requires-clause-within g c =
+pub bytes-label-requires-clause-end_le_length : goal.bytes-label-requires-clause-end_le_length
+bytes-label-requires-clause-end_le_length g c =
     let no_word : Word = record { start = 0; end = 0 } in
-    let end_le_length = (c.requires.within c.loop-n.n no_word c.loop-n-test.true).1 in
+    let end_le_length =
+    (c.requires.words_within c.loop-index.index no_word c.loop-index-test.true).1 in
     let lengths_equal = ap length c.text-text.ensures in
     omega (arith, end_le_length, lengths_equal)

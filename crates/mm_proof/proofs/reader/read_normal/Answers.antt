@@ -11,8 +11,8 @@ use Rattle.mm_proof.proofs.LettersLaw.{on_same_err}
 use Rattle.mm_proof.specs.declared.refused.ProofRefused.TheVariants.{Memory}
 use Rattle.mm_proof.proofs.reader.read_normal.Goals as goal
 
-pub returns-then-eq-clause-fault : goal.returns-then-eq-clause-fault
-returns-then-eq-clause-fault g c =
+pub returns-then-eq-clause-fault_is_first : goal.returns-then-eq-clause-fault_is_first
+returns-then-eq-clause-fault_is_first g c =
     let db = c.args.database.now.statements in
     let text = c.args.database.now.text in
     let no_word : Word = record { start = 0; end = 0 } in
@@ -25,11 +25,11 @@ returns-then-eq-clause-fault g c =
     (fault_of_faulty_word_is_least text c.args.words.now c.loop-word.word-index no_word
     c.loop-word-test.true db
     c.args.theorem
-    (fault w.start IncompleteProof) c.requires.rising c.loop-word.invariant.faults
+    (fault w.start IncompleteProof) c.requires.words_rise c.loop-word.invariant.faults
     (question_mark_fault db c.args.theorem (token_of text w) word_is_question_mark))
 
-pub returns-in-None-clause-fault : goal.returns-in-None-clause-fault
-returns-in-None-clause-fault g c =
+pub returns-in-None-clause-fault_is_first : goal.returns-in-None-clause-fault_is_first
+returns-in-None-clause-fault_is_first g c =
     let db = c.args.database.now.statements in
     let text = c.args.database.now.text in
     let no_word : Word = record { start = 0; end = 0 } in
@@ -41,10 +41,11 @@ returns-in-None-clause-fault g c =
     rw c.refused-in-None.ensures
     (fault_of_faulty_word_is_least text c.args.words.now c.loop-word.word-index no_word
     c.loop-word-test.true db
-    c.args.theorem (fault w.start UnusableLabel) c.requires.rising c.loop-word.invariant.faults
+    c.args.theorem (fault w.start UnusableLabel) c.requires.words_rise c.loop-word.invariant.faults
     (unusable_label_fault db c.args.theorem (token_of text w) word_is_no_question_mark
     (ap (usable db c.args.theorem) (sym label_is_word) ∙ c.in-None.ensures)))
 
-pub returns-in_err-push-in-Some-clause-fault : goal.returns-in_err-push-in-Some-clause-fault
-returns-in_err-push-in-Some-clause-fault g c =
+pub returns-in_err-push-in-Some-clause-fault_is_first :
+    goal.returns-in_err-push-in-Some-clause-fault_is_first
+returns-in_err-push-in-Some-clause-fault_is_first g c =
     on_same_err c.from_residual.result Memory _ c.from_residual.ensures.1 tt

@@ -22,7 +22,7 @@ pub send_citation_line-requires : goal.send_citation_line-requires
 send_citation_line-requires g c =
     let row_lt_theorems : c.loop-row.row < length c.args.citations.now.theorems = omega arith in
     subst (λ (xs : List ℕ). AreAssertions c.args.database.now.statements xs)
-    (sym c.of.ensures.list) (c.requires.cited.assertions c.loop-row.row row_lt_theorems)
+    (sym c.of.ensures.list_is) (c.requires.are_citations.assertions c.loop-row.row row_lt_theorems)
 
 pub loop-row-preserved : goal.loop-row-preserved
 loop-row-preserved g c =
@@ -36,7 +36,7 @@ loop-row-preserved g c =
     ∙ sym (flat_map_more citation_line [] (map f (range_with_len 0 i)) (f i)) in
     let line_is =
     ap₂ (λ (w : Bytes) (xs : List ℕ). list_line w (listed_labels db only xs))
-    c.label-label.ensures c.of.ensures.list in
+    c.label-label.ensures c.of.ensures.list_is in
     record {
       row_le_theorems = omega arith;
       sent = sent_equal_text _ (sym lines_with_next)

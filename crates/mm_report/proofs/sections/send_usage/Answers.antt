@@ -18,11 +18,11 @@ pub loop-column-preserved : goal.loop-column-preserved
 loop-column-preserved g c =
     let j = c.loop-column.column in
     let rows = rows_of c.args.matrix.now c.args.labels.now in
-    let names : List Bytes = c.args.columns.now in
-    let names_as_columns = c.requires.columns in
-    let column_lt_names : j < length c.args.columns.now = omega (arith, names_as_columns) in
+    let labels : List Bytes = c.args.columns.now in
+    let labels_as_columns = c.requires.as_many_columns in
+    let column_lt_labels : j < length c.args.columns.now = omega (arith, labels_as_columns) in
     let label_is = sym c.label.ensures in
-    let lines_with_next = usage_lines_push rows names j column_lt_names in
+    let lines_with_next = usage_lines_push rows labels j column_lt_labels in
     record {
       column_le_columns = omega arith;
       sent = sent_equal_text _ (sym lines_with_next)
@@ -33,8 +33,8 @@ loop-column-preserved g c =
 pub returns : goal.returns
 returns g c =
     let rows = rows_of c.args.matrix.now c.args.labels.now in
-    let names : List Bytes = c.args.columns.now in
-    let names_as_columns = c.requires.columns in
-    let all_names_taken : take c.loop-column.column names ≡ names =
-    take_all c.loop-column.column names (omega (arith, names_as_columns)) in
-    sent_equal_text _ (ap (usage_lines rows 0) all_names_taken) c.loop-column.invariant.sent
+    let labels : List Bytes = c.args.columns.now in
+    let labels_as_columns = c.requires.as_many_columns in
+    let all_labels_taken : take c.loop-column.column labels ≡ labels =
+    take_all c.loop-column.column labels (omega (arith, labels_as_columns)) in
+    sent_equal_text _ (ap (usage_lines rows 0) all_labels_taken) c.loop-column.invariant.sent

@@ -10,11 +10,12 @@ use Rattle.mm_report.proofs.sections.send_usage_line.Goals as goal
 
 pub returns : goal.returns
 returns g c =
-    let names : ℕ → Bytes = λ i. slice_index_or c.args.labels.now i [] in
+    let labels : ℕ → Bytes = λ i. slice_index_or c.args.labels.now i [] in
     let count_is_decimal =
     ap (λ (k : ℕ). decimal k)
     (c.column_count.ensures
-    ∙ users_counted c.args.matrix.now names c.args.column c.requires.column c.args.matrix.now.rows
+    ∙ users_counted c.args.matrix.now labels c.args.column c.requires.column_lt_count
+    c.args.matrix.now.rows
     ∙ sym (length-map (users c.args.column (rows_of c.args.matrix.now c.args.labels.now))
     (λ r. r.label))) in
     sent_equal_text _

@@ -5,11 +5,10 @@ use Rattle.mm_rows.proofs.digits.write_digits.Goals as goal
 pub loop-w-preserved : goal.loop-w-preserved
 loop-w-preserved c =
     next_digits_are_written c.args.words.now c.loop-w.into c.word_digits.result c.loop-w.w
-    c.loop-w-test.true
-    (c.loop-w.auto.into ∙ c.requires) c.word_digits.ensures.length c.word_digits.ensures.each
-    c.loop-w.invariant
+    c.loop-w-test.true (c.loop-w.auto.into ∙ c.requires) c.word_digits.ensures.length_is
+    c.word_digits.ensures.digits_are c.loop-w.invariant
 
-pub returns-clause-each : goal.returns-clause-each
-returns-clause-each c =
+pub returns-clause-digits_are : goal.returns-clause-digits_are
+returns-clause-digits_are c =
     λ i i_lt_length. let into_has_size = c.requires in let words_are_ended = c.loop-w-test.false in
     c.loop-w.invariant i (omega (arith, i_lt_length, into_has_size, words_are_ended))

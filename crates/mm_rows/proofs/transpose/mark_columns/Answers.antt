@@ -8,12 +8,11 @@ loop-i-preserved c = record {
   marked =
       row_or_marks_columns (length c.args.has_mark.now) c.args.rows c.args.bits.now
       c.loop-i.has_mark c.or_row.new.into
-      (64 * c.args.w) c.loop-i.i (omega arith) c.requires.size (omega arith)
+      (64 * c.args.w) c.loop-i.i (omega arith) c.requires.size_is (omega arith)
       (omega arith) c.or_row.ensures c.loop-i.invariant.marked;
 }
 
 pub returns : goal.returns
 returns c =
     band_bits_are_marked (length c.args.has_mark.now) c.args.rows c.args.bits.now
-    c.loop-i.has_mark c.args.w c.loop-i.i
-    (omega arith) c.loop-i.invariant.marked
+    c.loop-i.has_mark c.args.w c.loop-i.i (omega arith) c.loop-i.invariant.marked

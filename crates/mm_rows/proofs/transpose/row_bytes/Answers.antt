@@ -7,22 +7,21 @@ pub loop-k-init : goal.loop-k-init
 loop-k-init c =
     record {
       last_le_rows = omega arith;
-      bytes = no_bytes_written c.args.across c.args.bits.now c.args.at (64 * c.args.w);
+      bytes = no_bytes_written c.args.across c.args.bits.now c.args.byte_index (64 * c.args.w);
     }
 
 pub loop-k-preserved : goal.loop-k-preserved
 loop-k-preserved c =
     record {
       last_le_rows = omega arith;
-      bytes = next_byte_is_written c.args.across c.args.bits.now c.args.at c.loop-k.bytes
+      bytes = next_byte_is_written c.args.across c.args.bits.now c.args.byte_index c.loop-k.bytes
           (64 * c.args.w) c.loop-k.k (omega arith) c.loop-k.invariant.bytes;
     }
 
 pub returns : goal.returns
 returns c =
-    written_bytes_are_row_bytes c.args.rows c.args.across c.args.bits.now c.args.w c.args.at
-    c.loop-k.bytes c.loop-k.k
-    (omega arith) c.loop-k.invariant.last_le_rows c.loop-k.invariant.bytes
+    written_bytes_are_row_bytes c.args.rows c.args.across c.args.bits.now c.args.w c.args.byte_index
+    c.loop-k.bytes c.loop-k.k (omega arith) c.loop-k.invariant.last_le_rows c.loop-k.invariant.bytes
 
 pub bounds-bits-w : goal.bounds-bits-w
 bounds-bits-w c =
@@ -30,10 +29,11 @@ bounds-bits-w c =
     let end_is = c.min-k-end.ensures in
     let row_lt_rows : 64 * c.args.w + c.loop-k.k < c.args.rows =
     omega (arith, k_is_before_end, end_is) in
-    let column_in_row = c.requires.at_lt_row_bytes in
+    let column_in_row = c.requires.byte_lt_row in
     let word_lt_length =
-    row_word_lt_length c.args.rows c.args.across (64 * c.args.w + c.loop-k.k) (c.args.at / 8)
-    (length c.args.bits.now) c.requires.size row_lt_rows (omega (arith, column_in_row)) in
+    row_word_lt_length c.args.rows c.args.across (64 * c.args.w + c.loop-k.k) (c.args.byte_index /
+    8)
+    (length c.args.bits.now) c.requires.size_is row_lt_rows (omega (arith, column_in_row)) in
     omega (arith, word_lt_length)
 
 pub offset_bounds-bits-w : goal.offset_bounds-bits-w
@@ -42,10 +42,11 @@ offset_bounds-bits-w c =
     let end_is = c.min-k-end.ensures in
     let row_lt_rows : 64 * c.args.w + c.loop-k.k < c.args.rows =
     omega (arith, k_is_before_end, end_is) in
-    let column_in_row = c.requires.at_lt_row_bytes in
+    let column_in_row = c.requires.byte_lt_row in
     let word_lt_length =
-    row_word_lt_length c.args.rows c.args.across (64 * c.args.w + c.loop-k.k) (c.args.at / 8)
-    (length c.args.bits.now) c.requires.size row_lt_rows (omega (arith, column_in_row)) in
+    row_word_lt_length c.args.rows c.args.across (64 * c.args.w + c.loop-k.k) (c.args.byte_index /
+    8)
+    (length c.args.bits.now) c.requires.size_is row_lt_rows (omega (arith, column_in_row)) in
     omega (arith, word_lt_length)
 
 pub overflow_add-word-in-loop-k : goal.overflow_add-word-in-loop-k
@@ -54,10 +55,11 @@ overflow_add-word-in-loop-k c =
     let end_is = c.min-k-end.ensures in
     let row_lt_rows : 64 * c.args.w + c.loop-k.k < c.args.rows =
     omega (arith, k_is_before_end, end_is) in
-    let column_in_row = c.requires.at_lt_row_bytes in
+    let column_in_row = c.requires.byte_lt_row in
     let word_lt_length =
-    row_word_lt_length c.args.rows c.args.across (64 * c.args.w + c.loop-k.k) (c.args.at / 8)
-    (length c.args.bits.now) c.requires.size row_lt_rows (omega (arith, column_in_row)) in
+    row_word_lt_length c.args.rows c.args.across (64 * c.args.w + c.loop-k.k) (c.args.byte_index /
+    8)
+    (length c.args.bits.now) c.requires.size_is row_lt_rows (omega (arith, column_in_row)) in
     omega (arith, word_lt_length)
 
 pub overflow_mul-word-in-loop-k : goal.overflow_mul-word-in-loop-k
@@ -66,8 +68,9 @@ overflow_mul-word-in-loop-k c =
     let end_is = c.min-k-end.ensures in
     let row_lt_rows : 64 * c.args.w + c.loop-k.k < c.args.rows =
     omega (arith, k_is_before_end, end_is) in
-    let column_in_row = c.requires.at_lt_row_bytes in
+    let column_in_row = c.requires.byte_lt_row in
     let word_lt_length =
-    row_word_lt_length c.args.rows c.args.across (64 * c.args.w + c.loop-k.k) (c.args.at / 8)
-    (length c.args.bits.now) c.requires.size row_lt_rows (omega (arith, column_in_row)) in
+    row_word_lt_length c.args.rows c.args.across (64 * c.args.w + c.loop-k.k) (c.args.byte_index /
+    8)
+    (length c.args.bits.now) c.requires.size_is row_lt_rows (omega (arith, column_in_row)) in
     omega (arith, word_lt_length)

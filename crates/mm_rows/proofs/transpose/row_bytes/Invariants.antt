@@ -6,5 +6,5 @@ abbrev pub invariant-loop-k : goal.invariant-loop-k
 invariant-loop-k l =
     record {
       last_le_rows : 64 * l.w + l.k ≤ l.rows;
-      bytes : BytesTo l.across l.bits l.at l.bytes (64 * l.w) l.k;
+      bytes : BytesTo l.across l.bits l.byte_index l.bytes (64 * l.w) l.k;
     }

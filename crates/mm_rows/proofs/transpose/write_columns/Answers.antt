@@ -17,22 +17,20 @@ loop-j-preserved c =
     let invariant_before = c.loop-j.invariant in
     let j_lt_end = c.loop-j-test.true in
     let end_is = c.min-j-end.ensures in
-    let first_le_j : 8 * c.args.at ≤ j = invariant_before.from in
+    let first_le_j : 8 * c.args.byte_index ≤ j = invariant_before.from in
     let j_lt_columns : j < columns = omega (arith, j_lt_end, end_is) in
-    let j_lt_last : j < 8 * c.args.at + 8 = omega (arith, j_lt_end, end_is) in
-    let w_lt_words : w < words_for rows = let band_lt_words = c.requires.band in
+    let j_lt_last : j < 8 * c.args.byte_index + 8 = omega (arith, j_lt_end, end_is) in
+    let w_lt_words : w < words_for rows = let band_lt_words = c.requires.band_has_row in
     omega (arith, band_lt_words) in
     let are_row_bytes =
-    subst (λ (x : ℕ). AreRowBytes rows x bits w c.args.at c.row_bytes-bytes.result)
+    subst (λ (x : ℕ). AreRowBytes rows x bits w c.args.byte_index c.row_bytes-bytes.result)
     c.div_ceil.ensures c.row_bytes-bytes.ensures in
     let is_column_word =
-    lane_is_column_word rows
-    (words_for columns) bits w c.args.at c.row_bytes-bytes.result j
+    lane_is_column_word rows (words_for columns) bits w c.args.byte_index c.row_bytes-bytes.result j
     c.lane_bits-word.result are_row_bytes
     first_le_j j_lt_last c.lane_bits-word.ensures in
     let word_is_written =
-    next_word_is_written rows columns bits c.loop-j.transposed w j
-    c.lane_bits-word.result
+    next_word_is_written rows columns bits c.loop-j.transposed w j c.lane_bits-word.result
     w_lt_words j_lt_columns is_column_word
     invariant_before.written in
     let zero_is_written =
@@ -53,25 +51,23 @@ pub returns : goal.returns
 returns c =
     let end_is = c.min-j-end.ensures in
     let end_le_j = c.loop-j-test.false in
-    let band_lt_words = c.requires.band in
+    let band_lt_words = c.requires.band_has_row in
     let w_lt_words : c.args.w < words_for c.args.rows = omega (arith, band_lt_words) in
     zero_words_are_written c.args.rows c.args.columns c.args.bits.now c.loop-j.transposed c.args.w
-    c.loop-j.j
-    (8 * c.args.at + 8) w_lt_words
+    c.loop-j.j (8 * c.args.byte_index + 8) w_lt_words
     (λ i j_le_i i_lt_last i_lt_columns. absurd (omega (arith, end_is, end_le_j)))
-    c.loop-j.invariant.within
-    c.loop-j.invariant.written
+    c.loop-j.invariant.within c.loop-j.invariant.written
 
 pub bounds-transposed-j : goal.bounds-transposed-j
 bounds-transposed-j c =
     let j_lt_end = c.loop-j-test.true in
     let end_is = c.min-j-end.ensures in
-    let band_lt_words = c.requires.band in
+    let band_lt_words = c.requires.band_has_row in
     let j_lt_columns : c.loop-j.j < c.args.columns = omega (arith, j_lt_end, end_is) in
     let w_lt_words : c.args.w < words_for c.args.rows = omega (arith, band_lt_words) in
     let word_lt_length =
     row_word_lt_length c.args.columns (words_for c.args.rows) c.loop-j.j c.args.w
-    (length c.loop-j.transposed) c.loop-j.invariant.written.size j_lt_columns w_lt_words in
+    (length c.loop-j.transposed) c.loop-j.invariant.written.size_is j_lt_columns w_lt_words in
     let products_equal = ap (λ n. c.loop-j.j * n) c.div_ceil-down.ensures in
     omega (arith, word_lt_length, products_equal)
 
@@ -79,12 +75,12 @@ pub offset_bounds-transposed-j : goal.offset_bounds-transposed-j
 offset_bounds-transposed-j c =
     let j_lt_end = c.loop-j-test.true in
     let end_is = c.min-j-end.ensures in
-    let band_lt_words = c.requires.band in
+    let band_lt_words = c.requires.band_has_row in
     let j_lt_columns : c.loop-j.j < c.args.columns = omega (arith, j_lt_end, end_is) in
     let w_lt_words : c.args.w < words_for c.args.rows = omega (arith, band_lt_words) in
     let word_lt_length =
     row_word_lt_length c.args.columns (words_for c.args.rows) c.loop-j.j c.args.w
-    (length c.loop-j.transposed) c.loop-j.invariant.written.size j_lt_columns w_lt_words in
+    (length c.loop-j.transposed) c.loop-j.invariant.written.size_is j_lt_columns w_lt_words in
     let products_equal = ap (λ n. c.loop-j.j * n) c.div_ceil-down.ensures in
     omega (arith, word_lt_length, products_equal)
 
@@ -92,12 +88,12 @@ pub overflow_add-transposed : goal.overflow_add-transposed
 overflow_add-transposed c =
     let j_lt_end = c.loop-j-test.true in
     let end_is = c.min-j-end.ensures in
-    let band_lt_words = c.requires.band in
+    let band_lt_words = c.requires.band_has_row in
     let j_lt_columns : c.loop-j.j < c.args.columns = omega (arith, j_lt_end, end_is) in
     let w_lt_words : c.args.w < words_for c.args.rows = omega (arith, band_lt_words) in
     let word_lt_length =
     row_word_lt_length c.args.columns (words_for c.args.rows) c.loop-j.j c.args.w
-    (length c.loop-j.transposed) c.loop-j.invariant.written.size j_lt_columns w_lt_words in
+    (length c.loop-j.transposed) c.loop-j.invariant.written.size_is j_lt_columns w_lt_words in
     let products_equal = ap (λ n. c.loop-j.j * n) c.div_ceil-down.ensures in
     omega (arith, word_lt_length, products_equal)
 
@@ -105,26 +101,26 @@ pub overflow_mul-transposed : goal.overflow_mul-transposed
 overflow_mul-transposed c =
     let j_lt_end = c.loop-j-test.true in
     let end_is = c.min-j-end.ensures in
-    let band_lt_words = c.requires.band in
+    let band_lt_words = c.requires.band_has_row in
     let j_lt_columns : c.loop-j.j < c.args.columns = omega (arith, j_lt_end, end_is) in
     let w_lt_words : c.args.w < words_for c.args.rows = omega (arith, band_lt_words) in
     let word_lt_length =
     row_word_lt_length c.args.columns (words_for c.args.rows) c.loop-j.j c.args.w
-    (length c.loop-j.transposed) c.loop-j.invariant.written.size j_lt_columns w_lt_words in
+    (length c.loop-j.transposed) c.loop-j.invariant.written.size_is j_lt_columns w_lt_words in
     let products_equal = ap (λ n. c.loop-j.j * n) c.div_ceil-down.ensures in
     omega (arith, word_lt_length, products_equal)
 
-pub row_bytes-bytes-requires-clause-few_words : goal.row_bytes-bytes-requires-clause-few_words
-row_bytes-bytes-requires-clause-few_words c =
-    let columns_lt_2_31 = c.requires.table.few_columns in let width_is = c.div_ceil.ensures in
-    omega (arith, columns_lt_2_31, width_is)
+pub row_bytes-bytes-requires-clause-words_le_2_26 :
+    goal.row_bytes-bytes-requires-clause-words_le_2_26
+row_bytes-bytes-requires-clause-words_le_2_26 c =
+    let columns_lt_2_31 = c.requires.is_table.columns_lt_2_31 in let width_is = c.div_ceil.ensures
+    in omega (arith, columns_lt_2_31, width_is)
 
-pub row_bytes-bytes-requires-clause-size : goal.row_bytes-bytes-requires-clause-size
-row_bytes-bytes-requires-clause-size c =
-    c.requires.table.size ∙ ap (λ n. c.args.rows * n) (sym c.div_ceil.ensures)
+pub row_bytes-bytes-requires-clause-size_is : goal.row_bytes-bytes-requires-clause-size_is
+row_bytes-bytes-requires-clause-size_is c =
+    c.requires.is_table.size_is ∙ ap (λ n. c.args.rows * n) (sym c.div_ceil.ensures)
 
-pub row_bytes-bytes-requires-clause-at_lt_row_bytes :
-    goal.row_bytes-bytes-requires-clause-at_lt_row_bytes
-row_bytes-bytes-requires-clause-at_lt_row_bytes c =
-    let columns_fit_row = c.requires.at_lt_row_bytes in let width_is = c.div_ceil.ensures in
+pub row_bytes-bytes-requires-clause-byte_lt_row : goal.row_bytes-bytes-requires-clause-byte_lt_row
+row_bytes-bytes-requires-clause-byte_lt_row c =
+    let columns_fit_row = c.requires.byte_lt_row in let width_is = c.div_ceil.ensures in
     omega (arith, columns_fit_row, width_is)

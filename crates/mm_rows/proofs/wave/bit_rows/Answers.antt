@@ -18,8 +18,11 @@ collect-requires-clause-ready g c κs k_lt_length =
       range_ends_are.0,
       range_ends_are.1,
     )
-    (λ k d k_lt_count.
-    ((each_lt_length k d k_lt_count, (c.requires.theorems, c.requires.ready)), λ y is_row. tt))
+    (λ k d k_lt_count. (
+      (each_lt_length k d k_lt_count, (c.requires.theorems_are, c.requires.have_cited_rows)),
+      λ y
+          is_row. tt,
+    ))
 
 pub returns : goal.returns
 returns g c =
@@ -29,7 +32,7 @@ returns g c =
     IfOk-then c.collect.result _ _ c.collect.ensures (λ v collected.
     let mapped_are =
     rw (c.with_min_len.ensures.base, c.map.ensures.base, c.map.ensures.f) at collected.1 in
-    let places_are =
+    let indices_are =
     mapped_are.1 ∙ (λ i. nat_range (range_ends_are.0 i) (range_ends_are.1 i))
     ∙ ap (range_with_len 0) length_minus_zero in
-    rw (collected.2, ← places_are) mapped_are.2)
+    rw (collected.2, ← indices_are) mapped_are.2)

@@ -6,8 +6,8 @@ use Rattle.mm_rows.proofs.WaveLaw.{wave_rows_can_be_filled, filled_with_wave, al
 use Rattle.mm_rows.proofs.WaveLaw.{range_has_length, range_element_is}
 use Rattle.mm_rows.proofs.wave.fill_waves.Goals as goal
 
-pub fill_wave-requires-clause-ready : goal.fill_wave-requires-clause-ready
-fill_wave-requires-clause-ready g c κs k_lt_part = λ k d k_lt_part_length.
+pub fill_wave-requires-clause-have_cited_rows : goal.fill_wave-requires-clause-have_cited_rows
+fill_wave-requires-clause-have_cited_rows g c κs k_lt_part = λ k d k_lt_part_length.
     let rows = c.in_ok-rows.rows.items in
     let waves = c.args.waves.now in
     let from = c.loop-from.from in
@@ -31,13 +31,13 @@ fill_wave-requires-clause-ready g c κs k_lt_part = λ k d k_lt_part_length.
     ∙ ap (λ (xs : List ℕ). get_or xs (from + k) d) part_is
     ∙ get_or_default_zero rows (from + k) d (omega (arith, k_lt_wave, to_le_rows)) in
     let row_can_be_filled =
-    wave_rows_can_be_filled c.args.citations.now c.args.columns.now waves rows from to
+    wave_rows_can_be_filled c.args.citations.now c.args.axioms.now waves rows from to
     c.loop-from.bits
-    c.requires.waves c.in_ok-rows.ensures c.loop-from.invariant (omega arith) to_le_rows one_wave
-    (from + k)
+    c.requires.are_waves c.in_ok-rows.ensures c.loop-from.invariant (omega arith) to_le_rows
+    one_wave (from + k)
     (omega arith) (omega (arith, k_lt_wave)) in
     subst (λ (i : ℕ). (i < length c.args.citations.now.theorems)
-    × HasCitedRows c.args.citations.now c.args.columns.now c.loop-from.bits i) (sym part_row_is)
+    × HasCitedRows c.args.citations.now c.args.axioms.now c.loop-from.bits i) (sym part_row_is)
     row_can_be_filled
 
 pub loop-from-preserved : goal.loop-from-preserved
@@ -50,7 +50,7 @@ loop-from-preserved g c =
     subst (λ (xs : List ℕ). to ≤ length xs) c.deref.ensures.value
     c.wave_end-to.ensures.result_le_rows in
     let from_lt_to = c.wave_end-to.ensures.from_lt_result in
-    filled_with_wave c.args.citations.now c.args.columns.now rows
+    filled_with_wave c.args.citations.now c.args.axioms.now rows
     (slice_range part from to) from to c.loop-from.bits c.fill_wave.new.bits
     c.loop-from.invariant to_le_rows
     (ap (λ (xs : List ℕ). slice_range xs from to) c.deref-in-loop-from.ensures.value)
@@ -58,7 +58,7 @@ loop-from-preserved g c =
 
 pub returns : goal.returns
 returns g c =
-    all_rows_are_filled c.args.citations.now c.args.columns.now c.args.waves.now
+    all_rows_are_filled c.args.citations.now c.args.axioms.now c.args.waves.now
     c.in_ok-rows.rows.items
-    c.loop-from.bits c.loop-from.from c.requires.waves c.in_ok-rows.ensures c.loop-from.invariant
-    (omega arith)
+    c.loop-from.bits c.loop-from.from c.requires.are_waves c.in_ok-rows.ensures
+    c.loop-from.invariant (omega arith)

@@ -20,16 +20,16 @@ returns g c =
     let row_is_count : c.loop-row.row ≡ length waves = omega (arith, rows_le_row, row_le_rows) in
     let pairs_length : length ps ≡ length waves = pairs_are.1 ∙ row_is_count in
     let pair_is : (p : ℕ) → p < length ps → get_or ps p (0, 0) ≡ (get_or waves p 0, p) =
-    λ p place_lt_length. pairs_are.2 p (let pairs_length_is = pairs_are.1 in
-    omega (arith, pairs_length_is, place_lt_length)) in
+    λ p index_lt_length. pairs_are.2 p (let pairs_length_is = pairs_are.1 in
+    omega (arith, pairs_length_is, index_lt_length)) in
     let pairs_have_waves : All (λ (p : ℕ × ℕ). (p.1 < length waves) × (get_or waves p.1 0 ≡ p.0))
     ps =
-    λ k d place_lt_length. subst (λ (q : ℕ × ℕ). (q.1 < length waves) × (get_or waves q.1 0 ≡ q.0))
-    (sym (get_or_default ps k d (0, 0) place_lt_length ∙ pair_is k place_lt_length))
-    ((omega (arith, place_lt_length, pairs_length)), refl) in
+    λ k d index_lt_length. subst (λ (q : ℕ × ℕ). (q.1 < length waves) × (get_or waves q.1 0 ≡ q.0))
+    (sym (get_or_default ps k d (0, 0) index_lt_length ∙ pair_is k index_lt_length))
+    ((omega (arith, index_lt_length, pairs_length)), refl) in
     let each_row_has_pair : (r : ℕ) → r < length waves → Contains ps (get_or waves r 0, r) =
-    λ r place_lt_length. let r_lt_pairs : r < length ps =
-    omega (arith, place_lt_length, pairs_length) in (
+    λ r index_lt_length. let r_lt_pairs : r < length ps =
+    omega (arith, index_lt_length, pairs_length) in (
       r,
       r_lt_pairs,
       get_or_default ps r (get_or waves r 0, r) (0, 0) r_lt_pairs

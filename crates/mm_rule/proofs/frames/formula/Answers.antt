@@ -4,5 +4,4 @@ use Rattle.mm_rule.proofs.frames.formula.Goals as goal
 
 pub formula-requires : goal.formula-requires
 formula-requires g c =
-    passing_lt_length is_assertion c.args.database.now.statements c.args.assertion
-    c.requires
+    passing_lt_length is_assertion c.args.database.now.statements c.args.assertion c.requires

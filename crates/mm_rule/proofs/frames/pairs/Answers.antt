@@ -4,12 +4,12 @@ use Rattle.mm_rule.proofs.FrameLaw.{pairs_lt_symbol_count}
 use Rattle.mm_rule.proofs.DisjointLaw.{frame_pairs_are_disjoint}
 use Rattle.mm_rule.proofs.frames.pairs.Goals as goal
 
-pub returns-clause-below : goal.returns-clause-below
-returns-clause-below g c =
+pub returns-clause-pairs_in_range : goal.returns-clause-pairs_in_range
+returns-clause-pairs_in_range g c =
     pairs_lt_symbol_count c.args.database.now.statements c.args.assertion c.as_slice.result.now
     (ap as_pairs c.as_slice.ensures.value ∙ c.frame.ensures.pairs)
 
-pub returns-clause-disjoint : goal.returns-clause-disjoint
-returns-clause-disjoint g c =
+pub returns-clause-pairs_are_disjoint : goal.returns-clause-pairs_are_disjoint
+returns-clause-pairs_are_disjoint g c =
     frame_pairs_are_disjoint c.args.database.now.statements c.args.assertion c.as_slice.result.now
     (ap as_pairs c.as_slice.ensures.value ∙ c.frame.ensures.pairs)

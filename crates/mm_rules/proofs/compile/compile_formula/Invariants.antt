@@ -1,9 +1,9 @@
 use Rattle.std.proofs.Common.{◌≡◌, ◌++◌, take}
-use Rattle.mm_rules.specs.Rules.{numbered_parts}
+use Rattle.mm_rules.specs.Rules.{indexed_parts}
 use Rattle.mm_rules.proofs.compile.compile_formula.Given as goal
 
 abbrev pub invariant-loop-symbol : goal.invariant-loop-symbol
 invariant-loop-symbol g l =
     l.parts.items
-    ≡ l.initial.parts.items ++ numbered_parts l.database.statements l.numbers (take l.symbol-index
+    ≡ l.initial.parts.items ++ indexed_parts l.database.statements l.indices (take l.symbol-index
     l.formula)

@@ -1,12 +1,12 @@
 use Rattle.std.proofs.lemmas.Result.{IfOk-from_err}
 use Rattle.mm_rules.proofs.rules.append_range.Goals as goal
 
-pub returns-in_err-extend_from_slice-clause-items :
-    goal.returns-in_err-extend_from_slice-clause-items
-returns-in_err-extend_from_slice-clause-items g c =
+pub returns-in_err-extend_from_slice-clause-appends_elements :
+    goal.returns-in_err-extend_from_slice-clause-appends_elements
+returns-in_err-extend_from_slice-clause-appends_elements g c =
     IfOk-from_err c.from_residual.result _ c.from_residual.ensures.0
 
-pub returns-in_err-extend_from_slice-clause-start :
-    goal.returns-in_err-extend_from_slice-clause-start
-returns-in_err-extend_from_slice-clause-start g c =
+pub returns-in_err-extend_from_slice-clause-start_is :
+    goal.returns-in_err-extend_from_slice-clause-start_is
+returns-in_err-extend_from_slice-clause-start_is g c =
     IfOk-from_err c.from_residual.result _ c.from_residual.ensures.0

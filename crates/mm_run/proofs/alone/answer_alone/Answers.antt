@@ -6,7 +6,7 @@ use Rattle.mm_run.proofs.alone.answer_alone.Goals as goal
 pub write_judged-requires : goal.write_judged-requires
 write_judged-requires g c =
     record {
-      judged =
+      is_judged =
           subst
           (λ (r : Request). IsJudgedText c.args.text.now r.essential r.with_open
           c.in-Ok.judged) c.request.view_is c.in-Ok.ensures;

@@ -1,44 +1,21 @@
-use Rattle.std.proofs.Common.{ℕ, List, subst}
+use Rattle.std.proofs.Common.{subst}
 use Rattle.mm_spec.specs.Ends.{Answers}
 use Rattle.mm_spec.specs.Request.{Request}
-use Rattle.mm_plan.specs.Plans.{request_of}
-use Rattle.mm_run.specs.Counted.{IsJudgedText}
-use Rattle.mm_run.specs.declared.judged_text.JudgedText.{JudgedText}
 use Rattle.mm_run.proofs.output.answer.Goals as goal
 
-pub report-requires-clause-judged : goal.report-requires-clause-judged
-report-requires-clause-judged g c κs has_kind =
+pub write_judged-requires : goal.write_judged-requires
+write_judged-requires g c =
     let plan = c.args.plan.now in
-    rw c.request-in-Sound.ensures
-    (subst
-    (λ (j : JudgedText _). IsJudgedText c.args.text.now plan.essential plan.with_open j)
-    c.in-Sound.is
-    (c.judged_text.ensures c.args.text.now plan.essential plan.with_open c.in-Ok.ensures
-    c.in-Ok-check_all.ensures)).1
+    record {
+      is_judged =
+          rw c.request.ensures
+          (c.judged_text-judged.ensures c.args.text.now plan.essential plan.with_open
+          c.in-Ok.ensures c.in-Ok-check.ensures);
+    }
 
-pub returns-in-Faulty : goal.returns-in-Faulty
-returns-in-Faulty g c =
-    let plan = c.args.plan.now in
-    c.refuse.ensures (request_of plan)
-    (subst
-    (λ (j : JudgedText _). IsJudgedText c.args.text.now plan.essential plan.with_open j)
-    c.in-Faulty.is
-    (c.judged_text.ensures c.args.text.now plan.essential plan.with_open c.in-Ok.ensures
-    c.in-Ok-check_all.ensures))
-
-pub returns-in-Sound : goal.returns-in-Sound
-returns-in-Sound g c =
-    let plan = c.args.plan.now in
-    let judged =
-    subst (λ (j : JudgedText _). IsJudgedText c.args.text.now plan.essential plan.with_open j)
-    c.in-Sound.is
-    (c.judged_text.ensures c.args.text.now plan.essential plan.with_open c.in-Ok.ensures
-    c.in-Ok-check_all.ensures) in
+pub returns : goal.returns
+returns g c =
     subst
-    (λ (t : List ℕ). Answers c.report.result t (request_of plan)
-    (g.W.Write.contents c.args.to.now) (g.W.Write.contents c.report.new.to)) judged.0
-    (subst
-    (λ (r : Request). Answers c.report.result c.in-Sound.database.text r
-    (g.W.Write.contents c.args.to.now) (g.W.Write.contents c.report.new.to))
-    c.request-in-Sound.ensures
-    c.report.ensures)
+    (λ (r : Request). Answers c.write_judged.result c.args.text.now r
+    (g.W.Write.contents c.args.to.now) (g.W.Write.contents c.write_judged.new.to))
+    c.request.ensures c.write_judged.ensures

@@ -12,7 +12,7 @@ overflow_cast-number g c =
     let ns = names_of c.args.names.now.symbols in
     let names_lt_2_31 = c.requires.few_names in
     let index_le_length = index_of_le_length c.bytes.result.now ns in
-    let number_is_index = c.numbered-number.ensures.number in
+    let number_is_index = c.numbered-number.ensures.number_is_index in
     omega (arith, index_le_length, number_is_index, names_lt_2_31)
 
 pub loop-token_index-init : goal.loop-token_index-init
@@ -31,7 +31,7 @@ loop-token_index-preserved g c =
     let xs = numbers_in ns (between text ws c.args.from token_index) in
     c.in_ok-push.ensures.items
     ∙ ap₂ (λ x y. x ++ y ∷ []) c.loop-token_index.invariant
-    (c.new.ensures ∙ c.numbered-number.ensures.number
+    (c.new.ensures ∙ c.numbered-number.ensures.number_is_index
     ∙ ap (λ w. index_of w ns) c.bytes.ensures)
     ∙ append_assoc c.args.numbers.now.items xs
     (index_of (token_at text ws token_index).word ns ∷ [])

@@ -4,13 +4,13 @@ use Rattle.mm_scope.proofs.JudgeLaw.{seen_between_push}
 use Rattle.mm_scope.proofs.judge.is_repeated.Goals as goal
 use Rattle.mm_database.proofs.NamesLaw.{on_ok_then}
 
-pub returns-else-is_short-clause-seen : goal.returns-else-is_short-clause-seen
-returns-else-is_short-clause-seen g c =
-    on_ok_then c.insert_word.result c.insert_word.ensures.inserted
+pub returns-else-is_short-clause-word_is_seen : goal.returns-else-is_short-clause-word_is_seen
+returns-else-is_short-clause-word_is_seen g c =
+    on_ok_then c.insert_word.result c.insert_word.ensures.word_is_inserted
     (λ inserted is_not_short. seen_between_push c.args.text.now c.args.tokens.now c.args.from
     c.args.token_index
     c.requires.from_le_index
     c.requires.index_lt_length (find c.args.seen.now.entries) (find c.insert_word.new.seen.entries)
     (λ w. inserted w
     ∙ ap (λ b. if bytes_eq b w then Some 0 else find c.args.seen.now.entries w) c.bytes.ensures)
-    (c.requires.seen is_not_short))
+    (c.requires.seen_has_earlier_words is_not_short))

@@ -7,8 +7,8 @@ returns g c = (
   search,
   refl,
   record {
-    keeps = c.in_ok-scope.ensures.keeps;
-    names_are = c.in_ok-scope.ensures.names;
+    knows = c.in_ok-scope.ensures.is_scope_after_none;
+    names_are = c.in_ok-scope.ensures.has_no_names;
     formulas =
         none_joined _ _ c.new-2.ensures.items c.new-3.ensures.items;
   },

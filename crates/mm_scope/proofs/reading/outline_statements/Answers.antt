@@ -17,8 +17,8 @@ use Rattle.mm_scope.proofs.ReadLaw.{none_if_not_some, closing_is_inside_block}
 use Rattle.mm_scope.proofs.BoundsLaw.{symbols_le_tokens}
 use Rattle.mm_scope.proofs.reading.outline_statements.Goals as goal
 
-pub add_if_lawful-requires-clause-next : goal.add_if_lawful-requires-clause-next
-add_if_lawful-requires-clause-next g c =
+pub add_if_lawful-requires-clause-may_take : goal.add_if_lawful-requires-clause-may_take
+add_if_lawful-requires-clause-may_take g c =
     let text = c.args.text.now in
     let ws = c.args.tokens.now in
     let loop = c.statements in
@@ -66,8 +66,8 @@ returns-then-is_some-clause-few_outlines g c =
     ∙ c.if-is_some.true))).0 in
     omega (arith, db_le_index, index_le_length, tokens_lt_2_31, statements_length, outlines_length)
 
-pub returns-then-is_some-clause-outlines : goal.returns-then-is_some-clause-outlines
-returns-then-is_some-clause-outlines g c =
+pub returns-then-is_some-clause-are_outlines : goal.returns-then-is_some-clause-are_outlines
+returns-then-is_some-clause-are_outlines g c =
     let outlines_are_unchanged =
     (c.in_ok-add_if_lawful-in-Whole.ensures.if_unlawful
     (not_none_if_some c.add_if_lawful.new.self.fault (sym c.is_some.ensures
@@ -83,8 +83,8 @@ returns-then-is_some-clause-is_read_so_far g c =
     subst (λ (xs : List Outline). IsReadSoFar (statements c.args.text.now c.args.tokens.now xs)
     (read_so_far c.add_if_lawful.new.self)) (sym unchanged_if_unlawful.0) unchanged_if_unlawful.1
 
-pub returns-then-is_some-clause-read : goal.returns-then-is_some-clause-read
-returns-then-is_some-clause-read g c =
+pub returns-then-is_some-clause-fault_is_read : goal.returns-then-is_some-clause-fault_is_read
+returns-then-is_some-clause-fault_is_read g c =
     let text = c.args.text.now in
     let ws = c.args.tokens.now in
     let loop = c.statements in
@@ -130,8 +130,7 @@ statements-preserved g c =
     let is_read_to_next =
     is_read_to_with_statement text ws db loop.depth loop.token_index loop.invariant.reading
     c.requires.few_tokens
-    blocks
-    loop.invariant.is_read_so_far.keeps.blocks outline.kind outline.keyword outline.middle
+    blocks loop.invariant.is_read_so_far.knows.blocks outline.kind outline.keyword outline.middle
     outline.end
     c.in-Whole.ensures.1.from_le_end
     c.in-Whole.ensures.1.end_lt_count c.in-Whole.ensures.1.leads none_is_least in
@@ -159,8 +158,8 @@ returns-in-Stopped-clause-few_outlines g c =
     length-map loop.read.outlines.items (statement_of c.args.text.now c.args.tokens.now) in
     omega (arith, db_le_index, index_le_length, tokens_lt_2_31, statements_length)
 
-pub returns-in-Stopped-clause-read : goal.returns-in-Stopped-clause-read
-returns-in-Stopped-clause-read g c =
+pub returns-in-Stopped-clause-fault_is_read : goal.returns-in-Stopped-clause-fault_is_read
+returns-in-Stopped-clause-fault_is_read g c =
     let text = c.args.text.now in
     let ws = c.args.tokens.now in
     let loop = c.statements in
@@ -178,8 +177,8 @@ returns-in-Ended-clause-few_outlines g c =
     length-map loop.read.outlines.items (statement_of c.args.text.now c.args.tokens.now) in
     omega (arith, db_le_index, index_le_length, tokens_lt_2_31, statements_length)
 
-pub returns-in-Ended-clause-read : goal.returns-in-Ended-clause-read
-returns-in-Ended-clause-read g c =
+pub returns-in-Ended-clause-fault_is_read : goal.returns-in-Ended-clause-fault_is_read
+returns-in-Ended-clause-fault_is_read g c =
     let text = c.args.text.now in
     let ws = c.args.tokens.now in
     let loop = c.statements in

@@ -19,44 +19,50 @@ use Rattle.mm_spec.specs.Opened.{counted}
 use Rattle.mm_stmt.proofs.AssembleLaw.{lent_words_are_read, names_lt_2_31, statements_are_sound}
 use Rattle.mm_stmt.proofs.reader.read_owned.Goals as goal
 
-pub outline_statements-requires-clause-words : goal.outline_statements-requires-clause-words
-outline_statements-requires-clause-words g c =
+pub outline_statements-requires-clause-tokens_within :
+    goal.outline_statements-requires-clause-tokens_within
+outline_statements-requires-clause-tokens_within g c =
     subst (AreWithin c.args.text.now)
-    (sym (c.as_slice-words.ensures.value ∙ c.requires.tokens)) (tokens_are_in_text c.args.text.now)
+    (sym (c.as_slice-words.ensures.value ∙ c.requires.tokens_of_text))
+    (tokens_are_in_text c.args.text.now)
 
-pub outline_statements-requires-clause-tokens : goal.outline_statements-requires-clause-tokens
-outline_statements-requires-clause-tokens g c =
+pub outline_statements-requires-clause-are_tokens :
+    goal.outline_statements-requires-clause-are_tokens
+outline_statements-requires-clause-are_tokens g c =
     subst (AreTokens c.args.text.now)
-    (sym (c.as_slice-words.ensures.value ∙ c.requires.tokens))
+    (sym (c.as_slice-words.ensures.value ∙ c.requires.tokens_of_text))
     (tokens_are_told_by_first_byte c.args.text.now)
 
 pub outline_statements-requires-clause-few_tokens :
     goal.outline_statements-requires-clause-few_tokens
 outline_statements-requires-clause-few_tokens g c =
     subst (λ (ws : List Word). length ws < 2 ^ 31)
-    (sym (c.as_slice-words.ensures.value ∙ c.requires.tokens)) (tokens_lt_2_31 c.args.text.now)
+    (sym (c.as_slice-words.ensures.value ∙ c.requires.tokens_of_text))
+    (tokens_lt_2_31 c.args.text.now)
 
 pub outline_statements-requires-clause-few_bytes : goal.outline_statements-requires-clause-few_bytes
 outline_statements-requires-clause-few_bytes g c no_lexical_fault =
     let text_fits_limit =
-    faultless_text_fits_limit c.args.text.now (sym c.requires.fault ∙ no_lexical_fault) in
+    faultless_text_fits_limit c.args.text.now (sym c.requires.fault_of_text ∙ no_lexical_fault) in
     omega (arith, text_fits_limit)
 
-pub list_statements-requires-clause-words : goal.list_statements-requires-clause-words
-list_statements-requires-clause-words g c =
+pub list_statements-requires-clause-tokens_within :
+    goal.list_statements-requires-clause-tokens_within
+list_statements-requires-clause-tokens_within g c =
     subst (AreWithin c.args.text.now)
-    (sym (c.as_slice-words.ensures.value ∙ c.requires.tokens)) (tokens_are_in_text c.args.text.now)
+    (sym (c.as_slice-words.ensures.value ∙ c.requires.tokens_of_text))
+    (tokens_are_in_text c.args.text.now)
 
-pub list_statements-requires-clause-outlines : goal.list_statements-requires-clause-outlines
-list_statements-requires-clause-outlines g c =
-    rw c.deref.ensures.value c.in_ok-outlined.ensures.outlines
+pub list_statements-requires-clause-are_outlines : goal.list_statements-requires-clause-are_outlines
+list_statements-requires-clause-are_outlines g c =
+    rw c.deref.ensures.value c.in_ok-outlined.ensures.are_outlines
 
-pub list_statements-requires-clause-few : goal.list_statements-requires-clause-few
-list_statements-requires-clause-few g c =
+pub list_statements-requires-clause-few_outlines : goal.list_statements-requires-clause-few_outlines
+list_statements-requires-clause-few_outlines g c =
     rw c.deref.ensures.value c.in_ok-outlined.ensures.few_outlines
 
 pub retain_all_words-requires : goal.retain_all_words-requires
-retain_all_words-requires g c = rw c.deref-2.ensures.value c.in_ok-outlined.ensures.outlines
+retain_all_words-requires g c = rw c.deref-2.ensures.value c.in_ok-outlined.ensures.are_outlines
 
 pub reading_of-requires : goal.reading_of-requires
 reading_of-requires g c =
@@ -64,22 +70,22 @@ reading_of-requires g c =
     let ws = c.as_slice-words.result.now in
     let outlined_text = c.in_ok-outlined.outlined in
     let os = outlined_text.outlines.items in
-    let words_are_tokens = c.as_slice-words.ensures.value ∙ c.requires.tokens in
+    let words_are_tokens = c.as_slice-words.ensures.value ∙ c.requires.tokens_of_text in
     let outlined = c.in_ok-outlined.ensures in
     let words_lt_2_31 =
     subst (λ (ws : List Word). length ws < 2 ^ 31) (sym words_are_tokens) (tokens_lt_2_31 text) in
     record {
       sound =
           subst (λ (ws : List Word). IsSound (statements text ws os)) words_are_tokens
-          (statements_are_sound text ws os _ _ outlined.read words_lt_2_31 _ _ _
-          outlined.is_read_so_far.keeps
+          (statements_are_sound text ws os _ _ outlined.fault_is_read words_lt_2_31 _ _ _
+          outlined.is_read_so_far.knows
           outlined.few_outlines);
       is_read_so_far =
           subst (λ (ws : List Word). IsReadSoFar (statements text ws os)
           (read_so_far outlined_text)) words_are_tokens
           outlined.is_read_so_far;
       few_symbols =
-          names_lt_2_31 text ws os _ _ outlined.read words_lt_2_31
+          names_lt_2_31 text ws os _ _ outlined.fault_is_read words_lt_2_31
           (names_of outlined_text.scope.names.symbols)
           outlined.is_read_so_far.names_are;
     }
@@ -92,7 +98,8 @@ new-requires g c =
     let outlined = c.in_ok-outlined.ensures in
     let os = c.in_ok-outlined.outlined.outlines.items in
     let w = c.args.with_open in
-    let words_are_tokens : ws ≡ words = c.as_slice-words.ensures.value ∙ c.requires.tokens in
+    let words_are_tokens : ws ≡ words = c.as_slice-words.ensures.value
+    ∙ c.requires.tokens_of_text in
     let is_read_so_far =
     subst (λ (us : List Word). IsReadSoFar (statements text us os)
     (read_so_far c.in_ok-outlined.outlined))
@@ -112,9 +119,9 @@ new-requires g c =
           let outlines_are_few = outlined.few_outlines in
           omega (arith, outline_count_is, outlines_are_few);
       read =
-          lent_words_are_read text ws words os _ _ words_are_tokens refl c.requires.fault
-          outlined.read;
-      labels = is_read_so_far.keeps.labels_are;
+          lent_words_are_read text ws words os _ _ words_are_tokens refl c.requires.fault_of_text
+          outlined.fault_is_read;
+      labels = is_read_so_far.knows.labels_are;
       names_are = is_read_so_far.names_are;
       frame_tables_are =
           subst (λ (r : Reading _). AreFrameTables r.statements.list r.statements.blocks
@@ -123,7 +130,7 @@ new-requires g c =
       retained_are =
           rw (c.in_ok-retained_words.ensures, c.deref-2.ensures.value, words_are_tokens)
           (retained_words_are_of_statements text words (tokens_are_in_text text) os
-          (rw (sym words_are_tokens) outlined.outlines));
+          (rw (sym words_are_tokens) outlined.are_outlines));
     })
 
 pub returns : goal.returns
@@ -133,19 +140,19 @@ returns g c =
     let os = c.in_ok-outlined.outlined.outlines.items in
     let is_read_text =
     lent_words_are_read text c.as_slice-words.result.now words os _ _
-    (c.as_slice-words.ensures.value ∙ c.requires.tokens) refl c.requires.fault
-    c.in_ok-outlined.ensures.read in
+    (c.as_slice-words.ensures.value ∙ c.requires.tokens_of_text) refl c.requires.fault_of_text
+    c.in_ok-outlined.ensures.fault_is_read in
     let reading_is = c.in_ok-reading.ensures in
     let contents_are = c.new.ensures in
     record {
-      text =
+      text_is =
           ap (λ (d : Contents). d.text) contents_are
           ∙ ap (λ (r : Reading _). r.statements.text) reading_is;
-      flag = ap (λ (d : Contents). d.with_open) contents_are;
-      read =
+      flag_is = ap (λ (d : Contents). d.with_open) contents_are;
+      is_read =
           subst (λ (d : Contents). IsRead (length text) (lexed_of text) d.read d.fault)
           (sym contents_are)
           (subst (λ (r : Reading _). IsRead (length text) (lexed_of text)
           r.statements.list r.fault) (sym reading_is) is_read_text);
-      counted = rw contents_are refl;
+      are_counted = rw contents_are refl;
     }

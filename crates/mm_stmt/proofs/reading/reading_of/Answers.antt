@@ -12,18 +12,17 @@ into_reading-requires g c =
     let db = statements c.args.text.now (words_of c.args.text.now) outlined.outlines.items in
     let is_read_so_far = c.requires.is_read_so_far in
     let symbols =
-    are_symbols _ _ _ _ is_read_so_far.keeps (names_of outlined.scope.names.symbols)
+    are_symbols _ _ _ _ is_read_so_far.knows (names_of outlined.scope.names.symbols)
     c.in_ok-variable_flags.variable_flags.items is_read_so_far.names_are
-    c.in_ok-variable_flags.ensures.count
-    c.in_ok-variable_flags.ensures.each in
+    c.in_ok-variable_flags.ensures.count_is c.in_ok-variable_flags.ensures.flags_are in
     let name_count_is = ap length is_read_so_far.names_are in
     let symbols_are_few = c.requires.few_symbols in
-    let flag_count_is = c.in_ok-variable_flags.ensures.count in
+    let flag_count_is = c.in_ok-variable_flags.ensures.count_is in
     record {
-      ends = is_read_so_far.formulas.are_places;
-      parts = record {
+      are_places = is_read_so_far.formulas.are_bounds;
+      are_parsed_statements = record {
         sound = c.requires.sound;
-        blocks = is_read_so_far.keeps.blocks;
+        blocks = is_read_so_far.knows.blocks;
         numbered = rw is_read_so_far.formulas.cut_is_lists (formulas_numbered db);
         few_symbols = omega (arith, symbols_are_few, flag_count_is);
         count = omega (arith, flag_count_is, name_count_is);

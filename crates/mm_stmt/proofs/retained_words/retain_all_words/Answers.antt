@@ -1,5 +1,4 @@
-use Rattle.std.proofs.Common.{◌≡◌, ◌∙◌, ◌+◌, ◌++◌, ◌∷◌, [], map, take, get_or, ap}
-use Rattle.std.proofs.Common.{arith}
+use Rattle.std.proofs.Common.{◌≡◌, ◌∙◌, ◌+◌, ◌++◌, ◌∷◌, [], map, take, get_or, ap, arith}
 use Rattle.std.proofs.lemmas.List.{take_more, map-append}
 use Rattle.mm_outline.specs.Parts.{outline}
 use Rattle.mm_outline.specs.declared.parts.Kind.TheVariants.{Constants}
@@ -20,7 +19,7 @@ loop-outline-preserved g c =
     ≡ map (retained_words ws) (take i os) ++ retained_words ws o ∷ [] =
     ap (map (retained_words ws)) (take_more os i (outline Constants 0 0 0) (omega arith))
     ∙ map-append (retained_words ws) (take i os) (o ∷ []) in
-    rw (one_more_is_taken, c.in_ok-end_list.ensures.ok, c.in_ok-retain_words.ensures)
+    rw (one_more_is_taken, c.in_ok-end_list.ensures.bound_is_added, c.in_ok-retain_words.ensures)
     (joined_with_one_more (map (retained_words ws) (take i os)) (retained_words ws o)
     c.loop-outline.words.items
     c.loop-outline.ends.items c.loop-outline.invariant)
@@ -32,7 +31,7 @@ from_ends-requires g c =
     (taken_joined_are_all_joined (retained_words c.args.tokens.now) c.args.outlines.now
     c.loop-outline.outline-index
     _ _
-    (omega (arith, index_bound, index_is_past_end)) c.loop-outline.invariant).are_places
+    (omega (arith, index_bound, index_is_past_end)) c.loop-outline.invariant).are_bounds
 
 pub returns : goal.returns
 returns g c =

@@ -6,9 +6,9 @@ use Rattle.mm_outline.specs.Statements.{statements}
 use Rattle.mm_lists.proofs.ListsLaw.{taken_joined_are_all_joined, joined_with_one_more, none_joined}
 use Rattle.mm_stmt.proofs.spaced_labels.spaced_labels_of.Goals as goal
 
-pub label_of-requires-clause-theorem : goal.label_of-requires-clause-theorem
-label_of-requires-clause-theorem g c =
-    c.requires.theorems c.loop-theorem.theorem-index 0 (omega arith)
+pub label_of-requires-clause-is_theorem : goal.label_of-requires-clause-is_theorem
+label_of-requires-clause-is_theorem g c =
+    c.requires.are_theorems c.loop-theorem.theorem-index 0 (omega arith)
 
 pub loop-theorem-preserved : goal.loop-theorem-preserved
 loop-theorem-preserved g c =
@@ -25,7 +25,7 @@ loop-theorem-preserved g c =
     ∙ ap (λ l. l ++ c.label_of.result.now) c.in_ok-push.ensures.items
     ∙ append_assoc bytes (32 ∷ []) c.label_of.result.now
     ∙ ap (λ l. bytes ++ 32 ∷ l) c.label_of.ensures in
-    rw (one_more_is_taken, c.in_ok-end_list.ensures.ok, bytes_have_label)
+    rw (one_more_is_taken, c.in_ok-end_list.ensures.bound_is_added, bytes_have_label)
     (joined_with_one_more (map name (take i ks)) (name k) bytes c.loop-theorem.ends.items
     c.loop-theorem.invariant)
 
@@ -40,7 +40,7 @@ from_ends-requires g c =
     (λ k. 32 ∷ label_at (statements c.args.text.now c.args.tokens.now c.args.outlines.now) k)
     c.args.theorems.now c.loop-theorem.theorem-index _ _
     (omega (arith, index_bound, index_is_past_end))
-    c.loop-theorem.invariant).are_places
+    c.loop-theorem.invariant).are_bounds
 
 pub returns : goal.returns
 returns g c =

@@ -1,6 +1,6 @@
 use Rattle.std.proofs.Common.{◌≡◌, ℕ, List, length, get_or, sym, ap, subst, arith, IsTrue}
 use Rattle.mm_spec.specs.Output.{theorems, is_theorem_at}
-use Rattle.mm_proof.proofs.TheoremsLaw.{theorems_are}
+use Rattle.mm_database.proofs.SpacedLaw.{theorems_are}
 use Rattle.mm_work.specs.Judged.{HaveCitationsUpTo, HasFault, IsRefusalOf, HasCitations}
 use Rattle.mm_work.specs.Judged.{IsFirstFault}
 use Rattle.mm_spec.specs.declared.Fault.{Fault}
@@ -17,11 +17,10 @@ judged_valid-requires g c =
       counts_equal,
     ) in
     subst (λ (n : ℕ). HaveCitationsUpTo db c.args.essential (theorems db) n c.loop-theorem.lists)
-    index_is_count
-    c.loop-theorem.invariant.have_citations
+    index_is_count c.loop-theorem.invariant.have_citations
 
-pub verify-requires-clause-theorem : goal.verify-requires-clause-theorem
-verify-requires-clause-theorem g c =
+pub verify-requires-clause-is_theorem : goal.verify-requires-clause-is_theorem
+verify-requires-clause-is_theorem g c =
     let db = c.args.database.now.statements in
     let index_lt_length = c.loop-theorem-test.true in
     let counts_equal = ap (λ (ts : List ℕ). length ts) c.theorems-theorems.ensures.theorems in
@@ -36,10 +35,10 @@ returns-in-Err-Fault g c =
     let index_lt_length = c.loop-theorem-test.true in
     let counts_equal = ap (λ (ts : List ℕ). length ts) c.theorems-theorems.ensures.theorems in
     subst (λ (f : Fault). IsFirstFault db f) (sym c.in-Err-Fault.fault-is)
-    (is_first_fault db c.theorems-theorems.ensures.few c.len.ensures.complete i
+    (is_first_fault db c.theorems-theorems.ensures.few_statements c.len.ensures.are_complete i
     c.in-Err-Fault.fault
-    (valid_if_cited db c.theorems-theorems.ensures.few c.len.ensures.complete c.args.essential i
-    c.loop-theorem.lists c.loop-theorem.invariant.have_citations) (omega (
+    (valid_if_cited db c.theorems-theorems.ensures.few_statements c.len.ensures.are_complete
+    c.args.essential i c.loop-theorem.lists c.loop-theorem.invariant.have_citations) (omega (
       arith,
       index_lt_length,
       counts_equal,
@@ -47,7 +46,7 @@ returns-in-Err-Fault g c =
     (subst (λ (ts : List ℕ). HasFault db (get_or ts i 0) c.in-Err-Fault.fault)
     c.theorems-theorems.ensures.theorems
     (subst (λ (e : VerifyRefused). IsRefusalOf db (get_or c.theorems-theorems.result.now i 0) e)
-    c.in-Err-Fault.field-0-is c.in-Err-Fault.ensures.refused)))
+    c.in-Err-Fault.field-0-is c.in-Err-Fault.ensures.refusal_is_right)))
 
 pub loop-theorem-preserved : goal.loop-theorem-preserved
 loop-theorem-preserved g c =
@@ -55,11 +54,11 @@ loop-theorem-preserved g c =
     let i = c.loop-theorem.theorem-index in
     let has_citations =
     subst (λ (ts : List ℕ). HasCitations db c.args.essential (get_or ts i 0) c.in-Ok.checked.cites)
-    c.theorems-theorems.ensures.theorems c.in-Ok.ensures.valid in
+    c.theorems-theorems.ensures.theorems c.in-Ok.ensures.has_citations in
     record {
       made_for = c.in-Ok.ensures.made_for;
       have_citations =
-          rw (c.in_ok-push-in-Ok.ensures.ok, c.cites.ensures)
+          rw (c.in_ok-push-in-Ok.ensures.list_is_added, c.cites.ensures)
           (citations_push db c.args.essential
           (theorems db) i c.loop-theorem.lists c.in-Ok.checked.cites
           c.loop-theorem.invariant.have_citations

@@ -30,11 +30,11 @@ no_index_up_to_next : {A : Type 0} (fs : List (Findings A)) (n index : ℕ) (f :
     → (k : ℕ) (d : Findings A) → 0 ≤ k → k < n + 1
     → faulty_index (get_or fs k d).faulty ≡ Some index → ⊥
 no_index_up_to_next fs n index f f_is n_lt_length f_has_other_index no_index_before k d zero_le_k
-    k_lt_suc_n = by_index (cases_lt k n)
+    k_lt_suc_n = index_is_other (cases_lt k n)
   where
-    by_index : (k < n) ⊎ (n ≤ k) → faulty_index (get_or fs k d).faulty ≡ Some index → ⊥
-    by_index (inl k_lt_n) = no_index_before k d zero_le_k k_lt_n
-    by_index (inr n_le_k) =
+    index_is_other : (k < n) ⊎ (n ≤ k) → faulty_index (get_or fs k d).faulty ≡ Some index → ⊥
+    index_is_other (inl k_lt_n) = no_index_before k d zero_le_k k_lt_n
+    index_is_other (inr n_le_k) =
         let k_is_n : k ≡ n = omega (arith, n_le_k, k_lt_suc_n) in
         let element_is_f : get_or fs k d ≡ f =
         ap (λ i. get_or fs i d) k_is_n ∙ get_or_default fs n d f n_lt_length ∙ sym f_is in
@@ -52,8 +52,7 @@ no_index_if_other found_fault fault index found_is indices_differ has_index =
 pub loop-findings-preserved : goal.loop-findings-preserved
 loop-findings-preserved g c =
     no_index_up_to_next c.args.all_findings.now c.loop-findings.findings-index c.args.index
-    c.findings-item.result c.findings-item.is
-    c.loop-findings-test.true
+    c.findings-item.result c.findings-item.is c.loop-findings-test.true
     (elim c.in_default.branch [
       | in_default-via-in-None-1 w ↦ grind arith
       | in_default-via-in-Some+else-faulty-index w ↦
@@ -64,12 +63,13 @@ loop-findings-preserved g c =
 pub unreachable-requires : goal.unreachable-requires
 unreachable-requires g c =
     let is_found_faulty = c.requires.is_found_faulty in
-    let index_lt_length = is_found_faulty.1.1 in
+    let listed = is_found_faulty.are_listed in
+    let index_lt_length = listed.1 in
     let length_le_index = c.loop-findings-test.false in
-    c.loop-findings.invariant is_found_faulty.1.0 is_found_faulty.0 (omega arith) (omega (
+    c.loop-findings.invariant listed.0 is_found_faulty.findings (omega arith) (omega (
       arith,
       index_lt_length,
       length_le_index,
     ))
-    (subst (λ (f : Findings _). faulty_index f.faulty ≡ Some c.args.index) (sym is_found_faulty.1.2)
-    is_found_faulty.2)
+    (subst (λ (f : Findings _). faulty_index f.faulty ≡ Some c.args.index) (sym listed.2)
+    is_found_faulty.index_is)

@@ -16,12 +16,12 @@ offset_bounds-all_findings-position g c =
     let k_lt_count : k < length (theorems db) =
     let k_lt_length = c.loop-position-test.true in let lengths_equal = ap (λ (ps : List
     ListPosition). length ps) positions_are in
-    let position_count_is = c.in_ok-positions.ensures.count in
+    let position_count_is = c.in_ok-positions.ensures.length_is in
     let theorem_counts_equal = ap (λ (ts : List ℕ). length ts) c.theorems.ensures.theorems in
     omega (arith, k_lt_length, lengths_equal, position_count_is, theorem_counts_equal) in
     le_of_lt (worker_lt_length db c.args.essential c.args.all_findings.now c.requires.are_findings
     c.in_ok-positions.positions.items c.deref-position-items.result.now k _ positions_are
-    (c.in_ok-positions.ensures.positions k (c.requires.each_is_found_valid k k_lt_count)))
+    (c.in_ok-positions.ensures.have_positions k (c.requires.each_is_found_valid k k_lt_count)))
 
 pub bounds-all_findings-position : goal.bounds-all_findings-position
 bounds-all_findings-position g c =
@@ -31,13 +31,12 @@ bounds-all_findings-position g c =
     let k_lt_count : k < length (theorems db) =
     let k_lt_length = c.loop-position-test.true in let lengths_equal = ap (λ (ps : List
     ListPosition). length ps) positions_are in
-    let position_count_is = c.in_ok-positions.ensures.count in
+    let position_count_is = c.in_ok-positions.ensures.length_is in
     let theorem_counts_equal = ap (λ (ts : List ℕ). length ts) c.theorems.ensures.theorems in
     omega (arith, k_lt_length, lengths_equal, position_count_is, theorem_counts_equal) in
     worker_lt_length db c.args.essential c.args.all_findings.now c.requires.are_findings
-    c.in_ok-positions.positions.items
-    c.deref-position-items.result.now k _ positions_are
-    (c.in_ok-positions.ensures.positions k (c.requires.each_is_found_valid k k_lt_count))
+    c.in_ok-positions.positions.items c.deref-position-items.result.now k _ positions_are
+    (c.in_ok-positions.ensures.have_positions k (c.requires.each_is_found_valid k k_lt_count))
 
 pub get-requires : goal.get-requires
 get-requires g c =
@@ -48,10 +47,10 @@ get-requires g c =
     let k_lt_count : k < length (theorems db) =
     let k_lt_length = c.loop-position-test.true in let lengths_equal = ap (λ (ps : List
     ListPosition). length ps) positions_are in
-    let position_count_is = c.in_ok-positions.ensures.count in
+    let position_count_is = c.in_ok-positions.ensures.length_is in
     let theorem_counts_equal = ap (λ (ts : List ℕ). length ts) c.theorems.ensures.theorems in
     omega (arith, k_lt_length, lengths_equal, position_count_is, theorem_counts_equal) in
-    let has_position = c.in_ok-positions.ensures.positions k (c.requires.each_is_found_valid k
+    let has_position = c.in_ok-positions.ensures.have_positions k (c.requires.each_is_found_valid k
     k_lt_count) in
     list_lt_cites_length db c.args.essential fs c.requires.are_findings
     c.in_ok-positions.positions.items
@@ -70,17 +69,17 @@ loop-position-preserved g c =
     let k_lt_count : k < length (theorems db) =
     let k_lt_length = c.loop-position-test.true in let lengths_equal = ap (λ (ps : List
     ListPosition). length ps) positions_are in
-    let position_count_is = c.in_ok-positions.ensures.count in
+    let position_count_is = c.in_ok-positions.ensures.length_is in
     let theorem_counts_equal = ap (λ (ts : List ℕ). length ts) c.theorems.ensures.theorems in
     omega (arith, k_lt_length, lengths_equal, position_count_is, theorem_counts_equal) in
-    let has_position = c.in_ok-positions.ensures.positions k (c.requires.each_is_found_valid k
+    let has_position = c.in_ok-positions.ensures.have_positions k (c.requires.each_is_found_valid k
     k_lt_count) in
     let findings_are =
     findings_at_worker db c.args.essential fs c.requires.are_findings
     c.in_ok-positions.positions.items
     c.deref-position-items.result.now k _ positions_are has_position
     c.index-all_findings-position.result in
-    rw c.in_ok-push.ensures.ok
+    rw c.in_ok-push.ensures.list_is_added
     (citations_push db c.args.essential
     (theorems db) k c.loop-position.lists c.get.result.now c.loop-position.invariant
     (list_has_citations db c.args.essential fs c.requires.are_findings
@@ -97,13 +96,12 @@ returns g c =
     c.loop-position-test.false in
     let lengths_equal = ap (λ (ps : List ListPosition). length ps)
     c.deref-position-items.ensures.value in
-    let position_count_is = c.in_ok-positions.ensures.count in
+    let position_count_is = c.in_ok-positions.ensures.length_is in
     let theorem_counts_equal = ap (λ (ts : List ℕ). length ts) c.theorems.ensures.theorems in
     omega (arith, k_le_length, length_le_k, lengths_equal, position_count_is, theorem_counts_equal)
     in
     subst (λ n. HaveCitationsUpTo db c.args.essential (theorems db) n c.loop-position.lists)
-    k_is_count
-    c.loop-position.invariant
+    k_is_count c.loop-position.invariant
 
 pub positions_of-requires : goal.positions_of-requires
 positions_of-requires g c = λ k d k_lt_length.

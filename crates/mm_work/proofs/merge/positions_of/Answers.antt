@@ -17,7 +17,7 @@ loop-worker-preserved g c =
     let positions' = c.set_positions.new.positions in
     let findings = c.index-all_findings-worker.result in
     let length_stays : length positions' ≡ length positions =
-    c.set_positions.ensures.count
+    c.set_positions.ensures.length_stays
     ∙ ap (λ (ps : List ListPosition). length ps) c.deref_mut.ensures.value in
     let written_back_whole = written_back c.loop-worker.positions.len positions' positions
     (length_stays
@@ -48,8 +48,8 @@ loop-worker-preserved g c =
           c.loop-worker.invariant.have_positions);
     }
 
-pub returns-clause-positions : goal.returns-clause-positions
-returns-clause-positions g c =
+pub returns-clause-have_positions : goal.returns-clause-have_positions
+returns-clause-have_positions g c =
     let worker_le_length = c.loop-worker.auto.worker-end in
     let length_le_worker = c.loop-worker-test.false in
     every_valid_has_position c.args.all_findings.now c.loop-worker.positions.items

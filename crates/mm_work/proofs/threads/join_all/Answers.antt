@@ -12,18 +12,18 @@ loop-other-init g c = record {
       (c.in_ok-add_findings.ensures.adds_findings
       ∙ ap (λ (fs : List (Findings _)). fs ++ c.args.first.findings
       ∷ []) c.new-all_findings.ensures.items)
-      c.requires.first c.in_ok-add_findings.ensures.has_memory;
-  others_are_done = c.requires.others;
+      c.requires.first_is_done c.in_ok-add_findings.ensures.has_memory;
+  others_are_done = c.requires.others_are_done;
 }
 
-pub join-requires-clause-other_home : goal.join-requires-clause-other_home
-join-requires-clause-other_home g c =
+pub join-requires-clause-other_is_of_board : goal.join-requires-clause-other_is_of_board
+join-requires-clause-other_is_of_board g c =
     (P_of_last (IsDone c.args.job.now) c.loop-other.others.items c.pop.new.self.items
     c.in-Some.other c.in-Some.ensures.items
     c.loop-other.invariant.others_are_done).is_between.is_of_board
 
-pub join-requires-clause-closed : goal.join-requires-clause-closed
-join-requires-clause-closed g c =
+pub join-requires-clause-none_open : goal.join-requires-clause-none_open
+join-requires-clause-none_open g c =
     (P_of_last (IsDone c.args.job.now) c.loop-other.others.items c.pop.new.self.items
     c.in-Some.other c.in-Some.ensures.items
     c.loop-other.invariant.others_are_done).is_between.no_number_open
@@ -32,13 +32,11 @@ pub loop-other-preserved : goal.loop-other-preserved
 loop-other-preserved g c = record {
   are_gathered =
       gathered_with_next c.args.job.now c.loop-other.seat c.join.new.seat
-      c.loop-other.all_findings.items
-      c.add_findings-in-Some.new.all_findings.items c.in-Some.other
-      c.in_ok-add_findings-2.ensures.adds_findings
-      c.loop-other.invariant.are_gathered
+      c.loop-other.all_findings.items c.add_findings-in-Some.new.all_findings.items c.in-Some.other
+      c.in_ok-add_findings-2.ensures.adds_findings c.loop-other.invariant.are_gathered
       (P_of_last (IsDone c.args.job.now) c.loop-other.others.items c.pop.new.self.items
       c.in-Some.other c.in-Some.ensures.items c.loop-other.invariant.others_are_done)
-      c.in_ok-add_findings-2.ensures.has_memory c.join.ensures.home c.join.ensures.joined;
+      c.in_ok-add_findings-2.ensures.has_memory c.join.ensures.is_of_board c.join.ensures.joins;
   others_are_done =
       All_of_front (IsDone c.args.job.now) c.loop-other.others.items c.pop.new.self.items
       c.in-Some.other c.in-Some.ensures.items c.loop-other.invariant.others_are_done;

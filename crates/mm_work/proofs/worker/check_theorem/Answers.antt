@@ -1,22 +1,22 @@
 use Rattle.std.proofs.Common.{ℕ, ◌++◌, ◌∷◌, [], List, Option, get_or, sym, ap, ◌∙◌, subst, refl}
 use Rattle.std.proofs.Common.{IsTrue, ◌<◌, length, true≢false}
 use Rattle.mm_spec.specs.Output.{is_theorem_at}
-use Rattle.mm_proof.proofs.TheoremsLaw.{theorems_are}
+use Rattle.mm_database.proofs.SpacedLaw.{theorems_are}
 use Rattle.mm_work.specs.Judged.{IsRefusalOf, HasFault, HasCitations}
 use Rattle.mm_work.specs.declared.proof.VerifyRefused.{VerifyRefused}
 use Rattle.mm_work.specs.declared.worker.IndexedFault.{IndexedFault}
 use Rattle.mm_work.proofs.worker.check_theorem.Goals as goal
 
-pub verify-requires-clause-theorem : goal.verify-requires-clause-theorem
-verify-requires-clause-theorem g c =
+pub verify-requires-clause-is_theorem : goal.verify-requires-clause-is_theorem
+verify-requires-clause-is_theorem g c =
     let db = c.args.job.now.database.now.statements in
     subst (λ (ts : List ℕ). IsTrue (is_theorem_at db (get_or ts c.args.index 0)))
-    (sym c.theorems.ensures.theorems) (theorems_are db c.args.index 0 c.requires.index)
+    (sym c.theorems.ensures.theorems) (theorems_are db c.args.index 0 c.requires.index_lt_count)
 
 pub bounds-theorems-index : goal.bounds-theorems-index
 bounds-theorems-index g c =
     subst (λ (ts : List ℕ). c.args.index < length ts) (sym c.theorems.ensures.theorems)
-    c.requires.index
+    c.requires.index_lt_count
 
 pub returns-in-Ok-add_valid-clause-memory_lasted : goal.returns-in-Ok-add_valid-clause-memory_lasted
 returns-in-Ok-add_valid-clause-memory_lasted g c = λ not_short. sym
@@ -28,7 +28,7 @@ returns-in-Ok-add_valid-clause-finds_valid g c = λ not_short is_valid. record {
   has_citations =
       subst (λ (ts : List ℕ). HasCitations c.args.job.now.database.now.statements
       c.args.job.now.essential (get_or ts c.args.index 0) c.in-Ok.checked.cites)
-      c.theorems.ensures.theorems c.in-Ok.ensures.valid;
+      c.theorems.ensures.theorems c.in-Ok.ensures.has_citations;
   valid_are = c.in-Ok-add_valid.ensures.adds_index;
   cites_are =
       c.in-Ok-add_valid.ensures.adds_cites
@@ -66,7 +66,7 @@ returns-in-Err-Fault-clause-finds_fault g c = λ not_short not_valid.
           c.theorems.ensures.theorems
           (subst (λ (e : VerifyRefused). IsRefusalOf db
           (get_or c.theorems.result.now c.args.index 0) e)
-          c.in-Err-Fault.field-0-is c.in-Err-Fault.ensures.refused);
+          c.in-Err-Fault.field-0-is c.in-Err-Fault.ensures.refusal_is_right);
       valid_are = refl {A = List ℕ};
       cites_are = refl {A = List (List ℕ)};
       faulty_is = refl {A = Option IndexedFault};

@@ -21,23 +21,23 @@ loop-index-init g c = record {
 pub loop-index-smaller : goal.loop-index-smaller
 loop-index-smaller g c =
     unrecorded_drops_after_draw c.args.job.now.board.now.count c.in-Some.index
-    c.loop-index.state.seat.view
-    c.claim.new.seat.view c.settle_drawn.new.state.seat.view
-    c.loop-index.invariant.is_between.no_number_open c.in-Some.ensures.some c.in-Some.ensures.below
-    c.in-Some.ensures.above c.settle_drawn.ensures.record_stays
+    c.loop-index.state.seat.view c.claim.new.seat.view c.settle_drawn.new.state.seat.view
+    c.loop-index.invariant.is_between.no_number_open c.in-Some.ensures.opens_number
+    c.in-Some.ensures.number_lt_count
+    c.in-Some.ensures.number_gt_record c.settle_drawn.ensures.record_stays
 
 pub settle_drawn-requires-clause-has_drawn : goal.settle_drawn-requires-clause-has_drawn
 settle_drawn-requires-clause-has_drawn g c =
     drawn_after_claim c.args.job.now c.in-Some.index c.loop-index.state
-    c.claim.new.seat c.requires.job
-    c.loop-index.invariant.is_between c.in-Some.ensures.below c.claim.ensures.home
-    c.in-Some.ensures.some c.in-Some.ensures.above
+    c.claim.new.seat c.requires.is_of_database
+    c.loop-index.invariant.is_between c.in-Some.ensures.number_lt_count c.claim.ensures.is_of_board
+    c.in-Some.ensures.opens_number c.in-Some.ensures.number_gt_record
 
 pub loop-index-preserved : goal.loop-index-preserved
 loop-index-preserved g c = record {
   made_for = c.settle_drawn.ensures.made_for;
   is_between = c.settle_drawn.ensures.is_between;
   not_over =
-      c.settle_drawn.ensures.over_stays ∙ ap (λ (v : View). v.over) c.in-Some.ensures.some
+      c.settle_drawn.ensures.over_stays ∙ ap (λ (v : View). v.over) c.in-Some.ensures.opens_number
       ∙ c.loop-index.invariant.not_over;
 }

@@ -9,6 +9,6 @@ returns g c = record {
   message_written =
       subst (λ (text : List ℕ). IsPrefixWritten (g.E.Write.contents c.args.errors.now)
       (g.E.Write.contents c.write_text.new.to) text) c.message.ensures
-      c.write_text.ensures.beginning;
+      c.write_text.ensures.prefix_is_written;
   status_is = c.status.ensures;
 }

@@ -3,8 +3,8 @@ use Rattle.std.proofs.Math.Seq.{take-length}
 use Rattle.std.specs.Io.KnownBytes.{Appends}
 use Rattle.mmdepend.proofs.program.write_text.Goals as goal
 
-pub returns-in-Ok-clause-beginning : goal.returns-in-Ok-clause-beginning
-returns-in-Ok-clause-beginning g c =
+pub returns-in-Ok-clause-prefix_is_written : goal.returns-in-Ok-clause-prefix_is_written
+returns-in-Ok-clause-prefix_is_written g c =
     let bytes = c.args.text.now in (
       length bytes,
       subst

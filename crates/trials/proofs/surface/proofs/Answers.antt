@@ -11,8 +11,8 @@ read_proof-requires g c =
     c.theorems-theorems.ensures.theorems
     (omega (arith, length_is_not_0))
 
-pub check-requires-clause-theorem : goal.check-requires-clause-theorem
-check-requires-clause-theorem g c =
+pub check-requires-clause-is_theorem : goal.check-requires-clause-is_theorem
+check-requires-clause-is_theorem g c =
     let ts = c.theorems-theorems.result.now in
     let length_is_not_0 = eqb-false (length ts) 0 (sym c.is_empty.ensures ∙ c.if-is_empty.false) in
     last_theorem_is_theorem c.in_ok-database.database.statements ts

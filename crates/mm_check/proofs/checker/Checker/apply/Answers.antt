@@ -7,8 +7,9 @@ use Rattle.mm_check.proofs.StepLaw.{applied_step_performs, refusal_is_of_step}
 use Rattle.mm_check.proofs.checker.Checker.apply.Goals.{in-Ok-add, in-Err-add}
 use Rattle.mm_check.proofs.checker.Checker.apply.Goals as goal
 
-pub rule_of-rule-requires-clause-rules : goal.rule_of-rule-requires-clause-rules
-rule_of-rule-requires-clause-rules g c =
+pub held_or_compiled-rule-requires-clause-are_rules :
+    goal.held_or_compiled-rule-requires-clause-are_rules
+held_or_compiled-rule-requires-clause-are_rules g c =
     let is_at_theorem =
     subst (λ (s : CheckerState). IsAtTheorem c.args.database.now.statements c.args.theorem s)
     (sym c.self.view_is) c.requires.at_theorem in
@@ -22,11 +23,11 @@ returns-in_err-apply-clause-at_theorem g c =
     record {
       made_for = rw c.apply.ensures.is_applied.symbol_count_stays is_at_theorem.made_for;
       theorem_lt_length = is_at_theorem.theorem_lt_length;
-      pairs_are_disjoint = c.apply.ensures.cache;
+      pairs_are_disjoint = c.apply.ensures.cached_are_disjoint;
     }
 
-pub returns-in_err-apply-clause-refused : goal.returns-in_err-apply-clause-refused
-returns-in_err-apply-clause-refused g c =
+pub returns-in_err-apply-clause-refusal_is_right : goal.returns-in_err-apply-clause-refusal_is_right
+returns-in_err-apply-clause-refusal_is_right g c =
     let db = c.args.database.now.statements in
     let t = c.args.theorem in
     let i = c.self.inside in
@@ -34,9 +35,9 @@ returns-in_err-apply-clause-refused g c =
     let refusal_is = err_from_is_err_and c.from_residual.result c.from_residual.ensures.1 in
     rw (refusal_is.1, refusal_is.2, ← c.self.view_is)
     (refusal_is_of_step db t (checker_state i.machine i.rules.now i.noted i.cache) c.args.assertion
-    c.requires.rule_is_complete
-    c.requires.assertion e
-    (subst (λ a. IsRefusalOf e (applied db t a i.machine.stack)) c.rule_of-rule.ensures.assertion_is
+    c.requires.rule_is_complete c.requires.is_assertion e
+    (subst (λ a. IsRefusalOf e (applied db t a i.machine.stack))
+    c.held_or_compiled-rule.ensures.assertion_is
     c.in_err-apply.ensures.is_applied.refusal_is_right))
 
 pub returns-clause-at_theorem : goal.returns-clause-at_theorem
@@ -47,7 +48,7 @@ returns-clause-at_theorem g c =
     record {
       made_for = rw c.apply.ensures.is_applied.symbol_count_stays is_at_theorem.made_for;
       theorem_lt_length = is_at_theorem.theorem_lt_length;
-      pairs_are_disjoint = c.apply.ensures.cache;
+      pairs_are_disjoint = c.apply.ensures.cached_are_disjoint;
     }
 
 pub returns-clause-performs : goal.returns-clause-performs
@@ -58,11 +59,10 @@ returns-clause-performs g c =
     elim c.match-add.branch [
       | in-Ok-add w ↦ rw (w.result-is, ← c.self.view_is)
           (applied_step_performs db t _ c.args.assertion c.requires.rule_is_complete
-          c.requires.assertion c.apply.new.self
-          c.add.new.self c.apply.new.cache
+          c.requires.is_assertion c.apply.new.self c.add.new.self c.apply.new.cache
           (subst (λ a. applied db t a c.self.inside.machine.stack ≡ Ok c.apply.new.self.stack)
-          c.rule_of-rule.ensures.assertion_is applied_step.entries_are) applied_step.marks_stay
-          applied_step.formulas_stay applied_step.has_entry
+          c.held_or_compiled-rule.ensures.assertion_is applied_step.entries_are)
+          applied_step.marks_stay applied_step.formulas_stay applied_step.has_entry
           w.in-Ok-add.ensures)
       | in-Err-add w ↦ rw w.result-is tt
     ]

@@ -5,14 +5,14 @@ use Rattle.mm_spec.proofs.GoodStepsLaw.{faultless_steps_are_good}
 use Rattle.mm_check.specs.Reached.{steps_of}
 use Rattle.mm_check.proofs.checker.Checker.check.Goals as goal
 
-pub run-requires-clause-steps : goal.run-requires-clause-steps
-run-requires-clause-steps g c =
+pub run-requires-clause-are_steps : goal.run-requires-clause-are_steps
+run-requires-clause-are_steps g c =
     let db = c.args.database.now.statements in
     let t = c.args.theorem in
-    let steps_are = ap (λ r. r.steps) c.requires.steps in
+    let steps_are = ap (λ r. r.steps) c.requires.steps_are_read in
     record {
       is_complete = c.requires.made_for.frames_are_complete;
-      is_theorem = c.requires.theorem;
+      is_theorem = c.requires.is_theorem;
       steps_are = steps_are;
       no_reading_faults = c.requires.no_reading_faults;
       are_good =

@@ -9,4 +9,4 @@ loop-i-init g c =
     no_step_performed db c.args.theorem c.args.steps.now.steps c.restart.new.self _ c.clear.new.self
     c.restart-2.new.self _
     (subst (λ (s : CheckerState). IsMadeFor db s) (sym c.self.view_is) c.requires.made_for)
-    c.requires.steps c.restart.ensures c.clear.ensures c.restart-2.ensures
+    c.requires.are_steps c.restart.ensures c.clear.ensures c.restart-2.ensures

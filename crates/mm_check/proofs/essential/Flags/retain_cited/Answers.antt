@@ -17,4 +17,4 @@ returns-else-essential g c =
     subst (λ b. (a : ℕ)
     → Decides (is_member c.args.noted.now a)
     (Cites c.args.database.now.statements b c.args.theorem a))
-    (sym c.if-essential.false) c.requires.noted
+    (sym c.if-essential.false) c.requires.noted_are_cited

@@ -1,25 +1,26 @@
 use Rattle.std.proofs.Common.{◌∙◌, ℕ, Bool, sym, ap, arith}
-use Rattle.mm_spec.specs.Scope.{is_active}
+use Rattle.mm_spec.specs.Scope.{active_at}
 use Rattle.mm_spec.proofs.OpenedLaw.{counted_active}
 use Rattle.mm_database.specs.Database.{Contents}
 use Rattle.mm_database.proofs.DatabaseLaw.{as_many_statements}
 use Rattle.mm_database.proofs.database.Database.active_at.Goals as goal
 
-pub is_active-requires-clause-statement : goal.is_active-requires-clause-statement
-is_active-requires-clause-statement g c =
+pub active_at-requires-clause-statement_lt_length :
+    goal.active_at-requires-clause-statement_lt_length
+active_at-requires-clause-statement_lt_length g c =
     let counts_equal = as_many_statements _ _ _ _ _ c.self.view_is in
-    let statement_lt_length = c.requires.statement in
+    let statement_lt_length = c.requires.statement_lt_length in
     omega (arith, counts_equal, statement_lt_length)
 
-pub is_active-requires-clause-at : goal.is_active-requires-clause-at
-is_active-requires-clause-at g c =
+pub active_at-requires-clause-at_le_length : goal.active_at-requires-clause-at_le_length
+active_at-requires-clause-at_le_length g c =
     let counts_equal = as_many_statements _ _ _ _ _ c.self.view_is in
-    let at_le_length = c.requires.at in
+    let at_le_length = c.requires.at_le_length in
     omega (arith, counts_equal, at_le_length)
 
 pub returns : goal.returns
 returns g c =
-    c.is_active.ensures
+    c.active_at.ensures
     ∙ ap (λ (f : ℕ → ℕ → Bool). f c.args.statement c.args.at)
     (sym (counted_active c.self.inside.with_open c.self.inside.reading.statements.list))
-    ∙ ap (λ (n : Contents). is_active n.statements c.args.statement c.args.at) c.self.view_is
+    ∙ ap (λ (n : Contents). active_at n.statements c.args.statement c.args.at) c.self.view_is

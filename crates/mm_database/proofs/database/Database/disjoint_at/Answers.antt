@@ -12,7 +12,7 @@ use Rattle.mm_database.proofs.database.Database.disjoint_at.Goals as goal
 pub are_together-requires : goal.are_together-requires
 are_together-requires g c = record {
   ordered =
-      rw c.blocks-else-are_together_near.ensures.blocks
+      rw c.blocks-else-are_together_near.ensures.blocks_are
       c.self.invariant.frame_tables_are.disjoint_index.ordered;
 }
 
@@ -30,10 +30,10 @@ returns-else-are_together_near g c =
     let x_ne_y : nat_eq x y ≡ false =
     ne_eqb x y (λ x_is_y. c.if-number.true (c.number.ensures ∙ x_is_y ∙ sym c.number-2.ensures)) in
     let blocks = c.blocks-else-are_together_near.ensures in
-    found_is_together s.list s.blocks blocks.theirs k k_le_length_list _
+    found_is_together s.list s.blocks blocks.are_blocks k k_le_length_list _
     c.self.invariant.frame_tables_are.disjoint_index.members_are c.are_together.result x y
-    (rw (← blocks.blocks) c.are_together.ensures.found)
-    (rw (← blocks.blocks) c.are_together.ensures.none)
+    (rw (← blocks.blocks_are) c.are_together.ensures.are_together_if_true)
+    (rw (← blocks.blocks_are) c.are_together.ensures.none_if_false)
     ∙ sym (together_counted w s.list k x y) ∙ sym (ap (λ t. not t && are_together_at db k x y)
     x_ne_y)
     ∙ ap (λ (n : Contents). disjoint_at n.statements k x y) c.self.view_is

@@ -17,7 +17,7 @@ returns g c =
     (labels_counted c.self.inside.with_open c.self.inside.reading.statements.list _
     c.self.invariant.labels) in
     record {
-      some = found_label_is_label _ _ are_labels w c.labelled.result c.labelled.ensures;
-      only = found_label_is_unique _ _ are_labels w c.labelled.result c.labelled.ensures;
-      none = missing_label_is_none _ _ are_labels w c.labelled.result c.labelled.ensures;
+      has_label = found_label_is_label _ _ are_labels w c.labelled.result c.labelled.ensures;
+      is_unique = found_label_is_unique _ _ are_labels w c.labelled.result c.labelled.ensures;
+      none_has_label = missing_label_is_none _ _ are_labels w c.labelled.result c.labelled.ensures;
     }

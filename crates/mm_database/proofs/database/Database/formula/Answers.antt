@@ -20,10 +20,10 @@ returns-clause-formula g c =
     (sym (counted_formula c.self.inside.with_open c.self.inside.reading.statements.list))
     ∙ ap (λ (n : Contents). formula_at n.statements c.args.statement) c.self.view_is
 
-pub returns-clause-known : goal.returns-clause-known
-returns-clause-known g c =
+pub returns-clause-symbols_lt_count : goal.returns-clause-symbols_lt_count
+returns-clause-symbols_lt_count g c =
     let names_equal =
     sym (counted_names c.self.inside.with_open c.self.inside.reading.statements.list)
     ∙ ap (λ (n : Contents). symbol_names n.statements) c.self.view_is in
     subst (λ (ns : List Bytes). All (λ s. s < length ns) c.formula.result.now) names_equal
-    c.formula.ensures.known
+    c.formula.ensures.symbols_lt_count

@@ -46,7 +46,7 @@ returns g c =
           ap (λ (m : Mandatory). m.pairs) frame_is_mandatory
           ∙ ap (λ (f : ℕ → List Pair). f k) (sym (counted_pairs with_open db))
           ∙ ap (λ (n : Contents). mandatory_pairs n.statements k) c.self.view_is;
-      few =
+      few_statements =
           (let frame_is_mandatory = as_many_statements _ _ _ _ _ c.self.view_is in
           let statements_lt_2_31 = c.self.invariant.few_statements in
           omega (arith, frame_is_mandatory, statements_lt_2_31));

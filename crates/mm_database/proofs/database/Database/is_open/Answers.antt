@@ -13,7 +13,7 @@ use Rattle.mm_database.proofs.database.Database.is_open.Goals as goal
 pub returns-then-statement-len : goal.returns-then-statement-len
 returns-then-statement-len g c =
     let n = c.args.self.now in
-    let counted_length_is_length = ap (λ db. length db) c.len.ensures.counted
+    let counted_length_is_length = ap (λ db. length db) c.len.ensures.are_counted
     ∙ counted_length n.with_open n.read in
     let len_is_length = c.len.ensures.len in
     let len_le_statement = c.if-statement-len.true in

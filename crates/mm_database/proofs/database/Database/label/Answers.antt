@@ -2,9 +2,7 @@ use Rattle.std.proofs.Common.{◌∙◌, length, get_or, take, drop, ◌-◌, So
 use Rattle.mm_database.specs.Database.{Contents}
 use Rattle.mm_database.proofs.DatabaseLaw.{as_many_statements}
 use Rattle.mm_database.proofs.RetainedWordsLaw.{k_lt_retained_count, some_are_retained}
-use Rattle.mm_database.proofs.RetainedWordsLaw.{words_are_within}
-use Rattle.mm_database.proofs.RetainedWordsLaw.{label_is_retained}
-use Rattle.mm_database.proofs.RetainedWordsLaw.{label_missing}
+use Rattle.mm_database.proofs.RetainedWordsLaw.{words_are_within, label_is_retained, label_missing}
 use Rattle.mm_database.proofs.database.Database.label.Goals as goal
 
 pub kind-requires : goal.kind-requires
@@ -36,8 +34,8 @@ bytes-requires g c =
     let lent_length = ap length c.text.ensures in
     let end_le_length = word_is_within.1 in
     record {
-      order = word_is_within.0;
-      within =
+      start_le_end = word_is_within.0;
+      end_le_length =
           omega (arith, end_le_length, text_lengths_equal, lent_length);
     }
 

@@ -8,13 +8,13 @@ use Rattle.mm_database.proofs.database.Database.len.Goals as goal
 pub returns-clause-len : goal.returns-clause-len
 returns-clause-len g c = c.len.ensures.len ∙ sym (as_many_statements _ _ _ _ _ c.self.view_is)
 
-pub returns-clause-complete : goal.returns-clause-complete
-returns-clause-complete g c =
+pub returns-clause-are_complete : goal.returns-clause-are_complete
+returns-clause-are_complete g c =
     subst (λ (n : Contents). AreComplete n.statements) c.self.view_is
     (read_statements_are_complete _ _ c.self.inside.with_open _ c.self.invariant.read)
 
-pub returns-clause-few : goal.returns-clause-few
-returns-clause-few g c =
+pub returns-clause-len_le_text : goal.returns-clause-len_le_text
+returns-clause-len_le_text g c =
     let s = c.self.inside.reading.statements in
     let statements_le_bytes_read =
     statements_le_bytes s.text s.list c.self.inside.reading.fault c.self.invariant.read in

@@ -14,7 +14,7 @@ between-requires-clause-to_le_count g c =
     (c.self.invariant.lists_are.spaced_labels_are
     ∙ ap (λ (n : Contents). spaced_labels n.statements) c.self.view_is)
     ∙ length-map (theorems db) (λ k. 32 ∷ label_at db k) in
-    let to_le_theorems = c.requires.within in
+    let to_le_theorems = c.requires.to_le_length in
     omega (arith, spaced_count, to_le_theorems)
 
 pub returns : goal.returns

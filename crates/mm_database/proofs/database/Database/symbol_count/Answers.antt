@@ -7,10 +7,10 @@ use Rattle.mm_database.proofs.database.Database.symbol_count.Goals as goal
 
 pub returns : goal.returns
 returns g c = record {
-  count =
-      c.symbol_count.ensures.count
+  count_is =
+      c.symbol_count.ensures.count_is
       ∙ ap (λ (ns : List Bytes). length ns)
       (sym (counted_names c.self.inside.with_open c.self.inside.reading.statements.list)
       ∙ ap (λ (n : Contents). symbol_names n.statements) c.self.view_is);
-  few = c.symbol_count.ensures.few;
+  count_lt_2_31 = c.symbol_count.ensures.count_lt_2_31;
 }

@@ -4,7 +4,7 @@ use Rattle.mm_database.specs.Database.{Contents}
 use Rattle.mm_database.proofs.DatabaseLaw.{read_statements_are_complete}
 use Rattle.mm_database.proofs.database.Database.theorems.Goals as goal
 
-pub returns-clause-complete : goal.returns-clause-complete
-returns-clause-complete g c =
+pub returns-clause-are_complete : goal.returns-clause-are_complete
+returns-clause-are_complete g c =
     subst (λ (n : Contents). AreComplete n.statements) c.self.view_is
     (read_statements_are_complete _ _ c.self.inside.with_open _ c.self.invariant.read)

@@ -1,5 +1,4 @@
-use Rattle.std.proofs.Common.{◌≡◌, ◌∙◌, ◌++◌, ◌∷◌, [], Some, length, ap, ap₂, arith}
-use Rattle.std.proofs.Common.{rules}
+use Rattle.std.proofs.Common.{◌≡◌, ◌∙◌, ◌++◌, ◌∷◌, [], Some, length, ap, ap₂, arith, rules}
 use Rattle.mm_database.specs.Frames.{mandatory_in, frames_at}
 use Rattle.mm_database.proofs.FrameIndicesLaw.{frames_at_push_frame, as_many_indices}
 use Rattle.mm_database.proofs.frames.Frames.add.Goals as goal

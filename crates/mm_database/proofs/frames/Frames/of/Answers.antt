@@ -1,5 +1,4 @@
-use Rattle.std.proofs.Common.{◌∙◌, IsSome, get_or, Some, None, sym, ap, subst}
-use Rattle.std.proofs.Common.{arith}
+use Rattle.std.proofs.Common.{◌∙◌, IsSome, get_or, Some, None, sym, ap, subst, arith}
 use Rattle.std.proofs.lemmas.List.{get_or_default}
 use Rattle.mm_database.specs.Frames.{mandatory_in}
 use Rattle.mm_database.proofs.FrameIndicesLaw.{frame_index_lt_length, frame_at_index}

@@ -6,8 +6,8 @@ use Rattle.mm_database.proofs.SymbolsLaw.{index_of_distinct}
 use Rattle.mm_database.proofs.NamesLaw.{name_of_entry}
 use Rattle.mm_database.proofs.names.NameTable.guessed_symbol.Goals as goal
 
-pub returns-then-eq-clause-number : goal.returns-then-eq-clause-number
-returns-then-eq-clause-number g c =
+pub returns-then-eq-clause-number_is_index : goal.returns-then-eq-clause-number_is_index
+returns-then-eq-clause-number_is_index g c =
     let es = c.self.inside.symbols.entries in
     let i = c.in_ok-guess.field-0.now in
     let name = c.in_ok-name.name.now in
@@ -18,8 +18,8 @@ returns-then-eq-clause-number g c =
     ∙ ap Some name_is_word)
     ∙ ap (λ (n : KnownNames). index_of c.args.word.now (names_of n.symbols)) c.self.view_is
 
-pub returns-then-eq-clause-symbol : goal.returns-then-eq-clause-symbol
-returns-then-eq-clause-symbol g c =
+pub returns-then-eq-clause-symbol_is_found : goal.returns-then-eq-clause-symbol_is_found
+returns-then-eq-clause-symbol_is_found g c =
     let name = c.in_ok-name.name.now in
     let name_is_word : name.bytes.now ≡ c.args.word.now =
     (bytes_eq-Decides name.bytes.now c.args.word.now).0 (sym c.eq.ensures ∙ c.if-eq.true) in

@@ -21,12 +21,12 @@ invariant_of-self-2 g c =
     }
 
 -- the clause `updates` of `insert_full`, at a key with these bytes
-pub returns-clause-labels : goal.returns-clause-labels
-returns-clause-labels g c =
+pub returns-clause-label_is_set : goal.returns-clause-label_is_set
+returns-clause-label_is_set g c =
     let updates = c.in_ok-index.ensures.updates in
     λ w. updates.0 (record { bytes = record { ref_ptr = (0, 0); now = w } })
     ∙ ap (λ (n : KnownNames). if bytes_eq c.args.word.now w then Some c.args.statement else
     find n.labels w) c.self.view_is
 
-pub returns-clause-symbols : goal.returns-clause-symbols
-returns-clause-symbols g c = ap (λ (n : KnownNames). n.symbols) c.self.view_is
+pub returns-clause-symbols_stay : goal.returns-clause-symbols_stay
+returns-clause-symbols_stay g c = ap (λ (n : KnownNames). n.symbols) c.self.view_is

@@ -28,18 +28,18 @@ invariant_of-self-2 g c =
     }
 
 -- the clause `updates` of `insert_full`, at a key with these bytes
-pub returns-clause-symbols : goal.returns-clause-symbols
-returns-clause-symbols g c =
+pub returns-clause-symbol_is_set : goal.returns-clause-symbol_is_set
+returns-clause-symbol_is_set g c =
     let updates = c.in_ok-number.ensures.updates in
     λ w. updates.0 (record { bytes = record { ref_ptr = (0, 0); now = w } })
     ∙ ap (λ (n : KnownNames). if bytes_eq c.args.word.now w then Some c.args.symbol else
     find n.symbols w) c.self.view_is
 
-pub returns-clause-labels : goal.returns-clause-labels
-returns-clause-labels g c = λ w. ap (λ (n : KnownNames). find n.labels w) c.self.view_is
+pub returns-clause-labels_stay : goal.returns-clause-labels_stay
+returns-clause-labels_stay g c = λ w. ap (λ (n : KnownNames). find n.labels w) c.self.view_is
 
-pub returns-clause-names : goal.returns-clause-names
-returns-clause-names g c =
+pub returns-clause-name_is_added : goal.returns-clause-name_is_added
+returns-clause-name_is_added g c =
     ap names_of c.in_ok-number.ensures.entries
     ∙ names_inserted c.self.inside.symbols.entries (record { bytes = c.args.word }) c.args.symbol
     ∙ ap (λ (n : KnownNames). with_name c.args.word.now (names_of n.symbols)) c.self.view_is

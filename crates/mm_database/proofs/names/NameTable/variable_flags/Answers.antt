@@ -46,8 +46,8 @@ loop-i-preserved g c =
           ];
     }
 
-pub returns-clause-count : goal.returns-clause-count
-returns-clause-count g c =
+pub returns-clause-count_is : goal.returns-clause-count_is
+returns-clause-count_is g c =
     let flag_count_is_i = c.loop-i.invariant.count in
     let end_is_len = c.loop-i.auto.i-end in
     let end_le_i = c.loop-i-test.false in
@@ -56,8 +56,8 @@ returns-clause-count g c =
     let name_counts_equal = ap (λ (n : KnownNames). length (names_of n.symbols)) c.self.view_is in
     omega (arith, flag_count_is_i, end_is_len, end_le_i, len_is_count, n, name_counts_equal)
 
-pub returns-clause-each : goal.returns-clause-each
-returns-clause-each g c =
+pub returns-clause-flags_are : goal.returns-clause-flags_are
+returns-clause-flags_are g c =
     let es = c.self.inside.symbols.entries in
     let flags_are : (i : ℕ) (w : List ℕ) → slice_get (names_of es) i ≡ Some w
     → get_or c.loop-i.variable_flags.items i false ≡ is_variable_in (find es w) =

@@ -20,7 +20,7 @@ returns-then-is_some-2 g c p =
     let next_word_is =
     next_word_of_equal_texts _ text c.loop-found.scanner.from c.next_word.new.self.from c.args.to
     word
-    invariant_before.texts_equal c.in-Some.ensures.words in
+    invariant_before.texts_equal c.in-Some.ensures.is_next_word in
     let total_is =
     append_reading_continues text _ (side_reading p (side c.loop-found.self)) _ word _ _
     (invariant_before.readings_equal p) next_word_is
@@ -38,9 +38,9 @@ loop-found-preserved-else-is_some-2 g c =
     let next_word_is =
     next_word_of_equal_texts _ text c.loop-found.scanner.from c.next_word.new.self.from c.args.to
     word
-    invariant_before.texts_equal c.in-Some.ensures.words in
+    invariant_before.texts_equal c.in-Some.ensures.is_next_word in
     record {
-      texts_equal = c.in-Some.ensures.text ∙ invariant_before.texts_equal;
+      texts_equal = c.in-Some.ensures.text_is ∙ invariant_before.texts_equal;
       no_fault = not_some_is_none _ (sym c.is_some-then-not-found.ensures ∙ c.if-is_some-2.false);
       readings_equal =
           λ p. append_reading_continues text _ (side_reading p (side c.loop-found.self)) _ word _ _
@@ -53,20 +53,20 @@ loop-found-preserved-then-is_open g c =
     let invariant_before = c.loop-found.invariant in
     let text = c.args.text.now in
     let word = c.in-Some.found.word in
-    let texts_equal = c.in-Some.ensures.text ∙ invariant_before.texts_equal in
+    let texts_equal = c.in-Some.ensures.text_is ∙ invariant_before.texts_equal in
     let next_from = c.next_word.new.self.from in
     let upto = c.skip_plain.new.self.from in
     let next_word_is =
     next_word_of_equal_texts _ text c.loop-found.scanner.from next_from c.args.to word
     invariant_before.texts_equal
-    c.in-Some.ensures.words in
+    c.in-Some.ensures.is_next_word in
     let is_plain_word =
     subst (λ (t : List ℕ). IsPlainWord (bytes_of t word)) invariant_before.texts_equal
-    (c.in-Some.ensures.plain (not-false _ c.if-not-found.false)) in
+    (c.in-Some.ensures.plain_if_known (not-false _ c.if-not-found.false)) in
     let others_are_plain =
-    subst (λ (t : List ℕ). ArePlain t next_from upto) texts_equal c.skip_plain.ensures.plain in
+    subst (λ (t : List ℕ). ArePlain t next_from upto) texts_equal c.skip_plain.ensures.are_plain in
     record {
-      texts_equal = c.skip_plain.ensures.text ∙ texts_equal;
+      texts_equal = c.skip_plain.ensures.text_is ∙ texts_equal;
       no_fault = invariant_before.no_fault;
       readings_equal =
           λ p. appended_skips_plain text _
@@ -85,12 +85,12 @@ loop-found-preserved g c =
     let next_word_is =
     next_word_of_equal_texts _ text c.loop-found.scanner.from c.next_word.new.self.from c.args.to
     word
-    invariant_before.texts_equal c.in-Some.ensures.words in
+    invariant_before.texts_equal c.in-Some.ensures.is_next_word in
     let is_plain_word =
     subst (λ (t : List ℕ). IsPlainWord (bytes_of t word)) invariant_before.texts_equal
-    (c.in-Some.ensures.plain (not-false _ c.if-not-found.false)) in
+    (c.in-Some.ensures.plain_if_known (not-false _ c.if-not-found.false)) in
     record {
-      texts_equal = c.in-Some.ensures.text ∙ invariant_before.texts_equal;
+      texts_equal = c.in-Some.ensures.text_is ∙ invariant_before.texts_equal;
       no_fault = invariant_before.no_fault;
       readings_equal =
           λ p. append_reading_continues text _ (side_reading p (side c.loop-found.self)) _ word _ _
@@ -108,5 +108,5 @@ returns g c p =
     let no_words_left =
     subst (λ (t : List ℕ). words_between t c.loop-found.scanner.from c.args.to
     ≡ []) invariant_before.texts_equal
-    c.in_default.ensures.words in
+    c.in_default.ensures.is_next_word in
     sym (append_reading_is_complete text _ _ _ (invariant_before.readings_equal p) no_words_left)

@@ -8,13 +8,13 @@ use Rattle.mm_lex.proofs.BlockLaw.{remaining_bit_is_other, other_bits_are_kept}
 use Rattle.mm_lex.proofs.BlockLaw.{holds_up_to_next_bit}
 use Rattle.mm_lex.proofs.scanner.WordScanner.next_start.Goals as goal
 
-pub returns-then-to-self-clause-first_beginning : goal.returns-then-to-self-clause-first_beginning
-returns-then-to-self-clause-first_beginning c =
+pub returns-then-to-self-clause-is_first : goal.returns-then-to-self-clause-is_first
+returns-then-to-self-clause-is_first c =
     let scanner = c.loop-self.self in
     let text = c.args.self.now.text.now in
     let invariant_before = c.loop-self.invariant in
     no_words_between text c.args.self.now.from (scanner.base + 64) c.args.to
-    (omega (arith, invariant_before.from_rises, scanner.from_le_block_end)) c.if-to-self.true
+    (omega (arith, invariant_before.old_from_le_from, scanner.from_le_block_end)) c.if-to-self.true
     (λ i from_le_i i_lt_end i_lt_to. holds_up_to_next_bit
     (λ t k. begins_word t k ≡ false) scanner.text.now text scanner.starts c.args.self.now.from
     scanner.from scanner.base
@@ -30,13 +30,13 @@ loop-self-preserved c =
     let text = c.args.self.now.text.now in
     let invariant_before = c.loop-self.invariant in
     record {
-      texts_equal = c.next_block.ensures.text ∙ invariant_before.texts_equal;
-      from_rises =
+      texts_equal = c.next_block.ensures.text_is ∙ invariant_before.texts_equal;
+      old_from_le_from =
           omega (
             arith,
-            invariant_before.from_rises,
+            invariant_before.old_from_le_from,
             scanner.from_le_block_end,
-            c.next_block.ensures.from,
+            c.next_block.ensures.from_is,
           );
       none_begins =
           λ i from_le_i i_lt_end i_lt_to. holds_up_to_next_bit
@@ -47,11 +47,11 @@ loop-self-preserved c =
           (λ k _ _. ap (λ (n : ℕ). bit_at n k) c.loop-self-test.true ∙ bit_at-zero k)
           scanner.begins_none
           i from_le_i
-          (omega (arith, c.next_block.ensures.from)) i_lt_to;
+          (omega (arith, c.next_block.ensures.from_is)) i_lt_to;
     }
 
-pub returns-then-to-start-clause-first_beginning : goal.returns-then-to-start-clause-first_beginning
-returns-then-to-start-clause-first_beginning c =
+pub returns-then-to-start-clause-is_first : goal.returns-then-to-start-clause-is_first
+returns-then-to-start-clause-is_first c =
     let scanner = c.loop-self.self in
     let text = c.args.self.now.text.now in
     let invariant_before = c.loop-self.invariant in
@@ -62,7 +62,7 @@ returns-then-to-start-clause-first_beginning c =
     c.args.to
     (omega (
       arith,
-      invariant_before.from_rises,
+      invariant_before.old_from_le_from,
       scanner.starts_ge_from
           (trailing_zeros w64 scanner.starts) lowest_bit.0 lowest_bit.1,
     ))
@@ -113,11 +113,11 @@ invariant_of-self-clause-begins_none c i i_lt_64 place_in_text from_le_i bit_is_
     ))
     (sym (other_bits_are_kept scanner.starts (trailing_zeros w64 scanner.starts) lowest_bit.0 i
     i_lt_64
-    (λ i_is_place. omega (arith, i_is_place, from_le_i)))
+    (λ i_is_bit. omega (arith, i_is_bit, from_le_i)))
     ∙ bit_is_zero)
 
-pub returns-clause-first_beginning : goal.returns-clause-first_beginning
-returns-clause-first_beginning c =
+pub returns-clause-is_first : goal.returns-clause-is_first
+returns-clause-is_first c =
     let scanner = c.loop-self.self in
     let text = c.args.self.now.text.now in
     let invariant_before = c.loop-self.invariant in
@@ -132,7 +132,7 @@ returns-clause-first_beginning c =
       from_le_start =
           omega (
             arith,
-            invariant_before.from_rises,
+            invariant_before.old_from_le_from,
             scanner.starts_ge_from
                 (trailing_zeros w64 scanner.starts) lowest_bit.0 lowest_bit.1,
           );
@@ -154,8 +154,8 @@ returns-clause-first_beginning c =
           (omega (arith, c.requires.to_le_length, c.if-to-start.false));
     }
 
-pub returns-clause-taken : goal.returns-clause-taken
-returns-clause-taken c =
+pub returns-clause-is_taken : goal.returns-clause-is_taken
+returns-clause-is_taken c =
     let scanner = c.loop-self.self in
     let lowest_bit =
     bit_at-trailing_zeros w64 scanner.starts (omega (arith, c.loop-self-test.false))
@@ -173,8 +173,8 @@ returns-clause-taken c =
           lowest_bit.1;
     }
 
-pub returns-then-to-self-clause-done : goal.returns-then-to-self-clause-done
-returns-then-to-self-clause-done c =
+pub returns-then-to-self-clause-none_left : goal.returns-then-to-self-clause-none_left
+returns-then-to-self-clause-none_left c =
     let scanner = c.loop-self.self in
     let text = c.args.self.now.text.now in
     no_words_between text scanner.from (scanner.base + 64) c.args.to scanner.from_le_block_end
@@ -189,8 +189,8 @@ returns-then-to-self-clause-done c =
     i_lt_end
     (omega (arith, c.requires.to_le_length)))
 
-pub returns-then-to-start-clause-done : goal.returns-then-to-start-clause-done
-returns-then-to-start-clause-done c =
+pub returns-then-to-start-clause-none_left : goal.returns-then-to-start-clause-none_left
+returns-then-to-start-clause-none_left c =
     let scanner = c.loop-self.self in
     let text = c.args.self.now.text.now in
     let lowest_bit =

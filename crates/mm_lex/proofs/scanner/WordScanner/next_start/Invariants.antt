@@ -6,7 +6,7 @@ use Rattle.mm_lex.proofs.scanner.WordScanner.next_start.Given as goal
 abbrev pub invariant-loop-self : goal.invariant-loop-self
 invariant-loop-self l = record {
   texts_equal : l.self.text.now ≡ l.fn.self.text.now;
-  from_rises : l.fn.self.from ≤ l.self.from;
+  old_from_le_from : l.fn.self.from ≤ l.self.from;
   none_begins : (i : ℕ) → l.fn.self.from ≤ i → i < l.self.from → i < length l.fn.self.text.now
       → begins_word l.fn.self.text.now i ≡ false;
 }

@@ -4,7 +4,7 @@ use Rattle.std.proofs.lemmas.Nat.Bits.{shr_and_one}
 use Rattle.mm_spec.specs.Words.{white_at}
 use Rattle.mm_spec.specs.Laws.Words.{IsWord}
 use Rattle.mm_lex.specs.Plain.{plain_at}
-use Rattle.mm_lex.specs.Beginnings.{IsFirst, IsPassed, IsWordFrom}
+use Rattle.mm_lex.specs.Beginnings.{IsFirstWordStart, IsPassed, IsWordFrom}
 use Rattle.mm_lex.proofs.BlockLaw.{words_begin_with_found, found_bytes_are_word}
 use Rattle.mm_lex.proofs.BlockLaw.{plain_bytes_are_plain_word, holds_up_to_next_bit}
 use Rattle.mm_lex.proofs.BlockLaw.{one_bit_is_white}
@@ -26,7 +26,7 @@ stop_is_white c =
     c.if-stop-lt64.true
     (sym (shr_and_one scanner.white c.first_one-stop.result) ∙ c.if-self-stop-eq1.true) in
     subst (λ (t : List ℕ). (scanner.base + c.first_one-stop.result < length t)
-    × (white_at t (scanner.base + c.first_one-stop.result) ≡ true)) c.next_start.ensures.text
+    × (white_at t (scanner.base + c.first_one-stop.result) ≡ true)) c.next_start.ensures.text_is
     white_there
 
 module _ (c : Then-self-stop-eq1) where
@@ -38,10 +38,11 @@ module _ (c : Then-self-stop-eq1) where
       holds_up_to_next_bit (λ t k. white_at t k ≡ false) scanner.text.now c.args.self.now.text.now
       scanner.stops
       c.in_ok-start.start c.in_ok-start.start scanner.base c.first_one-stop.result
-      c.next_start.ensures.text c.in_ok-start.ensures.taken.base_le_start
-      c.first_one-stop.ensures.place_le_64
+      c.next_start.ensures.text_is c.in_ok-start.ensures.is_taken.base_le_start
+      c.first_one-stop.ensures.index_le_64
       (λ k start_le_k k_lt_start _. absurd (omega arith)) c.first_one-stop.ensures.zeros
-      (λ k k_lt_64 place_in_text _. scanner.not_white k k_lt_64 place_in_text) i start_le_i i_lt_end
+      (λ k k_lt_64 place_in_text _. scanner.others_not_white k k_lt_64 place_in_text)
+      i start_le_i i_lt_end
       (omega (arith, (stop_is_white c).0))
 
   plain_to_stop : (i : ℕ) → c.in_ok-start.start ≤ i
@@ -52,18 +53,19 @@ module _ (c : Then-self-stop-eq1) where
       holds_up_to_next_bit (λ t k. plain_at t k ≡ true) scanner.text.now c.args.self.now.text.now
       scanner.stops
       c.in_ok-start.start c.in_ok-start.start scanner.base c.first_one-stop.result
-      c.next_start.ensures.text c.in_ok-start.ensures.taken.base_le_start
-      c.first_one-stop.ensures.place_le_64
+      c.next_start.ensures.text_is c.in_ok-start.ensures.is_taken.base_le_start
+      c.first_one-stop.ensures.index_le_64
       (λ k start_le_k k_lt_start _. absurd (omega arith)) c.first_one-stop.ensures.zeros
-      (λ k k_lt_64 place_in_text _. scanner.plain k k_lt_64 place_in_text) i start_le_i i_lt_end
+      (λ k k_lt_64 place_in_text _. scanner.others_are_plain k k_lt_64 place_in_text)
+      i start_le_i i_lt_end
       (omega (arith, (stop_is_white c).0))
 
   start_le_stop : c.in_ok-start.start ≤ c.next_start.new.self.base + c.first_one-stop.result
   start_le_stop =
       omega (
         arith,
-        c.first_one-stop.ensures.from_le_place,
-        c.in_ok-start.ensures.taken.base_le_start,
+        c.first_one-stop.ensures.from_le_index,
+        c.in_ok-start.ensures.is_taken.base_le_start,
       )
 
   found_is_word : IsWord c.args.self.now.text.now (record {
@@ -73,31 +75,34 @@ module _ (c : Then-self-stop-eq1) where
   found_is_word =
       let start_facts = c.in_ok-start.ensures in
       found_bytes_are_word c.args.self.now.text.now c.in_ok-start.start
-      (c.next_start.new.self.base + c.first_one-stop.result) start_facts.first_beginning.begins
-      (omega (arith, start_facts.first_beginning.start_lt_to, c.requires.to_le_length))
+      (c.next_start.new.self.base + c.first_one-stop.result) start_facts.is_first.begins
+      (omega (arith, start_facts.is_first.start_lt_to, c.requires.to_le_length))
       start_le_stop
       (omega (arith, (stop_is_white c).0))
       none_white_to_stop (λ _. (stop_is_white c).1)
 
-pub returns-then-self-stop-eq1-clause-words : goal.returns-then-self-stop-eq1-clause-words
-returns-then-self-stop-eq1-clause-words c =
-    let context = (goal.at.returns-then-self-stop-eq1-clause-words c).Then-self-stop-eq1 in
+pub returns-then-self-stop-eq1-clause-is_next_word :
+    goal.returns-then-self-stop-eq1-clause-is_next_word
+returns-then-self-stop-eq1-clause-is_next_word c =
+    let context = (goal.at.returns-then-self-stop-eq1-clause-is_next_word c).Then-self-stop-eq1 in
     let start_facts = c.in_ok-start.ensures in
     words_begin_with_found c.args.self.now.text.now _ c.args.self.now.from
     c.next_start.new.self.from c.args.to
-    (found_is_word context) start_facts.first_beginning (record {
-      start_lt_from = omega (arith, start_facts.taken.from_is_next);
+    (found_is_word context) start_facts.is_first (record {
+      start_lt_from = omega (arith, start_facts.is_taken.from_is_next);
       none_between =
-          λ i start_lt_i i_lt_from. absurd (omega (arith, start_facts.taken.from_is_next));
+          λ i start_lt_i i_lt_from. absurd (omega (arith, start_facts.is_taken.from_is_next));
     })
 
-pub returns-then-self-stop-eq1-clause-each : goal.returns-then-self-stop-eq1-clause-each
-returns-then-self-stop-eq1-clause-each c =
-    found_is_word (goal.at.returns-then-self-stop-eq1-clause-each c).Then-self-stop-eq1
+pub returns-then-self-stop-eq1-clause-found_is_word :
+    goal.returns-then-self-stop-eq1-clause-found_is_word
+returns-then-self-stop-eq1-clause-found_is_word c =
+    found_is_word (goal.at.returns-then-self-stop-eq1-clause-found_is_word c).Then-self-stop-eq1
 
-pub returns-then-self-stop-eq1-clause-plain : goal.returns-then-self-stop-eq1-clause-plain
-returns-then-self-stop-eq1-clause-plain c _ =
-    let context = (goal.at.returns-then-self-stop-eq1-clause-plain c).Then-self-stop-eq1 in
+pub returns-then-self-stop-eq1-clause-plain_if_known :
+    goal.returns-then-self-stop-eq1-clause-plain_if_known
+returns-then-self-stop-eq1-clause-plain_if_known c _ =
+    let context = (goal.at.returns-then-self-stop-eq1-clause-plain_if_known c).Then-self-stop-eq1 in
     plain_bytes_are_plain_word c.args.self.now.text.now c.in_ok-start.start
     (c.next_start.new.self.base + c.first_one-stop.result) (start_le_stop context)
     (omega (arith, (stop_is_white context).0)) (plain_to_stop context)
@@ -106,8 +111,8 @@ pub returns-then-self-stop-eq1-clause-onward : goal.returns-then-self-stop-eq1-c
 returns-then-self-stop-eq1-clause-onward c =
     omega (
       arith,
-      c.in_ok-start.ensures.first_beginning.from_le_start,
-      c.in_ok-start.ensures.taken.from_is_next,
+      c.in_ok-start.ensures.is_first.from_le_start,
+      c.in_ok-start.ensures.is_taken.from_is_next,
     )
 
 -- ---- any other word
@@ -118,36 +123,38 @@ module _ (c : After-word_from) where
       c.word_from.result.1.is_plain
   found_word_from =
       subst (λ (t : List ℕ). IsWordFrom t c.in_ok-start.start c.word_from.result.1.word
-      c.word_from.result.1.is_plain) c.next_start.ensures.text c.word_from.ensures.word
+      c.word_from.result.1.is_plain) c.next_start.ensures.text_is c.word_from.ensures.is_word_from
 
   none_passed_to_from : IsPassed c.args.self.now.text.now c.in_ok-start.start
       c.word_from.result.0.from
   none_passed_to_from =
       subst (λ (t : List ℕ). IsPassed t c.in_ok-start.start c.word_from.result.0.from)
-      c.next_start.ensures.text c.word_from.ensures.onward
+      c.next_start.ensures.text_is c.word_from.ensures.onward
 
-pub returns-clause-words : goal.returns-clause-words
-returns-clause-words c =
-    let context = (goal.at.returns-clause-words c).After-word_from in
+pub returns-clause-is_next_word : goal.returns-clause-is_next_word
+returns-clause-is_next_word c =
+    let context = (goal.at.returns-clause-is_next_word c).After-word_from in
     let text = c.args.self.now.text.now in
     let start_is = sym (found_word_from context).start_is in
     words_begin_with_found text _ c.args.self.now.from c.word_from.result.0.from c.args.to
     (found_word_from context).is_word
-    (subst (IsFirst text c.args.self.now.from c.args.to) start_is
-    c.in_ok-start.ensures.first_beginning)
+    (subst (IsFirstWordStart text c.args.self.now.from c.args.to) start_is
+    c.in_ok-start.ensures.is_first)
     (subst (λ (s : ℕ). IsPassed text s c.word_from.result.0.from) start_is
     (none_passed_to_from context))
 
-pub returns-clause-each : goal.returns-clause-each
-returns-clause-each c = (found_word_from (goal.at.returns-clause-each c).After-word_from).is_word
+pub returns-clause-found_is_word : goal.returns-clause-found_is_word
+returns-clause-found_is_word c =
+    (found_word_from (goal.at.returns-clause-found_is_word c).After-word_from).is_word
 
-pub returns-clause-plain : goal.returns-clause-plain
-returns-clause-plain c = (found_word_from (goal.at.returns-clause-plain c).After-word_from).is_plain
+pub returns-clause-plain_if_known : goal.returns-clause-plain_if_known
+returns-clause-plain_if_known c =
+    (found_word_from (goal.at.returns-clause-plain_if_known c).After-word_from).is_plain
 
 pub returns-clause-onward : goal.returns-clause-onward
 returns-clause-onward c =
     omega (
       arith,
-      c.in_ok-start.ensures.first_beginning.from_le_start,
+      c.in_ok-start.ensures.is_first.from_le_start,
       c.word_from.ensures.onward.start_lt_from,
     )

@@ -18,16 +18,17 @@ loop-stop-init c =
     let first_stop = c.first_one-stop in
     record {
       texts_equal = refl;
-      start_lt_from = omega (arith, c.requires.taken.from_is_next);
-      none_begins = λ i start_le_i i_lt_stop. absurd (omega (arith, c.requires.taken.from_is_next));
+      start_lt_from = omega (arith, c.requires.is_taken.from_is_next);
+      none_begins = λ i start_le_i i_lt_stop. absurd
+          (omega (arith, c.requires.is_taken.from_is_next));
       start_le_stop =
-          omega (arith, first_stop.ensures.from_le_place, c.requires.taken.base_le_start);
-      stop_le_64 = first_stop.ensures.place_le_64;
+          omega (arith, first_stop.ensures.from_le_index, c.requires.is_taken.base_le_start);
+      stop_le_64 = first_stop.ensures.index_le_64;
       no_white =
           holds_up_to_next_bit (λ t i. white_at t i ≡ false) text text scanner.white c.args.start
           c.args.start
           scanner.base
-          first_stop.result refl c.requires.taken.base_le_start first_stop.ensures.place_le_64
+          first_stop.result refl c.requires.is_taken.base_le_start first_stop.ensures.index_le_64
           (λ i start_le_i i_lt_stop _. absurd (omega arith)) first_stop.ensures.zeros
           (λ i i_lt_64 place_in_text _. zero_bit_is_not_white text scanner.base scanner.white
           scanner.white_is
@@ -39,11 +40,11 @@ loop-stop-init c =
           holds_up_to_next_bit (λ t i. plain_at t i ≡ true) text text scanner.stops c.args.start
           c.args.start
           scanner.base
-          first_stop.result refl c.requires.taken.base_le_start first_stop.ensures.place_le_64
+          first_stop.result refl c.requires.is_taken.base_le_start first_stop.ensures.index_le_64
           (λ i start_le_i i_lt_stop _. absurd (omega arith))
           (λ i start_le_i i_lt_stop. c.first_one.ensures.zeros i start_le_i
           (omega (arith, stops_equal)))
-          (λ i i_lt_64 place_in_text _. scanner.plain i i_lt_64 place_in_text);
+          (λ i i_lt_64 place_in_text _. scanner.others_are_plain i i_lt_64 place_in_text);
     }
 
 pub loop-stop-preserved-then-is_plain : goal.loop-stop-preserved-then-is_plain
@@ -53,14 +54,14 @@ loop-stop-preserved-then-is_plain c =
     let first_stop = c.first_one-stop-in-loop-stop in
     let invariant_before = c.loop-stop.invariant in
     let base_is : scanner_after.base ≡ c.loop-stop.scanner.base + c.loop-stop.stop =
-    omega (arith, c.at-scanner.ensures.base, c.loop-stop-test.true) in
+    omega (arith, c.at-scanner.ensures.base_is, c.loop-stop-test.true) in
     record {
-      texts_equal = c.at-scanner.ensures.text;
+      texts_equal = c.at-scanner.ensures.text_is;
       start_lt_from =
           omega (
             arith,
-            c.at-scanner.ensures.from,
-            c.at-scanner.ensures.base,
+            c.at-scanner.ensures.from_is,
+            c.at-scanner.ensures.base_is,
             invariant_before.start_lt_from,
             c.loop-stop.scanner.from_le_block_end,
             invariant_before.start_le_stop,
@@ -69,21 +70,22 @@ loop-stop-preserved-then-is_plain c =
       none_begins =
           no_word_begins_inside text c.args.start scanner_after.from
           (λ i start_le_i i_lt_stop. invariant_before.no_white i start_le_i
-          (omega (arith, base_is, c.at-scanner.ensures.from))
+          (omega (arith, base_is, c.at-scanner.ensures.from_is))
           (omega (
             arith,
-            c.at-scanner.ensures.from,
+            c.at-scanner.ensures.from_is,
             scanner_after.base_le_length,
-            c.at-scanner.ensures.base,
+            c.at-scanner.ensures.base_is,
             c.if-len-scanner-gt64.true,
           )));
       start_le_stop = omega (arith, base_is, invariant_before.start_le_stop);
-      stop_le_64 = first_stop.ensures.place_le_64;
+      stop_le_64 = first_stop.ensures.index_le_64;
       no_white =
           holds_up_to_next_bit (λ t i. white_at t i ≡ false) scanner_after.text.now text
           scanner_after.white
           c.args.start scanner_after.base scanner_after.base
-          first_stop.result c.at-scanner.ensures.text (omega arith) first_stop.ensures.place_le_64
+          first_stop.result c.at-scanner.ensures.text_is (omega arith)
+          first_stop.ensures.index_le_64
           (λ i start_le_i i_lt_stop i_in_text. invariant_before.no_white i start_le_i
           (omega (arith, base_is)) i_in_text)
           (λ i start_le_i i_lt_stop. first_stop.ensures.zeros i (omega arith) i_lt_stop)
@@ -97,12 +99,13 @@ loop-stop-preserved-then-is_plain c =
           holds_up_to_next_bit (λ t i. plain_at t i ≡ true) scanner_after.text.now text
           scanner_after.stops
           c.args.start scanner_after.base scanner_after.base
-          first_stop.result c.at-scanner.ensures.text (omega arith) first_stop.ensures.place_le_64
+          first_stop.result c.at-scanner.ensures.text_is (omega arith)
+          first_stop.ensures.index_le_64
           (λ i start_le_i i_lt_stop i_in_text. invariant_before.plain_up_to_stop c.if-is_plain.true
           i start_le_i (omega (arith, base_is)) i_in_text)
           (λ i start_le_i i_lt_stop. c.first_one-then-is_plain.ensures.zeros i (omega arith)
           (omega (arith, stops_equal)))
-          (λ i i_lt_64 place_in_text _. scanner_after.plain i i_lt_64 place_in_text);
+          (λ i i_lt_64 place_in_text _. scanner_after.others_are_plain i i_lt_64 place_in_text);
     }
 
 pub loop-stop-preserved : goal.loop-stop-preserved
@@ -112,14 +115,14 @@ loop-stop-preserved c =
     let first_stop = c.first_one-stop-in-loop-stop in
     let invariant_before = c.loop-stop.invariant in
     let base_is : scanner_after.base ≡ c.loop-stop.scanner.base + c.loop-stop.stop =
-    omega (arith, c.at-scanner.ensures.base, c.loop-stop-test.true) in
+    omega (arith, c.at-scanner.ensures.base_is, c.loop-stop-test.true) in
     record {
-      texts_equal = c.at-scanner.ensures.text;
+      texts_equal = c.at-scanner.ensures.text_is;
       start_lt_from =
           omega (
             arith,
-            c.at-scanner.ensures.from,
-            c.at-scanner.ensures.base,
+            c.at-scanner.ensures.from_is,
+            c.at-scanner.ensures.base_is,
             invariant_before.start_lt_from,
             c.loop-stop.scanner.from_le_block_end,
             invariant_before.start_le_stop,
@@ -128,21 +131,22 @@ loop-stop-preserved c =
       none_begins =
           no_word_begins_inside text c.args.start scanner_after.from
           (λ i start_le_i i_lt_stop. invariant_before.no_white i start_le_i
-          (omega (arith, base_is, c.at-scanner.ensures.from))
+          (omega (arith, base_is, c.at-scanner.ensures.from_is))
           (omega (
             arith,
-            c.at-scanner.ensures.from,
+            c.at-scanner.ensures.from_is,
             scanner_after.base_le_length,
-            c.at-scanner.ensures.base,
+            c.at-scanner.ensures.base_is,
             c.if-len-scanner-gt64.true,
           )));
       start_le_stop = omega (arith, base_is, invariant_before.start_le_stop);
-      stop_le_64 = first_stop.ensures.place_le_64;
+      stop_le_64 = first_stop.ensures.index_le_64;
       no_white =
           holds_up_to_next_bit (λ t i. white_at t i ≡ false) scanner_after.text.now text
           scanner_after.white
           c.args.start scanner_after.base scanner_after.base
-          first_stop.result c.at-scanner.ensures.text (omega arith) first_stop.ensures.place_le_64
+          first_stop.result c.at-scanner.ensures.text_is (omega arith)
+          first_stop.ensures.index_le_64
           (λ i start_le_i i_lt_stop i_in_text. invariant_before.no_white i start_le_i
           (omega (arith, base_is)) i_in_text)
           (λ i start_le_i i_lt_stop. first_stop.ensures.zeros i (omega arith) i_lt_stop)
@@ -153,14 +157,14 @@ loop-stop-preserved c =
       plain_up_to_stop = λ known_plain. absurd (true≢false (sym known_plain ∙ c.if-is_plain.false));
     }
 
-pub returns-clause-word : goal.returns-clause-word
-returns-clause-word c =
+pub returns-clause-is_word_from : goal.returns-clause-is_word_from
+returns-clause-is_word_from c =
     let text = c.args.self.text.now in
     let start = c.args.start in
     let end = c.min-end.result in
     let scanner = c.loop-stop.scanner in
     let invariant = c.loop-stop.invariant in
-    let start_is_taken = c.requires.taken in
+    let start_is_taken = c.requires.is_taken in
     let start_le_end : start ≤ end =
     omega (arith, invariant.start_le_stop, start_is_taken.start_lt_length, c.min-end.ensures) in
     let end_le_length : end ≤ length text = omega (arith, c.min-end.ensures) in

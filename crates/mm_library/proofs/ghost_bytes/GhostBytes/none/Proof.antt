@@ -11,7 +11,7 @@ use denote.Laws.{Is}
 use denote.Steps.{nothing, owned}
 use denote.Triple.Entry.{on_entry}
 use denote.Triple.Walked.{walk_of, says, ends_at}
-use Rattle.mm_library.proofs.GhostBytesLaw.{Fields, fields_Makes, fields_are}
+use Rattle.mm_library.proofs.GhostBytesLaw.{GhostBytesFields, ghost_bytes_make, is_ghost_bytes}
 use Rattle.mm_library.specs.contracts.ghost_bytes.GhostBytes.none as f
 use Rattle.mm_library.proofs.ghost_bytes.GhostBytes.none.Statement.{statement}
 use Rattle.mm_library.proofs.ghost_bytes.GhostBytes.none.Code as code
@@ -28,6 +28,6 @@ none_spec 𝓤 𝓛 𝓜 𝓡 wired =
     returns ! (look_at ! 0 refl) $ free_all ! refl $
     suffices ! _ (ends_at 𝓛 f.ended tt c y (vstruct vnil) (record { bytes = [] }) tt tt) $
     says ! refl $
-    nothing ! $ owned ! Fields (Is Fields) (fields_Makes 𝓛) tt (vstruct vnil ∷ []) fields_are $
-    fjoin ! $
+    nothing ! $ owned ! GhostBytesFields (Is GhostBytesFields) (ghost_bytes_make 𝓛) tt (vstruct vnil
+    ∷ []) is_ghost_bytes $ fjoin ! $
     nothing ! $ nothing ! $ done !))

@@ -1,20 +1,20 @@
 use Rattle.std.proofs.Common.{◌∙◌, arith}
-use Rattle.mm_lists.proofs.ListsLaw.{next_place_exists, list_is_part}
+use Rattle.mm_lists.proofs.ListsLaw.{next_bound_exists, list_is_part}
 use Rattle.mm_lists.proofs.lists.Lists.get.Goals as goal
 
 pub overflow_add-index : goal.overflow_add-index
 overflow_add-index g c =
-    let index_is_within = next_place_exists _ _ _ c.self.view_is _ c.requires in
-    let places_fit = c.self.inside.places.ok.1 in omega (arith, index_is_within, places_fit)
+    let index_is_within = next_bound_exists _ _ _ c.self.view_is _ c.requires in
+    let bounds_fit = c.self.inside.bounds.ok.1 in omega (arith, index_is_within, bounds_fit)
 
 pub index-requires : goal.index-requires
 index-requires g c =
-    rw c.self.inside.places.ok.0 (next_place_exists _ _ _ c.self.view_is _ c.requires)
+    rw c.self.inside.bounds.ok.0 (next_bound_exists _ _ _ c.self.view_is _ c.requires)
 
 pub index-requires-2 : goal.index-requires-2
 index-requires-2 g c =
-    let index_is_within = next_place_exists _ _ _ c.self.view_is _ c.requires in
-    rw c.self.inside.places.ok.0 (omega (arith, index_is_within))
+    let index_is_within = next_bound_exists _ _ _ c.self.view_is _ c.requires in
+    rw c.self.inside.bounds.ok.0 (omega (arith, index_is_within))
 
 pub items_between-requires-clause-from_le_to : goal.items_between-requires-clause-from_le_to
 items_between-requires-clause-from_le_to g c =

@@ -6,5 +6,5 @@ use Rattle.mm_lists.proofs.lists.Lists.item_count.Goals as goal
 pub returns : goal.returns
 returns g c =
     c.len.ensures ∙ c.self.inside.items.ok.0
-    ∙ item_count_is_sum c.self.inside.places.items c.self.inside.items.items c.self.invariant
+    ∙ item_count_is_sum c.self.inside.bounds.items c.self.inside.items.items c.self.invariant
     ∙ ap (sum_by length) c.self.view_is

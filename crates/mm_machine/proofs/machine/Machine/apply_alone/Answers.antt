@@ -9,13 +9,14 @@ use Rattle.mm_machine.proofs.machine.Machine.apply_alone.Goals as goal
 pub returns-then-symbols-gt-FORMULA_LIMIT : goal.returns-then-symbols-gt-FORMULA_LIMIT
 returns-then-symbols-gt-FORMULA_LIMIT g c =
     let db = c.args.database.now.statements in
-    let symbols_are = c.formula-symbols.ensures.are ∙ ap (formula_at db) c.assertion.ensures in
+    let symbols_are = c.formula-symbols.ensures.formula_is ∙ ap (formula_at db) c.assertion.ensures
+    in
     let length_is = ap length symbols_are in
     record {
       is_applied = record {
         applies_if_ok = tt;
         refusal_is_right =
-            applied_alone_is_too_long db c.args._theorem c.args.rule.now c.requires.rule
+            applied_alone_is_too_long db c.args._theorem c.args.rule.now c.requires.is_compiled
             c.requires.no_hypotheses
             c.args.self.now.stack (omega (arith, length_is, c.if-symbols-gt-FORMULA_LIMIT.true));
         symbol_count_stays = refl;
@@ -28,7 +29,8 @@ returns-in-Ok g c =
     let state_before = c.args.self.now in
     let es = state_before.stack in
     let symbols = c.formula-symbols.result.now in
-    let symbols_are = c.formula-symbols.ensures.are ∙ ap (formula_at db) c.assertion.ensures in
+    let symbols_are = c.formula-symbols.ensures.formula_is ∙ ap (formula_at db) c.assertion.ensures
+    in
     let length_is = ap length symbols_are in
     let state_after = machine_state (es ++ symbols ∷ []) state_before.marks state_before.formulas
     state_before.symbol_count
@@ -37,12 +39,11 @@ returns-in-Ok g c =
       is_applied = record {
         applies_if_ok =
             subst (Applies db c.args._theorem c.args.rule.now.assertion state_before)
-            (sym c.in-Ok.ensures.ok)
+            (sym c.in-Ok.ensures.pushes_formula)
             (record {
               entries_are =
-                  applied_alone_is_ok db c.args._theorem c.args.rule.now c.requires.rule
-                  c.requires.no_hypotheses
-                  es
+                  applied_alone_is_ok db c.args._theorem c.args.rule.now c.requires.is_compiled
+                  c.requires.no_hypotheses es
                   (omega (arith, length_is, c.if-symbols-gt-FORMULA_LIMIT.false))
                   ∙ ap (λ f. Ok (es ++ f ∷ [])) (sym symbols_are);
               has_entry = omega (arith, length-append es (symbols ∷ []));
@@ -50,6 +51,6 @@ returns-in-Ok g c =
               formulas_stay = refl;
             });
         refusal_is_right = tt;
-        symbol_count_stays = c.in-Ok.ensures.symbol_count;
+        symbol_count_stays = c.in-Ok.ensures.symbol_count_stays;
       };
     }

@@ -22,25 +22,24 @@ rule_is_tested g c =
     rule_test_by_values c.args.database.now.statements c.args.theorem c.args.rule.now
     i.unmarked c.as_slice.result.now i.marked c.as_slice-2.result.now
     i.stack.items c.deref.result.now (Ok c.in-Ok.below)
-    c.as_slice.ensures c.as_slice-2.ensures c.deref.ensures.value c.in-Ok.ensures.judged
+    c.as_slice.ensures c.as_slice-2.ensures c.deref.ensures.value c.in-Ok.ensures.tests_rule
 
 pub invariant_of-self : goal.invariant_of-self
 invariant_of-self g c =
     let i = c.self.inside in
     let db = c.args.database.now.statements in
     let symbol_count : i.symbol_count ≡ length (symbol_names db) =
-    ap (λ s. s.symbol_count) c.self.view_is ∙ c.requires.symbol_count in
+    ap (λ s. s.symbol_count) c.self.view_is ∙ c.requires.symbol_count_is in
     machine_after_step i.unmarked i.marked i.stack.items i.marks.items i.marked_spans.items
-    i.symbol_count
-    c.self.invariant
+    i.symbol_count c.self.invariant
     c.formula.result.now c.replace_by_formula.new.unmarked c.as_slice-in-Ok.result.now
     c.replace_by_formula.new.stack.items c.as_slice-in-Ok.ensures
     (rule_parts_in_range db c.args.theorem c.args.rule.now i.unmarked i.marked
     c.as_slice-in-Ok.result.now
     i.stack.items c.in-Ok.below c.formula.result.now c.as_slice-in-Ok.ensures c.formula.ensures
-    (rule_is_tested g (goal.at.invariant_of-self g c).In-Ok) c.requires.rule i.symbol_count
+    (rule_is_tested g (goal.at.invariant_of-self g c).In-Ok) c.requires.is_compiled i.symbol_count
     symbol_count)
-    c.replace_by_formula.ensures.stack
+    c.replace_by_formula.ensures.stays_stack
 
 pub returns-in-Err-clause-is_applied : goal.returns-in-Err-clause-is_applied
 returns-in-Err-clause-is_applied g c =
@@ -53,7 +52,8 @@ returns-in-Err-clause-is_applied g c =
           ≡ Err (reason_of c.in-Err.reason)) c.self.view_is
           (rule_test_by_values db c.args.theorem c.args.rule.now i.unmarked c.as_slice.result.now
           i.marked c.as_slice-2.result.now i.stack.items c.deref.result.now (Err c.in-Err.reason)
-          c.as_slice.ensures c.as_slice-2.ensures c.deref.ensures.value c.in-Err.ensures.judged);
+          c.as_slice.ensures c.as_slice-2.ensures c.deref.ensures.value
+          c.in-Err.ensures.tests_rule);
       symbol_count_stays = refl;
     }
 
@@ -76,47 +76,47 @@ returns-in-Ok-clause-is_applied g c =
     (step_ok_by_value db t c.args.rule.now i.unmarked i.marked c.as_slice-in-Ok.result.now
     i.stack.items c.in-Ok.below c.formula.result.now c.as_slice-in-Ok.ensures c.formula.ensures
     judged replacing.result replacing.new.unmarked replacing.new.stack.items
-    replacing.ensures.entries)
+    replacing.ensures.entries_are)
     (step_has_entry db t c.args.rule.now i.unmarked i.marked c.as_slice-in-Ok.result.now
     i.stack.items c.in-Ok.below c.formula.result.now c.as_slice-in-Ok.ensures c.formula.ensures
     judged replacing.result replacing.new.unmarked replacing.new.stack.items
-    replacing.ensures.entries)
+    replacing.ensures.entries_are)
     (step_refusal_is_right db t c.args.rule.now i.unmarked i.marked c.as_slice-in-Ok.result.now
     i.stack.items c.in-Ok.below c.formula.result.now c.as_slice-in-Ok.ensures c.formula.ensures
     judged replacing.result replacing.new.unmarked replacing.new.stack.items
-    replacing.ensures.refused)
+    replacing.ensures.refusal_is_right)
     refl refl refl)
 
-pub test_rule-requires-clause-stack : goal.test_rule-requires-clause-stack
-test_rule-requires-clause-stack g c =
+pub test_rule-requires-clause-are_entries : goal.test_rule-requires-clause-are_entries
+test_rule-requires-clause-are_entries g c =
     let i = c.self.inside in
     entries_by_value i.unmarked i.marked i.stack.items i.marks.items i.marked_spans.items
-    i.symbol_count
-    c.self.invariant
+    i.symbol_count c.self.invariant
     (length (symbol_names c.args.database.now.statements)) c.as_slice.result.now
     c.as_slice-2.result.now c.deref.result.now
-    (ap (λ s. s.symbol_count) c.self.view_is ∙ c.requires.symbol_count)
+    (ap (λ s. s.symbol_count) c.self.view_is ∙ c.requires.symbol_count_is)
     c.as_slice.ensures c.as_slice-2.ensures c.deref.ensures.value
 
-pub replace_by_formula-requires-clause-below : goal.replace_by_formula-requires-clause-below
-replace_by_formula-requires-clause-below g c =
-    let stack_length_is = (rule_is_tested g (goal.at.replace_by_formula-requires-clause-below g
+pub replace_by_formula-requires-clause-below_le_length :
+    goal.replace_by_formula-requires-clause-below_le_length
+replace_by_formula-requires-clause-below_le_length g c =
+    let stack_length_is = (rule_is_tested g
+    (goal.at.replace_by_formula-requires-clause-below_le_length g
     c).In-Ok).0 in
     omega (arith, stack_length_is, c.self.inside.stack.ok.0)
 
-pub replace_by_formula-requires-clause-formula : goal.replace_by_formula-requires-clause-formula
-replace_by_formula-requires-clause-formula g c =
+pub replace_by_formula-requires-clause-variables_in_range :
+    goal.replace_by_formula-requires-clause-variables_in_range
+replace_by_formula-requires-clause-variables_in_range g c =
     let i = c.self.inside in
     parts_below c.args.database.now.statements c.args.theorem c.args.rule.now i.unmarked i.marked
     c.as_slice-in-Ok.result.now i.stack.items c.in-Ok.below c.formula.result.now
     c.as_slice-in-Ok.ensures c.formula.ensures
-    (rule_is_tested g (goal.at.replace_by_formula-requires-clause-formula g c).In-Ok)
-    c.requires.rule
+    (rule_is_tested g (goal.at.replace_by_formula-requires-clause-variables_in_range g c).In-Ok)
+    c.requires.is_compiled
 
-pub replace_by_formula-requires-clause-stack : goal.replace_by_formula-requires-clause-stack
-replace_by_formula-requires-clause-stack g c =
+pub replace_by_formula-requires-clause-is_stack : goal.replace_by_formula-requires-clause-is_stack
+replace_by_formula-requires-clause-is_stack g c =
     let i = c.self.inside in
     stack_by_value i.unmarked i.marked i.stack.items i.marks.items i.marked_spans.items
-    i.symbol_count
-    c.self.invariant
-    c.as_slice-in-Ok.result.now c.as_slice-in-Ok.ensures
+    i.symbol_count c.self.invariant c.as_slice-in-Ok.result.now c.as_slice-in-Ok.ensures

@@ -16,15 +16,15 @@ invariant_of-self g c =
           pushed_is_stack_of c.push_unmarked.result w c.self.inside.unmarked c.self.inside.marked f
           c.push_unmarked.new.unmarked
           c.self.inside.stack.items c.push_unmarked.new.stack.items is_machine.stack f_in_range
-          c.push_unmarked.ensures.unmarked c.push_unmarked.ensures.stack
-          c.push_unmarked.ensures.same_unmarked c.push_unmarked.ensures.same_stack;
+          c.push_unmarked.ensures.appends_symbols c.push_unmarked.ensures.pushes_entry
+          c.push_unmarked.ensures.unmarked_stays_if_err c.push_unmarked.ensures.stack_stays_if_err;
       spans_are_marked = is_machine.spans_are_marked;
       marks_rise = is_machine.marks_rise;
       enough_spans = is_machine.enough_spans;
     }
 
-pub returns-clause-ok : goal.returns-clause-ok
-returns-clause-ok g c =
+pub returns-clause-pushes_formula : goal.returns-clause-pushes_formula
+returns-clause-pushes_formula g c =
     let is_machine = c.self.invariant in
     let f = c.args.formula.now in
     let marked = c.self.inside.marked in
@@ -37,5 +37,5 @@ returns-clause-ok g c =
     (pushed_formulas_if_ok c.push_unmarked.result c.self.inside.unmarked marked f
     c.push_unmarked.new.unmarked
     c.self.inside.stack.items c.push_unmarked.new.stack.items is_machine.stack.is_stack
-    c.push_unmarked.ensures.unmarked
-    c.push_unmarked.ensures.stack)
+    c.push_unmarked.ensures.appends_symbols
+    c.push_unmarked.ensures.pushes_entry)

@@ -17,8 +17,7 @@ invariant_of-self-2 g c =
     subst (IsMarkedEntry c.self.inside.marked) (sym c.index.ensures)
     (All-get_or
     (IsMarkedEntry c.self.inside.marked) c.self.inside.marked_spans.items
-    c.index_of_mark-index.result e
-    index_lt_length
+    c.index_of_mark-index.result e index_lt_length
     is_machine.spans_are_marked) in
     record {
       stack =
@@ -35,5 +34,5 @@ invariant_of-self-2 g c =
       enough_spans = is_machine.enough_spans;
     }
 
-pub returns-clause-ok : goal.returns-clause-ok
-returns-clause-ok g c = grind (arith, common_steps)
+pub returns-clause-repeats_step : goal.returns-clause-repeats_step
+returns-clause-repeats_step g c = grind (arith, common_steps)

@@ -18,9 +18,9 @@ returns-in_err-end_number-in-Last-clause-refuses g c =
     c.from_residual.ensures.1
     (c.in_err-end_number-in-Last.ensures.refuses c.args.byte c.in-Last.ensures)
 
-pub returns-in_err-end_number-in-Last-clause-stands :
-    goal.returns-in_err-end_number-in-Last-clause-stands
-returns-in_err-end_number-in-Last-clause-stands g c =
+pub returns-in_err-end_number-in-Last-clause-is_read_after :
+    goal.returns-in_err-end_number-in-Last-clause-is_read_after
+returns-in_err-end_number-in-Last-clause-is_read_after g c =
     IfOk-from_err c.from_residual.result _ c.from_residual.ensures.0
 
 pub returns-in_err-end_number-in-Last-clause-reads :
@@ -28,10 +28,10 @@ pub returns-in_err-end_number-in-Last-clause-reads :
 returns-in_err-end_number-in-Last-clause-reads g c =
     IfOk-from_err c.from_residual.result _ c.from_residual.ensures.0
 
-pub returns-in_ok-end_number-in-Last-clause-stands :
-    goal.returns-in_ok-end_number-in-Last-clause-stands
-returns-in_ok-end_number-in-Last-clause-stands g c =
-    record { stands = c.in_ok-end_number-in-Last.ensures.stands; begins = λ value_is_0. refl }
+pub returns-in_ok-end_number-in-Last-clause-is_read_after :
+    goal.returns-in_ok-end_number-in-Last-clause-is_read_after
+returns-in_ok-end_number-in-Last-clause-is_read_after g c =
+    record { stands = c.in_ok-end_number-in-Last.ensures.stands_after; begins = λ value_is_0. refl }
 
 pub returns-in_ok-end_number-in-Last-clause-reads :
     goal.returns-in_ok-end_number-in-Last-clause-reads
@@ -42,30 +42,31 @@ pub returns-in_ok-end_number-in-Last-clause-refuses :
     goal.returns-in_ok-end_number-in-Last-clause-refuses
 returns-in_ok-end_number-in-Last-clause-refuses g c = tt
 
-pub returns-in_ok-mark-in-Mark-clause-stands : goal.returns-in_ok-mark-in-Mark-clause-stands
-returns-in_ok-mark-in-Mark-clause-stands g c =
-    record { stands = c.in_ok-mark-in-Mark.ensures.stands; begins = λ value_is_0. refl }
+pub returns-in_ok-mark-in-Mark-clause-is_read_after :
+    goal.returns-in_ok-mark-in-Mark-clause-is_read_after
+returns-in_ok-mark-in-Mark-clause-is_read_after g c =
+    record { stands = c.in_ok-mark-in-Mark.ensures.stands_after; begins = λ value_is_0. refl }
 
-pub returns-in-Early-clause-stands : goal.returns-in-Early-clause-stands
-returns-in-Early-clause-stands g c =
+pub returns-in-Early-clause-is_read_after : goal.returns-in-Early-clause-is_read_after
+returns-in-Early-clause-is_read_after g c =
     let digit_in_range = early_digit_is_in_range c.args.byte c.in-Early.digit c.in-Early.ensures.0
     c.in-Early.ensures.1 in
-    let value_is = c.with_next_digit.ensures.value in
+    let value_is = c.with_next_digit.ensures.value_is_saturated in
     record {
-      stands = stands_at_next c.args.self.now c.args.at c.requires.stands.stands;
+      stands = stands_at_next c.args.self.now c.args.at c.requires.is_read_up_to.stands;
       begins = λ value_is_0. absurd (omega (arith, value_is_0, value_is, digit_in_range.0));
     }
 
-pub end_number-requires-clause-digit : goal.end_number-requires-clause-digit
-end_number-requires-clause-digit g c =
+pub end_number-requires-clause-digit_gt_0 : goal.end_number-requires-clause-digit_gt_0
+end_number-requires-clause-digit_gt_0 g c =
     (last_digit_is_in_range c.args.byte c.in-Last.digit c.in-Last.ensures.1 c.in-Last.ensures.2).0
 
-pub end_number-requires-clause-small : goal.end_number-requires-clause-small
-end_number-requires-clause-small g c =
+pub end_number-requires-clause-digit_le_20 : goal.end_number-requires-clause-digit_le_20
+end_number-requires-clause-digit_le_20 g c =
     (last_digit_is_in_range c.args.byte c.in-Last.digit c.in-Last.ensures.1 c.in-Last.ensures.2).1
 
-pub with_next_digit-requires-clause-digit : goal.with_next_digit-requires-clause-digit
-with_next_digit-requires-clause-digit g c =
+pub with_next_digit-requires-clause-digit_le_20 : goal.with_next_digit-requires-clause-digit_le_20
+with_next_digit-requires-clause-digit_le_20 g c =
     (early_digit_is_in_range c.args.byte c.in-Early.digit c.in-Early.ensures.0
     c.in-Early.ensures.1).1
 
@@ -104,8 +105,7 @@ returns-in-Early-clause-reads g c =
       continues =
           continues_after_early_letter_of_number s.theorem s.labels s.marks c.args.number.now
           s.steps c.args.at c.args.byte
-          c.with_next_digit.result c.requires.stands.begins c.in-Early.ensures.0
-          c.with_next_digit.ensures.at
-          (c.with_next_digit.ensures.value
+          c.with_next_digit.result c.requires.is_read_up_to.begins c.in-Early.ensures.0
+          c.with_next_digit.ensures.place_stays (c.with_next_digit.ensures.value_is_saturated
           ∙ ap (λ d. saturated (5 * c.args.number.now.value + d)) c.in-Early.ensures.1);
     }

@@ -12,18 +12,18 @@ use Rattle.mm_proof.specs.Refused.{StartsWith}
 use Rattle.std.proofs.lemmas.List.{drop_more}
 use Rattle.mm_proof.proofs.LettersLaw.{on_same_err, continues_from_start, letter_fault_is_first}
 use Rattle.mm_proof.proofs.LettersLaw.{open_number_is_first_fault, no_fault_at_end}
-use Rattle.mm_proof.proofs.LettersLaw.{continues_at_end}
-use Rattle.mm_proof.proofs.LettersLaw.{steps_are_all_steps, words_have_letters, StandsBefore}
-use Rattle.mm_proof.proofs.LettersLaw.{stands_before_rest}
+use Rattle.mm_proof.proofs.LettersLaw.{continues_at_end, steps_are_all_steps, words_have_letters}
+use Rattle.mm_proof.proofs.LettersLaw.{StandsBefore, stands_before_rest}
 use Rattle.mm_proof.proofs.LettersLaw.{number_with_letters_is_begun}
 use Rattle.mm_proof.proofs.LettersLaw.{number_without_letters_is_not_begun}
 use Rattle.mm_proof.proofs.letters.LettersRead.read_all.Goals as goal
 
-pub returns-in_err-read_word-clause-fault : goal.returns-in_err-read_word-clause-fault
-returns-in_err-read_word-clause-fault g c =
+pub returns-in_err-read_word-clause-fault_is_first :
+    goal.returns-in_err-read_word-clause-fault_is_first
+returns-in_err-read_word-clause-fault_is_first g c =
     let all_letters = letters_of (as_tokens c.args.text.now c.args.words.now) in
     let continues_at_start : Continues c.args.self.now all_letters all_letters =
-    subst (λ s. Continues s all_letters all_letters) (sym c.requires.none)
+    subst (λ s. Continues s all_letters all_letters) (sym c.requires.none_read)
     (continues_from_start c.args.self.now.theorem c.args.self.now.labels all_letters) in
     let refusal = c.in_err-read_word.field-0.0 in
     let words = c.args.words.now in
@@ -43,11 +43,11 @@ returns-in_err-read_word-clause-fault g c =
     (c.in_err-read_word.ensures.refuses all_letters
     (letters_of (as_tokens c.args.text.now (drop (i + 1) words))) continues_at_word)))
 
-pub returns-then-begun-gt0-clause-fault : goal.returns-then-begun-gt0-clause-fault
-returns-then-begun-gt0-clause-fault g c =
+pub returns-then-begun-gt0-clause-fault_is_first : goal.returns-then-begun-gt0-clause-fault_is_first
+returns-then-begun-gt0-clause-fault_is_first g c =
     let all_letters = letters_of (as_tokens c.args.text.now c.args.words.now) in
     let continues_at_start : Continues c.args.self.now all_letters all_letters =
-    subst (λ s. Continues s all_letters all_letters) (sym c.requires.none)
+    subst (λ s. Continues s all_letters all_letters) (sym c.requires.none_read)
     (continues_from_start c.args.self.now.theorem c.args.self.now.labels all_letters) in
     let continues_after_all =
     continues_at_end
@@ -71,7 +71,7 @@ pub returns-clause-reads : goal.returns-clause-reads
 returns-clause-reads g c =
     let all_letters = letters_of (as_tokens c.args.text.now c.args.words.now) in
     let continues_at_start : Continues c.args.self.now all_letters all_letters =
-    subst (λ s. Continues s all_letters all_letters) (sym c.requires.none)
+    subst (λ s. Continues s all_letters all_letters) (sym c.requires.none_read)
     (continues_from_start c.args.self.now.theorem c.args.self.now.labels all_letters) in
     let continues_after_all =
     continues_at_end
@@ -98,13 +98,13 @@ returns-clause-reads g c =
           number_is_none letters_are_some continues_after_all);
     }
 
-pub read_word-requires-clause-order : goal.read_word-requires-clause-order
-read_word-requires-clause-order g c =
-    (c.requires.within c.loop-word.word-index _ c.loop-word-test.true).0
+pub read_word-requires-clause-start_le_end : goal.read_word-requires-clause-start_le_end
+read_word-requires-clause-start_le_end g c =
+    (c.requires.words_within c.loop-word.word-index _ c.loop-word-test.true).0
 
-pub read_word-requires-clause-within : goal.read_word-requires-clause-within
-read_word-requires-clause-within g c =
-    (c.requires.within c.loop-word.word-index _ c.loop-word-test.true).1
+pub read_word-requires-clause-end_le_length : goal.read_word-requires-clause-end_le_length
+read_word-requires-clause-end_le_length g c =
+    (c.requires.words_within c.loop-word.word-index _ c.loop-word-test.true).1
 
 pub loop-word-preserved : goal.loop-word-preserved
 loop-word-preserved g c =
@@ -113,7 +113,7 @@ loop-word-preserved g c =
     let i = c.loop-word.word-index in
     let no_word : Word = record { start = 0; end = 0 } in
     let drop_begins_with_word = drop_more words i no_word c.loop-word-test.true in
-    let word_is_within = c.requires.within i no_word c.loop-word-test.true in
+    let word_is_within = c.requires.words_within i no_word c.loop-word-test.true in
     let word_is_read = c.in_ok-read_word.ensures in
     record {
       theorem = word_is_read.reads.theorem ∙ c.loop-word.invariant.theorem;
@@ -123,7 +123,7 @@ loop-word-preserved g c =
           c.args.end word_is_within.0 word_is_within.1
           (subst (λ vs. StandsBefore c.loop-word.self (as_tokens text vs) c.args.end)
           drop_begins_with_word
-          c.loop-word.invariant.stands) word_is_read.stands;
+          c.loop-word.invariant.stands) word_is_read.stands_after;
       reads =
           λ all_letters continues. word_is_read.reads.continues all_letters
           (letters_of (as_tokens text (drop (i + 1) words)))

@@ -10,6 +10,6 @@ invariant_of-result g c =
     let db = c.args.database.now.statements in
     let columns_of_typecode = c.requires in
     subst (λ (l : List ℕ). All (λ k. k < length db) l)
-    (sym (c.statements.ensures.statements ∙ columns_of_typecode.1))
+    (sym (c.statements.ensures.statements_are ∙ columns_of_typecode.1))
     (selected_lt_bound (λ j. list_any (is_column columns_of_typecode.0) (statement_at db j))
     (length db))

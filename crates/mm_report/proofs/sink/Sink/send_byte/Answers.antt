@@ -14,12 +14,12 @@ returns-else-not-is_full g c =
     sent_both c.make_room.ensures.sent
     (sent_after_failure (g.W.Write.contents c.make_room.new.to) c.make_room.new.self
     (c.args.byte ∷ [])
-    (by_failure (cases_Bool c.make_room.new.self.failed)))
+    (has_failed (cases_Bool c.make_room.new.self.failed)))
   where
-    by_failure : (c.make_room.new.self.failed ≡ true) ⊎ (c.make_room.new.self.failed ≡ false)
+    has_failed : (c.make_room.new.self.failed ≡ true) ⊎ (c.make_room.new.self.failed ≡ false)
         → c.make_room.new.self.failed ≡ true
-    by_failure (inl failed) = failed
-    by_failure (inr not_failed) =
+    has_failed (inl failed) = failed
+    has_failed (inr not_failed) =
         let room_left = c.make_room.ensures.has_room not_failed in
         let no_room = c.if-not-is_full.ensures.has_no_room in
         absurd (omega (arith, room_left, no_room))

@@ -39,7 +39,7 @@ use Rattle.core.specs.contracts.option.Option as option
 use Rattle.core.proofs.option.Made.{Some-of, none_of}
 use Rattle.mm_room.specs.Units.{units}
 use Rattle.mm_room.proofs.RoomLaw.{rest_runs}
-use Rattle.mm_room.proofs.BlockLaw.{Fields, block_val, block_typed, fields_Makes, fields_are}
+use Rattle.mm_room.proofs.BlockLaw.{BlockFields, block_val, block_typed, block_makes, is_block}
 use Rattle.mm_room.specs.contracts.block.Block as block
 use Rattle.mm_room.specs.contracts.block.Block.allocate as f
 use Rattle.mm_room.proofs.block.Block.allocate.Statement.{statement}
@@ -112,8 +112,8 @@ allocate_spec 𝓤 𝓛 𝓜 𝓡 wired A L g d dd met md =
     returns ! (look_at ! 0 refl) $ free_all ! refl $
     suffices ! _ (ends_at 𝓛 T stayed c y (live 1 (vcons (block_val p) vnil)) (Some x) (tt, (tt, tt))
     (tt, (tt, tt))) $ says ! (refl, refl) $
-    owned ! Fields (Is Fields) (fields_Makes 𝓛) (p, (tt, tt)) (block_val p ∷ []) (fields_are p) $
-    fjoin ! $
+    owned ! BlockFields (Is BlockFields) (block_makes 𝓛) (p, (tt, tt)) (block_val p ∷ [])
+    (is_block p) $ fjoin ! $
     use1 𝓛 (‵ ((option.the_row (block.the_row A g)).own_val (Some x)
     (live 1 (vcons (block_val p) vnil) ∷ []))) (Some-of 𝓛 (block.the_row A g) x (block_val p)) $
     nothing ! $ nothing ! $ join ! $ nothing ! $ join ! $ move ! (2 ∷ 0 ∷ 1 ∷ []) $ done !)

@@ -32,7 +32,8 @@ use denote.Triple.Walked.{Stays, walk_of, stay_dropped, Goes-dropped, ends_at}
 use Rattle.mm_room.specs.Units.{units_at, way_back}
 use Rattle.mm_room.specs.contracts.lender.Lender as lender
 use Rattle.mm_room.specs.contracts.memory.Memory as memory
-use Rattle.mm_room.proofs.MemoryLaw.{Fields, memory_val, memory_typed, fields_Makes, fields_are}
+use Rattle.mm_room.proofs.MemoryLaw.{MemoryFields, memory_val, memory_typed, memory_makes}
+use Rattle.mm_room.proofs.MemoryLaw.{is_memory}
 use Rattle.mm_room.specs.contracts.lender.LenderAllocator.deallocate as f
 use Rattle.mm_room.proofs.lender.LenderAllocator.deallocate.Statement.{statement}
 use Rattle.mm_room.proofs.lender.LenderAllocator.deallocate.Code as code
@@ -102,8 +103,8 @@ deallocate_spec 𝓤 𝓛 𝓜 𝓡 wired =
       ),
     ) $
     sets ! (agg ! (and_then ! (get ! refl) (no_more !))) refl (memory_typed 𝓛 p).0 $
-    move ! (2 ∷ []) $ owned ! Fields (Is Fields) (fields_Makes 𝓛) (p, tt) (memory_val p ∷ [])
-    (fields_are p) $ fjoin ! $
+    move ! (2 ∷ []) $ owned ! MemoryFields (Is MemoryFields) (memory_makes 𝓛) (p, tt)
+    (memory_val p ∷ []) (is_memory p) $ fjoin ! $
     nothing ! $ move ! (1 ∷ 0 ∷ []) $ fjoin ! $ move ! (1 ∷ 0 ∷ []) $ fjoin ! $
     move ! (1 ∷ 0 ∷ []) $ join ! $
     use0 𝓛 (raw (fact 𝓤 (u ≡ u))) (fact_i 𝓤 (u ≡ u) (emp 𝓤) refl) $ move ! (1 ∷ 0 ∷ []) $ join ! $

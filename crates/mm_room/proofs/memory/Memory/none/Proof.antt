@@ -11,7 +11,7 @@ use denote.RawPtr.{null_ptr}
 use denote.Steps.{nothing, owned}
 use denote.Triple.Entry.{on_entry}
 use denote.Triple.Walked.{walk_of, says, ends_at}
-use Rattle.mm_room.proofs.MemoryLaw.{Fields, memory_val, fields_Makes, fields_are}
+use Rattle.mm_room.proofs.MemoryLaw.{MemoryFields, memory_val, memory_makes, is_memory}
 use Rattle.mm_room.specs.contracts.memory.Memory.none as f
 use Rattle.mm_room.proofs.memory.Memory.none.Statement.{statement}
 use Rattle.mm_room.proofs.memory.Memory.none.Code as code
@@ -28,9 +28,8 @@ none_spec 𝓤 𝓛 𝓜 𝓡 wired =
     returns ! (look_at ! 0 refl) $ free_all ! refl $
     suffices ! _ (ends_at 𝓛 f.ended tt c y (memory_val null_ptr) (record {
       address = null_ptr;
-      units =
-          0;
+      units = 0;
     }) tt tt) $ says ! refl $
-    nothing ! $ owned ! Fields (Is Fields) (fields_Makes 𝓛) (null_ptr, tt) (memory_val null_ptr
-    ∷ []) (fields_are null_ptr) $ fjoin ! $
+    nothing ! $ owned ! MemoryFields (Is MemoryFields) (memory_makes 𝓛) (null_ptr, tt) (memory_val
+    null_ptr ∷ []) (is_memory null_ptr) $ fjoin ! $
     nothing ! $ nothing ! $ done !))

@@ -37,7 +37,7 @@ use denote.Triple.Walked.{Stays, walk_of, stay_dropped, Goes-dropped, ends_at}
 use Rattle.mm_room.specs.Units.{block_at, block_units, block_back}
 use Rattle.mm_room.specs.contracts.reuse.Reusing as lists
 use Rattle.mm_room.specs.contracts.block.Block as block
-use Rattle.mm_room.proofs.BlockLaw.{Fields, block_val, block_typed, fields_Makes, fields_are}
+use Rattle.mm_room.proofs.BlockLaw.{BlockFields, block_val, block_typed, block_makes, is_block}
 use Rattle.mm_room.specs.contracts.reuse.ReusingAllocator.deallocate as f
 use Rattle.mm_room.proofs.reuse.ReusingAllocator.deallocate.Statement.{statement}
 use Rattle.mm_room.proofs.reuse.ReusingAllocator.deallocate.Code as code
@@ -129,8 +129,8 @@ deallocate_spec 𝓤 𝓛 𝓜 𝓡 wired A L g d dd met md =
     sets ! (agg ! (no_more !)) refl (tt, tt) $
     sets ! (agg ! (and_then ! (get ! refl) (and_then ! (get ! refl) (no_more !)))) refl
     (block_typed 𝓛 p).0 $
-    move ! (2 ∷ []) $ owned ! Fields (Is Fields) (fields_Makes 𝓛) (p, (tt, tt)) (block_val p ∷ [])
-    (fields_are p) $ fjoin ! $
+    move ! (2 ∷ []) $ owned ! BlockFields (Is BlockFields) (block_makes 𝓛) (p, (tt, tt))
+    (block_val p ∷ []) (is_block p) $ fjoin ! $
     nothing ! $ owned ! usize (Is usize) (uint_Makes 𝓛 w64) n (uint_vals w64 n)
     (refl, are.1.1.0.1) $ fjoin ! $
     move ! (1 ∷ 0 ∷ []) $ fjoin ! $ move ! (1 ∷ 0 ∷ []) $ fjoin ! $ move ! (1 ∷ 0 ∷ []) $

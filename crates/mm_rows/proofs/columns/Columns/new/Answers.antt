@@ -69,7 +69,7 @@ invariant_of-result g c =
     ∙ columns_are_chosen_axioms only db in
     subst IsStatementList (sym statements_are_columns)
     (filtered_range_is_statement_list (λ j. list_any (is_column only) (statement_at db j))
-    (length db) c.axioms-axioms.ensures.few)
+    (length db) c.axioms-axioms.ensures.few_statements)
 
 pub returns : goal.returns
 returns g c =

@@ -12,7 +12,7 @@ row_words-words-requires g c =
     row_end_le_table c.args.self.now c.self.inside.rows c.self.inside.columns
     c.self.inside.bits.items
     (sym c.self.view_is) c.self.invariant c.args.row c.div_ceil-width.result
-    c.deref.result.now c.requires.row c.div_ceil-width.ensures c.deref.ensures.value
+    c.deref.result.now c.requires.row_lt_rows c.div_ceil-width.ensures c.deref.ensures.value
 
 pub slice_bounds-write_cells-end : goal.slice_bounds-write_cells-end
 slice_bounds-write_cells-end g c =
@@ -21,7 +21,7 @@ slice_bounds-write_cells-end g c =
     ∙ ap₂ (λ w xs. row_at xs w c.args.row) c.div_ceil-width.ensures c.deref.ensures.value in
     let words_have_width =
     part_has_width c.args.self.now c.self.inside.rows c.self.inside.columns c.self.inside.bits.items
-    (sym c.self.view_is) c.self.invariant c.args.row _ c.requires.row words_are_row in
+    (sym c.self.view_is) c.self.invariant c.args.row _ c.requires.row_lt_rows words_are_row in
     let cells_fit_row =
     subst (λ (m : Marks). 64 * c.args.word + length c.args.into.now ≤ 64 * words_for m.columns)
     (sym c.self.view_is) c.requires.cells_fit_row in
@@ -35,5 +35,5 @@ returns g c =
     written_are_row_cells c.args.self.now c.self.inside.rows c.self.inside.columns
     c.self.inside.bits.items
     (sym c.self.view_is) c.self.invariant c.args.row c.args.word _ c.write_cells.new.into
-    c.args.into.now c.requires.row words_are_row c.requires.cells_fit_row c.requires.whole_words
-    c.write_cells.ensures.length c.write_cells.ensures.each
+    c.args.into.now c.requires.row_lt_rows words_are_row c.requires.cells_fit_row
+    c.requires.whole_words c.write_cells.ensures.length_stays c.write_cells.ensures.digits_are

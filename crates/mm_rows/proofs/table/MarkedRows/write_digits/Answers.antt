@@ -11,7 +11,7 @@ row_words-words-requires g c =
     row_end_le_table c.args.self.now c.self.inside.rows c.self.inside.columns
     c.self.inside.bits.items
     (sym c.self.view_is) c.self.invariant c.args.row c.div_ceil-width.result
-    c.deref.result.now c.requires.row c.div_ceil-width.ensures c.deref.ensures.value
+    c.deref.result.now c.requires.row_lt_rows c.div_ceil-width.ensures c.deref.ensures.value
 
 pub slice_bounds-write_digits-end : goal.slice_bounds-write_digits-end
 slice_bounds-write_digits-end g c =
@@ -20,7 +20,7 @@ slice_bounds-write_digits-end g c =
     ∙ ap₂ (λ w xs. row_at xs w c.args.row) c.div_ceil-width.ensures c.deref.ensures.value in
     let words_have_width =
     part_has_width c.args.self.now c.self.inside.rows c.self.inside.columns c.self.inside.bits.items
-    (sym c.self.view_is) c.self.invariant c.args.row _ c.requires.row words_are_row in
+    (sym c.self.view_is) c.self.invariant c.args.row _ c.requires.row_lt_rows words_are_row in
     let digits_fit_row =
     subst (λ (m : Marks). 16 * c.args.word + length c.args.into.now ≤ 16 * words_for m.columns)
     (sym c.self.view_is) c.requires.digits_fit_row in
@@ -34,5 +34,5 @@ returns g c =
     written_are_row_digits c.args.self.now c.self.inside.rows c.self.inside.columns
     c.self.inside.bits.items
     (sym c.self.view_is) c.self.invariant c.args.row c.args.word _ c.write_digits.new.into
-    c.args.into.now c.requires.row words_are_row c.requires.digits_fit_row c.requires.whole_words
-    c.write_digits.ensures.length c.write_digits.ensures.each
+    c.args.into.now c.requires.row_lt_rows words_are_row c.requires.digits_fit_row
+    c.requires.whole_words c.write_digits.ensures.length_stays c.write_digits.ensures.digits_are

@@ -21,4 +21,4 @@ returns g c =
     ∙ ap₂ (λ w xs. row_at xs w c.args.column) (c.div_ceil-height.ensures
     ∙ ap words_for c.rows.ensures)
     c.deref.ensures.value))
-    (are_columns.each c.args.column c.requires)
+    (are_columns.each_is_column c.args.column c.requires)

@@ -7,8 +7,7 @@ pub invariant_of-result : goal.invariant_of-result
 invariant_of-result g c =
     let table = c.marked.inside in
     transposed_are_columns c.args.marked table.rows table.columns table.bits.items
-    (sym c.marked.view_is)
-    c.marked.invariant c.in_ok-columns_bits.columns_bits.items
+    (sym c.marked.view_is) c.marked.invariant c.in_ok-columns_bits.columns_bits.items
     (subst (λ (xs : List ℕ). AreTransposed table.rows table.columns xs
     c.in_ok-columns_bits.columns_bits.items)
     c.deref.ensures.value c.in_ok-columns_bits.ensures)

@@ -4,18 +4,18 @@ use Rattle.std.proofs.lemmas.List.Elements.{All-get_or}
 use Rattle.mm_rules.specs.Rules.{RuleLists, rule_lists, AreRules, HasRule, elements_in}
 use Rattle.mm_rules.proofs.rules.Rules.rule.Goals as goal
 
-pub returns-clause-rule : goal.returns-clause-rule
-returns-clause-rule g c =
+pub returns-clause-is_compiled : goal.returns-clause-is_compiled
+returns-clause-is_compiled g c =
     let db = c.args._database.now.statements in
     let lists = c.self.inside in
     let l = rule_lists lists.ranges.items lists.hypotheses.items lists.pairs.items lists.parts.items
     in
     let are_rules : AreRules db l =
-    subst (λ (z : RuleLists). AreRules db z) (sym c.self.view_is) c.requires.rules in
+    subst (λ (z : RuleLists). AreRules db z) (sym c.self.view_is) c.requires.are_rules in
     let ranges = c.index-ranges.result.now in
-    let n = c.args.number in
+    let n = c.args.rule_index in
     let n_lt_length : n < length lists.ranges.items =
-    subst (λ (z : RuleLists). n < length z.ranges) (sym c.self.view_is) c.requires.ranges in
+    subst (λ (z : RuleLists). n < length z.ranges) (sym c.self.view_is) c.requires.index_lt_count in
     let has_rule : HasRule db l ranges =
     subst (HasRule db l) (sym c.index-ranges.ensures)
     (All-get_or (HasRule db l) lists.ranges.items n ranges n_lt_length are_rules) in
@@ -29,5 +29,5 @@ returns-clause-rule g c =
     ∙ ap (λ z. elements_in z ranges.formula) c.deref-4.ensures.value in
     rw (hypotheses, pairs, parts, formula) has_rule.is_compiled
 
-pub returns-clause-assertion : goal.returns-clause-assertion
-returns-clause-assertion g c = grind (arith, common_steps)
+pub returns-clause-assertion_is : goal.returns-clause-assertion_is
+returns-clause-assertion_is g c = grind (arith, common_steps)

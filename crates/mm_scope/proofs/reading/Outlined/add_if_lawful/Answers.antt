@@ -21,7 +21,7 @@ fault-requires-clause-few_names g c =
     let s = statement_of c.args.text.now c.args.tokens.now c.args.outline in
     let names_length = ap length c.requires.is_read_so_far.names_are in
     let names_no_shorter = symbol_names_no_shorter db s in
-    let names_lt_2_31 = c.requires.next.few_names in
+    let names_lt_2_31 = c.requires.may_take.few_names in
     omega (arith, names_length, names_no_shorter, names_lt_2_31)
 
 pub returns-then-is_some : goal.returns-then-is_some
@@ -32,20 +32,19 @@ returns-then-is_some g c =
     let db = statements text ws os in
     let s = statement_of text ws c.args.outline in
     let is_read_so_far = c.requires.is_read_so_far in
-    let may_take = c.requires.next in
+    let may_take = c.requires.may_take in
     let b = c.args.self.now.scope.blocks in
     let db_lt_2_31 = may_take.few_statements in
     let db_lt_never : length db < never = omega (arith, db_lt_2_31) in
     let fault_is_least =
-    c.in_ok-self.ensures.fault (names_before db (length db))
+    c.in_ok-self.ensures.fault_is_least (names_before db (length db))
     (scope_knows_names db (find c.args.self.now.scope.names.symbols)
-    (find c.args.self.now.scope.names.labels) b is_read_so_far.keeps db_lt_never) in
+    (find c.args.self.now.scope.names.labels) b is_read_so_far.knows db_lt_never) in
     let symbols_before = c.args.self.now.symbols.items in
     let symbols_are_unchanged : c.truncate.new.self.items ≡ symbols_before =
     c.truncate.ensures.items
     ∙ ap₂ take (c.len-number_count.ensures ∙ c.args.self.now.symbols.ok.0)
-    c.in_ok-self.ensures.numbers
-    ∙ take-append-le (length symbols_before) symbols_before
+    c.in_ok-self.ensures.numbers_are_added ∙ take-append-le (length symbols_before) symbols_before
     (judged (names_in c.args.self.now.scope) s)
     (le_refl (length symbols_before))
     ∙ take_all (length symbols_before) symbols_before (le_refl (length symbols_before)) in
@@ -57,7 +56,7 @@ returns-then-is_some g c =
       if_unlawful = λ is_some. (
         refl,
         record {
-          keeps = is_read_so_far.keeps;
+          knows = is_read_so_far.knows;
           names_are = is_read_so_far.names_are;
           formulas =
               subst
@@ -75,23 +74,22 @@ returns g c =
     let db = statements text ws os in
     let s = statement_of text ws c.args.outline in
     let is_read_so_far = c.requires.is_read_so_far in
-    let may_take = c.requires.next in
+    let may_take = c.requires.may_take in
     let b = c.args.self.now.scope.blocks in
     let db_lt_2_31 = may_take.few_statements in
     let db_lt_never : length db < never = omega (arith, db_lt_2_31) in
     let fault_is_least =
-    c.in_ok-self.ensures.fault (names_before db (length db))
+    c.in_ok-self.ensures.fault_is_least (names_before db (length db))
     (scope_knows_names db (find c.args.self.now.scope.names.symbols)
-    (find c.args.self.now.scope.names.labels) b is_read_so_far.keeps db_lt_never) in
+    (find c.args.self.now.scope.names.labels) b is_read_so_far.knows db_lt_never) in
     let names_are =
     declared_names_are_symbol_names db s (names_of c.add.new.self.names.symbols)
-    (c.in_ok-add.ensures.names (declared db) is_read_so_far.names_are) in
+    (c.in_ok-add.ensures.names_are_declared (declared db) is_read_so_far.names_are) in
     let symbols_are_appended =
     taken_numbers db s c.args.self.now.symbols.items c.fault.new.numbers.items
     c.number_others.new.numbers.items (names_of c.args.self.now.scope.names.symbols)
     (names_of c.add.new.self.names.symbols) is_read_so_far.names_are names_are
-    c.in_ok-self.ensures.numbers
-    c.in_ok-number_others.ensures in
+    c.in_ok-self.ensures.numbers_are_added c.in_ok-number_others.ensures in
     let are_formulas =
     formulas_with_statement db may_take.lawful s c.args.self.now.symbols.items
     c.args.self.now.ends.items is_read_so_far.formulas c.number_others.new.numbers.items
@@ -103,8 +101,8 @@ returns g c =
       if_lawful = λ is_none. (
         c.in_ok-push.ensures.items,
         record {
-          keeps =
-              c.in_ok-add.ensures.keeps db is_read_so_far.keeps (
+          knows =
+              c.in_ok-add.ensures.is_next_scope db is_read_so_far.knows (
                 ap (λ d. least (scope_faults (names_before db (length db)) d s))
                     (sym may_take.open_blocks_is_depth) ∙ sym fault_is_least ∙ is_none,
                 may_take.closes_open_block,
@@ -113,7 +111,7 @@ returns g c =
           formulas =
               subst
               (λ (ps : List ℕ). AreFormulas (db ++ s ∷ []) c.number_others.new.numbers.items ps)
-              (sym c.in_ok-end_list.ensures.ok) are_formulas;
+              (sym c.in_ok-end_list.ensures.bound_is_added) are_formulas;
         },
       );
       if_unlawful = search rules;

@@ -6,13 +6,14 @@ use Rattle.mm_scope.proofs.scope.Scope.add.Goals as goal
 
 pub push-requires-clause-blocks_lt_2_32 : goal.push-requires-clause-blocks_lt_2_32
 push-requires-clause-blocks_lt_2_32 g c =
-    let blocks_le_length = c.requires.keeps.1.blocks.ends_le_statements in
-    let length_lt_2_31 = c.requires.keeps.2 in
+    let blocks_le_length = c.requires.is_scope_after.1.blocks.ends_le_statements in
+    let length_lt_2_31 = c.requires.is_scope_after.2 in
     omega (arith, blocks_le_length, length_lt_2_31)
 
-pub returns-clause-keeps : goal.returns-clause-keeps
-returns-clause-keeps g c =
-    on_ok_both c.add_names.result c.add_names.ensures.symbols c.add_names.ensures.labels
+pub returns-clause-is_next_scope : goal.returns-clause-is_next_scope
+returns-clause-is_next_scope g c =
+    on_ok_both c.add_names.result c.add_names.ensures.symbols_are_added
+    c.add_names.ensures.label_is_added
     (λ symbols labels db is_scope_after may_follow.
     let text = c.args.text.now in
     let ws = c.args.tokens.now in
@@ -20,14 +21,14 @@ returns-clause-keeps g c =
     let s = c.args.self.now in
     let b = s.blocks in
     let block_count = is_scope_after.blocks.count in
-    let block_count_before = c.requires.keeps.1.blocks.count in
-    let length_lt_2_31 = c.requires.keeps.2 in
+    let block_count_before = c.requires.is_scope_after.1.blocks.count in
+    let length_lt_2_31 = c.requires.is_scope_after.2 in
     let db_lt_never : length db < never =
     omega (arith, block_count, block_count_before, length_lt_2_31) in
-    let blocks_are_pushed = c.add_names.ensures.blocks ∙ c.in_ok-push.ensures in
+    let blocks_are_pushed = c.add_names.ensures.blocks_stay ∙ c.in_ok-push.ensures in
     knows_after_statement text ws db (find s.names.symbols)
     (find s.names.labels) b is_scope_after db_lt_never o.kind o.keyword o.middle o.end may_follow.0
     may_follow.1
-    c.add_names.new.self.blocks blocks_are_pushed c.len-number.result c.len-number.ensures
+    c.add_names.new.self.blocks blocks_are_pushed c.len-statement.result c.len-statement.ensures
     (find c.add_names.new.self.names.symbols) symbols
     (find c.add_names.new.self.names.labels) labels)

@@ -13,38 +13,37 @@ pub loop-token_index-preserved : goal.loop-token_index-preserved
 loop-token_index-preserved g c =
     let from = c.args.outline.keyword + 1 in
     let index_lt_middle = c.loop-token_index-test.true in
-    let end_lt_length = c.requires.among.end_lt_length in
+    let end_lt_length = c.requires.is_among_tokens.end_lt_length in
     let index_lt_length : c.loop-token_index.token_index
     < length c.args.tokens.now = omega (arith, index_lt_middle, end_lt_length) in
     let from_le_index : from ≤ c.loop-token_index.token_index = omega arith in
     let invariant = c.loop-token_index.invariant in
     record {
-      labels = λ w. c.in_ok-set_symbol.ensures.labels w ∙ invariant.labels w;
+      labels = λ w. c.in_ok-set_symbol.ensures.labels_stay w ∙ invariant.labels w;
       symbols =
           declared_with_next_word c.args.text.now c.args.tokens.now from
           c.loop-token_index.token_index from_le_index
-          index_lt_length
-          c.args.is_variable c.args.number c.declared-symbol.result
+          index_lt_length c.args.is_variable c.args.statement c.declared_symbol-symbol.result
           (find c.args.self.now.names.symbols) (find c.loop-token_index.self.names.symbols)
           (find c.set_symbol.new.self.symbols)
-          (λ w. c.in_ok-set_symbol.ensures.symbols w
-          ∙ ap (λ b. if bytes_eq b w then Some c.declared-symbol.result else
+          (λ w. c.in_ok-set_symbol.ensures.symbol_is_set w
+          ∙ ap (λ b. if bytes_eq b w then Some c.declared_symbol-symbol.result else
           find c.loop-token_index.self.names.symbols w) c.bytes-word.ensures)
-          (c.declared-symbol.ensures
-          ∙ ap (λ b. declared_entry c.args.is_variable c.args.number b
+          (c.declared_symbol-symbol.ensures
+          ∙ ap (λ b. declared_entry c.args.is_variable c.args.statement b
           (entry_of (find c.loop-token_index.self.names.symbols b))) c.bytes-word.ensures)
           invariant.symbols;
       blocks = invariant.blocks;
       names =
-          λ d names_are_declared. c.in_ok-set_symbol.ensures.names
+          λ d names_are_declared. c.in_ok-set_symbol.ensures.name_is_added
           ∙ ap₂ with_name c.bytes-word.ensures (invariant.names d names_are_declared)
           ∙ names_with_word c.args.text.now c.args.tokens.now from c.loop-token_index.token_index
           from_le_index
           index_lt_length d;
     }
 
-pub returns-clause-names : goal.returns-clause-names
-returns-clause-names g c d names_are_declared =
+pub returns-clause-names_are_declared : goal.returns-clause-names_are_declared
+returns-clause-names_are_declared g c d names_are_declared =
     let from = c.args.outline.keyword + 1 in
     let index_is_middle : c.loop-token_index.token_index ≡ c.args.outline.middle = omega arith in
     c.loop-token_index.invariant.names d names_are_declared

@@ -11,7 +11,7 @@ invariant-loop-token_index g l = record {
   labels : (w : List ℕ) → find l.self.names.labels w ≡ find l.initial.self.names.labels w;
   symbols : (w : List ℕ)
       → entry_of (find l.self.names.symbols w)
-      ≡ after_declaring l.is_variable l.number
+      ≡ after_declaring l.is_variable l.statement
       (words (between l.text l.tokens (l.fn.outline.keyword + 1) l.token_index)) w
       (entry_of (find l.initial.self.names.symbols w));
   blocks : l.self.blocks ≡ l.initial.self.blocks;

@@ -4,7 +4,8 @@ use Rattle.mm_spec.specs.Frame.{index_of}
 use Rattle.mm_outline.specs.Parts.{token_at, nth_word, between}
 use Rattle.mm_scope.specs.Formulas.{numbers_in}
 use Rattle.mm_spec.specs.Text.{is_in}
-use Rattle.mm_spec.specs.Lawful.{at, at_each, least, when, symbol_codes, formula_faults}
+use Rattle.mm_spec.specs.Lawful.{faults_at, faults_at_each, least, when, symbol_codes}
+use Rattle.mm_spec.specs.Lawful.{formula_faults}
 use Rattle.mm_spec.specs.declared.Code.TheVariants.{BadTypecode}
 use Rattle.mm_database.specs.Names.{find, is_constant_in, names_of}
 use Rattle.mm_scope.proofs.JudgeLaw.{between_first}
@@ -16,11 +17,11 @@ overflow_cast-number g c =
     let ns = names_of c.args.self.now.names.symbols in
     let names_lt_2_31 = c.requires.few_names in
     let index_le_length = index_of_le_length c.bytes.result.now ns in
-    let number_is_index = c.numbered-number.ensures.number in
+    let number_is_index = c.numbered-number.ensures.number_is_index in
     omega (arith, index_le_length, number_is_index, names_lt_2_31)
 
-pub returns-clause-fault : goal.returns-clause-fault
-returns-clause-fault g c = λ n are_names.
+pub returns-clause-fault_is_least : goal.returns-clause-fault_is_least
+returns-clause-fault_is_least g c = λ n are_names.
     let s = c.args.self.now in
     let from_ne_to = c.if-from-to.false in
     let to_lt_length = c.requires.to_lt_length in
@@ -32,18 +33,18 @@ returns-clause-fault g c = λ n are_names.
     let t = token_at text ws c.args.from in
     let end_place = (nth_word ws c.args.to).start in
     let symbol_is_found =
-    c.numbered-number.ensures.symbol ∙ ap (find s.names.symbols) c.bytes.ensures in
-    c.lesser.ensures (at t.at (when (not (is_in t.word n.constants)) BadTypecode))
-    (at_each (symbol_codes n) [] (between text ws (c.args.from + 1) c.args.to))
+    c.numbered-number.ensures.symbol_is_found ∙ ap (find s.names.symbols) c.bytes.ensures in
+    c.lesser.ensures (faults_at t.at (when (not (is_in t.word n.constants)) BadTypecode))
+    (faults_at_each (symbol_codes n) [] (between text ws (c.args.from + 1) c.args.to))
     (c.fault_with_code-fault_of_typecode.ensures ∙ c.typecode_fault_code.ensures t.at
-    ∙ ap (λ b. least (at t.at (when (not b) BadTypecode)))
+    ∙ ap (λ b. least (faults_at t.at (when (not b) BadTypecode)))
     (ap is_constant_in symbol_is_found ∙ sym (are_names.constants t.word)))
-    (c.in_ok-fault_of_symbols.ensures.fault n are_names)
+    (c.in_ok-fault_of_symbols.ensures.fault_is_least n are_names)
     ∙ ap (λ xs. least (formula_faults n xs end_place))
     (sym (between_first text ws c.args.from c.args.to from_lt_to to_le_length))
 
-pub returns-clause-numbers : goal.returns-clause-numbers
-returns-clause-numbers g c =
+pub returns-clause-numbers_are_added : goal.returns-clause-numbers_are_added
+returns-clause-numbers_are_added g c =
     let text = c.args.text.now in
     let ws = c.args.tokens.now in
     let from_ne_to = c.if-from-to.false in
@@ -52,11 +53,11 @@ returns-clause-numbers g c =
     let from_lt_to : c.args.from < c.args.to = omega (arith, from_ne_to, from_le_to) in
     let to_le_length : c.args.to ≤ length ws = omega (arith, to_lt_length) in
     let ns = names_of c.args.self.now.names.symbols in
-    c.in_ok-fault_of_symbols.ensures.numbers
+    c.in_ok-fault_of_symbols.ensures.numbers_are_added
     ∙ ap (λ l. l ++ numbers_in ns (between text ws (c.args.from + 1) c.args.to))
     (c.in_ok-push.ensures.items
     ∙ ap (λ y. c.args.numbers.now.items ++ y ∷ [])
-    (c.new.ensures ∙ c.numbered-number.ensures.number
+    (c.new.ensures ∙ c.numbered-number.ensures.number_is_index
     ∙ ap (λ w. index_of w ns) c.bytes.ensures))
     ∙ append_assoc c.args.numbers.now.items (index_of (token_at text ws c.args.from).word ns ∷ [])
     (numbers_in ns (between text ws (c.args.from + 1) c.args.to))

@@ -1,5 +1,5 @@
 use Rattle.std.proofs.Common.{◌≡◌, ◌++◌, []}
-use Rattle.mm_spec.specs.Lawful.{least, at_each, symbol_codes}
+use Rattle.mm_spec.specs.Lawful.{least, faults_at_each, symbol_codes}
 use Rattle.mm_spec.specs.Scope.{Names}
 use Rattle.mm_outline.specs.Parts.{between}
 use Rattle.mm_scope.specs.Formulas.{numbers_in}
@@ -10,7 +10,7 @@ use Rattle.mm_scope.proofs.scope.Scope.symbols_fault.Given as goal
 abbrev pub invariant-loop-token_index : goal.invariant-loop-token_index
 invariant-loop-token_index g l = record {
   least : (n : Names) → AreNamesOf l.self n
-      → l.least_found ≡ least (at_each (symbol_codes n) []
+      → l.least_found ≡ least (faults_at_each (symbol_codes n) []
       (between l.text l.tokens l.from l.token_index));
   numbered : l.numbers.items
       ≡ l.initial.numbers.items

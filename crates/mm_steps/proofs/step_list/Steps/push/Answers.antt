@@ -14,10 +14,10 @@ pub invariant_of-self-in-Marked : goal.invariant_of-self-in-Marked
 invariant_of-self-in-Marked g c =
     let stored = c.self.inside.steps.items in
     let pushed = c.push-in-Marked.new.self.items in
-    let marked_step = c.in-Marked.number in
+    let marked_step = c.in-Marked.earlier in
     let old_entry = c.index_mut.result.now in
     let entry : Placed =
-    record { at = c.args.at; number = marked_step; kind = Marked; is_marked = false } in
+    record { at = c.args.at; referent = marked_step; kind = Marked; is_marked = false } in
     let is_pushed : pushed ≡ stored ++ entry ∷ [] = c.in_ok-push-in-Marked.ensures.items in
     let is_earlier : marked_step < length c.args.self.now.steps =
     subst (λ s. IsEarlier (as_step s) (length c.args.self.now.steps)) c.in-Marked.is c.requires in
@@ -33,14 +33,15 @@ invariant_of-self-in-Marked g c =
     (omega (arith, is_earlier, same_length))
     (ap placed_of is_old_entry) refl
 
-pub returns-in_ok-push-in-Marked-clause-ok : goal.returns-in_ok-push-in-Marked-clause-ok
-returns-in_ok-push-in-Marked-clause-ok g c =
+pub returns-in_ok-push-in-Marked-clause-step_is_added :
+    goal.returns-in_ok-push-in-Marked-clause-step_is_added
+returns-in_ok-push-in-Marked-clause-step_is_added g c =
     let stored = c.self.inside.steps.items in
     let pushed = c.push-in-Marked.new.self.items in
-    let marked_step = c.in-Marked.number in
+    let marked_step = c.in-Marked.earlier in
     let old_entry = c.index_mut.result.now in
     let entry : Placed =
-    record { at = c.args.at; number = marked_step; kind = Marked; is_marked = false } in
+    record { at = c.args.at; referent = marked_step; kind = Marked; is_marked = false } in
     let is_pushed : pushed ≡ stored ++ entry ∷ [] = c.in_ok-push-in-Marked.ensures.items in
     let is_earlier : marked_step < length c.args.self.now.steps =
     subst (λ s. IsEarlier (as_step s) (length c.args.self.now.steps)) c.in-Marked.is c.requires in

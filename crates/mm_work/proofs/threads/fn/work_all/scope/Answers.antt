@@ -10,8 +10,8 @@ use Rattle.mm_work.proofs.threads.fn.work_all.scope.Goals as goal
 
 pub join_all-requires : goal.join_all-requires
 join_all-requires g c = record {
-  first = c.work-first.ensures;
-  others = λ k d k_lt_length.
+  first_is_done = c.work-first.ensures;
+  others_are_done = λ k d k_lt_length.
       let length_is = c.in-Ok-join_promised.ensures.len in
       let handle_count_is = c.in-Ok-join_promised.others.ok.0 in
       let k_lt_handle_count : k < vec_len c.loop-worker.handles = omega (
@@ -33,7 +33,7 @@ join_all-requires g c = record {
 
 pub loop-worker-preserved : goal.loop-worker-preserved
 loop-worker-preserved g c = record {
-  seat_is_fresh = c.split_off.ensures.old_seat;
+  seat_is_fresh = c.split_off.ensures.old_is_fresh;
   are_promised = elim c.match-split_off.branch [
     | in-Some+in-Ok+in_ok-push w ↦ rw (w.handles-is, w.in_ok-push.ensures.items)
         (All-push (λ h. h.promise.now ≡ c.captures.job.now) c.loop-worker.handles.items
