@@ -80,7 +80,7 @@ class Browser(ABC):
         """Ends it."""
 
     def stays_silent(self, when: str) -> None:
-        """Counts whether nothing came into the console; nothing is counted where it can't be read."""
+        """Counts whether nothing came into the console, where that can be read."""
         same(self.messages(), [], f"{self.name}: messages in the console {when}")
 
     def wait(self, script: str, *words: Any, seconds: float = 30) -> Any:
