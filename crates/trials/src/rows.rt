@@ -2,8 +2,8 @@
 
 use crate::databases::database_of;
 use crate::flags::{BY_ALL_NODES, WITHOUT_OPEN};
-use crate::texts::{chain_text, seventy_axioms_text, through_a_theorem};
 use crate::runs::many::wide_text;
+use crate::texts::{chain_text, seventy_axioms_text, through_a_theorem};
 use mm_rows::{Columns, Matrix, matrix, matrix_alone, ones, or_row, waves};
 use mm_work::{Judged, Open, check_all};
 use std::alloc::{AllocError, Global};
