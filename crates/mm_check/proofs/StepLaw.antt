@@ -75,6 +75,7 @@ module _ (db : List Statement) (t : ℕ) where
         → IsStepRefusal db t (label a) c e
     refusal_is_of_step e is_refusal =
         λ ends agree. subst (IsRefusalOf e)
-        (sym (ap (λ r. label_entries (context_at db t) r c.machine.stack) (assertion_rule db t a is_assertion
+        (sym (ap (λ r. label_entries (context_at db t) r c.machine.stack)
+        (assertion_rule db t a is_assertion
         rule_is_complete)))
         is_refusal

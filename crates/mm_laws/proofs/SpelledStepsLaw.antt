@@ -324,7 +324,8 @@ module _ (hypotheses labels : List ℕ) where
           let byte_ge_65 =
           leb-true 65 g.last.byte
           (and_parts (nat_le 65 g.last.byte) (nat_le g.last.byte 84) is_number_group.0).0 in
-          let named = number_names_step items_before marks (value g) (group_value_is_positive _ g.last.byte
+          let named =
+          number_names_step items_before marks (value g) (group_value_is_positive _ g.last.byte
           byte_ge_65) is_number_group.1 are_marks in
           let are_steps =
           steps_from_number items_before (map item_of gs)

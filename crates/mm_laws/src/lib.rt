@@ -9,8 +9,9 @@
 //! says less, two arguments are exchanged, or a definition on which the law depends says something
 //! else. One, `open_theorems_left_out`, is true, but says less than the law. Each clause has one
 //! edit, named after the mistake. The statements of the laws are in files of their own
-//! (`specs/Laws`), so that a change of one is tried without the others being read again. Small texts for which the definitions are
-//! worked out are in `proofs/` (`ExamplesLaw`, `VectorsLaw`, `OutputsLaw`).
+//! (`specs/Laws`), so that a change of one is tried without the others being read again. Small
+//! texts for which the definitions are worked out are in `proofs/` (`ExamplesLaw`, `VectorsLaw`,
+//! `OutputsLaw`).
 //!
 //! A law of what is read (`WhereRead`) holds of the statements as they count: with open theorems as
 //! axioms, and without.

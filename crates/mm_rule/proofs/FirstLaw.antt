@@ -49,4 +49,5 @@ module _ (db : List Statement) where
   -- index n on
   abbrev pub AreIndicesFrom : ℕ → List Formula → List ℕ → Type 0
   AreIndicesFrom n hs indices =
-      (x : ℕ) → IsBound (variables_context db) hs x → get_or indices x 0 ≡ n + floating_index db hs x
+      (x : ℕ) → IsBound (variables_context db) hs x
+      → get_or indices x 0 ≡ n + floating_index db hs x

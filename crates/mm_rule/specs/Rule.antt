@@ -83,7 +83,8 @@ pub record IsCompiled (db : List Statement) (c : CompiledRule) : Type 0 where
   pub is_complete : IsComplete (variables_context db) (frame_at db c.assertion)
   pub part_count_is : total_stored_part_count c.hypotheses ≡ length c.parts
   pub parts_in_range : All (IsVariableBelow (length c.hypotheses)) c.parts
-  pub pairs_in_range : All (λ (p : ℕ × ℕ). (p.0 < length c.hypotheses) × (p.1 < length c.hypotheses))
+  pub pairs_in_range : All
+      (λ (p : ℕ × ℕ). (p.0 < length c.hypotheses) × (p.1 < length c.hypotheses))
       c.pairs
   pub formula_in_range : All (IsVariableBelow (length c.hypotheses)) c.formula
   pub constants_in_range : All (IsConstantBelow (length (symbol_names db))) c.formula

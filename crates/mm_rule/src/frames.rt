@@ -42,7 +42,8 @@ pub fn mandatory_hypotheses<'b, A: Allocator>(
     assertion: u32,
 ) -> &'b [u32]
     requires { is_assertion_at database.now.statements assertion ≡ true }
-    ensures hypotheses_are { result.now ≡ mandatory_hypotheses_of database.now.statements assertion }
+    ensures hypotheses_are { result.now
+        ≡ mandatory_hypotheses_of database.now.statements assertion }
     ensures hypotheses_lt_length { All (λ h. h < length database.now.statements) result.now }
     ensures count_lt_2_31 { length result.now < 2 ^ 31 }
 {

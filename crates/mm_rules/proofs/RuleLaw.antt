@@ -165,21 +165,24 @@ module _ (db : List Statement) (hs : List Formula) where
   pub covered_all : (mandatory : List ℕ)
       → AllByRecursion (AreBound (variables_context db) hs) (map (formula_at db) mandatory)
       → All (λ h. AreCovered db hs (formula_at db h)) mandatory
-  covered_all mandatory are_bound = All-from_recursion (λ h. AreCovered db hs (formula_at db h)) mandatory
+  covered_all mandatory are_bound =
+      All-from_recursion (λ h. AreCovered db hs (formula_at db h)) mandatory
       (each_is_covered mandatory are_bound)
     where
       each_is_covered : (mandatory : List ℕ)
           → AllByRecursion (AreBound (variables_context db) hs) (map (formula_at db) mandatory)
           → AllByRecursion (λ h. AreCovered db hs (formula_at db h)) mandatory
       each_is_covered [] are_bound = tt
-      each_is_covered (x ∷ xs) are_bound = (covered (formula_at db x) are_bound.0, each_is_covered xs are_bound.1)
+      each_is_covered (x ∷ xs) are_bound =
+          (covered (formula_at db x) are_bound.0, each_is_covered xs are_bound.1)
 
   abbrev AreBothBound : Pair → Type 0
   AreBothBound p =
       IsBound (variables_context db) hs p.low × IsBound (variables_context db) hs p.high
 
   -- parts by the indices of the variables' `$f` are those of the formula
-  pub indexed_parts_are_parts : (indices : List ℕ) → AreFloatingIndices db hs indices → (f : Formula)
+  pub indexed_parts_are_parts : (indices : List ℕ) → AreFloatingIndices db hs indices
+      → (f : Formula)
       → AreCovered db hs f → indexed_parts db indices f ≡ parts_of db hs f
   indexed_parts_are_parts indices are_floating_indices f is_covered =
       formula_parts_are f (recursion_from_All

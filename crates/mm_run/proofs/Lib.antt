@@ -1,8 +1,9 @@
 -- `read_all` keeps that the text so far was taken from the reader (`Consumes`). `judged_text` makes
 -- of what reading and checking found the first fault, or a database without one; `judge_alone` ends
--- with it. `write_judged`, with which every run ends, then calls what writes a refusal or a report. The rows are those of the definitions by `rows_are` and `is_report` (`RowsLaw.antt`),
--- lists of citations by `is_citation_report` (`CitationsLaw.antt`). `is_output` (`CountedLaw.antt`)
--- then gives `IsOutput` of the text, with open theorems as they count. `ends_of_answers`
+-- with it. `write_judged`, with which every run ends, then calls what writes a refusal or a report.
+-- The rows are those of the definitions by `rows_are` and `is_report` (`RowsLaw.antt`), lists of
+-- citations by `is_citation_report` (`CitationsLaw.antt`). `is_output` (`CountedLaw.antt`) then
+-- gives `IsOutput` of the text, with open theorems as they count. `ends_of_answers`
 -- (`EndsLaw.antt`) turns `Answers` of the text into `Ends`, the contract of `run`.
 pub mod CountedLaw
 pub mod RowsLaw

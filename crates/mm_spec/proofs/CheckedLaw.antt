@@ -20,10 +20,10 @@ module _ (c : Context) where
   expansion_grows [] lists labels all_labels expands = ([], expands ∙ sym (append-nil labels))
   expansion_grows (s ∷ steps) lists labels all_labels expands =
       let extended = adds_at_end lists labels s expands.0 expands.1 in
-      let extended_again = expansion_grows steps (lists ++ expands.0 ∷ []) expands.0 all_labels expands.2 in (
-        extended.0 ++ extended_again.0,
-        extended_again.1 ∙ ap (λ z. z ++ extended_again.0) extended.1
-            ∙ append_assoc labels extended.0 extended_again.0,
+      let rest = expansion_grows steps (lists ++ expands.0 ∷ []) expands.0 all_labels expands.2 in (
+        extended.0 ++ rest.0,
+        rest.1 ∙ ap (λ z. z ++ rest.0) extended.1
+            ∙ append_assoc labels extended.0 rest.0,
       )
 
 module _ (c : Context) (all_complete : (l : ℕ) → HasCompleteFrame c (c.referent l)) where

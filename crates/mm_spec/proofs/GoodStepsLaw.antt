@@ -256,7 +256,8 @@ module _ (db : List Statement) (k : ℕ)
           → (0 < count → AreFaultless label_count (length marks + 1) count gs
           → AreGoodSteps (context_at db k) count
           (steps_of (group_steps labels (marks ++ (count - 1) ∷ []) count gs)))
-          → AreGoodSteps (context_at db k) count (steps_of (steps_from_group (is_last_letter g.last.byte)))
+          → AreGoodSteps (context_at db k) count
+          (steps_of (steps_from_group (is_last_letter g.last.byte)))
       good_number_or_mark (inl (is_number, value_is_within, rest_is_faultless)) after_number
           after_mark =
           let letter_ge_65 =

@@ -1,12 +1,13 @@
--- Groups of letters of which none has a fault: each is a number that means something, or a mark of a
--- step.
+-- Groups of letters of which none has a fault: each is a number that means something, or a mark of
+-- a step.
 use Rattle.std.proofs.Common.{◌≡◌, ℕ, ◌+◌, ◌==◌, ◌<◌, ◌≤◌, Bool, true, false, ◌⊎◌, inl, inr}
 use Rattle.std.proofs.Common.{List, [], ◌∷◌, ◌++◌, length, nat_le, nat_lt, refl, arith, leb-true}
 use Rattle.std.proofs.Common.{ltb-false, eqb-true}
 use Rattle.std.proofs.lemmas.Bool.{and_parts, eqb-false}
 use Rattle.mm_spec.specs.declared.Fault.{Fault}
 use Rattle.mm_spec.specs.Lawful.{when, faults_at}
-use Rattle.mm_spec.specs.CompressedProof.{Letter, Group, is_last_letter, value, starts_at, group_faults}
+use Rattle.mm_spec.specs.CompressedProof.{Letter, Group, is_last_letter, value, starts_at}
+use Rattle.mm_spec.specs.CompressedProof.{group_faults}
 use Rattle.mm_spec.specs.declared.Code.TheVariants.{OpenNumber, MarkBeforeStep, NumberTooLarge}
 use Rattle.mm_spec.specs.declared.Code.TheVariants.{IncompleteProof, BadLetter}
 use Rattle.mm_spec.proofs.FaultlessLaw.{both_are_empty, no_faults_no_codes, no_code_if_false}

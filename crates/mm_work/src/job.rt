@@ -16,7 +16,7 @@ pub(crate) struct Job<'j, 'd, A: Allocator> {
     pub board: &'j Board<A>,
     /// Whether a theorem cites only by the essential nodes of its proof.
     pub essential: bool,
-    /// For how many citations a worker reserves memory: its share of at least as many as all theorems
-    /// have.
+    /// For how many citations a worker reserves memory: its share of at least as many as all
+    /// theorems have.
     pub citation_capacity: usize,
 }

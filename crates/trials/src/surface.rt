@@ -1,6 +1,6 @@
-//! A caller of the layers who knows only their public calls: each call of a run with threads is made
-//! once, by its name and with its arguments in their order, on the text with the first theorem. `status` is called in the tests
-//! of the program.
+//! A caller of the layers who knows only their public calls: each call of a run with threads is
+//! made once, by its name and with its arguments in their order, on the text with the first
+//! theorem. `status` is called in the tests of the program.
 
 ghost use Rattle.std.specs.Prelude.{◌≡◌, IfOk, Option, false, length};
 ghost use Rattle.mm_spec.specs.Text.{Bytes};
@@ -277,7 +277,8 @@ fn is_report_written(
     chosen: &Columns<Global>,
     matrix: &Matrix<Global>,
 ) -> bool
-    requires are_columns { (only : Option Bytes) × (chosen.now ≡ columns database.now.statements only) }
+    requires are_columns { (only : Option Bytes)
+        × (chosen.now ≡ columns database.now.statements only) }
     requires width_is { length chosen.now ≡ matrix.now.columns }
     requires row_count_is { length (theorems database.now.statements) ≡ matrix.now.rows }
 {

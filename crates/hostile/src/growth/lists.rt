@@ -48,9 +48,9 @@ fn a_list_that_is_refused_is_not_appended(rt: HostRuntime) {
 /// The statement number of a theorem.
 const THEOREM: u32 = 13;
 
-/// Refuses a growth of appending a step to none, with capacity for `capacity` steps. Asserts that after a
-/// refusal there is no step, and that the next one is the first. Returns whether there was such a
-/// growth.
+/// Refuses a growth of appending a step to none, with capacity for `capacity` steps. Asserts that
+/// after a refusal there is no step, and that the next one is the first. Returns whether there was
+/// such a growth.
 fn step_refused<R: Abort>(rt: &R, heap: &Refusing<Global>, capacity: usize, growth: u64) -> bool {
     heap.refuse(growth);
     let mut steps = Steps::none(heap, THEOREM, capacity);

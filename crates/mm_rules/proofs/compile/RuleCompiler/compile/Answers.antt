@@ -14,9 +14,11 @@ pub compile_hypotheses-requires-clause-variables_are_bound :
     goal.compile_hypotheses-requires-clause-variables_are_bound
 compile_hypotheses-requires-clause-variables_are_bound g c =
     let db = c.args.database.now.statements in
-    covered_all db (map (formula_at db) c.mandatory_hypotheses-mandatory.result.now) c.mandatory_hypotheses-mandatory.result.now
+    covered_all db (map (formula_at db) c.mandatory_hypotheses-mandatory.result.now)
+    c.mandatory_hypotheses-mandatory.result.now
     (subst (λ h. AllByRecursion (AreBound (variables_context db) (map (formula_at db) h))
-    (map (formula_at db) h)) (sym c.mandatory_hypotheses-mandatory.ensures.hypotheses_are) c.requires.is_complete.hypotheses)
+    (map (formula_at db) h)) (sym c.mandatory_hypotheses-mandatory.ensures.hypotheses_are)
+    c.requires.is_complete.hypotheses)
 
 pub formula-requires : goal.formula-requires
 formula-requires g c =
@@ -52,7 +54,8 @@ returns-clause-is_compiled g c =
     mandatory c.pairs.result.now
     f indices c.compile_hypotheses.new.hypotheses.items c.compile_pairs.new.pairs.items
     c.compile_hypotheses.new.parts.items c.compile_formula.new.parts.items
-    c.mandatory_hypotheses-mandatory.ensures.hypotheses_are c.pairs.ensures.pairs_are c.formula.ensures.formula
+    c.mandatory_hypotheses-mandatory.ensures.hypotheses_are c.pairs.ensures.pairs_are
+    c.formula.ensures.formula
     c.formula.ensures.symbols_lt_count c.in_ok-compile_hypotheses.ensures are_floating_indices
     c.in_ok-compile_pairs.ensures
     (made ∙ ap (λ z. z ++ indexed_parts db indices_at_the_end f) c.empty.ensures ∙ parts_equal))
