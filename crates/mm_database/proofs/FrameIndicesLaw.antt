@@ -171,8 +171,12 @@ module _ {A : Type 0} (fs gs : List (Frame A)) where
       ≡ option_map mandatory_in (slice_get gs q)
   frame_at_after q frames_le_never (inl q_lt_length) =
       let q_ne_never : nat_eq q never ≡ false =
-      ne_eqb q never (λ q_is_never. absurd (omega (arith, q_is_never, q_lt_length,
-      frames_le_never))) in
+      ne_eqb q never (λ q_is_never. absurd (omega (
+        arith,
+        q_is_never,
+        q_lt_length,
+        frames_le_never,
+      ))) in
       ap (λ b. option_map mandatory_in
       (slice_get (fs ++ gs) (if b then never else q + length fs))) q_ne_never
       ∙ ap (option_map mandatory_in) (slice_get_after fs gs (q + length fs) q refl)
@@ -300,5 +304,13 @@ few_frames_of_few_statements fs gs ps qs first second first_are second_are first
     let second_length = ap length second_are in
     let first_le = first_indices.count_le_length in
     let second_le = second_indices.count_le_length in
-    omega (arith, first_count, second_count, first_length, second_length, first_le, second_le,
-    few_statements)
+    omega (
+      arith,
+      first_count,
+      second_count,
+      first_length,
+      second_length,
+      first_le,
+      second_le,
+      few_statements,
+    )

@@ -27,11 +27,7 @@ fn shifted_index(index: u32, shift: u32) -> u32
     requires { index ≢ never → index + shift < 2 ^ 32 }
     ensures { result ≡ shifted_index shift index }
 {
-    if index == NEVER {
-        NEVER
-    } else {
-        index + shift
-    }
+    if index == NEVER { NEVER } else { index + shift }
 }
 
 /// The frame of each statement that is an assertion.

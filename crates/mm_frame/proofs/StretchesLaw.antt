@@ -124,7 +124,7 @@ module _ (db : List Statement) (size : ℕ) where
       (length db / size + 1) 0 stretches are_stretches in
       let nothing : 0 ≡ stretch_start size (length db) 0 - 0 =
       (let starts_at_zero = first_start_is_zero size (length db) in
-          omega (arith, starts_at_zero)) in
+      omega (arith, starts_at_zero)) in
       record {
         joined = 0;
         count = (let count_is = by_index.0 in omega (arith, count_is));

@@ -9,7 +9,7 @@ use crate::judged_text::{JudgedText, judged_text};
 use crate::output::write_judged;
 use mm_lex::lex_alone;
 use mm_report::Request;
-use mm_stmt::read_owned;
+use mm_stmt::read_alone;
 use mm_work::check_alone;
 use std::alloc::{AllocError, Allocator};
 use std::io::Write;
@@ -27,7 +27,7 @@ pub fn judge_alone<'a, A: Allocator + Copy>(
     ensures { IfOk result (IsJudgedText text.now essential with_open) }
 {
     let lexed = lex_alone(alloc, text)?;
-    let database = read_owned(alloc, text, lexed, with_open)?;
+    let database = read_alone(alloc, text, lexed, with_open)?;
     let judged = check_alone(alloc, &database, essential)?;
     Ok(judged_text(database, judged))
 }

@@ -28,7 +28,7 @@ loop-statement-preserved g c = record {
   stamps = c.in_ok-add_frame.ensures.are_fresh;
   from_le_statement =
       (let from_le_statement = c.loop-statement.invariant.from_le_statement in
-          omega (arith, from_le_statement));
+      omega (arith, from_le_statement));
   frames =
       frames_with_statement c.args.sources.now.statements.now.list c.args.from
       c.loop-statement.statement _ _ c.loop-statement.invariant.from_le_statement

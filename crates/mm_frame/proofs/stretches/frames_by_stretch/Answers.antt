@@ -21,7 +21,7 @@ collect-requires-clause-ready g c κs within =
     λ k d k_lt_count. (
       (
         index_lt_2_31 _ _ c.args.stretch_count k d start_is end_is c.requires.few_stretches
-        k_lt_count,
+            k_lt_count,
         subst (λ f. AreSources f.1.now) (sym captured_are) c.requires.are_sources,
       ),
       λ y is_stretch. tt,
