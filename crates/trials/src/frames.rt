@@ -45,7 +45,7 @@ fn is_mandatory(database: &Database<Global>, assertion: u32, symbol: Sym) -> boo
     has_symbol(database.formula(assertion), symbol)
 }
 
-/// Whether an active statement is a mandatory hypothesis of the assertion.
+/// Whether a statement, if it is active, is a mandatory hypothesis of the assertion.
 fn is_hypothesis(database: &Database<Global>, assertion: u32, statement: u32) -> bool
     requires assertion_is_known { assertion < length database.now.statements }
     requires statement_is_known { statement < length database.now.statements }
@@ -66,9 +66,9 @@ fn are_hypotheses(database: &Database<Global>, assertion: u32, hypotheses: &[u32
 {
     let mut expected = hypotheses.iter();
     for statement in 0..assertion {
-        if database.active_at(statement, assertion)
-            && is_hypothesis(database, assertion, statement)
-        {
+        let may_be_listed = is_hypothesis(database, assertion, statement);
+        let is_active = database.active_at(statement, assertion);
+        if may_be_listed && is_active {
             match expected.next() {
                 Some(hypothesis) if *hypothesis == statement => {}
                 _ => return false,
