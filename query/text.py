@@ -16,7 +16,7 @@ Places are byte offsets from 0, lines and columns are counted from 1. The interf
             text.formula(hypothesis)
         for number in assertion.disjoint:          # its active `$d`
             text.group(number)             # the variables, as written
-        text.conditions(assertion)         # Conditions: pairs, mandatory and of the proof's dummies
+        text.conditions(assertion)         # Conditions: which pairs of variables must be distinct
         text.comment(assertion)            # the whole comment before it, or ""
         text.proof(assertion)              # the words between `$=` and `$.`; [] for a `$a`
         assertion.proof                    # (start, end) of that stretch, or None
@@ -37,23 +37,29 @@ from __future__ import annotations
 import gc
 import re
 from bisect import bisect_right
-from dataclasses import dataclass, field
+from dataclasses import dataclass
 from functools import cached_property
-from typing import Iterator
+from hashlib import blake2b
+
+from query.active import NOTHING, Active, Given
+from query.distinct import Distinct
 
 # The lines that enclose the title of a part, a chapter, a section and a subsection.
 DECORATIONS = ("####", "#*#*", "=-=-", "-.-.")
 
-# What stands between `$(` and `$)`, and words with comments among them.
-INNER = rb"[^$]*(?:\$(?!\))[^$]*)*"
-WORDS = rb"[^$]*(?:\$\(" + INNER + rb"\$\)[^$]*)*"
-# A comment, a statement or an end of a block, with the white space before it.
+# What stands between `$(` and `$)`, and words with comments among them. Nothing of these is ever
+# given back, so that a text which isn't one of a database is read once, and no stretch twice.
+INNER = rb"[^$]*+(?:\$(?!\))[^$]*+)*+"
+WORDS = rb"[^$]*+(?:\$\(" + INNER + rb"\$\)[^$]*+)*+"
+# A comment, a statement or an end of a block, with the white space before it; else the end of what
+# can be read. One of these is at each place, so nothing is searched for.
 PIECE = re.compile(
-    rb"\s*(?:\$\((?P<comment>" + INNER + rb")\$\)"
-    rb"|(?P<label>[^\s$]+)\s+(?:\$\(" + INNER + rb"\$\)\s+)*"
+    rb"\s*+(?:\$\((?P<comment>" + INNER + rb")\$\)"
+    rb"|(?P<label>[^\s$]++)\s++(?:\$\(" + INNER + rb"\$\)\s++)*+"
     rb"\$(?P<kind>[aefp])\s(?P<formula>" + WORDS + rb")(?:\$=(?P<proof>" + WORDS + rb"))?\$\."
     rb"|\$(?P<plain>[cdv])\s(?P<symbols>" + WORDS + rb")\$\."
-    rb"|\$(?P<brace>[{}]))"
+    rb"|\$(?P<brace>[{}])"
+    rb"|(?P<end>))"
 )
 COMMENT = re.compile(rb"\$\(" + INNER + rb"\$\)")
 HEADING = re.compile(
@@ -70,7 +76,6 @@ BLOCK = 1 << 10  # bytes, of which the lines are counted at once
 
 Place = int
 Stretch = tuple[int, int]
-Pair = tuple[str, str]
 
 
 class UnreadableText(Exception):
@@ -100,8 +105,8 @@ class Assertion:
     place: Place
     formula: Stretch
     proof: Stretch | None
-    essential: tuple[int, ...]
-    disjoint: tuple[int, ...]
+    essential: Active
+    disjoint: Active
     comment: Stretch | None
     header: int
     number: int = 0
@@ -133,17 +138,15 @@ class Comment:
 
 @dataclass(slots=True)
 class Conditions:
-    """The pairs of variables that must be distinct, in order of the `$d` statements.
+    """Which pairs of variables must be distinct: two of `variables` bind who cites the assertion,
+    others the proof alone."""
 
-    `mandatory` binds who cites the assertion; `proof` are those with a dummy variable of the proof.
-    """
-
-    mandatory: list[Pair] = field(default_factory=list)
-    proof: list[Pair] = field(default_factory=list)
-    variables: list[str] = field(default_factory=list)
+    variables: list[str]
     """The variables of the assertion."""
-    dummies: list[str] = field(default_factory=list)
+    dummies: list[str]
     """The variables that only the proof has."""
+    groups: list[list[str]]
+    """Each two of a group must be distinct; in order of the `$d` statements."""
 
 
 class Text:
@@ -158,8 +161,8 @@ class Text:
         self.marked: list[Comment] = []
         self.typesetting: str | None = None
         self.declared: list[Stretch] = []  # the symbols of each `$v`
-        self._variables_of: dict[int, dict[str, None]] = {}  # of hypotheses, where they are known
-        self._groups: dict[int, list[str]] = {}  # of `$d` statements, likewise
+        self._groups: dict[int, list[str]] = {}  # of `$d` statements, where they are known
+        self._sums: dict[int, bytes] = {}  # of `$e` statements with those before them, likewise
 
     def words(self, stretch: Stretch) -> str:
         """The words of a stretch without comments in it, separated by single spaces."""
@@ -246,15 +249,17 @@ class Text:
         """The variable of each `$f` statement, by its label."""
         return {one.label: self.symbols(one)[1] for one in self.hypotheses if one.kind == "f"}
 
+    @cached_property
+    def _given(self) -> Given:
+        return Given(lambda number: self._variables(self.hypotheses[number]))
+
+    @cached_property
+    def _distinct(self) -> Distinct:
+        return Distinct(self.group)
+
     def mandatory(self, assertion: Assertion) -> list[str]:
         """The variables of an assertion's hypotheses and formula, each once, as they appear."""
-        found: dict[str, None] = {}
-        for number in assertion.essential:
-            known = self._variables_of.get(number)
-            if known is None:
-                known = self._variables(self.hypotheses[number])
-                self._variables_of[number] = known
-            found.update(known)
+        found = dict.fromkeys(self._given.variables_of(assertion.essential))
         found.update(self._variables(assertion))
         return list(found)
 
@@ -264,11 +269,27 @@ class Text:
         variables = self.variables
         return {symbol: None for symbol in symbols if symbol in variables}
 
+    def sum_of_hypotheses(self, assertion: Assertion) -> bytes:
+        """What is the same for assertions exactly where their active `$e` have the same formulas,
+        in the same order."""
+        known = self._sums
+        coming = []
+        total = b""
+        for each in assertion.essential.upwards():
+            if each.last in known:
+                total = known[each.last]
+                break
+            coming.append(each.last)
+        for number in reversed(coming):
+            formula = self.formula(self.hypotheses[number]).encode()
+            total = known[number] = blake2b(total + formula, digest_size=20).digest()
+        return total
+
     def dummies(self, assertion: Assertion) -> list[str]:
         """The variables that the proof names and the assertion doesn't have, as they appear."""
-        return self._dummies(assertion, self.mandatory(assertion))
+        return self._dummies(assertion, set(self.mandatory(assertion)))
 
-    def _dummies(self, assertion: Assertion, mandatory: list[str]) -> list[str]:
+    def _dummies(self, assertion: Assertion, mandatory: set[str]) -> list[str]:
         words = self._named_by_proof(assertion)
         floating = self.floating
         found = dict.fromkeys(floating[word] for word in words if word in floating)
@@ -286,21 +307,16 @@ class Text:
         return self.words((start, end if bracket < 0 else bracket)).split()
 
     def conditions(self, assertion: Assertion) -> Conditions:
-        """The pairs of an assertion's active `$d` that bind its user, and those of its proof."""
-        found = Conditions(variables=self.mandatory(assertion))
-        found.dummies = self._dummies(assertion, found.variables)
-        mandatory = set(found.variables)
-        used = mandatory.union(found.dummies)
-        seen: set[Pair] = set()
-        for number in assertion.disjoint:
-            group = [variable for variable in self.group(number) if variable in used]
-            for first, second in pairs(group):
-                if (first, second) in seen or (second, first) in seen:
-                    continue
-                seen.add((first, second))
-                is_mandatory = first in mandatory and second in mandatory
-                (found.mandatory if is_mandatory else found.proof).append((first, second))
-        return found
+        """The variables of an assertion and of its proof, and which of them must be distinct."""
+        variables = self.mandatory(assertion)
+        dummies = self._dummies(assertion, set(variables))
+        return Conditions(variables, dummies, self.groups(assertion, variables + dummies))
+
+    def groups(self, assertion: Assertion, variables: list[str]) -> list[list[str]]:
+        """What is left of each active `$d` where only these variables count."""
+        if not assertion.disjoint:
+            return []
+        return self._distinct.groups(assertion.disjoint, variables)
 
     def group(self, number: int) -> list[str]:
         """The variables of a `$d` statement, as written."""
@@ -325,34 +341,21 @@ class Text:
         return name if first <= assertion.number < end else None
 
 
-def pairs(group: list[str]) -> Iterator[Pair]:
-    """Each pair of a group, in order."""
-    for place, first in enumerate(group):
-        for second in group[place + 1 :]:
-            yield first, second
-
-
 class Reading:
     """What is known while a text is read from its beginning."""
 
     def __init__(self, data: bytes) -> None:
         self.text = Text(data)
-        self.essential: list[int] = []
-        self.disjoint: list[int] = []
-        self.blocks: list[tuple[int, int]] = []
-        self.active: tuple[tuple[int, ...], tuple[int, ...]] | None = ((), ())
+        self.essential = NOTHING
+        self.disjoint = NOTHING
+        self.blocks: list[tuple[Active, Active]] = []
         self.comment: Stretch | None = None
         self.counters = [0, 0, 0, 0]
 
     def read(self) -> None:
         """Reads the whole text."""
-        place = 0
         for match in PIECE.finditer(self.text.data):
-            start, end = match.span()
-            if start != place:
-                raise UnreadableText(place)
-            place = end
-            comment, label, kind, _, _, plain, _, brace = match.groups()
+            comment, label, kind, _, _, plain, _, brace, _ = match.groups()
             if kind is not None:
                 self.add_statement(match, label.decode("latin-1"), kind)
             elif comment is not None:
@@ -360,11 +363,13 @@ class Reading:
                 continue
             elif plain is not None:
                 self.add_plain(match, plain)
-            else:
+            elif brace is not None:
                 self.add_brace(brace)
+            elif match.end() < len(self.text.data):
+                raise UnreadableText(match.start())
+            else:
+                break
             self.comment = None
-        if self.text.data[place:].strip():
-            raise UnreadableText(place)
         close_chapters(self.text)
 
     def add_statement(self, match: re.Match[bytes], label: str, kind: bytes) -> None:
@@ -372,8 +377,6 @@ class Reading:
         place = match.start("label")
         formula = match.span("formula")
         if kind == b"a" or kind == b"p":
-            if self.active is None:
-                self.active = (tuple(self.essential), tuple(self.disjoint))
             proof = match.span("proof") if kind == b"p" else None
             number = len(text.assertions)
             text.assertions.append(
@@ -383,7 +386,8 @@ class Reading:
                     place,
                     formula,
                     proof,
-                    *self.active,
+                    self.essential,
+                    self.disjoint,
                     self.comment,
                     len(text.headers) - 1,
                     number,
@@ -391,29 +395,24 @@ class Reading:
             )
             return
         if kind == b"e":
-            self.essential.append(len(text.hypotheses))
-            self.active = None
+            self.essential = Active(len(text.hypotheses), self.essential)
         text.hypotheses.append(Hypothesis(label, kind.decode(), place, formula))
 
     def add_plain(self, match: re.Match[bytes], kind: bytes) -> None:
         """Adds a `$c`, `$d` or `$v`."""
         if kind == b"d":
-            self.disjoint.append(len(self.text.disjoint))
+            self.disjoint = Active(len(self.text.disjoint), self.disjoint)
             self.text.disjoint.append(match.span("symbols"))
-            self.active = None
         elif kind == b"v":
             self.text.declared.append(match.span("symbols"))
 
     def add_brace(self, brace: bytes) -> None:
         if brace == b"{":
-            self.blocks.append((len(self.essential), len(self.disjoint)))
+            self.blocks.append((self.essential, self.disjoint))
             return
         if not self.blocks:
             raise UnreadableText(0)
-        essential, disjoint = self.blocks.pop()
-        if essential < len(self.essential) or disjoint < len(self.disjoint):
-            del self.essential[essential:], self.disjoint[disjoint:]
-            self.active = None
+        self.essential, self.disjoint = self.blocks.pop()
 
     def add_comment(self, match: re.Match[bytes], body: bytes) -> None:
         text = self.text
