@@ -14,13 +14,14 @@ from functools import cached_property
 from query.changes import Comparison, Side, text_of_side
 from query.config import RULES, Claim, Config, Labels, is_meant
 from query.graph import Graph
+from query.remarks import tokens
 from query.statements import difference, statement_of
 from query.text import Assertion, Text
 
 DISCOURAGED = re.compile(r"\(New\s+usage\s+is\s+discouraged\.\)")
 DISCOURAGED_PROOF = re.compile(r"\(Proof\s+modification\s+is\s+discouraged\.\)")
 MARKED = re.compile(rb"\$\(\s+\$j(?=\s)")
-TOKEN = re.compile(r"/\*.*?\*/|'([^']*)'|\"([^\"]*)\"|(;)|([^\s;'\"]+)", re.DOTALL)
+TOKEN = re.compile(r"'([^']*)'|\"([^\"]*)\"|(;)|([^\s;'\"]+)")
 LONGEST = 200
 """How many characters of a formula are shown."""
 
@@ -220,7 +221,7 @@ def usages(text: Text) -> Iterator[Usage]:
         if "usage" not in body:
             continue
         words: list[tuple[int, str, bool]] = []
-        for token in TOKEN.finditer(body):
+        for token in tokens(TOKEN, body):
             if token[3]:
                 yield from usage_of(text, words, is_ended=True)
                 words = []
