@@ -12,6 +12,9 @@ from collections.abc import Iterable, Sequence
 from query.errors import NoAnswer
 
 Value = str | int | float | bool | None | list[str]
+WIDEST = 200
+"""Columns of a table as text are so wide at the most. One long label doesn't make all lines
+long."""
 
 
 def _word(value: Value) -> str:
@@ -38,7 +41,8 @@ def _aligned(columns: Sequence[str], rows: Sequence[Sequence[Value]]) -> str:
     for name, column in zip(columns, zip(*rows, strict=True)):
         words.append([name, *map(_word, column)])
         is_right = all(isinstance(value, (int, float)) or value is None for value in column)
-        forms.append(f"{{:{'>' if is_right else '<'}{max(map(len, words[-1]))}}}")
+        width = min(max(map(len, words[-1])), WIDEST)
+        forms.append(f"{{:{'>' if is_right else '<'}{width}}}")
     form = "  ".join(forms)
     return "".join(form.format(*line).rstrip() + "\n" for line in zip(*words))
 

@@ -22,6 +22,8 @@ DISCOURAGED = re.compile(r"\(New\s+usage\s+is\s+discouraged\.\)")
 DISCOURAGED_PROOF = re.compile(r"\(Proof\s+modification\s+is\s+discouraged\.\)")
 MARKED = re.compile(rb"\$\(\s+\$j(?=\s)")
 TOKEN = re.compile(r"'([^']*)'|\"([^\"]*)\"|(;)|([^\s;'\"]+)")
+MOST_REASONS = 1_000_000
+"""So many reasons are remembered at the most."""
 LONGEST = 200
 """How many characters of a formula are shown."""
 
@@ -250,14 +252,13 @@ class Judge:
         self.case = case
         self.rows = case.new.dependence.rows
         self.columns = case.new.dependence.columns
-        self.bits: dict[int, int] = {}
+        self.because: dict[int, dict[int, str]] = {}
+        """For rows of theorems and for each column what is the first that they cite and is the
+        axiom or rests on it."""
 
     def rests(self, row: int, column: int) -> bool:
         """Whether a theorem rests on an axiom."""
-        dependence = self.case.new.dependence
-        if column not in self.bits:
-            self.bits[column] = dependence.mask_of([column])
-        return bool(dependence.bits(row) & self.bits[column])
+        return self.case.new.dependence.is_marked(row, column)
 
     def judge(self, rule: str, claim: Claim, file: str) -> Iterator[Finding]:
         """What is wrong with a claim: all of it."""
@@ -280,16 +281,29 @@ class Judge:
 
     def reason(self, row: int, axiom: str) -> str:
         """Why a theorem rests on an axiom: its first citation that does."""
-        graph = self.case.new.graph
-        column = self.columns[axiom]
-        theorem = self.case.new.dependence.theorems[row]
-        for cited in graph.cites[graph.index[theorem]]:
+        if row not in self.because:
+            if sum(map(len, self.because.values())) > MOST_REASONS:
+                self.because.clear()
+            self.because[row] = self.found_because(row)
+        label = self.because[row][self.columns[axiom]]
+        how = "it cites it" if label == axiom else f"it cites {label}, which does"
+        return f"rests on {axiom}: {how}"
+
+    def found_because(self, row: int) -> dict[int, str]:
+        """For each axiom on which a theorem rests its first citation that does."""
+        graph, dependence = self.case.new.graph, self.case.new.dependence
+        found: dict[int, str] = {}
+        left = dependence.bits(row)
+        for cited in graph.cites[graph.index[dependence.theorems[row]]]:
             label = graph.labels[cited]
-            if label == axiom:
-                return f"rests on {axiom}: it cites it"
-            if label in self.rows and self.rests(self.rows[label], column):
-                return f"rests on {axiom}: it cites {label}, which does"
-        return f"rests on {axiom}"
+            if label in self.columns:
+                bits = dependence.mask_of([self.columns[label]])
+            else:
+                bits = dependence.bits(self.rows[label]) if label in self.rows else 0
+            if left & bits:
+                found.update(dict.fromkeys(dependence.columns_of(left & bits), label))
+                left &= ~bits
+        return found
 
 
 def open_theorems(case: Case) -> Iterator[Finding]:
