@@ -6,6 +6,7 @@ gives a `Finding` for each thing that breaks it, in file order.
 
 from __future__ import annotations
 
+import os
 import re
 from collections.abc import Callable, Iterable, Iterator
 from dataclasses import dataclass
@@ -26,6 +27,8 @@ MOST_REASONS = 1_000_000
 """So many reasons are remembered at the most."""
 LONGEST = 200
 """How many characters of a formula are shown."""
+BEFORE = 60
+"""How many of these stand before the place where two formulas differ."""
 
 
 @dataclass(frozen=True)
@@ -87,6 +90,19 @@ def shown_formula(text: Text, assertion: Assertion) -> str:
     return formula if len(formula) <= LONGEST else formula[:LONGEST] + " .."
 
 
+def shown_change(old: str, new: str) -> tuple[str, str]:
+    """Two formulas, where they are long from a little before the place where they differ on."""
+    start = 0
+    if len(old) > LONGEST or len(new) > LONGEST:
+        start = max(0, len(os.path.commonprefix([old, new])) - BEFORE)
+    both = []
+    for formula in (old, new):
+        end = start + LONGEST
+        dots = ".. " if start else "", " .." if end < len(formula) else ""
+        both.append(dots[0] + formula[start:end] + dots[1])
+    return both[0], both[1]
+
+
 def axioms(case: Case) -> Iterator[Finding]:
     """An axiom of the typecode is new, changed or gone, and isn't allowed."""
     pairing, code = case.comparison.axioms, case.config.typecode
@@ -135,10 +151,8 @@ def reason_of_changed(case: Case, axiom: Assertion) -> str:
     parts = difference(statement_of(case.old_text, before), statement_of(case.text, axiom))
     if "formula" not in parts:
         return f"a changed axiom: {parts} changed"
-    return (
-        f"a changed axiom: {parts} changed, from {shown_formula(case.old_text, before)}"
-        f" to {shown_formula(case.text, axiom)}"
-    )
+    was, now = shown_change(case.old_text.formula(before), case.text.formula(axiom))
+    return f"a changed axiom: {parts} changed, from {was} to {now}"
 
 
 def reason_of_gone(case: Case, label: str) -> str:
@@ -285,7 +299,9 @@ class Judge:
             if sum(map(len, self.because.values())) > MOST_REASONS:
                 self.because.clear()
             self.because[row] = self.found_because(row)
-        label = self.because[row][self.columns[axiom]]
+        label = self.because[row].get(self.columns[axiom])
+        if label is None:
+            return f"rests on {axiom}"
         how = "it cites it" if label == axiom else f"it cites {label}, which does"
         return f"rests on {axiom}: {how}"
 
