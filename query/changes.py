@@ -73,11 +73,10 @@ def prepare(database: Database) -> bytes:
 
 def take(database: Database, prepared: bytes) -> None:
     """Gives a database what `prepare` found. Refused where it was refused."""
-    parts = cache.unpacked(prepared[1:]) if prepared[:1] == b"+" else None
-    if parts is None:
+    if prepared[:1] != b"+":
         line, column, code = prepared.decode().split(" ")
         raise Refused(database.source, int(line), int(column), code)
-    database.known[database.options.only] = from_parts(parts)
+    database.known[database.options.only] = from_parts(cache.unpacked(prepared, 1))
 
 
 def sides(old: Database, new: Database) -> tuple[Side, Side]:
