@@ -47,21 +47,22 @@ from query.distinct import Distinct
 # The lines that enclose the title of a part, a chapter, a section and a subsection.
 DECORATIONS = ("####", "#*#*", "=-=-", "-.-.")
 
-# What stands between `$(` and `$)`, and words with comments among them. Nothing of these is ever
-# given back, so that a text which isn't one of a database is read once, and no stretch twice.
-INNER = rb"[^$]*+(?:\$(?!\))[^$]*+)*+"
-WORDS = rb"[^$]*+(?:\$\(" + INNER + rb"\$\)[^$]*+)*+"
-# A comment, a statement or an end of a block, with the white space before it; else the end of what
-# can be read. One of these is at each place, so nothing is searched for.
+# A comment, a statement or an end of a block, with the white space before it, if it has no other `$`
+# than those of its keywords; else what is read by steps, or the end. So at each place something is
+# found, and nothing that was passed is tried again.
 PIECE = re.compile(
-    rb"\s*+(?:\$\((?P<comment>" + INNER + rb")\$\)"
-    rb"|(?P<label>[^\s$]++)\s++(?:\$\(" + INNER + rb"\$\)\s++)*+"
-    rb"\$(?P<kind>[aefp])\s(?P<formula>" + WORDS + rb")(?:\$=(?P<proof>" + WORDS + rb"))?\$\."
-    rb"|\$(?P<plain>[cdv])\s(?P<symbols>" + WORDS + rb")\$\."
+    rb"\s*+(?:\$\((?P<comment>[^$]*+)\$\)"
+    rb"|(?P<label>[^\s$]++)\s++\$(?P<kind>[aefp])\s"
+    rb"(?P<formula>[^$]*+)(?:\$=(?P<proof>[^$]*+))?\$\."
+    rb"|\$(?P<plain>[cdv])\s(?P<symbols>[^$]*+)\$\."
     rb"|\$(?P<brace>[{}])"
-    rb"|(?P<end>))"
+    rb"|(?P<other>))"
 )
-COMMENT = re.compile(rb"\$\(" + INNER + rb"\$\)")
+LABEL = re.compile(rb"([^\s$]++)\s++")
+KEYWORD = re.compile(rb"\$([aefp])\s")
+BLANK = re.compile(rb"\s++")
+PLAIN = re.compile(rb"\$([cdv])\s")
+COMMENT = re.compile(rb"\$\([^$]*+(?:\$(?!\))[^$]*+)*\$\)")
 HEADING = re.compile(
     r"\s*(?P<line>####|#\*#\*|=-=-|-\.-\.)[#*=.\-]*[ \t\r]*\n"
     r"(?P<title>(?:.*\n){1,4}?)"
@@ -354,34 +355,100 @@ class Reading:
 
     def read(self) -> None:
         """Reads the whole text."""
-        for match in PIECE.finditer(self.text.data):
-            comment, label, kind, _, _, plain, _, brace, _ = match.groups()
-            if kind is not None:
-                self.add_statement(match, label.decode("latin-1"), kind)
-            elif comment is not None:
-                self.add_comment(match, comment)
-                continue
-            elif plain is not None:
-                self.add_plain(match, plain)
-            elif brace is not None:
-                self.add_brace(brace)
-            elif match.end() < len(self.text.data):
-                raise UnreadableText(match.start())
-            else:
-                break
-            self.comment = None
+        place: Place | None = 0
+        while place is not None:
+            place = self.read_from(place)
         close_chapters(self.text)
 
-    def add_statement(self, match: re.Match[bytes], label: str, kind: bytes) -> None:
+    def read_from(self, place: Place) -> Place | None:
+        """Reads up to what is read by steps, and that. Returns the place after it, None at the
+        end."""
+        for match in PIECE.finditer(self.text.data, place):
+            comment, label, kind, _, given, plain, _, brace, _ = match.groups()
+            if kind is not None:
+                is_proved = kind == b"p" and given is not None
+                proof = match.span("proof") if is_proved else None
+                self.add_statement(match.start("label"), label, kind, match.span("formula"), proof)
+            elif comment is not None:
+                self.add_comment(match.span("comment"))
+                continue
+            elif plain is not None:
+                self.add_plain(plain, match.span("symbols"))
+            elif brace is not None:
+                self.add_brace(brace)
+            else:
+                return self.read_other(match.start(), match.end())
+            self.comment = None
+        return None
+
+    def read_other(self, start: Place, place: Place) -> Place | None:
+        """Reads a comment or a statement in which `$` or comments stand. UnreadableText from
+        `start` where there is none."""
+        data = self.text.data
+        if place == len(data):
+            return None
+        try:
+            if data.startswith(b"$(", place):
+                end = data.index(b"$)", place + 2)
+                self.add_comment((place + 2, end))
+                return end + 2
+            end = self.read_plain(place) or self.read_statement(place)
+        except ValueError:
+            raise UnreadableText(start) from None
+        self.comment = None
+        return end
+
+    def dollar_after(self, place: Place) -> Place:
+        """The place of the next `$` that isn't one of a comment. ValueError where there is none."""
+        data = self.text.data
+        place = data.index(b"$", place)
+        while data.startswith(b"$(", place):
+            place = data.index(b"$", data.index(b"$)", place + 2) + 2)
+        return place
+
+    def end_after(self, place: Place) -> Place:
+        """The place of the `$.` that comes next but for comments. ValueError where it isn't."""
+        end = self.dollar_after(place)
+        return self.text.data.index(b"$.", end, end + 2)
+
+    def read_plain(self, place: Place) -> Place | None:
+        """Reads a `$c`, `$d` or `$v`. Returns the place after it, None where another word is."""
+        match = PLAIN.match(self.text.data, place)
+        if match is None:
+            return None
+        end = self.end_after(match.end())
+        self.add_plain(match[1], (match.end(), end))
+        return end + 2
+
+    def read_statement(self, place: Place) -> Place:
+        """Reads a statement with a label. Returns the place after it. ValueError where there is
+        none."""
+        data = self.text.data
+        label = matched(LABEL, data, place)
+        at = label.end()
+        while data.startswith(b"$(", at):
+            at = matched(BLANK, data, data.index(b"$)", at + 2) + 2).end()
+        keyword = matched(KEYWORD, data, at)
+        formula = (keyword.end(), self.dollar_after(keyword.end()))
+        proof = None
+        end = formula[1]
+        if data.startswith(b"$=", end):
+            end = self.end_after(end + 2)
+            proof = (formula[1] + 2, end)
+        end = data.index(b"$.", end, end + 2)
+        kind = keyword[1]
+        self.add_statement(place, label[1], kind, formula, proof if kind == b"p" else None)
+        return end + 2
+
+    def add_statement(
+        self, place: Place, label: bytes, kind: bytes, formula: Stretch, proof: Stretch | None
+    ) -> None:
         text = self.text
-        place = match.start("label")
-        formula = match.span("formula")
+        name = label.decode("latin-1")
         if kind == b"a" or kind == b"p":
-            proof = match.span("proof") if kind == b"p" else None
-            number = len(text.assertions)
             text.assertions.append(
                 Assertion(
-                    label,
+                    name,
                     "p" if proof else "a",
                     place,
                     formula,
@@ -390,21 +457,21 @@ class Reading:
                     self.disjoint,
                     self.comment,
                     len(text.headers) - 1,
-                    number,
+                    len(text.assertions),
                 )
             )
             return
         if kind == b"e":
             self.essential = Active(len(text.hypotheses), self.essential)
-        text.hypotheses.append(Hypothesis(label, kind.decode(), place, formula))
+        text.hypotheses.append(Hypothesis(name, kind.decode(), place, formula))
 
-    def add_plain(self, match: re.Match[bytes], kind: bytes) -> None:
+    def add_plain(self, kind: bytes, symbols: Stretch) -> None:
         """Adds a `$c`, `$d` or `$v`."""
         if kind == b"d":
             self.disjoint = Active(len(self.text.disjoint), self.disjoint)
-            self.text.disjoint.append(match.span("symbols"))
+            self.text.disjoint.append(symbols)
         elif kind == b"v":
-            self.text.declared.append(match.span("symbols"))
+            self.text.declared.append(symbols)
 
     def add_brace(self, brace: bytes) -> None:
         if brace == b"{":
@@ -414,9 +481,10 @@ class Reading:
             raise UnreadableText(0)
         self.essential, self.disjoint = self.blocks.pop()
 
-    def add_comment(self, match: re.Match[bytes], body: bytes) -> None:
+    def add_comment(self, stretch: Stretch) -> None:
         text = self.text
-        start, end = match.span("comment")
+        start, end = stretch
+        body = text.data[start:end]
         special = SPECIAL.match(body)
         if special:
             said = body[special.end() :].decode("latin-1")
@@ -439,6 +507,14 @@ class Reading:
         text.headers.append(
             Header(level, number, title, start - 2, (start, end), first, first, heading.end())
         )
+
+
+def matched(pattern: re.Pattern[bytes], data: bytes, place: Place) -> re.Match[bytes]:
+    """What a pattern matches at a place. ValueError where it doesn't."""
+    match = pattern.match(data, place)
+    if match is None:
+        raise ValueError
+    return match
 
 
 def close_chapters(text: Text) -> None:
