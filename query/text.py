@@ -47,9 +47,9 @@ from query.distinct import Distinct
 # The lines that enclose the title of a part, a chapter, a section and a subsection.
 DECORATIONS = ("####", "#*#*", "=-=-", "-.-.")
 
-# A comment, a statement or an end of a block, with the white space before it, if it has no other `$`
-# than those of its keywords; else what is read by steps, or the end. So at each place something is
-# found, and nothing that was passed is tried again.
+# A comment, a statement or an end of a block, with the white space before it, if no other `$` is in
+# it than those of its keywords; else what is read by steps, or the end. So at each place something
+# is found, and nothing that was passed is tried again.
 PIECE = re.compile(
     rb"\s*+(?:\$\((?P<comment>[^$]*+)\$\)"
     rb"|(?P<label>[^\s$]++)\s++\$(?P<kind>[aefp])\s"
