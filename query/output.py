@@ -15,8 +15,7 @@ from query.errors import NoAnswer, shown
 Value = str | int | float | bool | None | list[str]
 # What a spreadsheet takes as the beginning of a formula, also behind signs that it passes over.
 RUNNING = re.compile(r"[\s\x00-\x1f]*[=+\-@\uff1d\uff0b\uff0d\uff20']|[\t\r\n]")
-# What has to stand between quotes, also where fields are separated by semicolons or tabs.
-QUOTED = re.compile(r"[,;\"'\x00-\x1f]|\A\s|\s\Z")
+QUOTED = re.compile(r"[,\"\r\n]|\A\s|\s\Z")
 WIDEST = 200
 """Columns of a table as text are so wide at the most. One long label doesn't make all lines
 long."""

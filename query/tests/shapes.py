@@ -4,8 +4,13 @@
 less of both than a reader needs that takes the square. All are databases that the program accepts.
 """
 
-from collections.abc import Callable
+import os
+import resource
+from collections.abc import Callable, Mapping
 from dataclasses import dataclass
+from pathlib import Path
+
+from query.tests.world import MMQUERY
 
 Files = dict[str, bytes]
 
@@ -31,6 +36,36 @@ class Shape:
     size: int
     small: int
     commands: tuple[str, ...]
+
+
+@dataclass(frozen=True)
+class Took:
+    """What a command took: seconds of the processor and bytes of memory at its peak, those of the
+    program included; how it ended, and what it wrote to standard error."""
+
+    seconds: float
+    memory: int
+    status: int
+    said: str
+
+
+def ran(words: list[str], room: Path, limit: int, surroundings: Mapping[str, str]) -> Took:
+    """Runs a command without kept results in a folder, for so many seconds of the processor at the
+    most."""
+    name, *others = words
+    child = os.fork()
+    if child == 0:
+        os.chdir(room)
+        nowhere = os.open(os.devnull, os.O_RDWR)
+        errors = os.open("errors", os.O_WRONLY | os.O_CREAT | os.O_TRUNC, 0o600)
+        for number, descriptor in enumerate((nowhere, nowhere, errors)):
+            os.dup2(descriptor, number)
+        resource.setrlimit(resource.RLIMIT_CPU, (limit, limit))
+        os.execve(MMQUERY, ["mmquery", name, "--no-cache", *others], dict(surroundings))
+    _, status, usage = os.wait4(child, 0)
+    said = (room / "errors").read_text("latin-1")
+    seconds, memory = usage.ru_utime + usage.ru_stime, usage.ru_maxrss * 1024
+    return Took(seconds, memory, os.waitstatus_to_exitcode(status), said)
 
 
 def one(text: str) -> Files:
