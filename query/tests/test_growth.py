@@ -16,13 +16,13 @@ MEMORY = 500_000_000
 
 
 class Shapes(World):
-    """Each command over each shape."""
+    """Two commands over each shape."""
 
     def test_they_are_answered(self) -> None:
         for shape in shapes.SHAPES:
             for name, data in shape.make(shape.small).items():
                 (self.room / name).write_bytes(data)
-            for line in shape.commands:
+            for line in dict.fromkeys((shape.commands[0], shape.commands[-1])):
                 with self.subTest(f"{shape.name}: {line}"):
                     took = shapes.ran(line.split(), self.room, SECONDS, self.surroundings())
                     self.assertIn(took.status, (0, 1), took)
@@ -99,10 +99,10 @@ class Parts(unittest.TestCase):
             self.assertEqual(typesetting.pieces(f"&#{digits};")[0].text, wanted)
 
 
-class Shown(unittest.TestCase):
-    """The scripts that run where Python may be older than the tests."""
+class Small(unittest.TestCase):
+    """The shapes themselves."""
 
-    def test_the_program_of_the_shapes(self) -> None:
+    def test_commands_read_what_is_made(self) -> None:
         for shape in shapes.SHAPES:
             files = shape.make(3)
             self.assertLessEqual(set(files), {"a.mm", "b.mm", "mmdepend.toml"})
