@@ -1,6 +1,6 @@
 -- Rows one after the other.
 use Rattle.std.proofs.Common.{◌≡◌, ℕ, ◌<◌, ◌+◌, ◌-◌, ◌*◌, List, [], ◌++◌, ◌⊎◌, inl, inr, length}
-use Rattle.std.proofs.Common.{take, subst, sym, ap, ap₂, ◌∙◌, refl, arith}
+use Rattle.std.proofs.Common.{take, subst, sym, ap₂, ◌∙◌, arith}
 use Rattle.std.proofs.lemmas.Bool.{cases_eq}
 use Rattle.std.proofs.lemmas.List.{drop_at, take_all, length-append}
 use Rattle.std.proofs.Math.Nat.{add-mul}

@@ -1,4 +1,4 @@
-use Rattle.std.proofs.Common.{◌≡◌, ◌+◌, ◌++◌, List, ℕ, length, subst, sym, ap, ◌∙◌, arith}
+use Rattle.std.proofs.Common.{◌≡◌, ◌+◌, length, subst, sym, arith}
 use Rattle.mm_rows.specs.BitRows.{AreBitRows}
 use Rattle.mm_rows.proofs.RowsLaw.{bit_rows_with_next, no_rows_are_bit_rows}
 use Rattle.mm_rows.proofs.rows.add_rows.Goals as goal

@@ -1,6 +1,6 @@
-use Rattle.std.proofs.Common.{◌*◌, arith, ◌<◌, ◌+◌, ◌/◌, length}
+use Rattle.std.proofs.Common.{◌*◌, arith}
 use Rattle.mm_rows.proofs.BandLaw.{no_bytes_written, next_byte_is_written}
-use Rattle.mm_rows.proofs.BandLaw.{written_bytes_are_row_bytes, row_word_lt_length}
+use Rattle.mm_rows.proofs.BandLaw.{written_bytes_are_row_bytes}
 use Rattle.mm_rows.proofs.transpose.row_bytes.Goals as goal
 
 pub loop-k-init : goal.loop-k-init

@@ -1,9 +1,8 @@
-use Rattle.std.proofs.Common.{ℕ, ◌≡◌, ◌<◌, ◌≤◌, ◌+◌, ◌*◌, arith, subst, length, ap, sym, ◌∙◌}
+use Rattle.std.proofs.Common.{ℕ, ◌≡◌, ◌<◌, ◌≤◌, ◌+◌, ◌*◌, arith, subst, ap, sym, ◌∙◌}
 use Rattle.mm_rows.specs.Bits.{words_for}
 use Rattle.mm_rows.specs.Bands.{AreRowBytes, ColumnsWritten}
 use Rattle.mm_rows.proofs.BandLaw.{lane_is_column_word, next_word_is_written, zero_word_is_written}
 use Rattle.mm_rows.proofs.BandLaw.{zero_words_are_written}
-use Rattle.mm_rows.proofs.BandLaw.{row_word_lt_length}
 use Rattle.mm_rows.proofs.transpose.write_columns.Goals as goal
 use Rattle.mm_rows.proofs.transpose.write_columns.Goals.{then-word-ne0, else-word-ne0}
 
