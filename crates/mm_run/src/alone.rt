@@ -6,7 +6,7 @@ ghost use Rattle.mm_run.specs.Counted.{IsJudgedText};
 
 use crate::judged_text::{JudgedText, judged_text};
 use mm_lex::lex_alone;
-use mm_stmt::read_owned;
+use mm_stmt::read_alone;
 use mm_work::check_alone;
 use std::alloc::{AllocError, Allocator};
 
@@ -23,7 +23,7 @@ pub fn judge_alone<'a, A: Allocator + Copy>(
     ensures { IfOk result (IsJudgedText text.now essential with_open) }
 {
     let lexed = lex_alone(alloc, text)?;
-    let database = read_owned(alloc, text, lexed, with_open)?;
+    let database = read_alone(alloc, text, lexed, with_open)?;
     let judged = check_alone(alloc, &database, essential)?;
     Ok(judged_text(database, judged))
 }

@@ -179,7 +179,7 @@ fn database_of<'a, R: Threads + Sync, A: Allocator + Copy + Send + Sync>(
 {
     let cuts = cuts_of(&plan.cuts, alloc, text.len())?;
     let lexed = lex(rt, alloc, text, &cuts)?;
-    read_owned(alloc, text, lexed, plan.with_open)
+    read_owned(rt, alloc, text, lexed, plan.with_open, plan.workers)
 }
 
 /// Checks all proofs of a database: on the calling thread alone, if the plan has one worker. Fails

@@ -10,14 +10,14 @@ use Rattle.mm_outline.proofs.TokensLaw.{tokens_are_in_text, tokens_are_told_by_f
 use Rattle.mm_outline.proofs.TokensLaw.{tokens_lt_2_31, faultless_text_fits_limit}
 use Rattle.mm_database.specs.Names.{names_of}
 use Rattle.mm_database.specs.FrameTables.{AreFrameTables}
-use Rattle.mm_database.specs.Database.{Contents, IsDatabase, AreStatementLists}
+use Rattle.mm_database.specs.Database.{IsDatabase, AreStatementLists}
 use Rattle.mm_database.specs.declared.reading.Reading.{Reading}
 use Rattle.mm_database.proofs.RetainedWordsLaw.{retained_words_are_of_statements}
 use Rattle.mm_scope.specs.ReadSoFar.{IsReadSoFar, read_so_far}
 use Rattle.mm_database.specs.ParsedStatements.{IsSound}
 use Rattle.mm_spec.specs.Opened.{counted}
 use Rattle.mm_stmt.proofs.AssembleLaw.{lent_words_are_read, names_lt_2_31, statements_are_sound}
-use Rattle.mm_stmt.proofs.reader.read_owned.Goals as goal
+use Rattle.mm_stmt.proofs.unframed.read_statements.Goals as goal
 
 pub outline_statements-requires-clause-tokens_within :
     goal.outline_statements-requires-clause-tokens_within
@@ -90,8 +90,8 @@ reading_of-requires g c =
           outlined.is_read_so_far.names_are;
     }
 
-pub new-requires : goal.new-requires
-new-requires g c =
+pub returns : goal.returns
+returns g c =
     let text = c.args.text.now in
     let words = words_of text in
     let ws = c.as_slice-words.result.now in
@@ -108,51 +108,35 @@ new-requires g c =
     subst (λ (us : List Word). AreStatementLists (counted w (statements text us os))
     c.in_ok-statement_lists.statement_lists)
     words_are_tokens (rw (sym c.deref.ensures.value) c.in_ok-statement_lists.ensures) in
-    let reading_is = c.in_ok-reading.ensures in
-    subst (λ (r : Reading _). IsDatabase w r (record {
-      frame_tables = c.in_ok-frame_tables.frame_tables;
-      statement_lists = c.in_ok-statement_lists.statement_lists;
-      retained_words = c.in_ok-retained_words.retained_words;
-    })) (sym reading_is)
-    (record {
-      few_statements = let outline_count_is = length-map os (statement_of text words) in
-          let outlines_are_few = outlined.few_outlines in
-          omega (arith, outline_count_is, outlines_are_few);
-      read =
-          lent_words_are_read text ws words os _ _ words_are_tokens refl c.requires.fault_of_text
-          outlined.fault_is_read;
-      labels = is_read_so_far.knows.labels_are;
-      names_are = is_read_so_far.names_are;
-      frame_tables_are =
-          subst (λ (r : Reading _). AreFrameTables r.statements.list r.statements.blocks
-          c.in_ok-frame_tables.frame_tables) reading_is c.in_ok-frame_tables.ensures;
-      lists_are = statement_lists;
-      retained_are =
-          rw (c.in_ok-retained_words.ensures, c.deref-2.ensures.value, words_are_tokens)
-          (retained_words_are_of_statements text words (tokens_are_in_text text) os
-          (rw (sym words_are_tokens) outlined.are_outlines));
-    })
-
-pub returns : goal.returns
-returns g c =
-    let text = c.args.text.now in
-    let words = words_of text in
-    let os = c.in_ok-outlined.outlined.outlines.items in
     let is_read_text =
-    lent_words_are_read text c.as_slice-words.result.now words os _ _
-    (c.as_slice-words.ensures.value ∙ c.requires.tokens_of_text) refl c.requires.fault_of_text
-    c.in_ok-outlined.ensures.fault_is_read in
+    lent_words_are_read text ws words os _ _ words_are_tokens refl c.requires.fault_of_text
+    outlined.fault_is_read in
     let reading_is = c.in_ok-reading.ensures in
-    let contents_are = c.new.ensures in
     record {
-      text_is =
-          ap (λ (d : Contents). d.text) contents_are
-          ∙ ap (λ (r : Reading _). r.statements.text) reading_is;
-      flag_is = ap (λ (d : Contents). d.with_open) contents_are;
+      text_is = ap (λ (r : Reading _). r.statements.text) reading_is;
       is_read =
-          subst (λ (d : Contents). IsRead (length text) (lexed_of text) d.read d.fault)
-          (sym contents_are)
-          (subst (λ (r : Reading _). IsRead (length text) (lexed_of text)
-          r.statements.list r.fault) (sym reading_is) is_read_text);
-      are_counted = rw contents_are refl;
+          subst (λ (r : Reading _). IsRead (length text) (lexed_of text)
+          r.statements.list r.fault) (sym reading_is) is_read_text;
+      frames_complete_it = λ b are_frame_tables.
+          subst (λ (r : Reading _). IsDatabase w r (record {
+            frame_tables = b;
+            statement_lists = c.in_ok-statement_lists.statement_lists;
+            retained_words = c.in_ok-retained_words.retained_words;
+          })) (sym reading_is)
+          (record {
+            few_statements = let outline_count_is = length-map os (statement_of text words) in
+                let outlines_are_few = outlined.few_outlines in
+                omega (arith, outline_count_is, outlines_are_few);
+            read = is_read_text;
+            labels = is_read_so_far.knows.labels_are;
+            names_are = is_read_so_far.names_are;
+            frame_tables_are =
+                subst (λ (r : Reading _). AreFrameTables r.statements.list r.statements.blocks b)
+                reading_is are_frame_tables;
+            lists_are = statement_lists;
+            retained_are =
+                rw (c.in_ok-retained_words.ensures, c.deref-2.ensures.value, words_are_tokens)
+                (retained_words_are_of_statements text words (tokens_are_in_text text) os
+                (rw (sym words_are_tokens) outlined.are_outlines));
+          });
     }
