@@ -4,6 +4,7 @@
 -- so that cutting the list takes away exactly the last ones.
 pub mod AloneLaw
 pub mod DisjointLaw
+pub mod DistinctLaw
 pub mod FillLaw
 pub mod FitLaw
 pub mod FollowLaw

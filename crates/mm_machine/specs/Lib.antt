@@ -1,5 +1,6 @@
 pub mod Arena
 pub mod DisjointCache
+pub mod Distinct
 pub mod Replaced
 pub mod State
 pub mod Applied

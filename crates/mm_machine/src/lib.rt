@@ -11,6 +11,7 @@
 
 mod arena;
 mod disjoint_cache;
+mod distinct;
 mod fill;
 mod machine;
 mod reason;

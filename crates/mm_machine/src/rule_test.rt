@@ -25,10 +25,15 @@ ghost use Rattle.mm_machine.specs.State.{TestsRule};
 
 use crate::arena::{Span, Store, Symbols, replacement_of};
 use crate::disjoint_cache::DisjointCache;
+use crate::distinct::DistinctVariables;
 use crate::reason::Reason;
 use mm_database::{Database, Sym};
 use mm_rule::{Hypothesis, PackedPart, Rule, RulePart};
 use std::alloc::Allocator;
+
+/// How many pairs of symbols a step tests at most before it looks for the variables of its premises
+/// first, each once.
+const MAX_SYMBOL_PAIRS: usize = 4_096;
 
 /// Whether the stretch of list `store` from index `from` to index `to` begins with the formula of
 /// an entry.
@@ -249,6 +254,63 @@ fn pairs_are_disjoint<A: Allocator>(
     true
 }
 
+/// Whether the lists that replace the variables of the pairs have more pairs of symbols than are
+/// tested one by one.
+fn has_many_symbol_pairs(premises: &[Span], pairs: &[(u32, u32)]) -> bool
+    requires { All (λ (p : ℕ × ℕ). (p.0 < length premises.now) × (p.1 < length premises.now))
+        pairs.now }
+{
+    let mut count: usize = 0;
+    for pair in pairs {
+        let first = replacement_of(premises, pair.0);
+        let second = replacement_of(premises, pair.1);
+        let first_count = first.end.saturating_sub(first.start);
+        let second_count = second.end.saturating_sub(second.start);
+        count = count.saturating_add(first_count.saturating_mul(second_count));
+    }
+    count > MAX_SYMBOL_PAIRS
+}
+
+/// Whether for each pair of variables, each variable in what replaces the first is disjoint from
+/// each variable in what replaces the second. In long formulas a variable is looked at once, if
+/// there is memory for that.
+fn keeps_disjoint<A: Allocator>(
+    database: &Database<A>,
+    theorem: u32,
+    symbols: &Symbols,
+    premises: &[Span],
+    pairs: &[(u32, u32)],
+    distinct: &mut DistinctVariables<A>,
+    cache: &mut DisjointCache<A>,
+) -> bool
+    requires theorem_lt_length { theorem < length database.now.statements }
+    requires are_entries { AreEntries (length (symbol_names database.now.statements)) symbols.now
+        premises.now }
+    requires pairs_in_range { All
+        (λ (p : ℕ × ℕ). (p.0 < length premises.now) × (p.1 < length premises.now)) pairs.now }
+    requires cached_are_disjoint { AreDisjointAt database.now.statements theorem cache.old }
+    ensures tells_disjoint { result
+        ≡ list_all
+        (λ (p : ℕ × ℕ). disjoint_lists (context_at database.now.statements theorem)
+        (replacement symbols.now premises.now p.0) (replacement symbols.now premises.now p.1))
+        pairs.now }
+    ensures cached_are_disjoint { AreDisjointAt database.now.statements theorem cache.new }
+{
+    if !has_many_symbol_pairs(premises, pairs) {
+        return pairs_are_disjoint(database, theorem, symbols, premises, pairs, cache);
+    }
+    match distinct.collect(database, symbols, premises) {
+        Err(_) => pairs_are_disjoint(database, theorem, symbols, premises, pairs, cache),
+        Ok(()) => {
+            let reduced = Symbols {
+                unmarked: &distinct.symbols,
+                marked: &[],
+            };
+            pairs_are_disjoint(database, theorem, &reduced, &distinct.entries, pairs, cache)
+        }
+    }
+}
+
 /// Tests an assertion's step on the entries of the stack, except for the length of its formula.
 /// Returns how many of the entries stay, or why the step fails.
 #[inline(always)]
@@ -258,6 +320,7 @@ pub fn test_rule<A: Allocator>(
     rule: &Rule,
     symbols: &Symbols,
     stack: &[Span],
+    distinct: &mut DistinctVariables<A>,
     cache: &mut DisjointCache<A>,
 ) -> Result<usize, Reason>
     requires theorem_lt_length { theorem < length database.now.statements }
@@ -279,7 +342,7 @@ pub fn test_rule<A: Allocator>(
         return Err(Reason::Unmatched);
     }
     let pairs = rule.pairs();
-    if !pairs_are_disjoint(database, theorem, symbols, premises, pairs, cache) {
+    if !keeps_disjoint(database, theorem, symbols, premises, pairs, distinct, cache) {
         return Err(Reason::NotDisjoint);
     }
     Ok(below)
