@@ -7,6 +7,7 @@ pub mod DisjointLaw
 pub mod DistinctLaw
 pub mod FillLaw
 pub mod FitLaw
+pub mod FlagRowsLaw
 pub mod FollowLaw
 pub mod GrowLaw
 pub mod MarkedFormulaLaw

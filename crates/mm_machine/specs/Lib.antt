@@ -1,4 +1,5 @@
 pub mod Arena
+pub mod FlagRows
 pub mod DisjointCache
 pub mod Distinct
 pub mod Replaced

@@ -20,6 +20,8 @@ pub struct DistinctVariables<A: Allocator> {
     pub symbols: Vec<Sym, A>,
     /// The entries, which are stretches of `symbols`.
     pub entries: Vec<Span, A>,
+    /// Marks of the columns of a list of symbols, for the rows of a `DisjointCache`.
+    pub marks: Vec<bool, A>,
     /// For each symbol the index at which it may be in `symbols`.
     slots: Vec<u32, A>,
 }
@@ -30,6 +32,7 @@ impl<A: Allocator> Drop for DistinctVariables<A> {
         let Self {
             symbols: _,
             entries: _,
+            marks: _,
             slots: _,
         } = self;
     }
@@ -44,6 +47,7 @@ impl<A: Allocator> DistinctVariables<A> {
         Ok(DistinctVariables {
             symbols: Vec::new(alloc),
             entries: Vec::new(alloc),
+            marks: Vec::new(alloc),
             slots: vec![in alloc; 0; symbol_count]?,
         })
     }
