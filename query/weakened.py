@@ -1,0 +1,89 @@
+"""In what a file `mmdepend.toml` asks less than another one: what a pull request may not decide for
+itself."""
+
+from __future__ import annotations
+
+from collections.abc import Iterable, Iterator, Mapping
+from dataclasses import dataclass
+
+from query.config import RULES, Config, Labels
+
+
+@dataclass(frozen=True)
+class Loss:
+    """Something that is asked no longer; `line` is where the newer file says so, 0 where it says
+    nothing. `label` and `axiom` may be ""."""
+
+    line: int
+    label: str
+    axiom: str
+    reason: str
+
+
+def losses(old: Config, new: Config) -> Iterator[Loss]:
+    """What NEW asks less than OLD, one each."""
+    if new.base != old.base:
+        reason = f"the base was '{old.base}', and is '{new.base}'"
+        yield Loss(line(new, "base"), "", "", reason)
+    if new.typecode is not None and new.typecode != old.typecode:
+        before = "all axioms" if old.typecode is None else f"the axioms of '{old.typecode}'"
+        reason = f"`typecode` leaves those of '{new.typecode}', where {before} were judged"
+        yield Loss(line(new, "typecode"), "", "", reason)
+    for rule in RULES:
+        if rule in old.rules and rule not in new.rules:
+            place = line(new, "rules", rule) or line(new, "rules", "newly")
+            yield Loss(place, "", "", f"the rule `{rule}` is switched off")
+    for word in old.watch:
+        if not is_covered(word, new.watch):
+            reason = f"'{word}' isn't watched any more"
+            yield Loss(line(new, "watch"), word, word, reason)
+    yield from lost_claims(old, new)
+    yield from allowances(old, new)
+
+
+def line(config: Config, *path: str) -> int:
+    """Where a file has a key."""
+    return config.lines.get(path, 0)
+
+
+def is_covered(word: str, words: Iterable[str]) -> bool:
+    """Whether all that a word means is meant by others, too: one of them is the same, or ends in
+    `*` and is a beginning of it."""
+    bare = word.removesuffix("*")
+    return any(word == each or each.endswith("*") and bare.startswith(each[:-1]) for each in words)
+
+
+def lost_claims(old: Config, new: Config) -> Iterator[Loss]:
+    """The claims that are dropped."""
+    kept = {claim.theorem: claim for claim in new.claims}
+    for claim in old.claims:
+        now = kept.get(claim.theorem)
+        for axiom in claim.axioms:
+            if now is None or axiom not in now.axioms:
+                reason = f"the claim that {claim.theorem} avoids {axiom} is dropped"
+                yield Loss(now.line if now else 0, claim.theorem, axiom, reason)
+
+
+def allowances(old: Config, new: Config) -> Iterator[Loss]:
+    """What is allowed, and wasn't."""
+    for rule, labels in new.allowed.items():
+        before = old.allowed.get(rule, Labels()).words
+        for word in labels.words:
+            if not is_covered(word, before):
+                reason = f"`allow.{rule}` has '{word}' now"
+                yield Loss(line(new, "allow", rule), word, "", reason)
+    for rule, lists in new.resting.items():
+        for axiom, labels in lists.items():
+            for word in labels.words:
+                if not may_rest(old.resting.get(rule, {}), word, axiom):
+                    place = line(new, "allow", rule, axiom) or line(new, "allow", "newly", axiom)
+                    reason = f"`allow.{rule}` lets '{word}' rest on '{axiom}' now"
+                    yield Loss(place, word, axiom, reason)
+
+
+def may_rest(lists: Mapping[str, Labels], word: str, axiom: str) -> bool:
+    """Whether lists let all that a word means rest on all that another one means."""
+    return any(
+        is_covered(axiom, [each]) and is_covered(word, labels.words)
+        for each, labels in lists.items()
+    )
