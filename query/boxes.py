@@ -31,28 +31,48 @@ class Stand:
     number: int
 
 
-def exposed(old: Text, new: Text, to_old: Mapping[str, str]) -> list[Exposed]:
+def exposed(
+    old: Text, new: Text, to_old: Mapping[str, str], to_new: Mapping[str, str]
+) -> list[Exposed]:
     """The statements that are no longer kept by a mathbox of OLD, for each of these mathboxes."""
-    common = stands(old, new, to_old)
-    if not any(each.old is not None and each.old != each.new for each in common):
+    if not has_moved(old, new, to_new):
         return []
-    stayed = rising(common)
+    stayed = rising(stands(old, new, to_old))
     owners = owners_of(stayed)
     found: dict[int, list[str]] = {}
     for each in stayed:
         if each.old is not None and (each.new is None or owners[each.new] != each.old):
             found.setdefault(each.old, []).append(each.label)
-    name = {old.box(one): old.mathbox(one) for one in old.assertions}
-    return [Exposed(name[box] or "", labels) for box, labels in sorted(found.items())]
+    names = {number: name for _, number, name in old.boxed()}
+    return [Exposed(names[box], labels) for box, labels in sorted(found.items())]
+
+
+def has_moved(old: Text, new: Text, to_new: Mapping[str, str]) -> bool:
+    """Whether a statement of a mathbox isn't in that of NEW in which the others are."""
+    now: dict[int, int] = {}  # for each mathbox of OLD that of NEW
+    was: dict[int, int] = {}
+    for one, box, _ in old.boxed():
+        after = new.find(to_new.get(one.label, ""))
+        if after is None:
+            continue
+        there = new.box(after)
+        if there is None or now.setdefault(box, there) != there:
+            return True
+        if was.setdefault(there, box) != box:
+            return True
+    return False
 
 
 def stands(old: Text, new: Text, to_old: Mapping[str, str]) -> list[Stand]:
     """The statements of both databases, in the order of NEW."""
+    in_old = {one.label: box for one, box, _ in old.boxed()}
+    in_new = {one.label: box for one, box, _ in new.boxed()}
     found = []
     for one in new.assertions:
         before = old.find(to_old.get(one.label, ""))
         if before is not None:
-            found.append(Stand(one.label, old.box(before), new.box(one), before.number))
+            boxes = (in_old.get(before.label), in_new.get(one.label))
+            found.append(Stand(one.label, *boxes, before.number))
     return found
 
 

@@ -170,12 +170,9 @@ def outside(branch: Branch, objects: Objects, wish: Wish) -> Config | None:
 
 def tracked(objects: Objects, repository: Repository, word: str, *trees: str) -> str | None:
     """The path of a file from the top, where a commit has it; None where none does."""
-    try:
-        path = repository.path_of(word)
-    except NoAnswer:
-        if os.path.realpath(word).startswith(os.path.join(repository.top, "")):
-            raise
+    if not repository.has_within(word):
         return None
+    path = repository.path_of(word)
     return path if any(objects.entry(tree, path) for tree in trees) else None
 
 
@@ -186,7 +183,7 @@ def base_of(objects: Objects, given: Config | None) -> str:
         return given.base
     repository = objects.repository
     for name in ANCHORS:
-        if repository.has(name):
+        if repository.has_reference(name):
             data = objects.content(repository.commit(name), FILE_NAME)
             return Config.base if data is None else read_config(data, f"{name}:{FILE_NAME}").base
     raise NoAnswer(

@@ -98,6 +98,10 @@ class Repository:
         words = ("rev-parse", "--verify", "--quiet", "--end-of-options", revision + "^{commit}")
         return self.ask(*words).returncode == 0
 
+    def has_reference(self, name: str) -> bool:
+        """Whether there is a reference of this whole name, such as `refs/heads/main`."""
+        return self.ask("show-ref", "--verify", "--quiet", name).returncode == 0
+
     def is_shallow(self) -> bool:
         """Whether the clone lacks a part of the history."""
         return self.ask("rev-parse", "--is-shallow-repository").stdout.strip() == b"true"
@@ -119,17 +123,25 @@ class Repository:
         if os.path.realpath(os.path.dirname(typed)) != os.path.realpath(whole.parent):
             raise NoAnswer(f"{shown(word)}: there is a link on the way; type the path without it")
         see_no_link_to_here()
-        above = [each for each in reversed(whole.parents) if is_same(each, self.top)]
-        if not above:
+        above = self.above(whole)
+        if above is None:
             raise NoAnswer(
                 f"{shown(word)}: not in the repository {shown(str(self.top))} of the working folder"
             )
-        path = whole.relative_to(above[0])
-        here = above[0]
+        path = whole.relative_to(above)
+        here = above
         for part in path.parts:
             here /= part
             self.see_plain(here, word)
         return path.as_posix()
+
+    def above(self, whole: Path) -> Path | None:
+        """The top as a path names it; None where the path doesn't lead through it."""
+        return next((each for each in reversed(whole.parents) if is_same(each, self.top)), None)
+
+    def has_within(self, word: str) -> bool:
+        """Whether a path leads through the top, whatever is a link on the way."""
+        return self.above(Path(os.path.normpath(os.path.join(os.getcwd(), word)))) is not None
 
     def see_plain(self, here: Path, word: str) -> None:
         """NoAnswer where a place on the way to a file isn't simply a part of the working tree."""

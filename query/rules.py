@@ -263,6 +263,20 @@ def claims(case: Case) -> Iterator[Finding]:
     judge = Judge(case)
     for claim in case.config.claims:
         yield from judge.judge("claims", claim, case.config.name)
+        for label in (claim.theorem, *claim.axioms):
+            if is_of_another(case, label):
+                reason = (
+                    f"the label {label} is another statement's now, which isn't what is claimed"
+                )
+                yield Finding("claims", case.config.name, claim.line, claim.theorem, "", reason)
+
+
+def is_of_another(case: Case, label: str) -> bool:
+    """Whether a statement of OLD has lost its label to another one."""
+    before, after = case.old_text.find(label), case.text.find(label)
+    if before is None or after is None or before.kind != after.kind:
+        return False
+    return case.comparison.to_old.get(label) != label
 
 
 def avoids(case: Case) -> Iterator[Finding]:
@@ -428,21 +442,22 @@ def citations(graph: Graph, labels: Iterable[str]) -> Iterator[tuple[str, str]]:
 def across_mathboxes(graph: Graph, text: Text) -> Iterator[tuple[str, str, str | None, str]]:
     """Each citation of an assertion in a mathbox from outside it: what cites, what it cites, and
     the mathboxes of both."""
-    boxes = {one.label: box for one in text.assertions if (box := text.box(one)) is not None}
-    names = {label: text.mathbox(text.by_label[label]) or "" for label in boxes}
+    boxes = {one.label: number for one, number, _ in text.boxed()}
+    names = {one.label: name for one, _, name in text.boxed()}
     for user, cited in citations(graph, boxes):
         if boxes.get(user) != boxes[cited]:
             yield user, cited, names.get(user), names[cited]
 
 
 def mathboxes(case: Case) -> Iterator[Finding]:
-    """A mathbox is cited from outside it, and that isn't allowed."""
+    """A mathbox is cited from outside it, or no longer has what it had, and that isn't allowed."""
+    same = case.comparison
     for user, cited, box, other in across_mathboxes(case.new.graph, case.text):
         if not case.config.allows("mathboxes", user):
             where = f"in the mathbox for {box}, " if box else ""
             reason = f"{where}cites {cited} of the mathbox for {other}"
             yield case.finding("mathboxes", user, reason)
-    for each in exposed(case.old_text, case.text, case.comparison.to_old):
+    for each in exposed(case.old_text, case.text, same.to_old, same.to_new):
         labels = [label for label in each.labels if not case.config.allows("mathboxes", label)]
         if labels:
             more = f", like {len(labels) - 1} more," if labels[1:] else ""
@@ -470,12 +485,12 @@ def is_proof_discouraged(text: Text, assertion: Assertion) -> bool:
 
 def discouraged(case: Case) -> Iterator[Finding]:
     """A theorem newly cites one whose new usage is discouraged, and that isn't allowed."""
-    for user, cited in citations(case.new.graph, discouraged_labels(case.text)):
+    marked = dict.fromkeys(discouraged_labels(case.text))
+    for user, cited in citations(case.new.graph, marked):
         was, used = case.was(user), case.was(cited)
         if used and used in case.old.cites(was) or case.config.allows("discouraged", user):
             continue
         yield case.finding("discouraged", user, f"cites {cited}, whose new usage is discouraged")
-    marked = {*discouraged_labels(case.text)}
     for label in discouraged_labels(case.old_text):
         now = case.comparison.to_new.get(label)
         if now and now not in marked and not case.config.allows("discouraged", now):

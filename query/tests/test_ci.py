@@ -28,7 +28,7 @@ class Lines(unittest.TestCase):
         block = BLOCKS.findall(JOB.read_text())[1]
         there = [line[10:] for line in block.splitlines()]
         self.assertTrue(there.pop(0).startswith("NEW=refs/heads/new BASE=refs/heads/base "))
-        self.assertEqual(len(lines), 19)
+        self.assertEqual(len(lines), 20)
         self.assertEqual(lines, there)
 
     def test_the_base_of_the_job(self) -> None:
@@ -175,7 +175,9 @@ class Script(Repositories):
         self.assertEqual(self.check(KEPT="kept").status, 3)
         (self.room / "tmp").unlink()
         (self.room / "tmp").mkdir()
-        self.assertEqual(self.check(TMPDIR=str(self.room / "tmp")).status, 3)
+        for folder in (str(self.room / "tmp"), "tmp"):
+            self.assertEqual(self.check(TMPDIR=folder).status, 3)
+            self.assertEqual(list((self.room / "tmp").iterdir()), [])
 
 
 class Modules(World):
