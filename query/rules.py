@@ -312,7 +312,7 @@ def promises_gone(case: Case) -> Iterator[tuple[str, str]]:
     for theorem, axiom in dict.fromkeys(promises(case.old_text)):
         now = (to_new.get(theorem, ""), to_new.get(axiom, ""))
         row, column = old.rows.get(theorem), old.columns.get(axiom)
-        if row is None or column is None or old.bits(row) & old.mask_of([column]):
+        if row is None or column is None or old.marks.is_marked(row, old.chosen[column]):
             continue
         if now not in kept and now[0] and now[1] in case.new.dependence.columns:
             yield now
@@ -401,13 +401,10 @@ class Judge:
             return "its proof is left open, so nobody knows what it avoids"
         row = self.rows.get(theorem)
         dependence = self.case.new.dependence
-        if row is None or not dependence.bits(row) & self.unknown:
+        unknown = 0 if row is None else dependence.bits(row) & self.unknown
+        if not unknown:
             return ""
-        label = next(
-            dependence.axioms[column]
-            for column in dependence.rests(row)
-            if dependence.axioms[column] in self.case.open
-        )
+        label = dependence.axioms[8 * dependence.marks.width - unknown.bit_length()]
         return f"rests on {label}, whose proof is left open, so nobody knows what it avoids"
 
     def reason(self, row: int, axiom: str) -> str:

@@ -3,7 +3,7 @@ itself."""
 
 from __future__ import annotations
 
-from collections.abc import Iterable, Iterator, Mapping
+from collections.abc import Iterable, Iterator
 from dataclasses import dataclass
 
 from query.config import RULES, Config, Labels
@@ -33,8 +33,9 @@ def losses(old: Config, new: Config) -> Iterator[Loss]:
         if rule in old.rules and rule not in new.rules:
             place = line(new, "rules", rule) or line(new, "rules", "newly")
             yield Loss(place, "", "", f"the rule `{rule}` is switched off")
+    watched = Cover(new.watch)
     for word in old.watch:
-        if not is_covered(word, new.watch):
+        if not watched.has(word):
             reason = f"'{word}' isn't watched any more"
             yield Loss(line(new, "watch"), word, word, reason)
     yield from lost_claims(old, new)
@@ -46,11 +47,16 @@ def line(config: Config, *path: str) -> int:
     return config.lines.get(path, 0)
 
 
-def is_covered(word: str, words: Iterable[str]) -> bool:
-    """Whether all that a word means is meant by others, too: one of them is the same, or ends in
-    `*` and is a beginning of it."""
-    bare = word.removesuffix("*")
-    return any(word == each or each.endswith("*") and bare.startswith(each[:-1]) for each in words)
+class Cover:
+    """What words of a file mean, to tell whether they mean all that another one does."""
+
+    def __init__(self, words: Iterable[str]) -> None:
+        self.words = frozenset(words)
+        self.beginnings = tuple(word[:-1] for word in self.words if word.endswith("*"))
+
+    def has(self, word: str) -> bool:
+        """Whether all that a word means is meant: by the same one, or by a beginning of it."""
+        return word in self.words or word.removesuffix("*").startswith(self.beginnings)
 
 
 def lost_claims(old: Config, new: Config) -> Iterator[Loss]:
@@ -67,23 +73,20 @@ def lost_claims(old: Config, new: Config) -> Iterator[Loss]:
 def allowances(old: Config, new: Config) -> Iterator[Loss]:
     """What is allowed, and wasn't."""
     for rule, labels in new.allowed.items():
-        before = old.allowed.get(rule, Labels()).words
+        before = Cover(old.allowed.get(rule, Labels()).words)
         for word in labels.words:
-            if not is_covered(word, before):
+            if not before.has(word):
                 reason = f"`allow.{rule}` has '{word}' now"
                 yield Loss(line(new, "allow", rule), word, "", reason)
     for rule, lists in new.resting.items():
+        known = [
+            (Cover([axiom]), Cover(labels.words))
+            for axiom, labels in old.resting.get(rule, {}).items()
+        ]
         for axiom, labels in lists.items():
+            place = line(new, "allow", rule, axiom) or line(new, "allow", "newly", axiom)
+            covers = [theorems for axioms, theorems in known if axioms.has(axiom)]
             for word in labels.words:
-                if not may_rest(old.resting.get(rule, {}), word, axiom):
-                    place = line(new, "allow", rule, axiom) or line(new, "allow", "newly", axiom)
+                if not any(theorems.has(word) for theorems in covers):
                     reason = f"`allow.{rule}` lets '{word}' rest on '{axiom}' now"
                     yield Loss(place, word, axiom, reason)
-
-
-def may_rest(lists: Mapping[str, Labels], word: str, axiom: str) -> bool:
-    """Whether lists let all that a word means rest on all that another one means."""
-    return any(
-        is_covered(axiom, [each]) and is_covered(word, labels.words)
-        for each, labels in lists.items()
-    )
