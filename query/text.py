@@ -331,11 +331,13 @@ class Text:
         place = bisect_right(self._mathboxes, (assertion.number, len(self.assertions) + 1, "")) - 1
         return place if place >= 0 and assertion.number < self._mathboxes[place][1] else None
 
-    def boxed(self) -> Iterator[tuple[Assertion, int, str]]:
+    def boxed(self) -> list[tuple[Assertion, int, str]]:
         """Each assertion that stands in a mathbox, with the number and the name of that."""
-        for number, (first, end, name) in enumerate(self._mathboxes):
-            for assertion in self.assertions[first:end]:
-                yield assertion, number, name
+        return [
+            (assertion, number, name)
+            for number, (first, end, name) in enumerate(self._mathboxes)
+            for assertion in self.assertions[first:end]
+        ]
 
     def mathbox(self, assertion: Assertion) -> str | None:
         """The name of the mathbox in which an assertion stands."""
