@@ -42,7 +42,10 @@ class Lines(unittest.TestCase):
 
     def test_a_pull_request_is_data(self) -> None:
         job = JOB.read_text()
-        self.assertIn("\n  pull_request_target:\n", job)
+        target = job.split("\n  pull_request_target:\n")[1].split("\n  push:\n")[0]
+        self.assertIn("branches: [main]", target)
+        self.assertIn("types: [opened, synchronize, reopened, edited]", target)
+        self.assertNotRegex(job, r"\n  (pull_request|merge_group|workflow_dispatch):")
         self.assertIn("\npermissions:\n  contents: read\njobs:", job)
         self.assertNotRegex(job, r"secrets\.|github\.token|uses: actions/(checkout|cache)")
         self.assertNotRegex("".join(BLOCKS.findall(job)), r"checkout|switch|pull|worktree|archive")
