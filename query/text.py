@@ -329,17 +329,37 @@ class Text:
 
     @cached_property
     def _mathboxes(self) -> list[tuple[int, int, str]]:
-        """For each mathbox its first assertion, the one after its last, and the name."""
-        starts = [(header, MATHBOX.match(header.title)) for header in self.headers]
-        return [(header.first, header.end, match[1]) for header, match in starts if match]
+        """For each mathbox its first assertion, the one after its last, and the name. A header
+        within a mathbox makes no other one of a part of it."""
+        found: list[tuple[int, int, str]] = []
+        level = -1
+        for header in self.headers:
+            if 0 <= level < header.level:
+                continue
+            match = MATHBOX.match(header.title)
+            level = header.level if match else -1
+            if match:
+                found.append((header.first, header.end, match[1]))
+        return found
+
+    def box(self, assertion: Assertion) -> int | None:
+        """The number of the mathbox in which an assertion stands, from 0; several may have one
+        name."""
+        place = bisect_right(self._mathboxes, (assertion.number, len(self.assertions) + 1, "")) - 1
+        return place if place >= 0 and assertion.number < self._mathboxes[place][1] else None
+
+    def boxed(self) -> list[tuple[Assertion, int, str]]:
+        """Each assertion that stands in a mathbox, with the number and the name of that."""
+        return [
+            (assertion, number, name)
+            for number, (first, end, name) in enumerate(self._mathboxes)
+            for assertion in self.assertions[first:end]
+        ]
 
     def mathbox(self, assertion: Assertion) -> str | None:
         """The name of the mathbox in which an assertion stands."""
-        place = bisect_right(self._mathboxes, (assertion.number, len(self.assertions) + 1, "")) - 1
-        if place < 0:
-            return None
-        first, end, name = self._mathboxes[place]
-        return name if first <= assertion.number < end else None
+        box = self.box(assertion)
+        return None if box is None else self._mathboxes[box][2]
 
 
 class Reading:
