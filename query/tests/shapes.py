@@ -259,7 +259,7 @@ def discouraged(count: int) -> Files:
 def long_label(count: int) -> Files:
     """A label that is as long as all the others together."""
     label = "l" * count
-    return one(theorem(label, "ax") + theorems(count // 20, label))
+    return one(theorem(label, "ax") + theorem("l", label) + theorems(count // 20))
 
 
 def headers(count: int) -> Files:
