@@ -322,7 +322,7 @@ SHAPES = [
           ("compare a.mm b.mm", "gate a.mm b.mm", "page a.mm")),
     Shape("a long `$d` around", far_distinct, 2_000, 4_000,
           ("compare a.mm b.mm", "gate a.mm b.mm", "page a.mm", "export --sqlite out.db a.mm")),
-    Shape("a `$d` before each", many_distinct, 4_000, 8_000,
+    Shape("a `$d` before each", many_distinct, 4_000, 3_000,
           ("chapters a.mm", "compare a.mm b.mm", "gate a.mm b.mm", "page a.mm",
            "export --sqlite out.db a.mm")),
     Shape("a `$e` before each", many_hypotheses, 4_000, 8_000,
