@@ -166,10 +166,12 @@ def tags(count: int) -> Files:
 
 def renamed(count: int) -> Files:
     """Theorems of the same statement, all of them renamed and in other order, by what they cite."""
-    cited = names(count, "a")
-    old = "".join(theorem(f"t{number}", label) for number, label in enumerate(cited))
-    new = "".join(theorem(f"u{number}", label) for number, label in enumerate(reversed(cited)))
-    return two(axioms(count) + old, axioms(count) + new)
+    some = 128
+    pairs = [(f"a{number % some}", f"a{some + number // some}") for number in range(count)]
+    head = axioms(some + count // some + 1)
+    old = "".join(theorem(f"t{number}", *pair) for number, pair in enumerate(pairs))
+    new = "".join(theorem(f"u{number}", *pair) for number, pair in enumerate(reversed(pairs)))
+    return two(head + old, head + new)
 
 
 def proved_anew(count: int) -> Files:
