@@ -11,6 +11,7 @@ import re
 import tomllib
 from collections.abc import Mapping
 from dataclasses import dataclass, field
+from functools import cached_property
 from pathlib import Path
 from typing import Any
 
@@ -81,8 +82,15 @@ class Labels:
 
     words: tuple[str, ...] = ()
 
+    @cached_property
+    def _known(self) -> tuple[frozenset[str], tuple[str, ...]]:
+        """The words that are whole labels, and the beginnings of others."""
+        beginnings = tuple(word[:-1] for word in self.words if word.endswith("*"))
+        return frozenset(self.words), beginnings
+
     def __contains__(self, label: str) -> bool:
-        return any(is_meant(word, label) for word in self.words)
+        whole, beginnings = self._known
+        return label in whole or label.startswith(beginnings)
 
 
 @dataclass(frozen=True)
@@ -152,7 +160,7 @@ def read_config(data: bytes, name: str) -> Config:
         table = tomllib.loads(text)
     except UnicodeDecodeError:
         raise NoAnswer(f"{name}: not UTF-8") from None
-    except tomllib.TOMLDecodeError as error:
+    except (ValueError, RecursionError) as error:
         raise NoAnswer(f"{name}: {shown(str(error))}") from None
     except RecursionError:
         raise NoAnswer(f"{name}: nested too deeply") from None

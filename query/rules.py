@@ -6,6 +6,7 @@ gives a `Finding` for each thing that breaks it, in file order.
 
 from __future__ import annotations
 
+import os
 import re
 from collections.abc import Callable, Iterable, Iterator
 from dataclasses import dataclass
@@ -15,15 +16,20 @@ from query.boxes import exposed
 from query.changes import Comparison, Side, text_of_side
 from query.config import RULES, Claim, Config, Labels, is_meant
 from query.graph import Graph
+from query.remarks import tokens
 from query.statements import difference, statement_of
 from query.text import Assertion, Text
 
 DISCOURAGED = re.compile(r"\(New\s+usage\s+is\s+discouraged\.\)")
 DISCOURAGED_PROOF = re.compile(r"\(Proof\s+modification\s+is\s+discouraged\.\)")
 MARKED = re.compile(rb"\$\(\s+\$j(?=\s)")
-TOKEN = re.compile(r"/\*.*?\*/|'([^']*)'|\"([^\"]*)\"|(;)|([^\s;'\"]+)", re.DOTALL)
+TOKEN = re.compile(r"'([^']*)'|\"([^\"]*)\"|(;)|([^\s;'\"]+)")
+MOST_REASONS = 1_000_000
+"""So many reasons are remembered at the most."""
 LONGEST = 200
 """How many characters of a formula are shown."""
+BEFORE = 60
+"""How many of these stand before the place where two formulas differ."""
 
 
 @dataclass(frozen=True)
@@ -99,6 +105,19 @@ def shown_formula(text: Text, assertion: Assertion) -> str:
     return formula if len(formula) <= LONGEST else formula[:LONGEST] + " .."
 
 
+def shown_change(old: str, new: str) -> tuple[str, str]:
+    """Two formulas, where they are long from a little before the place where they differ on."""
+    start = 0
+    if len(old) > LONGEST or len(new) > LONGEST:
+        start = max(0, len(os.path.commonprefix([old, new])) - BEFORE)
+    both = []
+    for formula in (old, new):
+        end = start + LONGEST
+        dots = ".. " if start else "", " .." if end < len(formula) else ""
+        both.append(dots[0] + formula[start:end] + dots[1])
+    return both[0], both[1]
+
+
 def axioms(case: Case) -> Iterator[Finding]:
     """An axiom is new, changed or gone, and isn't allowed."""
     told = set()
@@ -159,10 +178,8 @@ def reason_of_changed(case: Case, axiom: Assertion) -> str:
     parts = difference(statement_of(case.old_text, before), statement_of(case.text, axiom))
     if "formula" not in parts:
         return f"a changed axiom: {parts} changed"
-    return (
-        f"a changed axiom: {parts} changed, from {shown_formula(case.old_text, before)}"
-        f" to {shown_formula(case.text, axiom)}"
-    )
+    was, now = shown_change(case.old_text.formula(before), case.text.formula(axiom))
+    return f"a changed axiom: {parts} changed, from {was} to {now}"
 
 
 def reason_of_gone(case: Case, label: str) -> str:
@@ -335,7 +352,7 @@ def usages(text: Text) -> Iterator[Usage]:
         if "usage" not in body:
             continue
         words: list[tuple[int, str, bool]] = []
-        for token in TOKEN.finditer(body):
+        for token in tokens(TOKEN, body):
             if token[3]:
                 yield from usage_of(text, words, is_ended=True)
                 words = []
@@ -364,15 +381,14 @@ class Judge:
         self.case = case
         self.rows = case.new.dependence.rows
         self.columns = case.new.dependence.columns
-        self.bits: dict[int, int] = {}
+        self.because: dict[int, dict[int, str]] = {}
+        """For rows of theorems and for each column what is the first that they cite and is the
+        axiom or rests on it."""
         self.unknown = case.new.dependence.mask_of([self.columns[label] for label in case.open])
 
     def rests(self, row: int, column: int) -> bool:
         """Whether a theorem rests on an axiom."""
-        dependence = self.case.new.dependence
-        if column not in self.bits:
-            self.bits[column] = dependence.mask_of([column])
-        return bool(dependence.bits(row) & self.bits[column])
+        return self.case.new.dependence.is_marked(row, column)
 
     def judge(self, rule: str, claim: Claim, file: str) -> Iterator[Finding]:
         """What is wrong with a claim: all of it."""
@@ -409,16 +425,31 @@ class Judge:
 
     def reason(self, row: int, axiom: str) -> str:
         """Why a theorem rests on an axiom: its first citation that does."""
-        graph = self.case.new.graph
-        column = self.columns[axiom]
-        theorem = self.case.new.dependence.theorems[row]
-        for cited in graph.cites[graph.index[theorem]]:
+        if row not in self.because:
+            if sum(map(len, self.because.values())) > MOST_REASONS:
+                self.because.clear()
+            self.because[row] = self.found_because(row)
+        label = self.because[row].get(self.columns[axiom])
+        if label is None:
+            return f"rests on {axiom}"
+        how = "it cites it" if label == axiom else f"it cites {label}, which does"
+        return f"rests on {axiom}: {how}"
+
+    def found_because(self, row: int) -> dict[int, str]:
+        """For each axiom on which a theorem rests its first citation that does."""
+        graph, dependence = self.case.new.graph, self.case.new.dependence
+        found: dict[int, str] = {}
+        left = dependence.bits(row)
+        for cited in graph.cites[graph.index[dependence.theorems[row]]]:
             label = graph.labels[cited]
-            if label == axiom:
-                return f"rests on {axiom}: it cites it"
-            if label in self.rows and self.rests(self.rows[label], column):
-                return f"rests on {axiom}: it cites {label}, which does"
-        return f"rests on {axiom}"
+            if label in self.columns:
+                bits = dependence.mask_of([self.columns[label]])
+            else:
+                bits = dependence.bits(self.rows[label]) if label in self.rows else 0
+            if left & bits:
+                found.update(dict.fromkeys(dependence.columns_of(left & bits), label))
+                left &= ~bits
+        return found
 
 
 def open_theorems(case: Case) -> Iterator[Finding]:

@@ -13,7 +13,7 @@ from query.config import FILE_NAME, RULES, find_config, load_config
 from query.context import Context
 from query.database import Database
 from query.errors import NoAnswer, shown
-from query.findings import Verdict, as_annotations, as_markdown, as_object, as_text
+from query.findings import Verdict, as_annotations, as_markdown, as_object, as_summary, as_text
 from query.git import short
 from query.options import Options, add_database
 from query.output import reason
@@ -189,7 +189,7 @@ def run(context: Context, arguments: argparse.Namespace) -> int:
     found, notes = judged(request), request.all_notes()
     verdict = Verdict(request.new.name, request.base, rules, found, notes, request.paths)
     if arguments.summary is not None:
-        add_summary(arguments.summary, as_markdown(verdict))
+        add_summary(arguments.summary, as_summary(verdict, arguments.summary))
     if context.out.format == "json":
         context.out.value(as_object(verdict))
     else:
