@@ -170,6 +170,7 @@ fn are_disjoint_in_database<A: Allocator>(
 }
 
 /// Whether a symbol is disjoint from each of the others.
+#[inline(always)]
 fn is_disjoint_from<A: Allocator>(
     database: &Database<A>,
     theorem: u32,
@@ -199,6 +200,7 @@ fn is_disjoint_from<A: Allocator>(
 }
 
 /// Whether each variable of `first` is disjoint from each variable of `second`.
+#[inline(always)]
 fn are_all_disjoint<A: Allocator>(
     database: &Database<A>,
     theorem: u32,
@@ -256,6 +258,8 @@ fn is_disjoint_from_listed<A: Allocator>(
 
 /// Whether each variable of `first` is disjoint from each variable of `second`. What is known of
 /// a symbol of `first` is asked at once for all of `second`.
+#[cold]
+#[inline(never)]
 fn are_all_disjoint_by_rows<A: Allocator>(
     database: &Database<A>,
     theorem: u32,
@@ -287,6 +291,7 @@ fn are_all_disjoint_by_rows<A: Allocator>(
 
 /// Whether each variable of `first` is disjoint from each variable of `second`, which both may be
 /// long.
+#[inline(always)]
 fn are_apart<A: Allocator>(
     database: &Database<A>,
     theorem: u32,
@@ -314,6 +319,7 @@ fn are_apart<A: Allocator>(
 
 /// Whether for each pair of variables, each variable in what replaces the first is disjoint from
 /// each variable in what replaces the second.
+#[inline(always)]
 fn pairs_are_disjoint<A: Allocator>(
     database: &Database<A>,
     theorem: u32,
@@ -348,6 +354,7 @@ fn pairs_are_disjoint<A: Allocator>(
 
 /// Whether the lists that replace the variables of the pairs have more pairs of symbols than are
 /// tested one by one.
+#[inline(always)]
 fn has_many_symbol_pairs(premises: &[Span], pairs: &[(u32, u32)]) -> bool
     requires { All (λ (p : ℕ × ℕ). (p.0 < length premises.now) × (p.1 < length premises.now))
         pairs.now }
@@ -364,8 +371,52 @@ fn has_many_symbol_pairs(premises: &[Span], pairs: &[(u32, u32)]) -> bool
 }
 
 /// Whether for each pair of variables, each variable in what replaces the first is disjoint from
-/// each variable in what replaces the second. In long formulas a variable is looked at once, if
-/// there is memory for that.
+/// each variable in what replaces the second. A variable of a formula is looked at once, if there
+/// is memory for that.
+#[cold]
+#[inline(never)]
+fn long_pairs_are_disjoint<A: Allocator>(
+    database: &Database<A>,
+    theorem: u32,
+    symbols: &Symbols,
+    premises: &[Span],
+    pairs: &[(u32, u32)],
+    distinct: &mut DistinctVariables<A>,
+    cache: &mut DisjointCache<A>,
+) -> bool
+    requires theorem_lt_length { theorem < length database.now.statements }
+    requires are_entries { AreEntries (length (symbol_names database.now.statements)) symbols.now
+        premises.now }
+    requires pairs_in_range { All
+        (λ (p : ℕ × ℕ). (p.0 < length premises.now) × (p.1 < length premises.now)) pairs.now }
+    requires cached_are_disjoint { AreDisjointAt database.now.statements theorem cache.old }
+    ensures tells_disjoint { result
+        ≡ list_all
+        (λ (p : ℕ × ℕ). disjoint_lists (context_at database.now.statements theorem)
+        (replacement symbols.now premises.now p.0) (replacement symbols.now premises.now p.1))
+        pairs.now }
+    ensures cached_are_disjoint { AreDisjointAt database.now.statements theorem cache.new }
+{
+    match distinct.collect(database, symbols, premises) {
+        Err(_) => {
+            let columns = &mut distinct.columns;
+            pairs_are_disjoint(database, theorem, symbols, premises, pairs, columns, cache)
+        }
+        Ok(()) => {
+            let reduced = Symbols {
+                unmarked: &distinct.symbols,
+                marked: &[],
+            };
+            let entries = &distinct.entries;
+            let columns = &mut distinct.columns;
+            pairs_are_disjoint(database, theorem, &reduced, entries, pairs, columns, cache)
+        }
+    }
+}
+
+/// Whether for each pair of variables, each variable in what replaces the first is disjoint from
+/// each variable in what replaces the second.
+#[inline(always)]
 fn keeps_disjoint<A: Allocator>(
     database: &Database<A>,
     theorem: u32,
@@ -388,25 +439,13 @@ fn keeps_disjoint<A: Allocator>(
         pairs.now }
     ensures cached_are_disjoint { AreDisjointAt database.now.statements theorem cache.new }
 {
-    if !has_many_symbol_pairs(premises, pairs) {
-        let columns = &mut distinct.columns;
-        return pairs_are_disjoint(database, theorem, symbols, premises, pairs, columns, cache);
+    if has_many_symbol_pairs(premises, pairs) {
+        return long_pairs_are_disjoint(
+            database, theorem, symbols, premises, pairs, distinct, cache,
+        );
     }
-    match distinct.collect(database, symbols, premises) {
-        Err(_) => {
-            let columns = &mut distinct.columns;
-            pairs_are_disjoint(database, theorem, symbols, premises, pairs, columns, cache)
-        }
-        Ok(()) => {
-            let reduced = Symbols {
-                unmarked: &distinct.symbols,
-                marked: &[],
-            };
-            let entries = &distinct.entries;
-            let columns = &mut distinct.columns;
-            pairs_are_disjoint(database, theorem, &reduced, entries, pairs, columns, cache)
-        }
-    }
+    let columns = &mut distinct.columns;
+    pairs_are_disjoint(database, theorem, symbols, premises, pairs, columns, cache)
 }
 
 /// Tests an assertion's step on the entries of the stack, except for the length of its formula.

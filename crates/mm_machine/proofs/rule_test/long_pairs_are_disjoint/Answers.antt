@@ -2,7 +2,7 @@ use Rattle.std.proofs.Common.{[], ap₂, ◌∙◌}
 use Rattle.std.specs.List.{list_all}
 use Rattle.mm_machine.specs.Arena.{arena}
 use Rattle.mm_machine.proofs.DistinctLaw.{keeps, pairs_by_variables}
-use Rattle.mm_machine.proofs.rule_test.keeps_disjoint.Goals as goal
+use Rattle.mm_machine.proofs.rule_test.long_pairs_are_disjoint.Goals as goal
 
 pub returns-in-Ok-clause-tells_disjoint : goal.returns-in-Ok-clause-tells_disjoint
 returns-in-Ok-clause-tells_disjoint g c =
