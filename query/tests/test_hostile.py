@@ -3,6 +3,7 @@ control that is found. The first class has the ways that were passed once, by th
 others have more."""
 
 import os
+import re
 import subprocess
 import tempfile
 import unittest
@@ -10,7 +11,7 @@ from collections.abc import Mapping
 from pathlib import Path
 
 from query.tests.repositories import ADDED, BASE, WATCH, Repositories, changed
-from query.tests.world import DATABASES
+from query.tests.world import DATABASES, TOP
 
 CHEAT = (
     "2p2e4 $p |- ( 2 + 2 ) = 4 $= df-4",
@@ -791,20 +792,38 @@ class Honest(Hostile):
         self.assertEqual(self.told(), [TOLD])
 
 
+GUIDE = (TOP / "docs" / "SYNTAX.md").read_text()
+OF_SET_MM = WITHOUT_BRACKETS.replace("FIVE", "c2 c2 caddc co c5 wceq")
+
+
+class Guide(unittest.TestCase):
+    """docs/SYNTAX.md: its example is the one that is tried here."""
+
+    def test_the_example(self) -> None:
+        self.assertEqual(GUIDE.split("```\n")[1], OF_SET_MM)
+
+
 @unittest.skipUnless((DATABASES / "set.mm").exists(), "there is no set.mm")
 class SetMm(Hostile):
-    """The example of docs/SYNTAX.md, with set.mm."""
+    """What docs/SYNTAX.md shows of set.mm, but for the line and the commit."""
 
     def test_a_syntax_axiom_without_brackets(self) -> None:
         self.git("config", "core.compression", "0")
+        (self.room / "db.mm").unlink()
+        self.ask("")
         text = (DATABASES / "set.mm").read_text("latin-1")
-        self.commit(text)
+        self.commit(text, "set.mm")
+        self.git("update-ref", "refs/remotes/origin/main", "HEAD")
         self.branch()
         after = text.index("$.", text.index(" 2p2e4 $p ")) + len("$.\n")
-        more = WITHOUT_BRACKETS.replace("FIVE", "c2 c2 caddc co c5 wceq")
-        self.write("db.mm", text[:after] + more + text[after:])
-        self.assertEqual(len(self.told()), 1)
-        self.assertIn(": wbad: a new axiom: wff ph -> ps [axioms]", self.told()[0])
+        self.commit(text[:after] + OF_SET_MM + text[after:], "set.mm")
+        numbers = re.compile(r":\d+:|[0-9a-f]{12}")
+        for block in re.findall(r"^```console\n(.*?)^```", GUIDE, re.DOTALL | re.MULTILINE):
+            for part in block.split("$ mmquery ")[1:]:
+                command, *shown = part.splitlines()
+                came = self.query(*command.split())
+                lines = [numbers.sub("", line) for line in came.lines()]
+                self.assertEqual(lines, [numbers.sub("", line) for line in shown], command)
 
 
 def has_metamath() -> bool:
