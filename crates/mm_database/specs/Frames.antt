@@ -1,6 +1,6 @@
 -- The frames of the assertions.
-use Rattle.std.specs.Prelude.{◌≡◌, ℕ, ◌<◌, ◌≤◌, ◌⊎◌, List, length, map, slice_get, slice_index}
-use Rattle.std.specs.Prelude.{Option, Some, None, if◌then◌else◌}
+use Rattle.std.specs.Prelude.{◌≡◌, ℕ, ◌<◌, ◌≤◌, ◌+◌, ◌-◌, ◌⊎◌, List, length, map, nat_eq}
+use Rattle.std.specs.Prelude.{slice_get, slice_index, Option, Some, None, if◌then◌else◌}
 use Rattle.std.specs.List.{list_any, range_with_len}
 use Rattle.std.specs.Option.{option_map}
 use Rattle.mm_spec.specs.Statement.{Statement}
@@ -31,6 +31,14 @@ frame_or_none db k =
 -- the frames of the assertions before statement k, by statements
 abbrev pub frames_before : List Statement → ℕ → List (Option Mandatory)
 frames_before db k = map (frame_or_none db) (range_with_len 0 k)
+
+-- the frames of the assertions among the statements from `from` up to `to`, by statements
+abbrev pub frames_between : List Statement → ℕ → ℕ → List (Option Mandatory)
+frames_between db from to = map (frame_or_none db) (range_with_len from (to - from))
+
+-- the index of a frame, once that many frames more are before it; `never` stays
+abbrev pub shifted_index : ℕ → ℕ → ℕ
+shifted_index shift index = if nat_eq index never then never else index + shift
 
 module _ {A : Type 0} where
   abbrev pub mandatory_in : Frame A → Mandatory

@@ -1,8 +1,9 @@
 //! What is kept beside the statements: the frames of the assertions, and the `$d` by variables.
 
-ghost use Rattle.std.specs.Prelude.{◌≡◌, ◌<◌, ◌^◌, ◌++◌, ◌∷◌, [], Some, None, OnOk, IsSome};
-ghost use Rattle.std.specs.Prelude.{get_or, length};
-ghost use Rattle.mm_database.specs.Frames.{mandatory_in};
+ghost use Rattle.std.specs.Prelude.{◌≡◌, ◌≢◌, ◌<◌, ◌+◌, ◌^◌, ◌++◌, ◌∷◌, [], Some, None};
+ghost use Rattle.std.specs.Prelude.{IfOk, OnOk, IsSome, get_or, length};
+ghost use Rattle.mm_database.specs.Frames.{mandatory_in, shifted_index};
+ghost use Rattle.mm_outline.specs.Blocks.{never};
 
 use crate::disjoint_index::DisjointIndex;
 use crate::room::with_room;
@@ -19,6 +20,14 @@ pub struct Frame<A: Allocator> {
     /// The mandatory pairs of disjoint variables: the lower symbol first, in ascending order, each
     /// once.
     pub pairs: Vec<(Sym, Sym), A>,
+}
+
+/// Returns the index of a frame in a list that has `shift` frames more before it, or `NEVER`.
+fn shifted_index(index: u32, shift: u32) -> u32
+    requires { index ≢ never → index + shift < 2 ^ 32 }
+    ensures { result ≡ shifted_index shift index }
+{
+    if index == NEVER { NEVER } else { index + shift }
 }
 
 /// The frame of each statement that is an assertion.
@@ -84,6 +93,28 @@ impl<A: Allocator> Frames<A> {
     {
         self.indices.push(NEVER)?;
         Ok(())
+    }
+
+    /// Returns these frames, and behind them those of the statements that come next. Fails only if
+    /// out of memory.
+    pub fn joined(self, later: Frames<A>) -> Result<Frames<A>, AllocError>
+        requires { length self + length later < 2 ^ 31 }
+        ensures { IfOk result (λ f. f ≡ self ++ later) }
+    {
+        let Frames {
+            mut list,
+            mut indices,
+        } = self;
+        let Frames {
+            list: mut later_list,
+            indices: later_indices,
+        } = later;
+        let shift = list.len() as u32;
+        for index in &later_indices {
+            indices.push(shifted_index(*index, shift))?;
+        }
+        list.append(&mut later_list)?;
+        Ok(Frames { list, indices })
     }
 
     /// Returns the frame of an assertion.

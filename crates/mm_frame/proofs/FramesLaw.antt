@@ -1,18 +1,19 @@
 -- One statement more in the walk that makes the frames.
-use Rattle.std.proofs.Common.{◌≡◌, ◌≢◌, ℕ, ◌+◌, ◌<◌, ◌≤◌, Bool, true, List, [], ◌∷◌, ◌++◌, length}
+use Rattle.std.proofs.Common.{◌≡◌, ◌≢◌, ℕ, ◌+◌, ◌-◌, ◌<◌, ◌≤◌, Bool, true, List, [], ◌∷◌, ◌++◌}
+use Rattle.std.proofs.Common.{length, map}
 use Rattle.std.proofs.Common.{get_or, set, Option, None, Some, sym, ap, ap₂, ◌∙◌, arith, ◌⊎◌, inl}
 use Rattle.std.proofs.Common.{inr, if◌then◌else◌}
 use Rattle.std.proofs.lemmas.Bool.{cases_lt, cases_eq}
 use Rattle.std.proofs.lemmas.List.{get_or-set_same, get_or-set_other, length-set}
-use Rattle.std.proofs.lemmas.List.FromFn.{map-range_with_len_more}
+use Rattle.std.proofs.lemmas.List.FromFn.{map-range_with_len_more, length-map-range_with_len}
 use Rattle.std.proofs.lemmas.Option.{same_Some}
-use Rattle.std.specs.List.{list_any}
+use Rattle.std.specs.List.{list_any, range_with_len}
 use Rattle.mm_spec.specs.Statement.{Statement}
 use Rattle.mm_spec.specs.Scope.{statement_at, is_block_open}
 use Rattle.mm_spec.specs.Citation.{is_assertion}
 use Rattle.mm_spec.specs.Frame.{symbol_names}
 use Rattle.mm_outline.specs.Blocks.{never}
-use Rattle.mm_database.specs.Frames.{Mandatory, mandatory_at, frame_or_none, frames_before}
+use Rattle.mm_database.specs.Frames.{Mandatory, mandatory_at, frame_or_none, frames_between}
 use Rattle.mm_database.specs.ParsedStatements.{IsSound, typed_variable_at}
 use Rattle.mm_frame.specs.Hypotheses.{AreLastFloats}
 use Rattle.mm_frame.proofs.NestedLaw.{open_at_earlier}
@@ -122,13 +123,27 @@ last_floats_with_float db sound k v ts k_lt_length last_floats k_types_v = recor
 
 -- ---- the frames
 
+-- before a stretch there is no frame of it
+pub no_frames_at_start : (db : List Statement) (from : ℕ) → [] ≡ frames_between db from from
+no_frames_at_start db from =
+    let nothing : 0 ≡ from - from = omega arith in
+    ap (λ n. map (frame_or_none db) (range_with_len from n)) nothing
+
 -- a statement more, with its frame if it is an assertion
-pub frames_with_statement : (db : List Statement) (k : ℕ) (old new : List (Option Mandatory))
-    (x : Option Mandatory) → old ≡ frames_before db k → new ≡ old ++ x ∷ [] → x ≡ frame_or_none db k
-    → new ≡ frames_before db (k + 1)
-frames_with_statement db k old new x old_are_frames new_are_pushed x_is_frame =
-    new_are_pushed ∙ ap₂ (λ fs f. fs ++ f ∷ []) old_are_frames x_is_frame
-    ∙ sym (map-range_with_len_more (frame_or_none db) 0 k k (omega arith))
+pub frames_with_statement : (db : List Statement) (from k : ℕ) (old new : List (Option Mandatory))
+    → from ≤ k → old ≡ frames_between db from k → new ≡ old ++ frame_or_none db k ∷ []
+    → new ≡ frames_between db from (k + 1)
+frames_with_statement db from k old new from_le_k old_are_frames new_are_pushed =
+    let one_more : (k - from) + 1 ≡ (k + 1) - from = omega (arith, from_le_k) in
+    new_are_pushed
+    ∙ ap (λ fs. fs ++ frame_or_none db k ∷ []) old_are_frames
+    ∙ sym (map-range_with_len_more (frame_or_none db) from (k - from) k (omega (arith, from_le_k)))
+    ∙ ap (λ n. map (frame_or_none db) (range_with_len from n)) one_more
+
+-- a stretch has as many frames, or none, as it has statements
+pub frame_count : (db : List Statement) (from to : ℕ)
+    → length (frames_between db from to) ≡ to - from
+frame_count db from to = length-map-range_with_len (frame_or_none db) from (to - from)
 
 -- an assertion has its frame, and another statement none
 pub frame_is_frame_or_none : (db : List Statement) (k : ℕ) (b : Bool)

@@ -6,8 +6,9 @@
 -- (`ChainsLaw.antt`) give the `$d` by variables. With `have_blocks` of `mm_database` they give
 -- `IsDisjointIndex`. `pairs_are_mandatory_pairs` (`DisjointLaw.antt`) gives the pairs.
 -- (`SkipsLaw.antt`: the loops of `skips_of`; `LoopsLaw.antt`: one more element in the loops that
--- collect.) The loop of `frames_of` adds to the frames by `frames_with_statement`
--- (`FramesLaw.antt`). So `frame_tables_of` has `AreFrameTables`.
+-- collect.) The loop of `frames_between` adds to the frames by `frames_with_statement`
+-- (`FramesLaw.antt`). `next_is_joined` and `all_are_joined` (`StretchesLaw.antt`) put the frames of
+-- stretches together. So `frame_tables_of` has `AreFrameTables`.
 pub mod DisjointLaw
 pub mod FloatLaw
 pub mod FramesLaw
@@ -19,3 +20,4 @@ pub mod PairsLaw
 pub mod SkipsLaw
 pub mod HypothesesLaw
 pub mod ChainsLaw
+pub mod StretchesLaw

@@ -3,3 +3,4 @@ pub mod Hypotheses
 pub mod Chains
 pub mod Sources
 pub mod Together
+pub mod Stretches

@@ -1,21 +1,18 @@
-//! The frames of the assertions.
+//! The frames of the assertions in a stretch of statements.
 
-ghost use Rattle.std.specs.Prelude.{◌≡◌, ◌<◌, ◌+◌, ℕ, IfOk, OnOk, length, slice_index};
+ghost use Rattle.std.specs.Prelude.{◌≡◌, ◌<◌, ◌≤◌, ◌+◌, ◌^◌, ◌++◌, ◌∷◌, [], ℕ, IfOk, OnOk};
+ghost use Rattle.std.specs.Prelude.{length, slice_index};
 ghost use Rattle.mm_spec.specs.Frame.{symbol_names};
-ghost use Rattle.mm_database.specs.Frames.{frames_before, mandatory_at, mandatory_in};
-ghost use Rattle.mm_database.specs.DisjointIndex.{IsDisjointIndex};
+ghost use Rattle.mm_database.specs.Frames.{frame_or_none, frames_between, mandatory_at};
+ghost use Rattle.mm_database.specs.Frames.{mandatory_in};
 ghost use Rattle.mm_frame.specs.Sources.{AreSources};
 ghost use Rattle.mm_database.specs.ParsedStatements.{IsSound};
 ghost use Rattle.mm_frame.specs.Hypotheses.{AreReady, AreLastFloats, IsFresh};
-ghost use Rattle.mm_database.specs.FrameTables.{AreFrameTables};
 
-use crate::active::latest_essentials;
 use crate::disjoint::mandatory_pairs;
-use crate::disjoint_index::disjoint_index_of;
 use crate::hypotheses::list_hypotheses;
 use crate::sources::FrameSources;
-use mm_database::disjoint_index::DisjointIndex;
-use mm_database::frames::{Frame, FrameTables, Frames};
+use mm_database::frames::{Frame, Frames};
 use mm_database::statements::Statements;
 use mm_outline::blocks::NEVER;
 use mm_outline::symbol::Sym;
@@ -70,6 +67,39 @@ impl<A: Allocator> Drop for Scratch<A> {
             pairs_by_statement: _,
         } = self;
     }
+}
+
+impl<A: Allocator + Copy> Scratch<A> {
+    /// Returns the lists before the first assertion.
+    fn new(alloc: A, symbol_count: u32) -> Result<Scratch<A>, AllocError>
+        ensures { IfOk result (λ s. (at : ℕ) → IsFresh symbol_count at s.stamps.items) }
+    {
+        let stamps = filled(alloc, 0, symbol_count)?;
+        Ok(Scratch {
+            stamps,
+            variables: Vec::new(alloc),
+            hypotheses: Vec::new(alloc),
+            variables_by_statement: Vec::new(alloc),
+            pairs_by_statement: Vec::new(alloc),
+        })
+    }
+}
+
+/// Returns for each symbol the last `$f` before the statement `at` that types it, or `NEVER`.
+fn last_floats_before<A: Allocator + Copy>(
+    alloc: A,
+    statements: &Statements<A>,
+    at: u32,
+) -> Result<Vec<u32, A>, AllocError>
+    requires is_sound { IsSound statements.now.list }
+    requires at_le_length { at ≤ length statements.now.list }
+    ensures { IfOk result (λ v. AreLastFloats statements.now.list at v.items) }
+{
+    let mut last_floats = filled(alloc, NEVER, statements.symbol_count())?;
+    for statement in 0..at {
+        set_last_float(statements, statement, &mut last_floats);
+    }
+    Ok(last_floats)
 }
 
 /// Returns the numbers in a list without spare capacity.
@@ -135,13 +165,13 @@ fn add_frame<A: Allocator + Copy>(
     requires statement_lt_length { statement < length sources.now.statements.now.list }
     requires are_ready { AreReady sources.now.statements.now.list statement last_floats.now
         scratch.old.stamps.items }
-    requires are_frames_before { frames.old
-        ≡ frames_before sources.now.statements.now.list statement }
+    requires few_frames { length frames.old < 2 ^ 31 }
     ensures are_fresh { OnOk result
         (IsFresh (length (symbol_names sources.now.statements.now.list)) (statement + 1)
         scratch.new.stamps.items) }
     ensures frame_is_added { OnOk result
-        (frames.new ≡ frames_before sources.now.statements.now.list (statement + 1)) }
+        (frames.new
+        ≡ frames.old ++ frame_or_none sources.now.statements.now.list statement ∷ []) }
 {
     if sources.statements.is_assertion(statement) {
         let frame = frame_of(alloc, sources, last_floats, statement, scratch)?;
@@ -151,36 +181,27 @@ fn add_frame<A: Allocator + Copy>(
     }
 }
 
-/// Returns the frames of the assertions.
-pub(crate) fn frames_of<A: Allocator + Copy>(
+/// Returns the frames of the assertions among the statements from `from` up to `to`.
+pub(crate) fn frames_between<A: Allocator + Copy>(
     alloc: A,
-    statements: &Statements<A>,
-    disjoint_index: &DisjointIndex<A>,
+    sources: &FrameSources<A>,
+    from: u32,
+    to: u32,
 ) -> Result<Frames<A>, AllocError>
-    requires { IsDisjointIndex statements.now.list statements.now.blocks disjoint_index.now }
+    requires are_sources { AreSources sources.now }
+    requires from_le_to { from ≤ to }
+    requires to_le_length { to ≤ length sources.now.statements.now.list }
     ensures { IfOk result
-        (λ v. v ≡ frames_before statements.now.list (length statements.now.list)) }
+        (λ v. v ≡ frames_between sources.now.statements.now.list from to) }
 {
-    let count = statements.len();
-    let essentials = latest_essentials(alloc, statements)?;
-    let sources = FrameSources {
-        statements,
-        essentials: &essentials,
-        disjoint_index,
-    };
-    let mut last_floats = filled(alloc, NEVER, statements.symbol_count())?;
-    let mut scratch = Scratch {
-        stamps: filled(alloc, 0, statements.symbol_count())?,
-        variables: Vec::new(alloc),
-        hypotheses: Vec::new(alloc),
-        variables_by_statement: Vec::new(alloc),
-        pairs_by_statement: Vec::new(alloc),
-    };
-    let mut frames = Frames::none(alloc, count as usize);
-    for statement in 0..count {
+    let statements = sources.statements;
+    let mut last_floats = last_floats_before(alloc, statements, from)?;
+    let mut scratch = Scratch::new(alloc, statements.symbol_count())?;
+    let mut frames = Frames::none(alloc, (to - from) as usize);
+    for statement in from..to {
         add_frame(
             alloc,
-            &sources,
+            sources,
             &last_floats,
             statement,
             &mut scratch,
@@ -189,20 +210,4 @@ pub(crate) fn frames_of<A: Allocator + Copy>(
         set_last_float(statements, statement, &mut last_floats);
     }
     Ok(frames)
-}
-
-/// Returns the frames of lawful statements, and the index of their `$d`.
-pub fn frame_tables_of<A: Allocator + Copy>(
-    alloc: A,
-    statements: &Statements<A>,
-) -> Result<FrameTables<A>, AllocError>
-    ensures { IfOk result
-        (λ b. AreFrameTables statements.now.list statements.now.blocks b) }
-{
-    let disjoint_index = disjoint_index_of(alloc, statements)?;
-    let frames = frames_of(alloc, statements, &disjoint_index)?;
-    Ok(FrameTables {
-        disjoint_index,
-        frames,
-    })
 }

@@ -11,3 +11,4 @@ pub mod disjoint_index;
 pub mod frames;
 pub mod hypotheses;
 mod sources;
+pub mod stretches;

@@ -14,6 +14,8 @@ mod examples;
 #[cfg(test)]
 mod flags;
 #[cfg(test)]
+mod frames;
+#[cfg(test)]
 mod lexing;
 #[cfg(test)]
 mod lines;

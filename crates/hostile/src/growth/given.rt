@@ -12,7 +12,7 @@ use crate::texts::{DISJOINT, FIRST_TEXT};
 use linked_list_allocator::LocalHeap;
 use mm_lex::{Cuts, Lexed, join, lex, lex_piece};
 use mm_spec::TEXT_LIMIT;
-use mm_stmt::{Database, Sym, read_owned};
+use mm_stmt::{Database, Sym, read_alone};
 use std::alloc::{AllocError, Allocator, Global};
 use std::thread::Threads;
 
@@ -68,7 +68,7 @@ fn tokens_are_given_back_and_the_text_is_as_it_was(rt: HostRuntime) -> Result<()
         let refused = was_refused(
             &rt,
             &heap,
-            has_disjoint_variables(read_owned(&heap, &text, lexed, WITHOUT_OPEN)),
+            has_disjoint_variables(read_alone(&heap, &text, lexed, WITHOUT_OPEN)),
         );
         assert_eq!(rt; local.used(), unused);
         assert_eq!(rt; text.as_slice(), DISJOINT);

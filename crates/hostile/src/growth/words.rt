@@ -1,14 +1,21 @@
 //! The calls that turn a text into statements.
 
+ghost use Rattle.std.specs.Prelude.{◌≡◌};
+ghost use Rattle.mm_spec.specs.Lexed.{tokens_of, lexical_fault};
+
 use super::{MOST_GROWTHS, WITHOUT_OPEN, was_refused};
 use crate::heap::Refusing;
 use crate::texts::{CITED_TWICE, FIRST_TEXT};
 use mm_lex::{Cuts, Lexed, Piece, Word, join, lex, lex_piece};
-use mm_stmt::{Database, read};
+use mm_stmt::{Database, read, read_owned};
 use std::alloc::{AllocError, Allocator, Global};
+use std::thread::Threads;
 
 /// No comment is open after the head of a piece.
 const OUTSIDE_COMMENT: bool = false;
+
+/// How many workers make frames: so many that the text with two theorems has three stretches.
+const WORKERS: u32 = 3;
 
 /// How many tokens the first text has.
 const TOKENS: usize = 62;
@@ -128,7 +135,7 @@ fn pieces_joined_without_memory(rt: HostRuntime) -> Result<(), AllocError> {
 }
 
 /// Whether these are the tokens of the first text.
-fn is_lexed<A: Allocator>(answer: Result<Lexed<A>, AllocError>) -> Option<bool> {
+pub(crate) fn is_lexed<A: Allocator>(answer: Result<Lexed<A>, AllocError>) -> Option<bool> {
     match answer {
         Ok(lexed) => Some(
             lexed.tokens.len() == TOKENS
@@ -186,6 +193,44 @@ fn statements_without_memory(rt: HostRuntime) -> Result<(), AllocError> {
         assert!(&rt; lexed.tokens.as_slice() == tokens.as_slice());
         assert!(&rt; lexed.fault.is_none());
         assert!(&rt; is_read(read(&heap, CITED_TWICE, &lexed, WITHOUT_OPEN)) == Some(true));
+        if !refused {
+            assert!(&rt; growth > 10);
+            return Ok(());
+        }
+    }
+    Err(AllocError)
+}
+
+/// What it is read as by workers, which make its frames in threads. The tokens are copied first.
+fn is_read_by_workers<R: Threads + Sync>(
+    rt: &R,
+    heap: &Refusing<Global>,
+    text: &[u8],
+    lexed: &Lexed<&Refusing<Global>>,
+) -> Option<bool>
+    requires tokens_are { lexed.now.tokens.items ≡ tokens_of text.now }
+    requires fault_is { lexed.now.fault ≡ lexical_fault text.now }
+{
+    let Ok(tokens) = lexed.tokens.to_vec(heap) else {
+        return None;
+    };
+    let copy = Lexed {
+        tokens,
+        fault: lexed.fault,
+    };
+    is_read(read_owned(rt, heap, text, copy, WITHOUT_OPEN, WORKERS))
+}
+
+#[test]
+fn statements_by_workers_without_memory(rt: HostRuntime) -> Result<(), AllocError> {
+    let heap = Refusing::new(rt.alloc());
+    let cuts = Cuts::equal(&heap, CITED_TWICE.len(), 1)?;
+    let lexed = lex(&rt, &heap, CITED_TWICE, &cuts)?;
+    for growth in 1..MOST_GROWTHS {
+        heap.refuse(growth);
+        let is_right = is_read_by_workers(&rt, &heap, CITED_TWICE, &lexed);
+        let refused = was_refused(&rt, &heap, is_right);
+        assert!(&rt; is_read_by_workers(&rt, &heap, CITED_TWICE, &lexed) == Some(true));
         if !refused {
             assert!(&rt; growth > 10);
             return Ok(());

@@ -1,0 +1,82 @@
+use Rattle.std.proofs.Common.{◌≡◌, length, ap, sym, ◌∙◌, subst, arith}
+use Rattle.mm_frame.specs.Hypotheses.{AreLastFloats, IsFresh}
+use Rattle.mm_database.specs.Frames.{frames_between}
+use Rattle.mm_frame.proofs.FramesLaw.{no_frames_at_start, frames_with_statement, frame_count}
+use Rattle.mm_frame.proofs.frames.frames_between.Goals as goal
+
+pub last_floats_before-requires-clause-at_le_length :
+    goal.last_floats_before-requires-clause-at_le_length
+last_floats_before-requires-clause-at_le_length g c =
+    let from_le_to = c.requires.from_le_to in
+    let to_le_length = c.requires.to_le_length in omega (arith, from_le_to, to_le_length)
+
+pub loop-statement-init : goal.loop-statement-init
+loop-statement-init g c = record {
+  last_floats = c.in_ok-last_floats.ensures;
+  stamps =
+      subst (λ n. IsFresh n c.args.from c.in_ok-scratch.scratch.stamps.items)
+      c.symbol_count.ensures.count_is (c.in_ok-scratch.ensures c.args.from);
+  from_le_statement = omega arith;
+  frames =
+      c.none-frames.ensures
+      ∙ no_frames_at_start c.args.sources.now.statements.now.list c.args.from;
+}
+
+pub loop-statement-preserved : goal.loop-statement-preserved
+loop-statement-preserved g c = record {
+  last_floats = c.set_last_float.ensures;
+  stamps = c.in_ok-add_frame.ensures.are_fresh;
+  from_le_statement =
+      (let from_le_statement = c.loop-statement.invariant.from_le_statement in
+      omega (arith, from_le_statement));
+  frames =
+      frames_with_statement c.args.sources.now.statements.now.list c.args.from
+      c.loop-statement.statement _ _ c.loop-statement.invariant.from_le_statement
+      c.loop-statement.invariant.frames c.in_ok-add_frame.ensures.frame_is_added;
+}
+
+pub add_frame-requires-clause-are_ready : goal.add_frame-requires-clause-are_ready
+add_frame-requires-clause-are_ready g c = record {
+  last_floats_are =
+      subst (λ xs. AreLastFloats c.args.sources.now.statements.now.list c.loop-statement.statement
+      xs)
+      (sym c.deref.ensures.value)
+      c.loop-statement.invariant.last_floats;
+  stamps_are_fresh = c.loop-statement.invariant.stamps;
+}
+
+pub add_frame-requires-clause-statement_lt_length :
+    goal.add_frame-requires-clause-statement_lt_length
+add_frame-requires-clause-statement_lt_length g c =
+    let statement_lt_end = c.loop-statement-test.true in
+    let end_is_to = c.loop-statement.auto.statement-end in
+    let to_le_length = c.requires.to_le_length in
+    omega (arith, statement_lt_end, end_is_to, to_le_length)
+
+pub add_frame-requires-clause-few_frames : goal.add_frame-requires-clause-few_frames
+add_frame-requires-clause-few_frames g c =
+    let count =
+    ap length c.loop-statement.invariant.frames
+    ∙ frame_count c.args.sources.now.statements.now.list c.args.from c.loop-statement.statement in
+    let few_statements = c.requires.are_sources.sound.few_statements in
+    let statement_lt_end = c.loop-statement-test.true in
+    let end_is_to = c.loop-statement.auto.statement-end in
+    let to_le_length = c.requires.to_le_length in
+    omega (arith, count, few_statements, statement_lt_end, end_is_to, to_le_length)
+
+pub set_last_float-requires-clause-statement_lt_length :
+    goal.set_last_float-requires-clause-statement_lt_length
+set_last_float-requires-clause-statement_lt_length g c =
+    let statement_lt_end = c.loop-statement-test.true in
+    let end_is_to = c.loop-statement.auto.statement-end in
+    let to_le_length = c.requires.to_le_length in
+    omega (arith, statement_lt_end, end_is_to, to_le_length)
+
+pub returns : goal.returns
+returns g c =
+    let end_is_to = c.loop-statement.auto.statement-end in
+    let end_le_statement = c.loop-statement-test.false in
+    let statement_is_to : c.loop-statement.statement ≡ c.args.to =
+    omega (arith, end_is_to, end_le_statement) in
+    c.loop-statement.invariant.frames
+    ∙ ap (frames_between c.args.sources.now.statements.now.list c.args.from) statement_is_to

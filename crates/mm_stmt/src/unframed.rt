@@ -1,0 +1,83 @@
+//! What is read of a text before its frames are made.
+
+ghost use Rattle.std.specs.Prelude.{◌≡◌, IfOk, length};
+ghost use Rattle.mm_spec.specs.Lexed.{tokens_of, lexical_fault, lexed_of};
+ghost use Rattle.mm_spec.specs.Opened.{counted};
+ghost use Rattle.mm_spec.specs.Output.{IsRead};
+ghost use Rattle.mm_database.specs.FrameTables.{AreFrameTables};
+ghost use Rattle.mm_stmt.specs.Unframed.{IsUnframed};
+
+use crate::reading::reading_of;
+use crate::retained_words::retain_all_words;
+use crate::statement_lists::list_statements;
+use mm_database::Database;
+use mm_database::frames::FrameTables;
+use mm_database::reading::Reading;
+use mm_database::statement_lists::StatementLists;
+use mm_database::tables::StatementTables;
+use mm_lists::Lists;
+use mm_scope::reading::outline_statements;
+use mm_spec::{Lexed, Word};
+use std::alloc::{AllocError, Allocator};
+
+/// The statements of a text with all that is kept of them but their frames.
+#[derive(Drop)]
+pub struct Unframed<'a, A: Allocator> {
+    pub reading: Reading<'a, A>,
+    pub statement_lists: StatementLists<A>,
+    pub retained_words: Lists<Word, A>,
+}
+
+/// Reads the statements of a text. The memory of the tokens is given back: the frames and the index
+/// of the `$d` need no tokens, so it is free for them.
+pub(crate) fn read_statements<'a, A: Allocator + Copy>(
+    alloc: A,
+    text: &'a [u8],
+    lexed: Lexed<A>,
+    with_open: bool,
+) -> Result<Unframed<'a, A>, AllocError>
+    requires tokens_of_text { lexed.tokens.items ≡ tokens_of text.now }
+    requires fault_of_text { lexed.fault ≡ lexical_fault text.now }
+    ensures { IfOk result (IsUnframed text.now with_open) }
+{
+    let Lexed { tokens, fault } = lexed;
+    let words = tokens.as_slice();
+    let outlined = outline_statements(alloc, text, words, fault)?;
+    let statement_lists = list_statements(alloc, text, words, &outlined.outlines, with_open)?;
+    let retained_words = retain_all_words(alloc, words, &outlined.outlines)?;
+    drop(tokens);
+    let reading = reading_of(alloc, text, outlined)?;
+    Ok(Unframed {
+        reading,
+        statement_lists,
+        retained_words,
+    })
+}
+
+/// Returns the database of a text, of what was read of it and its frames.
+pub(crate) fn database_of<'a, A: Allocator>(
+    text: &'a [u8],
+    with_open: bool,
+    unframed: Unframed<'a, A>,
+    frame_tables: FrameTables<A>,
+) -> Database<'a, A>
+    requires is_unframed { IsUnframed text.now with_open unframed }
+    requires are_frame_tables { AreFrameTables unframed.reading.statements.list
+        unframed.reading.statements.blocks frame_tables }
+    ensures text_is { result.text ≡ text.now }
+    ensures flag_is { result.with_open ≡ with_open }
+    ensures is_read { IsRead (length text.now) (lexed_of text.now) result.read result.fault }
+    ensures are_counted { result.statements ≡ counted with_open result.read }
+{
+    let Unframed {
+        reading,
+        statement_lists,
+        retained_words,
+    } = unframed;
+    let tables = StatementTables {
+        frame_tables,
+        statement_lists,
+        retained_words,
+    };
+    Database::new(with_open, reading, tables)
+}

@@ -1,0 +1,161 @@
+//! Frames that are made in stretches of statements, beside those of a plain loop.
+
+ghost use Rattle.std.specs.Prelude.{◌<◌, length};
+
+use crate::flags::WITHOUT_OPEN;
+use mm_lex::{Cuts, lex};
+use mm_rule::is_assertion;
+use mm_spec::TEXT_LIMIT;
+use mm_stmt::{Database, Kind, Sym, read_owned};
+use std::alloc::{AllocError, Global};
+use std::rt::HostRuntime;
+use std::thread::Threads;
+
+/// Blocks in blocks, and a variable that has a `$f` in two of them. There are six symbols, so no
+/// stretch has fewer than six statements.
+const TEXT: &[u8] = b"$c wff |- $. $v p q r s $. wp $f wff p $. wq $f wff q $. a $a wff p $. \
+${ wr $f wff r $. $d p q r $. e1 $e |- q $. b $a |- r $. \
+${ ws $f wff s $. $d p s $. $d q s $. e2 $e |- s $. c $a |- p $. $} d $a |- p $. $} \
+e $a |- q $. \
+${ xs $f wff s $. $d s p q $. f $a |- s $. e3 $e |- p $. g $a |- s $. t $p |- s $= ? $. $} \
+h $a |- p $.";
+
+/// Whether a formula has the symbol.
+fn has_symbol(formula: &[Sym], symbol: Sym) -> bool {
+    for other in formula {
+        if other.number() == symbol.number() {
+            return true;
+        }
+    }
+    false
+}
+
+/// Whether the symbol is in the assertion's formula, or in that of an active `$e`.
+fn is_mandatory(database: &Database<Global>, assertion: u32, symbol: Sym) -> bool
+    requires { assertion < length database.now.statements }
+{
+    for statement in 0..assertion {
+        if database.kind(statement) == Kind::Essential
+            && database.active_at(statement, assertion)
+            && has_symbol(database.formula(statement), symbol)
+        {
+            return true;
+        }
+    }
+    has_symbol(database.formula(assertion), symbol)
+}
+
+/// Whether an active statement is a mandatory hypothesis of the assertion.
+fn is_hypothesis(database: &Database<Global>, assertion: u32, statement: u32) -> bool
+    requires assertion_is_known { assertion < length database.now.statements }
+    requires statement_is_known { statement < length database.now.statements }
+{
+    match database.kind(statement) {
+        Kind::Essential => true,
+        Kind::Floating => match database.formula(statement).get(1) {
+            Some(variable) => is_mandatory(database, assertion, *variable),
+            None => false,
+        },
+        _ => false,
+    }
+}
+
+/// Whether the mandatory hypotheses of the assertion are these.
+fn are_hypotheses(database: &Database<Global>, assertion: u32, hypotheses: &[u32]) -> bool
+    requires { assertion < length database.now.statements }
+{
+    let mut found = 0;
+    for statement in 0..assertion {
+        if database.active_at(statement, assertion)
+            && is_hypothesis(database, assertion, statement)
+        {
+            if hypotheses.get(found) != Some(&statement) {
+                return false;
+            }
+            found += 1;
+        }
+    }
+    found == hypotheses.len()
+}
+
+/// Whether an active `$d` of the assertion has both symbols.
+fn are_together(database: &Database<Global>, assertion: u32, low: Sym, high: Sym) -> bool
+    requires { assertion < length database.now.statements }
+{
+    for statement in 0..assertion {
+        if database.kind(statement) == Kind::Disjoint
+            && database.active_at(statement, assertion)
+            && has_symbol(database.formula(statement), low)
+            && has_symbol(database.formula(statement), high)
+        {
+            return true;
+        }
+    }
+    false
+}
+
+/// Whether the mandatory pairs of the assertion are these.
+fn are_pairs(database: &Database<Global>, assertion: u32, pairs: &[(Sym, Sym)]) -> bool
+    requires { assertion < length database.now.statements }
+{
+    let mut found = 0;
+    for low in 0..database.symbol_count() {
+        for high in low + 1..database.symbol_count() {
+            let pair = (Sym::new(low), Sym::new(high));
+            if is_mandatory(database, assertion, pair.0)
+                && is_mandatory(database, assertion, pair.1)
+                && are_together(database, assertion, pair.0, pair.1)
+            {
+                if pairs.get(found) != Some(&pair) {
+                    return false;
+                }
+                found += 1;
+            }
+        }
+    }
+    found == pairs.len()
+}
+
+/// Whether the frame of each assertion is that of the plain loop.
+fn has_plain_frames(database: &Database<Global>) -> bool {
+    for assertion in 0..database.len() {
+        if is_assertion(database, assertion) {
+            let frame = database.frame(assertion);
+            if !are_hypotheses(database, assertion, &frame.hyps)
+                || !are_pairs(database, assertion, &frame.pairs)
+            {
+                return false;
+            }
+        }
+    }
+    true
+}
+
+/// Whether the frames of a text are those of the plain loop, if that many workers make them. Fails
+/// if the text is too long, too.
+fn are_plain_by<R: Threads + Sync>(
+    rt: &R,
+    alloc: Global,
+    text: &[u8],
+    workers: u32,
+) -> Result<bool, AllocError> {
+    if text.len() > TEXT_LIMIT {
+        return Err(AllocError);
+    }
+    let cuts = Cuts::equal(alloc, text.len(), 1)?;
+    let lexed = lex(rt, alloc, text, &cuts)?;
+    let database = read_owned(rt, alloc, text, lexed, WITHOUT_OPEN, workers.max(1))?;
+    Ok(has_plain_frames(&database))
+}
+
+/// Each beginning of the text has another number of statements, so the stretches have every length
+/// from six statements on, and end in each statement.
+#[test]
+fn frames_of_each_beginning_by_any_workers(rt: HostRuntime) -> Result<(), AllocError> {
+    for end in 0..TEXT.len() {
+        for workers in [1u32, 2, 3, 64] {
+            assert!(&rt; are_plain_by(&rt, rt.alloc(), &TEXT[..end + 1], workers)?);
+        }
+    }
+    Ok(())
+}
