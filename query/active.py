@@ -16,10 +16,14 @@ class Active:
 
     __slots__ = ("last", "before", "size")
 
-    def __init__(self, last: int, before: Active | None) -> None:
+    def __init__(self, last: int, before: Active | None, size: int) -> None:
         self.last = last
         self.before = before
-        self.size: int = 0 if before is None else before.size + 1
+        self.size = size
+
+    def and_then(self, number: int) -> Active:
+        """These, and a number after them."""
+        return Active(number, self, self.size + 1)
 
     def __len__(self) -> int:
         return self.size
@@ -40,7 +44,7 @@ class Active:
             each = each.before
 
 
-NOTHING = Active(-1, None)
+NOTHING = Active(-1, None, 0)
 
 
 class Scope:

@@ -160,7 +160,7 @@ def read_config(data: bytes, name: str) -> Config:
         table = tomllib.loads(text)
     except UnicodeDecodeError:
         raise NoAnswer(f"{name}: not UTF-8") from None
-    except (ValueError, RecursionError) as error:
+    except ValueError as error:
         raise NoAnswer(f"{name}: {shown(str(error))}") from None
     except RecursionError:
         raise NoAnswer(f"{name}: nested too deeply") from None

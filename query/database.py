@@ -22,7 +22,7 @@ if TYPE_CHECKING:
 # Count the forms in which results, and what was read of texts, are kept. A change of what they hold
 # has to change them.
 FORM = 1
-TEXT_FORM = 2
+TEXT_FORM = 3
 
 
 @dataclass

@@ -108,21 +108,22 @@ def optional(starts: "array[int]", ends: "array[int]") -> Iterator[Stretch | Non
 
 
 def before_each(found: Iterable[Active]) -> bytes:
-    """Each number that is active somewhere, with the one before it: both counted from 1, 0 where
-    there is none."""
-    seen: dict[int, int] = {}
+    """Each number that is active somewhere, with the one before it and how many are active; the
+    numbers counted from 1, 0 where there is none."""
+    seen: dict[int, tuple[int, int]] = {}
     for active in found:
         for each in active.upwards():
             if each.last in seen or each.before is None:
                 break
-            seen[each.last] = each.before.last
-    pairs = ((last + 1, before + 1) for last, before in sorted(seen.items()))
-    return array("I", chain.from_iterable(pairs)).tobytes()
+            seen[each.last] = (each.before.last, each.size)
+    rows = ((last + 1, before + 1, size) for last, (before, size) in sorted(seen.items()))
+    return array("I", chain.from_iterable(rows)).tobytes()
 
 
-def active_of(kept: bytes) -> dict[int, Active]:
+def active_of(kept: bytes) -> list[Active]:
     """What is active where each number, counted from 1, is the last one; and 0 where none is."""
-    found = {0: NOTHING}
-    for last, before in stretches_of(kept):
-        found[last] = Active(last - 1, found[before])
+    lasts, befores, sizes = columns(kept, 3)
+    found = [NOTHING] * (lasts[-1] + 1 if lasts else 1)
+    for last, before, size in zip(lasts, befores, sizes):
+        found[last] = Active(last - 1, found[before], size)
     return found

@@ -329,7 +329,7 @@ def promises_gone(case: Case) -> Iterator[tuple[str, str]]:
     for theorem, axiom in dict.fromkeys(promises(case.old_text)):
         now = (to_new.get(theorem, ""), to_new.get(axiom, ""))
         row, column = old.rows.get(theorem), old.columns.get(axiom)
-        if row is None or column is None or old.marks.is_marked(row, old.chosen[column]):
+        if row is None or column is None or old.is_marked(row, column):
             continue
         if now not in kept and now[0] and now[1] in case.new.dependence.columns:
             yield now

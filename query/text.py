@@ -482,13 +482,13 @@ class Reading:
             )
             return
         if kind == b"e":
-            self.essential = Active(len(text.hypotheses), self.essential)
+            self.essential = self.essential.and_then(len(text.hypotheses))
         text.hypotheses.append(Hypothesis(name, kind.decode(), place, formula))
 
     def add_plain(self, kind: bytes, symbols: Stretch) -> None:
         """Adds a `$c`, `$d` or `$v`."""
         if kind == b"d":
-            self.disjoint = Active(len(self.text.disjoint), self.disjoint)
+            self.disjoint = self.disjoint.and_then(len(self.text.disjoint))
             self.text.disjoint.append(symbols)
         elif kind == b"v":
             self.text.declared.append(symbols)

@@ -29,13 +29,15 @@ wi $a wff ( p -> q ) $.
 @dataclass(frozen=True)
 class Shape:
     """What is made for a size, and the commands that are run beside it. `size` is that of the
-    benchmark, and `small` the one of the test."""
+    benchmark, and `small` the one of the test. `is_answer` is whether the answer itself has the
+    square of the size."""
 
     name: str
     make: Callable[[int], Files]
     size: int
     small: int
     commands: tuple[str, ...]
+    is_answer: bool = False
 
 
 @dataclass(frozen=True)
@@ -163,8 +165,13 @@ def tags(count: int) -> Files:
 
 
 def renamed(count: int) -> Files:
-    """Theorems of the same statement, all of them renamed."""
-    return two(theorems(count), theorems(count, name="u"))
+    """Theorems of the same statement, all of them renamed and in other order, by what they cite."""
+    some = 128
+    pairs = [(f"a{number % some}", f"a{some + number // some}") for number in range(count)]
+    head = axioms(some + count // some + 1)
+    old = "".join(theorem(f"t{number}", *pair) for number, pair in enumerate(pairs))
+    new = "".join(theorem(f"u{number}", *pair) for number, pair in enumerate(reversed(pairs)))
+    return two(head + old, head + new)
 
 
 def proved_anew(count: int) -> Files:
@@ -259,7 +266,7 @@ def discouraged(count: int) -> Files:
 def long_label(count: int) -> Files:
     """A label that is as long as all the others together."""
     label = "l" * count
-    return one(theorem(label, "ax") + theorems(count // 20, label))
+    return one(theorem(label, "ax") + theorem("l", label) + theorems(count // 20))
 
 
 def headers(count: int) -> Files:
@@ -294,10 +301,9 @@ def letters(number: int) -> str:
 def long_formulas(count: int) -> Files:
     """A proof with long formulas, which proves another one than its theorem says."""
     doublings = 17
-    steps = "AABZ" + "".join(2 * letters(5 + k) + "BZ" for k in range(1, doublings))
+    steps = "AABZ" + "".join(letters(5 + k) + "BZ" for k in range(1, doublings))
     long = 2 * letters(5 + doublings) + "B"
     item = f"A{long}{long}CD"
-    # The first formulas are left of the stack by the rule `via` too.
     start = f"A{steps}{letters(5 + doublings)}CD"
     letters_of = "A" * count + start + f"{item}E" * count
     return one(f"x $p |- ( p -> p ) $= ( wi ax via two ) {letters_of} $.\n")
@@ -314,7 +320,7 @@ SHAPES = [
     Shape("quotes", quotes, 100_000, 100_000, ("page a.mm",)),
     Shape("open `<pre`", preformatted, 40_000, 100_000, ("page a.mm",)),
     Shape("tags", tags, 40_000, 40_000, ("page a.mm",)),
-    Shape("equal statements renamed", renamed, 4_000, 10_000,
+    Shape("equal statements renamed", renamed, 4_000, 4_000,
           ("compare a.mm b.mm", "gate a.mm b.mm", "page --against a.mm b.mm")),
     Shape("equal statements with the old proofs", proved_anew, 4_000, 10_000,
           ("compare a.mm b.mm", "gate a.mm b.mm")),
@@ -322,13 +328,13 @@ SHAPES = [
           ("compare a.mm b.mm", "gate a.mm b.mm", "page a.mm")),
     Shape("a long `$d` around", far_distinct, 2_000, 4_000,
           ("compare a.mm b.mm", "gate a.mm b.mm", "page a.mm", "export --sqlite out.db a.mm")),
-    Shape("a `$d` before each", many_distinct, 4_000, 8_000,
+    Shape("a `$d` before each", many_distinct, 4_000, 3_000,
           ("chapters a.mm", "compare a.mm b.mm", "gate a.mm b.mm", "page a.mm",
            "export --sqlite out.db a.mm")),
     Shape("a `$e` before each", many_hypotheses, 4_000, 8_000,
           ("chapters a.mm", "compare a.mm b.mm", "gate a.mm b.mm")),
     Shape("deep blocks", deep_blocks, 200_000, 100_000, ("gate a.mm b.mm", "page b.mm")),
-    Shape("axioms", many_axioms, 100_000, 60_000,
+    Shape("axioms", many_axioms, 100_000, 100_000,
           ("rests b.mm more", "falls b.mm a0", "top b.mm", "compare a.mm b.mm", "gate a.mm b.mm",
            "picture b.mm", "page b.mm")),
     Shape("axioms in other order", axioms_in_other_order, 20_000, 20_000,
@@ -344,6 +350,6 @@ SHAPES = [
           "way-out a.mm ax", "compare a.mm a.mm")),
     Shape("headers", headers, 20_000, 10_000,
           ("chapters a.mm ax", "mathboxes a.mm", "picture a.mm --png", "page a.mm")),
-    Shape("dummy variables", dummies, 4_000, 4_000, ("page a.mm",)),
-    Shape("long formulas", long_formulas, 100, 200, ("verify a.mm",)),
+    Shape("dummy variables", dummies, 2_000, 2_000, ("page a.mm",), is_answer=True),
+    Shape("long formulas", long_formulas, 20, 40, ("verify a.mm",)),
 ]  # fmt: skip

@@ -100,32 +100,51 @@ class TheTwelve(Hostile):
         self.assertEqual(came.status, 0)
         self.assertIn("note: `typecode` of mmdepend.toml leaves the axioms of '|-'", came.out)
 
+    def inner(self) -> Path:
+        """Puts the files of a bare repository beside the database, whose `main` has what is
+        committed there. Returns what exists when its address was called."""
+        marker = self.room.parent / "marker"
+        seed, inner = self.room.parent / "seed", self.room.parent / "inner.git"
+        self.git("init", "--quiet", "--initial-branch=main", str(seed))
+        (seed / "set.mm").write_text(changed(BASE, CHEAT))
+        self.git("add", "--all", folder=seed)
+        self.git("commit", "--quiet", "--message", "all of it", folder=seed)
+        self.git("clone", "--quiet", "--bare", str(seed), str(inner))
+        for name in ("HEAD", "objects", "refs", "config", "packed-refs"):
+            os.rename(inner / name, self.room / "db" / name)
+        commit = self.git("rev-parse", "HEAD", folder=seed)
+        (self.room / "db/refs/heads/main").write_text(f"{commit}\n")
+        for setting in (
+            "extensions.partialClone=origin",
+            "core.repositoryFormatVersion=1",
+            f"remote.origin.url=ext::touch {marker}",
+            "remote.origin.promisor=true",
+            "protocol.ext.allow=always",
+        ):
+            self.git("config", "--file", "db/config", *setting.split("=", 1))
+        return marker
+
     def test_3_a_repository_within(self) -> None:
         (self.room / "db").mkdir()
         self.commit(BASE, "db/set.mm")
         self.branch()
         self.commit(changed(BASE, CHEAT), "db/set.mm")
-        self.assertEqual(len(self.told("--base", "main", "db/set.mm")), 1)
-        marker = self.room.parent / "marker"
-        inner = self.room.parent / "inner.git"
-        self.git("clone", "--quiet", "--bare", ".", str(inner))
-        self.git("update-ref", "refs/heads/main", "work", folder=inner)
-        for name in ("HEAD", "objects", "refs", "config", "packed-refs"):
-            os.rename(inner / name, self.room / "db" / name)
-        self.git("config", "--file", "db/config", "extensions.partialClone", "origin")
-        self.git("config", "--file", "db/config", "core.repositoryFormatVersion", "1")
-        self.git("config", "--file", "db/config", "remote.origin.url", f"ext::touch {marker}")
-        self.git("config", "--file", "db/config", "protocol.ext.allow", "always")
-        self.git("config", "--file", "db/config", "remote.origin.promisor", "true")
-        self.is_refused("--base", "main", "db/set.mm", why="db is a repository or a submodule")
+        words = ("--base", "main", "db/set.mm")
+        self.assertEqual(len(self.told(*words)), 1)
+        marker = self.inner()
+        self.is_refused(*words, why="db is a repository or a submodule")
+        blob = self.git("rev-parse", "work:db/set.mm")
+        (self.room / "db/objects" / blob[:2] / blob[2:]).unlink()
+        self.is_refused(*words, why="db is a repository or a submodule")
         room, self.room = self.room, self.room / "db"
         self.is_refused("--base", "main", "set.mm", why="has the files of a bare repository")
-        self.is_refused("--base", "9" * 40, "main:set.mm", why="has the files of a bare repository")
+        self.is_refused("--base", "main", "HEAD:set.mm", why="has the files of a bare repository")
+        self.refuses("rests", "HEAD:set.mm", "zorn", why="has the files of a bare repository")
         self.room = room
+        self.assertFalse(marker.exists())
         self.git("add", "--all")
         self.git("commit", "--quiet", "--message", "a repository")
         self.is_refused("--base", "main", "HEAD:db/set.mm", why="the files of a bare repository")
-        self.assertFalse(marker.exists())
 
     def test_4_a_folder_that_becomes_a_link(self) -> None:
         for name in ("db", "unjudged"):
@@ -192,29 +211,25 @@ class TheTwelve(Hostile):
 
     def test_7_labels_of_axioms_that_are_swapped(self) -> None:
         swapped = BASE.replace("ax-1 ", "x ").replace("ax-ac2 ", "ax-1 ").replace("x ", "ax-ac2 ")
-        swapped = changed(swapped, ("= wp wq ax-ac2", "= wp wq ax-ac2"))
         self.asks(WATCH + '[allow]\naxioms = ["ax-*"]\n')
         self.commit(swapped)
-        came = self.query("gate", "--base", "main", "db.mm")
-        self.assertEqual(came.status, 1, came)
-        self.assertIn(
-            "ax-ac2: a watched axiom whose label another one has; its statement has", came.out
-        )
+        told = "mmdepend.toml:1: ax-ac2: a watched axiom whose label another one has; its statement"
+        self.assertTrue(any(line.startswith(told) for line in self.told()))
 
     def test_8_a_file_with_the_name_of_a_revision(self) -> None:
+        self.commit(BASE, "HEAD:db.mm")
         self.cheats()
         commit = self.git("rev-parse", "HEAD")
         words = ("--base", "main", "HEAD:db.mm")
-        self.assertEqual(len(self.told(*words)), 1)
-        self.write("HEAD:db.mm", BASE)
         self.write(f"{commit}:db.mm", BASE)
-        self.commit(changed(BASE, CHEAT))
         self.is_refused(
             *words, why="write ./HEAD:db.mm for the file, and the full id of the commit"
         )
         self.assertEqual(len(self.told("--base", "main", f"{commit}:db.mm")), 1)
         self.refuses("rests", "HEAD:db.mm", "zorn", why="is a file, and of a revision too")
         self.assertEqual(self.told("./HEAD:db.mm", "db.mm"), [TOLD])
+        (self.room / "HEAD:db.mm").unlink()
+        self.assertEqual(self.told(*words), ["HEAD:" + TOLD])
 
     def test_9_a_comment_usage_that_is_gone(self) -> None:
         said = "$( $j usage 'free' avoids 'ax-ac2' 'df-4'; $)\n"
@@ -241,7 +256,7 @@ class TheTwelve(Hostile):
         mark = "$( (New usage is discouraged.) $)\n"
         marked = changed(BASE, ("axac3 $p", f"{mark}axac3 $p"))
         user = "user $p |- ( p -> ( p -> p ) ) $= wp axac3 $.\n"
-        self.asks("[rules]\nnew = false\n", before=marked)
+        self.asks("", before=marked)
         self.commit(marked + user)
         self.assertEqual(self.rules(), ["discouraged"])
         gone = "axac3: its comment no longer says `(New usage is discouraged.)` [discouraged]"

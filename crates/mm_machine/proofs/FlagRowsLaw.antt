@@ -4,14 +4,15 @@ use Rattle.std.proofs.Common.{◌⊎◌, inl, inr, List, [], ◌∷◌, ◌++◌
 use Rattle.std.proofs.Common.{replicate, refl, sym, ap, ap₂, ◌∙◌, subst, arith, length-append}
 use Rattle.std.specs.List.{list_all}
 use Rattle.std.proofs.lemmas.Bool.{cases_lt, and_parts}
-use Rattle.std.proofs.lemmas.List.{get_or_append_left, get_or-set_other}
+use Rattle.std.proofs.lemmas.List.{get_or_append_left, get_or-set_other, get_or_default}
+use Rattle.std.proofs.Math.Seq.{get_or-append_seam}
 use Rattle.mm_spec.specs.Statement.{Statement}
 use Rattle.mm_spec.specs.Derivation.{are_disjoint, is_disjoint_from}
 use Rattle.mm_spec.specs.Citation.{context_at}
 use Rattle.mm_machine.specs.declared.flag_rows.TheConstants.{ROW_LENGTH}
 use Rattle.mm_machine.specs.FlagRows.{RowsOfFlags, flag_rows, flag_at, AreApartAt}
 use Rattle.mm_machine.specs.FlagRows.{AreRowsDisjointAt, StayDisjoint, StayDisjointWith}
-use Rattle.mm_machine.specs.FlagRows.{Extends, AreMarked, HasMarkedFlags}
+use Rattle.mm_machine.specs.FlagRows.{Extends, IsColumnOf, AreColumnsOf, HasFlags}
 
 never_set : (m i : ℕ) → get_or (replicate m false) i false ≡ true → ⊥
 never_set zero i is_set = cc
@@ -137,7 +138,7 @@ next_stays_disjoint s other i others r r' r'' i_lt_length other_is so_far next =
       (so_far.stay db t is_disjoint disjoint);
 }
 
--- ---- marks
+-- ---- columns
 
 list_all_from_each : (test : ℕ → Bool) (xs : List ℕ)
     → ((k : ℕ) → k < length xs → test (get_or xs k 0) ≡ true) → list_all test xs ≡ true
@@ -146,28 +147,61 @@ list_all_from_each test (x ∷ xs) each_passes =
     ap₂ (λ a b. a && b) (each_passes 0 (omega arith))
     (list_all_from_each test xs (λ k k_lt_length. each_passes (suc k) (omega arith)))
 
--- a symbol with a flag for each mark is disjoint from those that are marked
-pub marked_are_disjoint : (db : List Statement) (t : ℕ) (r : RowsOfFlags) (s : ℕ)
-    (marks : List Bool) (others : List ℕ)
-    → AreRowsDisjointAt db t r → AreMarked r.symbols marks others → HasMarkedFlags r s marks
+-- a symbol with a flag in each column is disjoint from the symbols of the columns
+pub flagged_are_disjoint : (db : List Statement) (t : ℕ) (r : RowsOfFlags) (s : ℕ)
+    (columns others : List ℕ)
+    → AreRowsDisjointAt db t r → AreColumnsOf r.symbols columns others → HasFlags r s columns
     → is_disjoint_from (context_at db t) s others ≡ true
-marked_are_disjoint db t r s marks others disjoint marked has_flags =
+flagged_are_disjoint db t r s columns others disjoint are_columns has_flags =
     list_all_from_each (are_disjoint (context_at db t) s) others (λ k k_lt_length.
-    let m = marked.are_marked k k_lt_length in
-    sym (ap₂ (are_disjoint (context_at db t)) has_flags.is_row_of m.is_column_of)
-    ∙ (disjoint.are_apart has_flags.row m.column m.column_lt_row_length
-    (has_flags.has_flags m.column m.column_lt_row_length m.is_marked)).are_apart)
+    let k_lt_columns : k < length columns = omega (arith, k_lt_length, are_columns.counts_equal) in
+    sym (ap₂ (are_disjoint (context_at db t)) has_flags.is_row_of
+    (are_columns.are_columns k k_lt_length).is_column_of)
+    ∙ (disjoint.are_apart has_flags.row (get_or columns k 0)
+    (has_flags.columns_in_range k k_lt_columns) (has_flags.has_flags k k_lt_columns)).are_apart)
 
-pub marked_stay : (symbols symbols' : List ℕ) (marks : List Bool) (others : List ℕ)
-    → Extends symbols symbols' → AreMarked symbols marks others → AreMarked symbols' marks others
-marked_stay symbols symbols' marks others (more, symbols_are) marked =
-    subst (λ z. AreMarked z marks others) (sym symbols_are) (record {
-      are_marked = λ k k_lt_length. let m = marked.are_marked k k_lt_length in record {
-        column = m.column;
-        column_lt_length = omega (arith, m.column_lt_length, length-append symbols more);
-        column_lt_row_length = m.column_lt_row_length;
-        is_marked = m.is_marked;
-        is_column_of = get_or_append_left symbols more 0 m.column m.column_lt_length
-            ∙ m.is_column_of;
-      };
+column_stays : (symbols symbols' : List ℕ) (column s : ℕ) → Extends symbols symbols'
+    → IsColumnOf symbols column s → IsColumnOf symbols' column s
+column_stays symbols symbols' column s (more, symbols_are) is_column =
+    subst (λ z. IsColumnOf z column s) (sym symbols_are) (record {
+      column_lt_length = omega (arith, is_column.column_lt_length, length-append symbols more);
+      is_column_of = get_or_append_left symbols more 0 column is_column.column_lt_length
+          ∙ is_column.is_column_of;
     })
+
+pub columns_stay : (symbols symbols' columns others : List ℕ) → Extends symbols symbols'
+    → AreColumnsOf symbols columns others → AreColumnsOf symbols' columns others
+columns_stay symbols symbols' columns others extends are_columns = record {
+  counts_equal = are_columns.counts_equal;
+  are_columns = λ k k_lt_length. column_stays symbols symbols' (get_or columns k 0)
+      (get_or others k 0) extends (are_columns.are_columns k k_lt_length);
+}
+
+-- one more column
+pub next_column : (symbols symbols' columns columns' others : List ℕ) (i column s : ℕ)
+    → i < length others → s ≡ get_or others i s → Extends symbols symbols' → length columns ≡ i
+    → ((k : ℕ) → k < i → IsColumnOf symbols (get_or columns k 0) (get_or others k 0))
+    → column < length symbols' → get_or symbols' column 0 ≡ s → columns' ≡ columns ++ column ∷ []
+    → (k : ℕ) → k < i + 1 → IsColumnOf symbols' (get_or columns' k 0) (get_or others k 0)
+next_column symbols symbols' columns columns' others i column s i_lt_length s_is extends length_is
+    so_far column_lt_length is_column_of columns_are k k_lt = at_k (cases_lt k i)
+  where
+    at_k : (k < i) ⊎ (i ≤ k) → IsColumnOf symbols' (get_or columns' k 0) (get_or others k 0)
+    at_k (inl k_lt_i) =
+        subst (λ z. IsColumnOf symbols' z (get_or others k 0))
+        (sym (ap (λ z. get_or z k 0) columns_are
+        ∙ get_or_append_left columns (column ∷ []) 0 k (omega (arith, k_lt_i, length_is))))
+        (column_stays symbols symbols' (get_or columns k 0) (get_or others k 0) extends
+        (so_far k k_lt_i))
+    at_k (inr i_le_k) =
+        let k_is : k ≡ i = omega (arith, i_le_k, k_lt) in
+        let k_is_length : k ≡ length columns = omega (arith, k_is, length_is) in
+        let column_at : get_or columns' k 0 ≡ column =
+        ap₂ (λ z n. get_or z n 0) columns_are k_is_length
+        ∙ get_or-append_seam columns column [] 0 in
+        let symbol_at : get_or others k 0 ≡ s =
+        ap (λ n. get_or others n 0) k_is ∙ get_or_default others i 0 s i_lt_length ∙ sym s_is in
+        record {
+          column_lt_length = subst (λ z. z < length symbols') (sym column_at) column_lt_length;
+          is_column_of = ap (λ z. get_or symbols' z 0) column_at ∙ is_column_of ∙ sym symbol_at;
+        }

@@ -43,21 +43,20 @@ pub record StayDisjointWith (s : ℕ) (others : List ℕ) (r r' : RowsOfFlags) :
 abbrev pub Extends : List ℕ → List ℕ → Type 0
 Extends xs ys = (more : List ℕ) × (ys ≡ xs ++ more)
 
--- the column of the symbol is marked
-pub record IsMarked (symbols : List ℕ) (marks : List Bool) (s : ℕ) : Type 0 where
-  pub column : ℕ
+-- the column is that of the symbol
+pub record IsColumnOf (symbols : List ℕ) (column s : ℕ) : Type 0 where
   pub column_lt_length : column < length symbols
-  pub column_lt_row_length : column < ROW_LENGTH
-  pub is_marked : get_or marks column false ≡ true
   pub is_column_of : get_or symbols column 0 ≡ s
 
--- the column of each of the symbols is marked
-pub record AreMarked (symbols : List ℕ) (marks : List Bool) (others : List ℕ) : Type 0 where
-  pub are_marked : (k : ℕ) → k < length others → IsMarked symbols marks (get_or others k 0)
+-- the columns are those of the other symbols, in their order
+pub record AreColumnsOf (symbols columns others : List ℕ) : Type 0 where
+  pub counts_equal : length columns ≡ length others
+  pub are_columns : (k : ℕ) → k < length others
+      → IsColumnOf symbols (get_or columns k 0) (get_or others k 0)
 
--- the row of the symbol has a flag in each marked column
-pub record HasMarkedFlags (r : RowsOfFlags) (s : ℕ) (marks : List Bool) : Type 0 where
+-- the row of the symbol has a flag in each of the columns
+pub record HasFlags (r : RowsOfFlags) (s : ℕ) (columns : List ℕ) : Type 0 where
   pub row : ℕ
   pub is_row_of : get_or r.symbols row 0 ≡ s
-  pub has_flags : (column : ℕ) → column < ROW_LENGTH → get_or marks column false ≡ true
-      → flag_at r.flags row column ≡ true
+  pub columns_in_range : (k : ℕ) → k < length columns → get_or columns k 0 < ROW_LENGTH
+  pub has_flags : (k : ℕ) → k < length columns → flag_at r.flags row (get_or columns k 0) ≡ true

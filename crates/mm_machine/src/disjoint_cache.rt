@@ -1,7 +1,7 @@
 //! Pairs of symbols that are known to be disjoint at a theorem.
 
 ghost use Rattle.std.specs.Prelude.{◌≡◌, ◌⊎◌, [], ℕ, List, true, IfOk};
-ghost use Rattle.mm_machine.specs.FlagRows.{flag_rows, AreMarked, HasMarkedFlags, Extends};
+ghost use Rattle.mm_machine.specs.FlagRows.{flag_rows, AreColumnsOf, HasFlags, Extends};
 ghost use Rattle.mm_spec.specs.Statement.{Statement};
 ghost use Rattle.mm_spec.specs.Derivation.{is_disjoint_from};
 ghost use Rattle.mm_spec.specs.Citation.{context_at};
@@ -122,21 +122,21 @@ impl<A: Allocator> DisjointCache<A> {
         }
     }
 
-    /// Marks the columns of symbols, and no others, and returns whether each has one.
-    pub fn mark(&mut self, symbols: &[Sym], marks: &mut Vec<bool, A>) -> bool
+    /// Lists the columns of symbols in the rows, and returns whether each has one.
+    pub fn list_columns(&mut self, symbols: &[Sym], columns: &mut Vec<usize, A>) -> bool
         ensures stay_disjoint { (db : List Statement) (t : ℕ) → AreDisjointAt db t self.old
             → AreDisjointAt db t self.new }
-        ensures are_marked { result ≡ true
-            → AreMarked self.new.rows.symbols marks.new.items symbols.now }
+        ensures are_columns { result ≡ true
+            → AreColumnsOf self.new.rows.symbols columns.new.items symbols.now }
     {
-        self.rows.mark(symbols, marks)
+        self.rows.list_columns(symbols, columns)
     }
 
-    /// Whether a symbol is known to be disjoint from those whose columns are marked.
-    pub fn has_marked(&self, symbol: Sym, marks: &[bool]) -> bool
-        ensures { result ≡ true → HasMarkedFlags self.now.rows symbol marks.now }
+    /// Whether a symbol is known to be disjoint from those that have these columns.
+    pub fn has_flags(&self, symbol: Sym, columns: &[usize]) -> bool
+        ensures { result ≡ true → HasFlags self.now.rows symbol columns.now }
     {
-        self.rows.has_marked(symbol, marks)
+        self.rows.has_flags(symbol, columns)
     }
 
     /// Adds the pairs of a symbol and others, from which it is disjoint, to the rows, as far as there

@@ -20,8 +20,8 @@ pub struct DistinctVariables<A: Allocator> {
     pub symbols: Vec<Sym, A>,
     /// The entries, which are stretches of `symbols`.
     pub entries: Vec<Span, A>,
-    /// Marks of the columns of a list of symbols, for the rows of a `DisjointCache`.
-    pub marks: Vec<bool, A>,
+    /// The columns of a list of symbols in the rows of a `DisjointCache`.
+    pub columns: Vec<usize, A>,
     /// For each symbol the index at which it may be in `symbols`.
     slots: Vec<u32, A>,
 }
@@ -32,7 +32,7 @@ impl<A: Allocator> Drop for DistinctVariables<A> {
         let Self {
             symbols: _,
             entries: _,
-            marks: _,
+            columns: _,
             slots: _,
         } = self;
     }
@@ -47,7 +47,7 @@ impl<A: Allocator> DistinctVariables<A> {
         Ok(DistinctVariables {
             symbols: Vec::new(alloc),
             entries: Vec::new(alloc),
-            marks: Vec::new(alloc),
+            columns: Vec::new(alloc),
             slots: vec![in alloc; 0; symbol_count]?,
         })
     }
@@ -56,6 +56,7 @@ impl<A: Allocator> DistinctVariables<A> {
     pub fn empty(&mut self) {
         empty(&mut self.symbols);
         empty(&mut self.entries);
+        empty(&mut self.columns);
     }
 
     /// Replaces the entries by one for each of the premises, with the same variables.

@@ -2,7 +2,7 @@
 
 ghost use Rattle.std.specs.Prelude.{◌≡◌, ◌<◌, ◌∷◌, [], ℕ, length, get_or, true, false, IfSome};
 ghost use Rattle.std.specs.Prelude.{slice_set};
-ghost use Rattle.mm_machine.specs.FlagRows.{flag_rows, AreMarked, HasMarkedFlags, Extends};
+ghost use Rattle.mm_machine.specs.FlagRows.{flag_rows, AreColumnsOf, HasFlags, Extends};
 ghost use Rattle.mm_machine.specs.FlagRows.{StayDisjoint, StayDisjointWith};
 
 use mm_database::Sym;
@@ -121,38 +121,38 @@ impl<A: Allocator> FlagRows<A> {
         }
     }
 
-    /// Marks the columns of symbols, and no others, and returns whether each has one.
-    pub fn mark(&mut self, symbols: &[Sym], marks: &mut Vec<bool, A>) -> bool
+    /// Lists the columns of symbols, and returns whether each has one.
+    pub fn list_columns(&mut self, symbols: &[Sym], columns: &mut Vec<usize, A>) -> bool
         ensures stay_disjoint { StayDisjoint self.old self.new }
-        ensures are_marked { result ≡ true
-            → AreMarked self.new.symbols marks.new.items symbols.now }
+        ensures are_columns { result ≡ true
+            → AreColumnsOf self.new.symbols columns.new.items symbols.now }
     {
-        marks.clear();
-        if marks.resize(ROW_LENGTH, false).is_err() {
-            return false;
-        }
+        columns.clear();
         for symbol in symbols {
-            match self.find_or_add(*symbol) {
+            let column = match self.find_or_add(*symbol) {
                 None => return false,
-                Some(index) => set_flag(marks, index),
+                Some(column) => column,
+            };
+            if columns.push(column).is_err() {
+                return false;
             }
         }
         true
     }
 
-    /// Whether a symbol's row has a flag in each marked column.
-    pub fn has_marked(&self, symbol: Sym, marks: &[bool]) -> bool
-        ensures { result ≡ true → HasMarkedFlags self.now symbol marks.now }
+    /// Whether a symbol's row has a flag in each of the columns.
+    pub fn has_flags(&self, symbol: Sym, columns: &[usize]) -> bool
+        ensures { result ≡ true → HasFlags self.now symbol columns.now }
     {
         match self.find(symbol) {
             None => false,
-            Some(index) => {
-                let start = index * ROW_LENGTH;
+            Some(row) => {
+                let start = row * ROW_LENGTH;
                 let end = start + ROW_LENGTH;
                 if end > self.flags.len() {
                     return false;
                 }
-                has_each(marks, &self.flags[start..end])
+                has_each(columns, &self.flags[start..end])
             }
         }
     }
@@ -236,17 +236,20 @@ fn set_flag(flags: &mut [bool], index: usize)
     }
 }
 
-/// Whether each mark has a flag.
-fn has_each(marks: &[bool], flags: &[bool]) -> bool
-    ensures { result ≡ true → (k : ℕ) → get_or marks.now k false ≡ true
-        → get_or flags.now k false ≡ true }
+/// Whether a row has a flag in each of the columns.
+fn has_each(columns: &[usize], flags: &[bool]) -> bool
+    ensures in_range { result ≡ true → (k : ℕ) → k < length columns.now
+        → get_or columns.now k 0 < length flags.now }
+    ensures has_flags { result ≡ true → (k : ℕ) → k < length columns.now
+        → get_or flags.now (get_or columns.now k 0) false ≡ true }
 {
-    if marks.len() != flags.len() {
-        return false;
+    for column in columns {
+        if *column >= flags.len() {
+            return false;
+        }
+        if !flags[*column] {
+            return false;
+        }
     }
-    let mut are_there = true;
-    for (k, mark) in marks.iter().enumerate() {
-        are_there = are_there & (!*mark | flags[k]);
-    }
-    are_there
+    true
 }

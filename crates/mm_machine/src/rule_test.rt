@@ -18,7 +18,7 @@ ghost use Rattle.mm_machine.specs.Arena.{
   AreEntries,
 };
 ghost use Rattle.mm_machine.specs.DisjointCache.{AreDisjointAt};
-ghost use Rattle.mm_machine.specs.FlagRows.{AreMarked};
+ghost use Rattle.mm_machine.specs.FlagRows.{AreColumnsOf};
 ghost use Rattle.mm_rule.specs.Rule.{IsVariableBelow, IsCompiled, all_parts};
 ghost use Rattle.mm_rule.specs.Rule.{total_stored_part_count};
 ghost use Rattle.mm_machine.specs.Replaced.{replacement, replaced};
@@ -224,13 +224,13 @@ fn are_all_disjoint<A: Allocator>(
     true
 }
 
-/// Whether a symbol is disjoint from each of the others, whose columns are marked.
-fn is_disjoint_from_marked<A: Allocator>(
+/// Whether a symbol is disjoint from each of the others, whose columns are listed.
+fn is_disjoint_from_listed<A: Allocator>(
     database: &Database<A>,
     theorem: u32,
     symbol: Sym,
     others: &[Sym],
-    marks: &[bool],
+    columns: &[usize],
     cache: &mut DisjointCache<A>,
 ) -> bool
     requires theorem_lt_length { theorem < length database.now.statements }
@@ -238,13 +238,13 @@ fn is_disjoint_from_marked<A: Allocator>(
     requires others_are_symbols { All (λ symbol. symbol < length (symbol_names
         database.now.statements)) others.now }
     requires cached_are_disjoint { AreDisjointAt database.now.statements theorem cache.old }
-    requires are_marked { AreMarked cache.old.rows.symbols marks.now others.now }
+    requires are_columns { AreColumnsOf cache.old.rows.symbols columns.now others.now }
     ensures tells_disjoint { result
         ≡ disjoint_symbol (context_at database.now.statements theorem) symbol others.now }
     ensures cached_are_disjoint { AreDisjointAt database.now.statements theorem cache.new }
-    ensures are_marked { AreMarked cache.new.rows.symbols marks.now others.now }
+    ensures are_columns { AreColumnsOf cache.new.rows.symbols columns.now others.now }
 {
-    if cache.has_marked(symbol, marks) {
+    if cache.has_flags(symbol, columns) {
         return true;
     }
     if !is_disjoint_from(database, theorem, symbol, others, cache) {
@@ -261,7 +261,7 @@ fn are_all_disjoint_by_rows<A: Allocator>(
     theorem: u32,
     first: &[Sym],
     second: &[Sym],
-    marks: &mut Vec<bool, A>,
+    columns: &mut Vec<usize, A>,
     cache: &mut DisjointCache<A>,
 ) -> bool
     requires theorem_lt_length { theorem < length database.now.statements }
@@ -274,11 +274,11 @@ fn are_all_disjoint_by_rows<A: Allocator>(
         ≡ disjoint_lists (context_at database.now.statements theorem) first.now second.now }
     ensures cached_are_disjoint { AreDisjointAt database.now.statements theorem cache.new }
 {
-    if !cache.mark(second, marks) {
+    if !cache.list_columns(second, columns) {
         return are_all_disjoint(database, theorem, first, second, cache);
     }
     for symbol in first {
-        if !is_disjoint_from_marked(database, theorem, *symbol, second, marks, cache) {
+        if !is_disjoint_from_listed(database, theorem, *symbol, second, columns, cache) {
             return false;
         }
     }
@@ -292,7 +292,7 @@ fn are_apart<A: Allocator>(
     theorem: u32,
     first: &[Sym],
     second: &[Sym],
-    marks: &mut Vec<bool, A>,
+    columns: &mut Vec<usize, A>,
     cache: &mut DisjointCache<A>,
 ) -> bool
     requires theorem_lt_length { theorem < length database.now.statements }
@@ -306,7 +306,7 @@ fn are_apart<A: Allocator>(
     ensures cached_are_disjoint { AreDisjointAt database.now.statements theorem cache.new }
 {
     if first.len().saturating_mul(second.len()) > MAX_SYMBOL_PAIRS {
-        are_all_disjoint_by_rows(database, theorem, first, second, marks, cache)
+        are_all_disjoint_by_rows(database, theorem, first, second, columns, cache)
     } else {
         are_all_disjoint(database, theorem, first, second, cache)
     }
@@ -320,7 +320,7 @@ fn pairs_are_disjoint<A: Allocator>(
     symbols: &Symbols,
     premises: &[Span],
     pairs: &[(u32, u32)],
-    marks: &mut Vec<bool, A>,
+    columns: &mut Vec<usize, A>,
     cache: &mut DisjointCache<A>,
 ) -> bool
     requires theorem_lt_length { theorem < length database.now.statements }
@@ -339,7 +339,7 @@ fn pairs_are_disjoint<A: Allocator>(
     for pair in pairs {
         let first = symbols.formula(replacement_of(premises, pair.0));
         let second = symbols.formula(replacement_of(premises, pair.1));
-        if !are_apart(database, theorem, first, second, marks, cache) {
+        if !are_apart(database, theorem, first, second, columns, cache) {
             return false;
         }
     }
@@ -389,13 +389,13 @@ fn keeps_disjoint<A: Allocator>(
     ensures cached_are_disjoint { AreDisjointAt database.now.statements theorem cache.new }
 {
     if !has_many_symbol_pairs(premises, pairs) {
-        let marks = &mut distinct.marks;
-        return pairs_are_disjoint(database, theorem, symbols, premises, pairs, marks, cache);
+        let columns = &mut distinct.columns;
+        return pairs_are_disjoint(database, theorem, symbols, premises, pairs, columns, cache);
     }
     match distinct.collect(database, symbols, premises) {
         Err(_) => {
-            let marks = &mut distinct.marks;
-            pairs_are_disjoint(database, theorem, symbols, premises, pairs, marks, cache)
+            let columns = &mut distinct.columns;
+            pairs_are_disjoint(database, theorem, symbols, premises, pairs, columns, cache)
         }
         Ok(()) => {
             let reduced = Symbols {
@@ -403,8 +403,8 @@ fn keeps_disjoint<A: Allocator>(
                 marked: &[],
             };
             let entries = &distinct.entries;
-            let marks = &mut distinct.marks;
-            pairs_are_disjoint(database, theorem, &reduced, entries, pairs, marks, cache)
+            let columns = &mut distinct.columns;
+            pairs_are_disjoint(database, theorem, &reduced, entries, pairs, columns, cache)
         }
     }
 }

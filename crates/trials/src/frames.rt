@@ -64,18 +64,18 @@ fn is_hypothesis(database: &Database<Global>, assertion: u32, statement: u32) ->
 fn are_hypotheses(database: &Database<Global>, assertion: u32, hypotheses: &[u32]) -> bool
     requires { assertion < length database.now.statements }
 {
-    let mut found = 0;
+    let mut expected = hypotheses.iter();
     for statement in 0..assertion {
         if database.active_at(statement, assertion)
             && is_hypothesis(database, assertion, statement)
         {
-            if hypotheses.get(found) != Some(&statement) {
-                return false;
+            match expected.next() {
+                Some(hypothesis) if *hypothesis == statement => {}
+                _ => return false,
             }
-            found += 1;
         }
     }
-    found == hypotheses.len()
+    expected.next().is_none()
 }
 
 /// Whether an active `$d` of the assertion has both symbols.
@@ -98,22 +98,21 @@ fn are_together(database: &Database<Global>, assertion: u32, low: Sym, high: Sym
 fn are_pairs(database: &Database<Global>, assertion: u32, pairs: &[(Sym, Sym)]) -> bool
     requires { assertion < length database.now.statements }
 {
-    let mut found = 0;
+    let mut expected = pairs.iter();
     for low in 0..database.symbol_count() {
         for high in low + 1..database.symbol_count() {
-            let pair = (Sym::new(low), Sym::new(high));
-            if is_mandatory(database, assertion, pair.0)
-                && is_mandatory(database, assertion, pair.1)
-                && are_together(database, assertion, pair.0, pair.1)
+            if is_mandatory(database, assertion, Sym::new(low))
+                && is_mandatory(database, assertion, Sym::new(high))
+                && are_together(database, assertion, Sym::new(low), Sym::new(high))
             {
-                if pairs.get(found) != Some(&pair) {
-                    return false;
+                match expected.next() {
+                    Some(pair) if pair.0.number() == low && pair.1.number() == high => {}
+                    _ => return false,
                 }
-                found += 1;
             }
         }
     }
-    found == pairs.len()
+    expected.next().is_none()
 }
 
 /// Whether the frame of each assertion is that of the plain loop.
@@ -148,13 +147,15 @@ fn are_plain_by<R: Threads + Sync>(
     Ok(has_plain_frames(&database))
 }
 
-/// Each beginning of the text has another number of statements, so the stretches have every length
-/// from six statements on, and end in each statement.
+/// The text up to the end of each statement has one statement more. So the stretches have every
+/// length from six statements on, and end in each statement.
 #[test]
 fn frames_of_each_beginning_by_any_workers(rt: HostRuntime) -> Result<(), AllocError> {
     for end in 0..TEXT.len() {
-        for workers in [1u32, 2, 3, 64] {
-            assert!(&rt; are_plain_by(&rt, rt.alloc(), &TEXT[..end + 1], workers)?);
+        if TEXT[end] == b'.' || TEXT[end] == b'{' || TEXT[end] == b'}' {
+            for workers in [1u32, 2, 3, 64] {
+                assert!(&rt; are_plain_by(&rt, rt.alloc(), &TEXT[..end + 1], workers)?);
+            }
         }
     }
     Ok(())

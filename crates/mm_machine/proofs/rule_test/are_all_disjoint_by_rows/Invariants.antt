@@ -2,7 +2,7 @@ use Rattle.std.proofs.Common.{◌≡◌, take, true}
 use Rattle.mm_spec.specs.Derivation.{are_all_disjoint}
 use Rattle.mm_spec.specs.Citation.{context_at}
 use Rattle.mm_machine.specs.DisjointCache.{AreDisjointAt}
-use Rattle.mm_machine.specs.FlagRows.{AreMarked}
+use Rattle.mm_machine.specs.FlagRows.{AreColumnsOf}
 use Rattle.mm_machine.proofs.rule_test.are_all_disjoint_by_rows.Given as goal
 
 abbrev pub invariant-loop-symbol : goal.invariant-loop-symbol
@@ -11,5 +11,5 @@ invariant-loop-symbol g l = record {
       (take l.symbol-index l.first) l.second
       ≡ true;
   cache : AreDisjointAt l.database.statements l.theorem l.cache;
-  are_marked : AreMarked l.cache.rows.symbols l.marks.items l.second;
+  are_columns : AreColumnsOf l.cache.rows.symbols l.columns.items l.second;
 }
