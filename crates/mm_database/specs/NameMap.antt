@@ -2,8 +2,7 @@
 use Rattle.std.specs.Prelude.{◌≡◌, ◌≢◌, ℕ, ◌+◌, ◌-◌, ◌*◌, ◌/◌, ◌%◌, ◌^◌, ◌<◌, ◌≤◌, ◌⊎◌, Bool}
 use Rattle.std.specs.Prelude.{true, false, nat_le, nat_lt, List, length, Option, None, Some}
 use Rattle.std.specs.Prelude.{slice_get, slice_index, if◌then◌else◌, bytes_eq}
-use Rattle.mm_database.specs.declared.name.Name.{Name}
-use Rattle.mm_database.specs.Names.{are_distinct, names_of}
+use Rattle.mm_database.specs.Names.{are_distinct}
 
 -- stands in a slot that has no index
 abbrev pub no_index : ℕ

@@ -1,6 +1,6 @@
 -- The names that the code knows.
-use Rattle.std.specs.Prelude.{◌≡◌, ◌<◌, ℕ, Bool, true, false, ◌&&◌, not, List, Option, None, Some}
-use Rattle.std.specs.Prelude.{bytes_eq, length, map, [], ◌∷◌, ◌++◌, if◌then◌else◌}
+use Rattle.std.specs.Prelude.{ℕ, Bool, true, false, ◌&&◌, not, List, Option, None, Some}
+use Rattle.std.specs.Prelude.{bytes_eq, map, [], ◌∷◌, ◌++◌, if◌then◌else◌}
 use Rattle.std.specs.Map.{keys_of, lookup}
 use Rattle.mm_spec.specs.Text.{is_in}
 use Rattle.mm_database.specs.declared.name.Name.{Name}

@@ -1,4 +1,4 @@
-use Rattle.std.proofs.Common.{◌≡◌, ◌≢◌, ◌∙◌, ◌+◌, ◌-◌, Some, None, slice_get, ap, sym, arith}
+use Rattle.std.proofs.Common.{◌≡◌, ◌≢◌, ◌∙◌, ◌-◌, Some, None, slice_get, ap, sym, arith}
 use Rattle.mm_database.specs.NameMap.{no_index}
 use Rattle.mm_database.proofs.NameMapLaw.{one_more_taken}
 use Rattle.mm_database.proofs.name_map.free_slot.Goals as goal

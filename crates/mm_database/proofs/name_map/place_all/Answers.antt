@@ -1,4 +1,4 @@
-use Rattle.std.proofs.Common.{◌<◌, arith, length}
+use Rattle.std.proofs.Common.{arith}
 use Rattle.std.proofs.lemmas.Option.{slice_get_within}
 use Rattle.mm_database.specs.Names.{names_of}
 use Rattle.mm_database.proofs.NamesLaw.{as_many_names_as_entries}

@@ -1,4 +1,4 @@
-use Rattle.std.proofs.Common.{◌≡◌, ◌∙◌, ◌<◌, ◌++◌, ◌∷◌, [], Some, false, length, sym, ap, subst}
+use Rattle.std.proofs.Common.{◌≡◌, ◌∙◌, Some, false, sym, ap, subst}
 use Rattle.std.proofs.Common.{bytes_eq, if◌then◌else◌}
 use Rattle.mm_spec.specs.Text.{is_in}
 use Rattle.mm_database.specs.Names.{find, names_of}

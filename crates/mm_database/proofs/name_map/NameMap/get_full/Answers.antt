@@ -1,7 +1,6 @@
-use Rattle.std.proofs.Common.{◌≡◌, ◌∙◌, ◌<◌, true, Some, length, slice_get, refl, sym, ap, subst}
+use Rattle.std.proofs.Common.{◌≡◌, ◌∙◌, true, Some, length, slice_get, refl, sym, ap, subst}
 use Rattle.std.proofs.Common.{arith}
 use Rattle.std.proofs.lemmas.Option.{slice_get_read, slice_get_within}
-use Rattle.mm_spec.specs.Frame.{index_of}
 use Rattle.mm_database.specs.Names.{are_distinct, find, names_of}
 use Rattle.mm_database.proofs.SymbolsLaw.{index_of_distinct, missing_index_is_length}
 use Rattle.mm_database.proofs.NamesLaw.{as_many_names_as_entries}

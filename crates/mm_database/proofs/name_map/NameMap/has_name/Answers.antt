@@ -1,4 +1,4 @@
-use Rattle.std.proofs.Common.{◌≡◌, ◌∙◌, Some, None, List, slice_get, ap, sym}
+use Rattle.std.proofs.Common.{◌≡◌, ◌∙◌, Some, None, slice_get, ap, sym}
 use Rattle.std.specs.Option.{option_map}
 use Rattle.mm_database.specs.Names.{names_of}
 use Rattle.mm_database.specs.NameMap.{has_name}

@@ -1,10 +1,10 @@
-use Rattle.std.proofs.Common.{◌≡◌, ◌≢◌, ◌∙◌, ◌+◌, ◌-◌, ◌≤◌, ℕ, List, Some, None, false, length}
+use Rattle.std.proofs.Common.{◌≡◌, ◌≢◌, ◌∙◌, ◌+◌, ◌-◌, ℕ, Some, None, false, length}
 use Rattle.std.proofs.Common.{slice_get, ap, sym, subst, arith}
 use Rattle.mm_database.specs.Names.{names_of}
 use Rattle.mm_database.specs.NameMap.{IsNameMap, first_slot, has_name, no_index}
 use Rattle.mm_database.specs.OrderedNames.{index_in}
 use Rattle.mm_database.proofs.NameMapLaw.{absent_at_free_slot, absent_if_not_crowded}
-use Rattle.mm_database.proofs.NameMapLaw.{name_is_word, one_more_other}
+use Rattle.mm_database.proofs.NameMapLaw.{one_more_other}
 use Rattle.mm_database.proofs.name_map.NameMap.looked_up.Goals as goal
 use Rattle.mm_database.proofs.name_map.NameMap.looked_up.Goals.{in_default}
 use Rattle.mm_database.proofs.name_map.NameMap.looked_up.Goals.{in-Some+else-index+else-has_name}

@@ -1,4 +1,4 @@
-use Rattle.std.proofs.Common.{◌≡◌, ◌∙◌, ap, Some, if◌then◌else◌}
+use Rattle.std.proofs.Common.{◌∙◌, ap, Some, if◌then◌else◌}
 use Rattle.std.proofs.lemmas.Map.Text.{is_eq-slice_cmp}
 use Rattle.mm_database.specs.OrderedNames.{index_in}
 use Rattle.mm_database.proofs.ordered_names.OrderedNames.insert.Goals as goal
