@@ -27,7 +27,7 @@ _mmquery() {
                     within:-*) words='--list --only --all --axioms --ignore-definitions --essential --open --format --no-cache -h --help' ;;
                     same:-*) words='--only --all --axioms --ignore-definitions --essential --open --format --no-cache -h --help' ;;
                     compare:-*) words='--only --all --axioms --ignore-definitions --essential --open --format --no-cache -h --help' ;;
-                    gate:-*) words='--base --config --summary --format --no-cache -h --help' ;;
+                    gate:-*) words='--base --merge-base --config --config-of-new --summary --format --no-cache -h --help' ;;
                     chapters:-*) words='--only --all --axioms --ignore-definitions --essential --open --format --no-cache -h --help' ;;
                     order:-*) words='--only --all --axioms --ignore-definitions --essential --open --format --no-cache -h --help' ;;
                     unfinished:-*) words='--essential --open --format --no-cache -h --help' ;;

@@ -4,12 +4,20 @@
  * the caller's, keeps nothing between calls, and may run in several threads at once, each with
  * memory of its own.
  *
- * What the library is proved to do holds for a caller who keeps these promises. Every pointer is not
- * null, and is valid for as many bytes as its length says; with length 0 it may point anywhere else.
- * `room.at` is a multiple of 16, and the room has at least 16 * `room.units` bytes, which the caller
- * neither reads nor writes during the call. The room, `out` and what the lengths are written to
- * don't overlap one another, nor the text or the typecode. A bool is 0 or 1. No object that a
- * pointer points into is longer than PTRDIFF_MAX bytes.
+ * What the library is proved to do holds for a caller who keeps these promises. Nothing of them is
+ * checked.
+ *
+ * - Every pointer is not null, and is valid for as many bytes as its length says; with length 0 it
+ *   may point anywhere else. No object that a pointer points into is longer than PTRDIFF_MAX bytes.
+ *   A bool is 0 or 1.
+ * - `room.at` is a multiple of 16, and the room has at least 16 * `room.units` bytes.
+ * - The room, `out`, what the lengths are written to, and the struct mmdepend_room itself don't
+ *   overlap one another, nor the text or the typecode. So the struct doesn't lie within the memory
+ *   that it names.
+ * - During the call nobody else reads or writes the room, the struct that names it, `out`, or what
+ *   the lengths are written to: no other thread, no signal handler, no other process.
+ * - During the call the text and the typecode don't change. A file that is mapped into memory and
+ *   shared (MAP_SHARED) may change when somebody writes to it: copy it first.
  */
 #ifndef MMDEPEND_H
 #define MMDEPEND_H
@@ -56,7 +64,8 @@ enum mmdepend_form {
 /* Verifies every proof of a database and writes the report that is requested, or the refusal of the
  * first fault, to the front of `out`.
  *
- * room: comes back whole; if it comes back with no unit, take it as given up.
+ * room: comes back whole; only with MMDEPEND_NO_MEMORY it may come back with no unit, and then take
+ *     it as given up.
  * text: the database, `text_len` bytes. Of more than 2,147,483,648 bytes only these are read, and
  *     they are refused.
  * only: the typecode of the axioms that are columns, and of the citations that are listed, in UTF-8,
@@ -68,8 +77,8 @@ enum mmdepend_form {
  * written: gets the output's length in bytes with MMDEPEND_ACCEPTED, _REFUSED and _OUT_TOO_SHORT,
  *     and else 0.
  *
- * The result is one of mmdepend_status. With _NOT_UTF8, _NO_MEMORY and _NO_SUCH_REQUEST what is in
- * `out` is of no meaning. */
+ * The result is one of mmdepend_status. With _NOT_UTF8 and _NO_SUCH_REQUEST `out` stays as it was;
+ * with _NO_MEMORY what is in it is of no meaning. */
 uint32_t mmdepend_report(struct mmdepend_room *room, const uint8_t *text, size_t text_len,
                          const uint8_t *only, size_t only_len, bool has_only, uint32_t part,
                          uint32_t form, bool essential, bool with_open, uint8_t *out,

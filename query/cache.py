@@ -2,88 +2,121 @@
 
 A result is a file with named parts. Its name is made of the sums of database and program and of
 the options, so an old one is never taken for a new one. It is written beside and renamed when it
-is whole, and its parts are checked when it is read: what is damaged counts as missing. Where
-nothing can be written or read, results are made anew. All together take at most 1 GB; the ones
-used longest ago go first.
+is whole. It has a code that only who knows the user's secret can make (`query/secret.py`), for its
+name and all of its bytes: what somebody else put there, or is damaged, counts as missing. Where
+nothing can be written or read, or the folder isn't the user's own, results are made anew. All
+together take at most 1 GB; the ones used longest ago go first.
 """
 
+from __future__ import annotations
+
+import hashlib
+import hmac
 import json
 import os
+import re
 import time
-import zlib
 
-from query import signals
+from query import secret, signals
 
 MOST = 1_000_000_000
-FORM = b"mmquery result 2\n"
+FORM = b"mmquery result 3\n"
+CODE = 32  # bytes
 NEW = ".new-"
 OLD_NEW = 3600  # seconds after which an unfinished file is one that was left behind
+OWN = re.compile(r"[0-9a-f]{40}|\.new-[0-9]+-[0-9a-f]+")
+"""The names of files that are made here."""
 
 
 def folder() -> str | None:
     """The folder of kept results; None where the user has none."""
-    base = os.environ.get("XDG_CACHE_HOME", "")
-    if not os.path.isabs(base):
-        home = os.environ.get("HOME", "")
-        if not os.path.isabs(home):
-            return None
-        base = os.path.join(home, ".cache")
-    return os.path.join(base, "mmquery")
+    base = secret.base_folder("XDG_CACHE_HOME", ".cache")
+    return None if base is None else os.path.join(base, "mmquery")
+
+
+def wrong() -> str | None:
+    """Why nothing is kept or taken; None where it may be."""
+    place, path = folder(), secret.place()
+    if place is None or path is None:
+        return "HOME isn't set"
+    wrong_place = secret.wrong_folder(place)
+    return secret.wrong_secret(path) if wrong_place is None else f"{place}: {wrong_place}"
+
+
+def own_folder() -> str | None:
+    """The folder, where it is the user's own."""
+    place = folder()
+    return None if place is None or secret.wrong_folder(place) is not None else place
 
 
 def packed(parts: dict[str, bytes]) -> bytes:
-    """The bytes of a result: a line with the sum of the next one, that one with names, sizes and
-    sums of the parts, and the parts."""
-    sizes = [(name, len(data), zlib.crc32(data)) for name, data in parts.items()]
-    head = json.dumps(sizes).encode()
-    return b"".join([FORM, b"%08x\n" % zlib.crc32(head), head, b"\n", *parts.values()])
+    """The bytes of a result: a line with names and sizes of the parts, and the parts."""
+    head = json.dumps([(name, len(data)) for name, data in parts.items()]).encode()
+    return b"".join([head, b"\n", *parts.values()])
 
 
-def unpacked(data: bytes) -> dict[str, bytes] | None:
-    """The parts of a result; None where it is damaged."""
-    first = len(FORM) + 9
-    end = data.find(b"\n", first)
-    head = data[first:end]
-    if end < 0 or data[:first] != FORM + b"%08x\n" % zlib.crc32(head):
-        return None
+def unpacked(data: bytes, start: int = 0) -> dict[str, bytes]:
+    """The parts of a result, which begins at a place. It is one that was made here."""
+    place = data.index(b"\n", start) + 1
     parts: dict[str, bytes] = {}
-    place = end + 1
-    for name, size, total in json.loads(head):
-        part = data[place : place + size]
-        if len(part) != size or zlib.crc32(part) != total:
-            return None
-        parts[name] = part
+    for name, size in json.loads(data[start:place]):
+        parts[name] = data[place : place + size]
         place += size
-    return parts if place == len(data) else None
+    return parts
+
+
+def code_of(key: str, sealed_by: bytes, data: bytes | memoryview) -> bytes:
+    """The code of a result under a key."""
+    code = hashlib.blake2b(key=sealed_by, digest_size=CODE)
+    code.update(key.encode() + b"\n")
+    code.update(data)
+    return code.digest()
+
+
+def read_whole(path: str) -> bytes:
+    """The bytes of a file that is the user's own, and notes that it was used. OSError where it
+    isn't, or can't be read."""
+    descriptor = secret.opened(path)
+    with open(descriptor, "rb", buffering=0) as file:
+        state = os.fstat(descriptor)
+        if secret.wrong_owner(state, 0o022) is not None or state.st_size > MOST:
+            raise OSError("isn't the user's own")
+        os.utime(descriptor)
+        return file.readall()
 
 
 def load(key: str) -> dict[str, bytes] | None:
-    """The parts of the result that is kept under a key; None where there is none."""
-    place = folder()
-    if place is None:
+    """The parts of the result that is kept under a key; None where there is none that was kept by
+    the user."""
+    place, sealed_by = own_folder(), secret.read()
+    if place is None or sealed_by is None:
         return None
-    path = os.path.join(place, key)
     try:
-        with open(path, "rb") as file:
-            parts = unpacked(file.read())
-        os.utime(path)
+        data = read_whole(os.path.join(place, key))
     except OSError:
         return None
-    return parts
+    start = len(FORM) + CODE
+    code = code_of(key, sealed_by, memoryview(data)[start:])
+    if not data.startswith(FORM) or not hmac.compare_digest(code, data[len(FORM) : start]):
+        return None
+    return unpacked(data, start)
 
 
 def store(key: str, parts: dict[str, bytes]) -> None:
     """Keeps a result under a key, if it can be."""
-    place = folder()
+    place = own_folder()
     data = packed(parts)
     if place is None or len(data) > MOST // 2:
+        return
+    sealed_by = secret.made()
+    if sealed_by is None:
         return
     new = os.path.join(place, f"{NEW}{os.getpid()}-{os.urandom(6).hex()}")
     number = signals.at_stop(lambda: os.unlink(new))
     try:
         os.makedirs(place, mode=0o700, exist_ok=True)
         make_room(place, len(data))
-        write_new(new, data)
+        write_new(new, FORM + code_of(key, sealed_by, data) + data)
         os.replace(new, os.path.join(place, key))
     except OSError:
         try:
@@ -106,11 +139,12 @@ def write_new(path: str, data: bytes) -> None:
 
 
 def entries(place: str) -> list[tuple[float, int, str]]:
-    """The files in the folder: when each was last used, its size and its path; the oldest first."""
+    """The results in the folder: when each was last used, its size and its path; the oldest first.
+    Files of other names aren't touched."""
     found = []
     with os.scandir(place) as files:
         for file in files:
-            if file.is_file(follow_symlinks=False):
+            if OWN.fullmatch(file.name) and file.is_file(follow_symlinks=False):
                 state = file.stat(follow_symlinks=False)
                 found.append((state.st_mtime, state.st_size, file.path))
     return sorted(found)
@@ -134,7 +168,7 @@ def make_room(place: str, size: int) -> None:
 
 def clear() -> int:
     """Removes all that is kept. Returns how many files these were. OSError where that fails."""
-    place = folder()
+    place = own_folder()
     if place is None or not os.path.isdir(place):
         return 0
     found = entries(place)

@@ -29,12 +29,17 @@ class Side:
         self.dependence = dependence
         self.graph: Graph = dependence.graph
         self.text = text
+        self.cited: dict[str, frozenset[str]] = {}  # of theorems that were asked for
 
     def cites(self, label: str) -> frozenset[str]:
         """The labels that a theorem cites; none where this database has no such theorem."""
-        node = self.graph.index.get(label)
-        labels = self.graph.labels
-        return frozenset() if node is None else frozenset(labels[i] for i in self.graph.cites[node])
+        known = self.cited.get(label)
+        if known is None:
+            node = self.graph.index.get(label)
+            labels = self.graph.labels
+            cited = () if node is None else self.graph.cites[node]
+            known = self.cited[label] = frozenset(labels[each] for each in cited)
+        return known
 
     def users(self, axiom: str) -> list[str]:
         """The theorems that rest on an axiom, in file order; none where it isn't one here."""
@@ -68,11 +73,10 @@ def prepare(database: Database) -> bytes:
 
 def take(database: Database, prepared: bytes) -> None:
     """Gives a database what `prepare` found. Refused where it was refused."""
-    parts = cache.unpacked(prepared[1:]) if prepared[:1] == b"+" else None
-    if parts is None:
+    if prepared[:1] != b"+":
         line, column, code = prepared.decode().split(" ")
         raise Refused(database.source, int(line), int(column), code)
-    database.known[database.options.only] = from_parts(parts)
+    database.known[database.options.only] = from_parts(cache.unpacked(prepared, 1))
 
 
 def sides(old: Database, new: Database) -> tuple[Side, Side]:
@@ -186,11 +190,11 @@ class Comparison:
 
     def why_gained(self, axiom: str) -> Reasons:
         """For theorems of NEW that rest on an axiom, because of which new citation."""
-        return Reasons(self.new.graph, self.old.graph, self.to_old, axiom)
+        return Reasons(self.new, self.old, self.to_old, axiom)
 
     def why_lost(self, axiom: str) -> Reasons:
         """For theorems of OLD that rested on an axiom, because of which citation that is gone."""
-        return Reasons(self.old.graph, self.new.graph, self.to_new, axiom)
+        return Reasons(self.old, self.new, self.to_new, axiom)
 
     def shifts(self, axiom: str, *, lost: bool = False) -> Iterator[Shift]:
         """What came to rest on an axiom of NEW, or no longer rests on one of OLD, in file order."""
@@ -202,54 +206,65 @@ class Comparison:
             yield Shift(theorem, axiom, *reasons.why(theorem))
 
 
+MOST_RUNS = 256
+"""Up to so many runs of columns are moved one by one."""
+
+
 class Moves:
     """Compares rows of marks of two databases, whose axioms have other columns.
 
     A row is a number with a bit for each column. Columns that follow one another in both are moved
-    from one to the other at once.
+    from one to the other at once; where these runs are many, column by column.
     """
 
     def __init__(self, old: Dependence, new: Dependence, to_old: dict[str, str]) -> None:
         self.old, self.new = old, new
-        self.runs: list[tuple[int, int]] = []
-        """The bits of a run in OLD, and how far left they stand in NEW."""
-        self.common = 0
-        for label in new.axioms:
-            before = old.columns.get(to_old.get(label, ""))
-            if before is not None:
-                bit, there = new.mask_of([new.columns[label]]), old.mask_of([before])
-                self.add(there, bit.bit_length() - there.bit_length())
-                self.common |= there
-        self.of_new = {new.mask_of([column]): label for label, column in new.columns.items()}
-        self.of_old = {old.mask_of([column]): label for label, column in old.columns.items()}
         self.to_old = to_old
+        self.before = [old.columns.get(to_old.get(label, "")) for label in new.axioms]
+        """For each column of NEW that of OLD, or None."""
+        common = [column for column in self.before if column is not None]
+        self.common = old.mask_of(common)
+        self.after = {before: column for column, before in enumerate(self.before)}
+        runs = list(self.found_runs())
+        self.runs = [(old.mask_of(run), by) for run, by in runs] if len(runs) <= MOST_RUNS else []
 
-    def add(self, bit: int, shift: int) -> None:
-        """Adds a bit of OLD to the last run, or as a new one."""
-        if self.runs and self.runs[-1][1] == shift:
-            self.runs[-1] = (self.runs[-1][0] | bit, shift)
-        else:
-            self.runs.append((bit, shift))
+    def found_runs(self) -> Iterator[tuple[list[int], int]]:
+        """The columns of a run in OLD, and how far left they stand in NEW."""
+        shift = 0
+        run: list[int] = []
+        for column, before in enumerate(self.before):
+            if before is None:
+                continue
+            here = self.new.place_of(column) - self.old.place_of(before)
+            if run and here != shift:
+                yield run, shift
+                run = []
+            shift = here
+            run.append(before)
+        if run:
+            yield run, shift
 
-    def difference(self, old: int, new: int) -> tuple[list[str], list[str]]:
-        """The axioms of a row of NEW that one of OLD lacks, and those of it that NEW lacks."""
+    def moved(self, old: int) -> int:
+        """A row of OLD as it stands in NEW, without the axioms that only OLD has."""
+        if not self.runs:
+            columns = self.old.columns_of(old & self.common)
+            return self.new.mask_of([self.after[column] for column in columns])
         moved = 0
         for bits, shift in self.runs:
             moved |= (old & bits) << shift if shift >= 0 else (old & bits) >> -shift
+        return moved
+
+    def difference(self, old: int, new: int) -> tuple[list[str], list[str]]:
+        """The axioms of a row of NEW that one of OLD lacks, and those of it that NEW lacks."""
         gone = old & ~self.common
+        moved = self.moved(old)
         if moved == new and not gone:
             return [], []
-        came = [self.of_new[bit] for bit in bits_of(new & ~moved)]
-        went = [self.to_old[self.of_new[bit]] for bit in bits_of(moved & ~new)]
-        return came, went + [self.of_old[bit] for bit in bits_of(gone)]
-
-
-def bits_of(number: int) -> Iterator[int]:
-    """The bits of a number, the highest first."""
-    while number:
-        bit = 1 << (number.bit_length() - 1)
-        yield bit
-        number ^= bit
+        came = [self.new.axioms[column] for column in self.new.columns_of(new & ~moved)]
+        went = [
+            self.to_old[self.new.axioms[column]] for column in self.new.columns_of(moved & ~new)
+        ]
+        return came, went + [self.old.axioms[column] for column in self.old.columns_of(gone)]
 
 
 def by_labels(old: list[str], new: list[str]) -> Pairing:
@@ -265,11 +280,13 @@ def by_labels(old: list[str], new: list[str]) -> Pairing:
 class Reasons:
     """Why theorems of one database rest on an axiom and those of another don't."""
 
-    def __init__(self, graph: Graph, other: Graph, there: dict[str, str], axiom: str) -> None:
-        self.graph = graph
-        self.other = other
+    def __init__(self, side: Side, other: Side, there: dict[str, str], axiom: str) -> None:
+        self.graph = side.graph
+        self.other = other.graph
         self.there = there
-        self.far = graph.distances(graph.node(axiom))
+        column = side.dependence.columns.get(axiom)
+        rows = None if column is None else side.dependence.users(column)
+        self.far = self.graph.distances(self.graph.node(axiom), rows)
         self.known: dict[int, tuple[str, str]] = {}
 
     def is_new(self, citing: int, cited: int) -> bool:

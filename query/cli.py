@@ -13,7 +13,7 @@ from typing import Any, NoReturn
 from query import progress, signals
 from query.commands import Command, command, names, summaries
 from query.context import Context
-from query.errors import NoAnswer, shown
+from query.errors import NoAnswer, shown, tell
 from query.output import Output, reason, write_all
 
 # Before a word that begins with `-`, so that argparse takes it as a word. No argument has this
@@ -187,20 +187,26 @@ def main(words: list[str]) -> NoReturn:
     try:
         status = run(words)
     except NoAnswer as why:
-        status = tell(str(why))
+        status = no_answer(str(why))
     except MemoryError:
-        status = tell("out of memory")
+        status = no_answer("out of memory")
     except OSError as error:
         place = f"{shown(os.fsdecode(error.filename))}: " if error.filename else ""
-        status = tell(place + reason(error))
+        status = no_answer(place + reason(error))
+    except Exception as error:  # a traceback would end with status 1, which is the answer no
+        status = no_answer(f"a fault of mmquery itself: {described(error)}")
     os._exit(status)
 
 
-def tell(why: str) -> int:
+def described(error: Exception) -> str:
+    """An error that nothing was meant to raise, with the place where it was."""
+    import traceback
+
+    place = traceback.extract_tb(error.__traceback__)[-1]
+    return f"{type(error).__name__}: {error} ({os.path.basename(place.filename)}:{place.lineno})"
+
+
+def no_answer(why: str) -> int:
     """Says on standard error in one line why there is no answer. Returns status 2."""
-    line = shown(why).encode("utf-8", "backslashreplace")
-    try:
-        os.write(2, b"mmquery: " + line + b"\n")
-    except OSError:
-        pass
+    tell(why)
     return 2

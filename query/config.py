@@ -11,7 +11,9 @@ import re
 import tomllib
 from collections.abc import Mapping
 from dataclasses import dataclass, field
+from functools import cached_property
 from pathlib import Path
+from typing import Any
 
 from query.errors import NoAnswer, shown
 
@@ -21,11 +23,13 @@ RULES = (
     "axioms",
     "watched",
     "newly",
+    "new",
     "claims",
     "avoids",
     "open",
     "mathboxes",
     "discouraged",
+    "config",
 )
 """The rules of the gate, in the order in which it tells what breaks them."""
 
@@ -46,6 +50,8 @@ SHAPE: Shape = {
     "allow": {
         "axioms": LABELS,
         "newly": LISTS,
+        "new": LISTS,
+        "avoids": LABELS,
         "open": LABELS,
         "mathboxes": LABELS,
         "discouraged": LABELS,
@@ -57,6 +63,8 @@ PART = r"""(?:[\w-]+|"[^"]*"|'[^']*')"""
 KEY = re.compile(rf"\s*({PART}(?:\s*\.\s*{PART})*)\s*=")
 LABEL = re.compile(r"[A-Za-z0-9._-]+\Z")
 PATTERN = re.compile(r"[A-Za-z0-9._-]*\*?\Z")
+LONGEST = 1 << 20
+"""How many bytes of a file are read."""
 
 
 @dataclass(frozen=True)
@@ -74,8 +82,15 @@ class Labels:
 
     words: tuple[str, ...] = ()
 
+    @cached_property
+    def _known(self) -> tuple[frozenset[str], tuple[str, ...]]:
+        """The words that are whole labels, and the beginnings of others."""
+        beginnings = tuple(word[:-1] for word in self.words if word.endswith("*"))
+        return frozenset(self.words), beginnings
+
     def __contains__(self, label: str) -> bool:
-        return any(is_meant(word, label) for word in self.words)
+        whole, beginnings = self._known
+        return label in whole or label.startswith(beginnings)
 
 
 @dataclass(frozen=True)
@@ -84,13 +99,15 @@ class Config:
 
     name: str = ""
     base: str = "origin/main"
-    typecode: str = "|-"
+    typecode: str | None = None
+    """That of the axioms which the rule `axioms` judges; None for all."""
     watch: tuple[str, ...] = ()
     rules: frozenset[str] = frozenset(RULES)
     allowed: Mapping[str, Labels] = field(default_factory=dict)
-    """Of the rules `axioms`, `open`, `mathboxes` and `discouraged`: what may break them."""
-    newly: Mapping[str, Labels] = field(default_factory=dict)
-    """For watched axioms the theorems that may rest on them."""
+    """Of the rules `axioms`, `avoids`, `open`, `mathboxes` and `discouraged`: what may break
+    them."""
+    resting: Mapping[str, Mapping[str, Labels]] = field(default_factory=dict)
+    """Of the rules `newly` and `new`: for watched axioms the theorems that may rest on them."""
     claims: tuple[Claim, ...] = ()
     lines: Mapping[tuple[str, ...], int] = field(default_factory=dict)
     """For each key and table the line where it stands."""
@@ -99,10 +116,11 @@ class Config:
         """Whether a rule lets this label be."""
         return label in self.allowed.get(rule, Labels())
 
-    def may_rest(self, theorem: str, axiom: str) -> bool:
-        """Whether a theorem may newly rest on a watched axiom."""
+    def may_rest(self, rule: str, theorem: str, axiom: str) -> bool:
+        """Whether the rule `newly` or `new` lets a theorem rest on a watched axiom."""
         return any(
-            is_meant(word, axiom) and theorem in labels for word, labels in self.newly.items()
+            is_meant(word, axiom) and theorem in labels
+            for word, labels in self.resting.get(rule, {}).items()
         )
 
 
@@ -135,29 +153,48 @@ def load_config(path: Path | None) -> Config:
 
 def read_config(data: bytes, name: str) -> Config:
     """Reads the content of the file. NoAnswer where it isn't right."""
+    if len(data) > LONGEST:
+        raise NoAnswer(f"{name}: longer than {LONGEST} bytes")
     try:
         text = data.decode("utf-8")
         table = tomllib.loads(text)
     except UnicodeDecodeError:
         raise NoAnswer(f"{name}: not UTF-8") from None
-    except tomllib.TOMLDecodeError as error:
+    except ValueError as error:
         raise NoAnswer(f"{name}: {shown(str(error))}") from None
+    except RecursionError:
+        raise NoAnswer(f"{name}: nested too deeply") from None
     lines = lines_of(text)
     Checker(lines, name).check(table, SHAPE, ())
+    return config_of(table, name, lines)
+
+
+def config_of(table: Mapping[str, Any], name: str, lines: Mapping[tuple[str, ...], int]) -> Config:
+    """What a table says that has the right shape.
+
+    Where it says nothing of the rule `new`, what it says of `newly` holds for both: files were
+    written so when `newly` was the name of both.
+    """
     rules = table.get("rules", {})
     allow = table.get("allow", {})
-    claims = table.get("claims", {})
+    rules = {"new": rules.get("newly", True), **rules}
+    resting = {"newly": allow.get("newly", {}), "new": allow.get("new", allow.get("newly", {}))}
     return Config(
         name=name,
         base=table.get("base", Config.base),
         typecode=table.get("typecode", Config.typecode),
         watch=tuple(dict.fromkeys(table.get("watch", ()))),
         rules=frozenset(rule for rule in RULES if rules.get(rule, True)),
-        allowed={rule: Labels(tuple(words)) for rule, words in allow.items() if rule != "newly"},
-        newly={axiom: Labels(tuple(words)) for axiom, words in allow.get("newly", {}).items()},
+        allowed={
+            rule: Labels(tuple(words)) for rule, words in allow.items() if rule not in resting
+        },
+        resting={
+            rule: {axiom: Labels(tuple(words)) for axiom, words in lists.items()}
+            for rule, lists in resting.items()
+        },
         claims=tuple(
             Claim(theorem, tuple(axioms), lines.get(("claims", theorem), 0))
-            for theorem, axioms in claims.items()
+            for theorem, axioms in table.get("claims", {}).items()
         ),
         lines=lines,
     )
@@ -197,7 +234,7 @@ class Checker:
         if wanted == LISTS and isinstance(value, dict):
             for key, words in value.items():
                 here = (*path, key)
-                self.check_word(key, here, patterns=path == ("allow", "newly"))
+                self.check_word(key, here, patterns=path[0] == "allow")
                 self.check_value(words, LABELS, here)
             return
         types = {TEXT: str, LABELS: list, SWITCH: bool, LISTS: dict}

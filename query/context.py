@@ -1,9 +1,9 @@
 """What a command is given besides its words: where its answer goes, and databases."""
 
-import os
 from dataclasses import dataclass, field
 
 from query.database import Database
+from query.errors import tell
 from query.options import Options
 from query.output import Output
 
@@ -27,7 +27,4 @@ class Context:
 
     def tell(self, text: str) -> None:
         """Writes a line to standard error, a remark that changes nothing of the answer."""
-        try:
-            os.write(2, f"mmquery: {text}\n".encode("utf-8", "backslashreplace"))
-        except OSError:
-            pass
+        tell(text)

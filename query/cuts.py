@@ -57,14 +57,14 @@ class Flow:
                 self.back.setdefault(to, {})[one] = True
 
     def augment(self, level: dict[int, int]) -> None:
-        """Adds chains that rise from level to level until there is none: Dinic's algorithm."""
+        """Adds chains that rise from level to level until there is none: Dinic's algorithm. A step
+        that was taken, or led nowhere, isn't tried again."""
         choices: dict[int, Iterator[int]] = {}
         chain = [self.start]
         while chain:
             node = chain[-1]
             if node == self.end:
                 self.carry(chain)
-                choices = {}
                 chain = [self.start]
                 continue
             if node not in choices:
@@ -145,13 +145,16 @@ class Bottlenecks:
     """For each node that rests on `end`, what is on all its chains to it.
 
     `over[x]` is the last common part of the chains of what `x` cites, nearer to the end; `deep[x]`
-    is how many such parts follow. A part is a node, or with `citations` also a citation.
+    is how many such parts follow. A part is a node, or with `citations` also a citation. `far[x]`
+    is a part farther on, so placed that each part is found in about as many steps as the number of
+    parts has digits.
     """
 
     def __init__(self, graph: Graph, end: int, citations: bool = False) -> None:
         self.end = end
         self.deep: dict[int | Citation, int] = {end: 0}
         self.over: dict[int | Citation, int | Citation] = {}
+        self.far: dict[int | Citation, int | Citation] = {end: end}
         self.theorems: list[int] = []
         # For each theorem the first and the last citation on all its chains; None where there is
         # none.
@@ -167,34 +170,50 @@ class Bottlenecks:
     def add(self, node: int, cited: list[int]) -> None:
         """Adds a theorem that cites these."""
         last = self.common(cited)
-        self.over[node] = last
-        self.deep[node] = self.deep[last] + 1
+        self.put(node, last)
         self.ends[node] = self.ends[last[0] if isinstance(last, tuple) else last]
 
     def add_citation(self, node: int, cited: int) -> None:
         """Adds a theorem that cites one alone, so that this citation is on all its chains."""
         edge = node, cited
-        self.over[edge] = cited
-        self.deep[edge] = self.deep[cited] + 1
-        self.over[node] = edge
-        self.deep[node] = self.deep[edge] + 1
+        self.put(edge, cited)
+        self.put(node, edge)
         before = self.ends[cited]
         self.ends[node] = edge, before[1] if before else edge
 
+    def put(self, part: int | Citation, over: int | Citation) -> None:
+        """Puts a part in front of another one."""
+        deep, far = self.deep, self.far
+        self.over[part] = over
+        deep[part] = deep[over] + 1
+        middle = far[over]
+        is_even = deep[over] - deep[middle] == deep[middle] - deep[far[middle]]
+        far[part] = far[middle] if is_even else over
+
     def common(self, nodes: list[int]) -> int | Citation:
         """The last part that is on all chains from all of these."""
-        deep, over = self.deep, self.over
         last: int | Citation = nodes[0]
         for node in nodes:
             if last == self.end:
                 break
-            other: int | Citation = node
-            while last != other:
-                if deep[last] >= deep[other]:
-                    last = over[last]
-                else:
-                    other = over[other]
+            if node != last:
+                last = self.meeting(last, node)
         return last
+
+    def meeting(self, one: int | Citation, other: int | Citation) -> int | Citation:
+        """The last part that is on all chains from both."""
+        deep, over, far = self.deep, self.over, self.far
+        if deep[one] < deep[other]:
+            one, other = other, one
+        wanted = deep[other]
+        while deep[one] > wanted:
+            one = far[one] if deep[far[one]] >= wanted else over[one]
+        while one != other:
+            if far[one] != far[other]:
+                one, other = far[one], far[other]
+            else:
+                one, other = over[one], over[other]
+        return one
 
 
 def freeing(graph: Graph, end: int) -> list[tuple[int, int]]:

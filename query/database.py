@@ -11,7 +11,7 @@ from typing import TYPE_CHECKING
 from query import cache, progress
 from query.errors import NoAnswer, shown
 from query.graph import Graph, Lists
-from query.marks import Marks, mask
+from query.marks import Marks, columns_of, mask
 from query.options import Options
 from query.report import Prepared, checked
 from query.source import Source, opened
@@ -22,7 +22,7 @@ if TYPE_CHECKING:
 # Count the forms in which results, and what was read of texts, are kept. A change of what they hold
 # has to change them.
 FORM = 1
-TEXT_FORM = 1
+TEXT_FORM = 3
 
 
 @dataclass
@@ -68,10 +68,23 @@ class Dependence:
 
     def rests(self, row: int) -> list[int]:
         """The columns of the axioms on which the theorem of this row rests, rising."""
+        return self.columns_of(self.marks.row(row))
+
+    def columns_of(self, bits: int) -> list[int]:
+        """The columns of the bits of a row, rising."""
+        numbers = columns_of(bits, self.marks.columns)
         if isinstance(self.chosen, range):
-            return self.marks.rests(row)
-        columns = (self._column_of.get(number) for number in self.marks.rests(row))
+            return numbers
+        columns = (self._column_of.get(number) for number in numbers)
         return [column for column in columns if column is not None]
+
+    def place_of(self, column: int) -> int:
+        """The place of the bit of a column in a row, from the lowest one."""
+        return 8 * self.marks.width - 1 - self.chosen[column]
+
+    def is_marked(self, row: int, column: int) -> bool:
+        """Whether the theorem of this row rests on the axiom of this column."""
+        return self.marks.is_marked(row, self.chosen[column])
 
     def users(self, column: int) -> list[int]:
         """The rows of the theorems that rest on the axiom of this column, rising."""

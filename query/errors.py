@@ -1,12 +1,40 @@
 """Why there is no answer. A command raises `NoAnswer`, the command line makes it one line and
 status 2."""
 
+import os
+
 
 class NoAnswer(Exception):
     """There is no answer, status 2. Its text is the one line on standard error, without a
     prefix."""
 
 
-def shown(text: str) -> str:
-    """A text from outside, such as a file's name, on one line and without control characters."""
-    return "".join(sign if sign.isprintable() else "\\x%02x" % ord(sign) for sign in text)
+def shown(text: str, kept: str = "") -> str:
+    """A text from outside, such as a file's name, in which every sign that a terminal obeys, that
+    isn't seen, or that turns the direction of others is written as `\\x1b` or `\\u202e`. So it is
+    on one line, unless `kept` has the sign that ends one.
+
+    Whatever reaches a terminal or standard error goes through here.
+    """
+    if text.isprintable():
+        return text
+    return "".join(
+        sign if sign.isprintable() or sign in kept else written(ord(sign)) for sign in text
+    )
+
+
+def written(number: int) -> str:
+    """A sign by its number; what stands for a byte that is no UTF-8 as this byte."""
+    if number < 0x100:
+        return f"\\x{number:02x}"
+    if 0xDC80 <= number <= 0xDCFF:
+        return f"\\x{number - 0xDC00:02x}"
+    return f"\\u{number:04x}" if number < 0x10000 else f"\\U{number:08x}"
+
+
+def tell(text: str) -> None:
+    """Writes a line to standard error."""
+    try:
+        os.write(2, f"mmquery: {shown(text)}\n".encode("utf-8", "backslashreplace"))
+    except OSError:
+        pass

@@ -2,6 +2,7 @@
 
 from __future__ import annotations
 
+import os
 import re
 from collections.abc import Mapping
 from dataclasses import asdict, dataclass, field
@@ -10,7 +11,13 @@ from query.errors import shown
 from query.rules import Finding
 
 MOST_ROWS = 1000
-"""How many findings a summary in Markdown lists; GitHub takes 1 MB."""
+"""How many findings a summary in Markdown lists."""
+MOST_BYTES = 1_000_000
+"""How long a summary is at the most, with what the file has already: GitHub takes 1 MB."""
+LONGEST = 1000
+"""How many characters of a text a summary shows."""
+ENDING = 500
+"""Bytes that are kept for the last line of a summary."""
 
 MARKS = re.compile(r"([\\`*_{}\[\]<>()#+!|&~:@$])")
 """What means something in Markdown within a line."""
@@ -82,7 +89,7 @@ def as_object(verdict: Verdict) -> dict[str, object]:
 
 def escaped(text: str, *, is_property: bool = False) -> str:
     """A text within a command of GitHub, by the rules of its runner."""
-    text = text.replace("%", "%25").replace("\r", "%0D").replace("\n", "%0A")
+    text = shown(text.replace("%", "%25").replace("\r", "%0D").replace("\n", "%0A"))
     return text.replace(":", "%3A").replace(",", "%2C") if is_property else text
 
 
@@ -105,22 +112,65 @@ def as_annotations(verdict: Verdict) -> str:
 
 
 def plain(text: str) -> str:
-    """A text in Markdown that shows it as it is."""
-    return MARKS.sub(r"\\\1", shown(text))
+    """A text in Markdown that shows it as it is, cut where it is long."""
+    cut = text if len(text) <= LONGEST else text[:LONGEST] + " .."
+    return MARKS.sub(r"\\\1", shown(cut))
 
 
 def as_markdown(verdict: Verdict) -> str:
-    """As a summary in Markdown: the answer, and a table of the findings."""
-    lines = [f"### mmquery gate: {plain(summary(verdict))}", ""]
+    """As a summary in Markdown: the answer, a table of the findings, and the notes."""
+    return markdown_within(verdict, MOST_BYTES)
+
+
+def as_summary(verdict: Verdict, path: str) -> str:
+    """The same for the end of a file, which may have something already."""
+    try:
+        return markdown_within(verdict, MOST_BYTES - os.stat(path).st_size)
+    except OSError:
+        return as_markdown(verdict)
+
+
+def markdown_within(verdict: Verdict, room: int) -> str:
+    """The same of no more bytes than there is room, as far as the answer itself allows."""
+    lines = Lines(room - ENDING)
+    lines.add(f"### mmquery gate: {plain(summary(verdict))}", "")
     if verdict.findings:
-        lines += ["| Rule | Place | Label | Axiom | Reason |", "|---|---|---|---|---|"]
+        lines.add("| Rule | Place | Label | Axiom | Reason |", "|---|---|---|---|---|")
+    listed = 0
     for finding in verdict.findings[:MOST_ROWS]:
         place = verdict.path(finding) + (f":{finding.line}" if finding.line else "")
         words = (finding.rule, place, finding.label, finding.axiom, finding.reason)
-        lines.append("| " + " | ".join(plain(word) for word in words) + " |")
-    left = len(verdict.findings) - MOST_ROWS
-    if left > 0:
-        lines += ["", f"and {left} more"]
-    for note in verdict.notes:
-        lines += ["", f"Note: {plain(note)}"]
-    return "".join(line + "\n" for line in lines)
+        listed += lines.add("| " + " | ".join(plain(word) for word in words) + " |")
+    told = sum(lines.add("", f"Note: {plain(note)}") for note in verdict.notes)
+    return lines.text() + rest(len(verdict.findings) - listed, len(verdict.notes) - told)
+
+
+def rest(findings: int, notes: int) -> str:
+    """How many findings and notes a summary doesn't list."""
+    counts = [
+        f"{count} more {word}{'s' if count > 1 else ''}"
+        for count, word in ((findings, "finding"), (notes, "note"))
+        if count
+    ]
+    return f"\nand {' and '.join(counts)}\n" if counts else ""
+
+
+class Lines:
+    """Lines, as long as there is room for them."""
+
+    def __init__(self, room: int) -> None:
+        self.room = room
+        self.lines: list[str] = []
+
+    def add(self, *lines: str) -> bool:
+        """Adds lines, all or none; the first ones always. Says whether there was room."""
+        size = sum(len(line.encode()) + 1 for line in lines)
+        if self.lines and size > self.room:
+            return False
+        self.room -= size
+        self.lines += lines
+        return True
+
+    def text(self) -> str:
+        """All of them."""
+        return "".join(line + "\n" for line in self.lines)

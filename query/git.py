@@ -1,82 +1,110 @@
-"""Git repositories, read by calling `git`: revisions, merge bases, and files as they were.
+"""Git repositories, read by calling `git`: which one holds for the working folder, and which commit
+a revision names. `query.objects` reads what the commits have.
 
-Words of the user reach git only behind `--end-of-options` or a full commit id, so none is taken for
-an option. Nothing is written to a repository.
+A repository may have been made to hurt, so git is called so that it runs nothing and fetches
+nothing, whatever a repository's settings say. Words of the user reach git only behind
+`--end-of-options` or a full commit id, so none is taken for an option. Nothing is written to a
+repository.
 """
 
 from __future__ import annotations
 
 import os
+import re
+import shutil
 import subprocess
+from collections.abc import Mapping
 from dataclasses import dataclass
 from pathlib import Path
 
-from query.errors import NoAnswer
+from query.errors import NoAnswer, shown
 
 NO_COMMIT = "0" * 40
 """What GitHub gives as the commit before a push that makes a branch."""
 
-OF_HOOKS = ("GIT_DIR", "GIT_WORK_TREE", "GIT_INDEX_FILE", "GIT_PREFIX")
-"""What git tells its hooks of one repository, and would take for each folder."""
+FULL_ID = re.compile(r"(?:[0-9a-f]{40}|[0-9a-f]{64})(?![^:^~@])")
+HEAD = re.compile(r"HEAD(?![^:^~@])")
 
+SETTINGS = (
+    "safe.bareRepository=explicit",
+    "protocol.allow=never",
+    "core.fsmonitor=false",
+    "core.hooksPath=/dev/null",
+    "core.attributesFile=/dev/null",
+    "core.commitGraph=false",
+    "core.warnAmbiguousRefs=true",
+    "submodule.recurse=false",
+    "gc.auto=0",
+)
+"""What git is told at each call; it goes before what files of settings say."""
 
-@dataclass(frozen=True)
-class Blob:
-    """A file of a revision, as it is named `REV:PATH`."""
-
-    repository: Repository
-    commit: str
-    path: str
-
-    def content(self) -> bytes:
-        """Its bytes. NoAnswer where the revision has no such file."""
-        content = self.repository.content(self.commit, self.path)
-        if content is None:
-            raise NoAnswer(f"{self.path}: revision {short(self.commit)} has no such file")
-        return content
+SURROUNDINGS = {
+    "LC_ALL": "C",
+    "GIT_ALLOW_PROTOCOL": "none",
+    "GIT_ATTR_NOSYSTEM": "1",
+    "GIT_GRAFT_FILE": os.devnull,
+    "GIT_NO_LAZY_FETCH": "1",
+    "GIT_NO_REPLACE_OBJECTS": "1",
+    "GIT_OPTIONAL_LOCKS": "0",
+    "GIT_TERMINAL_PROMPT": "0",
+}
+"""The same as variables. A setting `protocol.ext.allow` of a repository would go before
+`protocol.allow`, but not before GIT_ALLOW_PROTOCOL, which also keeps an older git from fetching
+what a partial clone lacks."""
 
 
 @dataclass(frozen=True)
 class Repository:
-    """A repository; `top` is the folder of its working tree, or itself where it is bare."""
+    """A repository: `folder` is git's own, and `top` that of the working tree, or `folder` itself
+    where it is bare."""
 
     top: Path
+    folder: Path
+
+    @property
+    def is_bare(self) -> bool:
+        """Whether it has no working tree."""
+        return self.top == self.folder
+
+    def ask(self, *words: str) -> subprocess.CompletedProcess[bytes]:
+        """Runs git on this repository, whatever lies in the working folder."""
+        return call(f"--git-dir={self.folder}", *words, folder=self.top)
+
+    def path(self, name: str) -> Path:
+        """Where a file of git's own folder is, such as `objects`."""
+        done = self.ask("rev-parse", "--git-path", name)
+        if done.returncode != 0:
+            raise NoAnswer(said(done))
+        return self.top / os.fsdecode(done.stdout.removesuffix(b"\n"))
 
     def commit(self, revision: str) -> str:
-        """The full id of a revision's commit. NoAnswer where there is none."""
+        """The full id of a revision's commit. NoAnswer where there is none, or more than one."""
         if revision == NO_COMMIT:
             raise NoAnswer("there is no commit before a new branch; name another base")
-        words = ("rev-parse", "--verify", "--quiet", "--end-of-options", revision + "^{commit}")
-        done = call(self.top, *words)
+        done = self.ask("rev-parse", "--verify", "--end-of-options", revision + "^{commit}")
         commit = done.stdout.decode("ascii", "replace").strip()
         if done.returncode != 0 or not commit.isalnum():
             raise NoAnswer(f"git has no revision '{revision}'{self.advice()}")
+        is_certain = FULL_ID.match(revision) or HEAD.match(revision)
+        if b" is ambiguous" in done.stderr and not is_certain:
+            raise NoAnswer(
+                f"'{revision}' names more than one revision; give the whole name, such as"
+                " refs/remotes/origin/main or refs/heads/main, or the commit's full id"
+            )
         return commit
 
-    def merge_base(self, first: str, second: str) -> str:
-        """The best common ancestor of two commits, given by their full ids.
+    def has(self, revision: str) -> bool:
+        """Whether a revision names a commit, or more than one."""
+        words = ("rev-parse", "--verify", "--quiet", "--end-of-options", revision + "^{commit}")
+        return self.ask(*words).returncode == 0
 
-        NoAnswer where there is none, and where a shallow clone hides it: git might
-        answer another one there.
-        """
-        if self.is_ancestor(first, second):
-            return first
-        if self.is_shallow():
-            raise NoAnswer(
-                f"the merge base of {short(first)} and {short(second)} isn't known{self.advice()}"
-            )
-        done = call(self.top, "merge-base", first, second)
-        if done.returncode != 0:
-            raise NoAnswer(f"{short(first)} and {short(second)} have no common history")
-        return done.stdout.decode("ascii").split()[0]
-
-    def is_ancestor(self, first: str, second: str) -> bool:
-        """Whether the first commit is the second one or before it."""
-        return call(self.top, "merge-base", "--is-ancestor", first, second).returncode == 0
+    def has_reference(self, name: str) -> bool:
+        """Whether there is a reference of this whole name, such as `refs/heads/main`."""
+        return self.ask("show-ref", "--verify", "--quiet", name).returncode == 0
 
     def is_shallow(self) -> bool:
         """Whether the clone lacks a part of the history."""
-        return call(self.top, "rev-parse", "--is-shallow-repository").stdout.strip() == b"true"
+        return self.ask("rev-parse", "--is-shallow-repository").stdout.strip() == b"true"
 
     def advice(self) -> str:
         """What a message about a missing commit says besides."""
@@ -84,49 +112,54 @@ class Repository:
             return ""
         return ": the clone is shallow; fetch the whole history (`fetch-depth: 0`)"
 
-    def content(self, commit: str, path: str) -> bytes | None:
-        """The bytes of a file of a commit, given by its full id; None where it has no such file.
+    def path_of(self, word: str) -> str:
+        """The path of a file from the top, as it was typed, with `/`.
 
-        The path is from the top, with `/`. A symbolic link is followed within the commit, unless
-        the path has a line feed.
+        NoAnswer where it lies outside, and where a link, another repository or a submodule is on
+        the way: what is judged would not be what the path names in a commit.
         """
-        if "\n" in path:
-            done = call(self.top, "cat-file", "blob", f"{commit}:{path}")
-            return done.stdout if done.returncode == 0 else None
-        asked = os.fsencode(f"{commit}:{path}\n")
-        done = call(self.top, "cat-file", "--batch", "--follow-symlinks", given=asked)
-        head, _, body = done.stdout.partition(b"\n")
-        words = head.split()
-        if done.returncode != 0:
-            raise NoAnswer(f"{path}: {said(done)}")
-        if len(words) != 3 or words[1] != b"blob" or not words[2].isdigit():
-            return None
-        size = int(words[2])
-        if len(body) != size + 1:
-            raise NoAnswer(f"{path}: git gave a part of revision {short(commit)} only")
-        return body[:size]
+        typed = os.path.join(os.getcwd(), word)
+        whole = Path(os.path.normpath(typed))
+        if os.path.realpath(os.path.dirname(typed)) != os.path.realpath(whole.parent):
+            raise NoAnswer(f"{shown(word)}: there is a link on the way; type the path without it")
+        see_no_link_to_here()
+        above = self.above(whole)
+        if above is None:
+            raise NoAnswer(
+                f"{shown(word)}: not in the repository {shown(str(self.top))} of the working folder"
+            )
+        path = whole.relative_to(above)
+        here = above
+        for part in path.parts:
+            here /= part
+            self.see_plain(here, word)
+        return path.as_posix()
 
-    def path_of(self, file: Path) -> str:
-        """The path of a file from the top, with `/`. NoAnswer where it lies outside."""
-        whole = file.parent.resolve() / file.name
-        try:
-            return whole.relative_to(self.top).as_posix()
-        except ValueError:
-            raise NoAnswer(f"{file}: not in the repository {self.top}") from None
+    def above(self, whole: Path) -> Path | None:
+        """The top as a path names it; None where the path doesn't lead through it."""
+        return next((each for each in reversed(whole.parents) if is_same(each, self.top)), None)
 
-    def path_within(self, file: Path) -> str | None:
-        """The same; None where the file lies outside."""
-        try:
-            return self.path_of(file)
-        except NoAnswer:
-            return None
+    def has_within(self, word: str) -> bool:
+        """Whether a path leads through the top, whatever is a link on the way."""
+        return self.above(Path(os.path.normpath(os.path.join(os.getcwd(), word)))) is not None
 
-    def blob(self, word: str, folder: Path) -> Blob:
-        """The file that `REV:PATH` names; a path with `./` or `../` first is from a folder."""
-        revision, _, path = word.partition(":")
-        if path.startswith(("./", "../")):
-            path = self.path_of(folder / path)
-        return Blob(self, self.commit(revision or "HEAD"), path)
+    def see_plain(self, here: Path, word: str) -> None:
+        """NoAnswer where a place on the way to a file isn't simply a part of the working tree."""
+        place = shown(os.path.relpath(here, self.top))
+        if here.is_symlink():
+            raise NoAnswer(f"{shown(word)}: {place} is a link, and what it names isn't judged")
+        if os.path.lexists(here / ".git") or is_git_folder(here):
+            raise NoAnswer(
+                f"{shown(word)}: {place} is a repository or a submodule of its own; go there"
+            )
+
+    def attributes(self, path: str) -> list[str]:
+        """The attributes of a file by which git changes its content where it is checked out."""
+        names = ("filter", "ident", "working-tree-encoding")
+        words = (f"--work-tree={self.top}", "check-attr", "-z", *names, "--", path)
+        fields = self.ask(*words).stdout.split(b"\0")
+        values = zip(names, fields[2::3])
+        return [name for name, value in values if value not in (b"unspecified", b"unset")]
 
 
 def short(commit: str) -> str:
@@ -140,30 +173,109 @@ def said(done: subprocess.CompletedProcess[bytes]) -> str:
     return "git: " + (lines[0].removeprefix("fatal: ") if lines else f"status {done.returncode}")
 
 
-def call(folder: Path, *words: str, given: bytes = b"") -> subprocess.CompletedProcess[bytes]:
-    """Runs git in a folder. NoAnswer where git isn't there."""
-    surroundings = {name: value for name, value in os.environ.items() if name not in OF_HOOKS}
-    surroundings |= {"LC_ALL": "C", "GIT_OPTIONAL_LOCKS": "0", "GIT_TERMINAL_PROMPT": "0"}
-    command = ["git", "-C", os.fspath(folder), *words]
+def program() -> str:
+    """Where git is. A folder of PATH that is relative to the working folder doesn't count, since
+    whoever fills that folder could bring a git."""
+    folders = os.environ.get("PATH", os.defpath).split(os.pathsep)
+    path = os.pathsep.join(folder for folder in folders if os.path.isabs(folder))
+    found = shutil.which("git", path=path)
+    if found is None:
+        raise NoAnswer("git isn't installed")
+    return found
+
+
+def call(
+    *words: str, folder: Path, given: bytes = b"", more: Mapping[str, str] | None = None
+) -> subprocess.CompletedProcess[bytes]:
+    """Runs git in a folder. No variable of git's reaches it but ours. NoAnswer where git isn't
+    there."""
+    surroundings = {
+        name: value
+        for name, value in os.environ.items()
+        if not name.startswith("GIT_") and name != "LANGUAGE"
+    }
+    settings = [word for each in SETTINGS for word in ("-c", each)]
     try:
         return subprocess.run(
-            command, input=given, capture_output=True, env=surroundings, check=False
+            [program(), *settings, *words],
+            cwd=folder,
+            input=given,
+            capture_output=True,
+            env={**surroundings, **SURROUNDINGS, **(more or {})},
+            check=False,
         )
-    except FileNotFoundError:
-        raise NoAnswer("git isn't installed") from None
     except OSError as error:
         raise NoAnswer(f"git can't be run: {error.strerror}") from None
 
 
+def is_same(one: Path, other: Path) -> bool:
+    """Whether two paths name the same file or folder."""
+    try:
+        return one.samefile(other)
+    except OSError:
+        return False
+
+
+def is_git_folder(folder: Path) -> bool:
+    """Whether git would take a folder for a bare repository, whoever put its files there."""
+    return (
+        os.path.lexists(folder / "HEAD")
+        and (folder / "objects").is_dir()
+        and (folder / "refs").is_dir()
+    )
+
+
+def see_no_link_to_here() -> None:
+    """NoAnswer where the shell came to the working folder by a link within a repository: then the
+    path that was meant is another one than that of the working folder."""
+    here = os.environ.get("PWD", "")
+    if not os.path.isabs(here) or not is_same(Path(here), Path.cwd()):
+        return
+    is_within = False
+    for each in (*reversed(Path(here).parents), Path(here)):
+        if is_within and each.is_symlink():
+            raise NoAnswer(f"{shown(str(each))}: the working folder was reached by this link")
+        is_within = is_within or os.path.lexists(each / ".git")
+
+
 def repository_of(folder: Path) -> Repository:
-    """The repository in which a folder lies; it may be bare. NoAnswer where there is none."""
-    done = call(folder, "rev-parse", "--show-toplevel")
-    if (
-        done.returncode != 0
-        and call(folder, "rev-parse", "--is-bare-repository").stdout == b"true\n"
-    ):
-        done = call(folder, "rev-parse", "--absolute-git-dir")
-    top = os.fsdecode(done.stdout.removesuffix(b"\n"))
-    if done.returncode != 0 or not top:
-        raise NoAnswer(f"{folder}: {said(done)}")
-    return Repository(Path(top).resolve())
+    """The repository in which a folder lies; it may be bare. NoAnswer where there is none.
+
+    It is found by the name `.git`, which nothing that is committed can have. A folder with the
+    files of a bare repository is one only where it lies in no other repository.
+    """
+    folder = folder.resolve()
+    inner = None
+    for each in (folder, *folder.parents):
+        if os.path.lexists(each / ".git"):
+            if inner is not None:
+                raise NoAnswer(
+                    f"{shown(str(inner))}: has the files of a bare repository, and lies in the"
+                    f" repository {shown(str(each))}"
+                )
+            return discovered(each)
+        if is_git_folder(each):
+            inner = inner or each
+    if inner is None:
+        raise NoAnswer(f"{shown(str(folder))}: not a git repository")
+    return discovered(inner)
+
+
+def discovered(top: Path) -> Repository:
+    """The repository of a folder that has `.git`, or is bare. NoAnswer where git sees another one,
+    or doesn't trust its owner."""
+    is_bare = not os.path.lexists(top / ".git")
+    words = ["-c", "safe.bareRepository=all"] if is_bare else []
+    done = call(*words, "rev-parse", "--absolute-git-dir", folder=top)
+    folder = Path(os.fsdecode(done.stdout.removesuffix(b"\n")))
+    if done.returncode != 0 or not folder.is_absolute():
+        raise NoAnswer(f"{shown(str(top))}: {said(done)}")
+    if is_bare:
+        if not is_same(folder, top):
+            raise NoAnswer(f"{shown(str(top))}: not the bare repository that git sees")
+        return Repository(top, top)
+    done = call("rev-parse", "--show-toplevel", folder=top)
+    seen = Path(os.fsdecode(done.stdout.removesuffix(b"\n")))
+    if done.returncode != 0 or not is_same(seen, top):
+        raise NoAnswer(f"{shown(str(top))}: not the top of the working tree that git sees")
+    return Repository(top, folder)

@@ -141,12 +141,12 @@ class Graph:
                 return found
             found.append(bisect_right(places, place) - 1)
 
-    def distances(self, end: int, last: int | None = None) -> dict[int, int]:
+    def distances(self, end: int, theorems: Iterable[int] | None = None) -> dict[int, int]:
         """For each node that rests on this one, how many citations a shortest chain to it has; 0
-        for the node itself. Of theorems beyond `last` it says nothing.
+        for the node itself. Of other theorems than those given, which rise, it says nothing.
         """
         far = {end: 0}
-        for theorem in range(self.theorems if last is None else min(last + 1, self.theorems)):
+        for theorem in range(self.theorems) if theorems is None else theorems:
             cited = self.cites[theorem]
             if not far.keys().isdisjoint(cited):
                 far[theorem] = 1 + min(far[each] for each in cited if each in far)
@@ -162,7 +162,7 @@ class Graph:
         """A shortest chain of citations from one node to another, both included, by `following`.
         Empty where there is none.
         """
-        far = self.distances(end, node)
+        far = self.distances(end, range(min(node + 1, self.theorems)))
         if node not in far:
             return []
         chain = [node]

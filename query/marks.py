@@ -1,12 +1,13 @@
 """Marks: which theorem rests on which axiom, a bit for each pair."""
 
-from collections.abc import Sequence
+from collections.abc import Iterable, Sequence
 from itertools import compress
 
 # For each bit of a byte the table that makes 1 of the bytes that have it, and 0 of the others.
 HAS = [bytes(1 if byte & (0x80 >> bit) else 0 for byte in range(256)) for bit in range(8)]
 # Makes bits of the digits of a number in base 2.
 BITS = bytes.maketrans(b"01", b"\0\1")
+FEW = 16  # bits of a row that are taken one by one
 
 
 class Marks:
@@ -39,11 +40,16 @@ class Marks:
 
     def users(self, column: int) -> list[int]:
         """The rows that are marked in a column, rising."""
-        return list(compress(range(self.rows), self.column(column)))
-
-    def rests(self, row: int) -> list[int]:
-        """The columns in which a row is marked, rising."""
-        return columns_of(self.row(row), self.columns)
+        marked = self.column(column)
+        left = marked.count(1)
+        if left * 16 > self.rows:
+            return list(compress(range(self.rows), marked))
+        rows = []
+        row = -1
+        for _ in range(left):
+            row = marked.index(1, row + 1)
+            rows.append(row)
+        return rows
 
     def sizes(self) -> list[int]:
         """For each column how many rows are marked."""
@@ -60,17 +66,24 @@ def bit(columns: int, number: int) -> int:
     return 1 << (8 * width_of(columns) - 1 - number)
 
 
-def mask(columns: int, numbers: Sequence[int]) -> int:
+def mask(columns: int, numbers: Iterable[int]) -> int:
     """The bits of several columns in a row."""
-    total = 0
+    row = bytearray(width_of(columns))
     for number in numbers:
-        total |= bit(columns, number)
-    return total
+        row[number >> 3] |= 0x80 >> (number & 7)
+    return int.from_bytes(row, "big")
 
 
 def columns_of(row: int, columns: int) -> list[int]:
     """The columns whose bits a row has, rising."""
-    signs = f"{row:0{8 * width_of(columns)}b}".encode().translate(BITS)
+    last = 8 * width_of(columns) - 1
+    if row.bit_count() <= FEW:
+        found = []
+        while row:
+            found.append(last - row.bit_length() + 1)
+            row ^= 1 << (row.bit_length() - 1)
+        return found
+    signs = f"{row:0{last + 1}b}".encode().translate(BITS)
     return list(compress(range(columns), signs))
 
 

@@ -11,7 +11,8 @@ PARAGRAPH = "\f"
 BREAK = "\v"
 
 EMPTY_LINE = re.compile(r"\n[ \t\r\f]*\n")
-PREFORMATTED = re.compile(r"(<pre\b[^>]*>)(.*?)(</pre>|\Z)", re.I | re.S)
+OPENING = re.compile(r"<pre\b", re.I)
+CLOSING = re.compile(r"</pre>", re.I)
 NEW_USAGE = re.compile(r"\(New\s+usage\s+is\s+discouraged\.\)")
 MODIFICATION = re.compile(r"\(Proof\s+modification\s+is\s+discouraged\.\)")
 
@@ -25,14 +26,24 @@ def one_line(comment: str) -> str:
         return plain_line(comment)
     parts = []
     place = 0
-    for match in PREFORMATTED.finditer(comment):
-        parts.append(plain_line(comment[place : match.start()]))
-        lines = [line.expandtabs().rstrip() for line in match[2].split("\n")]
-        kept = BREAK.join(lines).replace(PARAGRAPH, " ").replace("\r", "")
-        parts.append(match[1] + kept + match[3])
-        place = match.end()
+    while opening := OPENING.search(comment, place):
+        begun = comment.find(">", opening.end()) + 1
+        if not begun:
+            break  # as no other one is closed either
+        closing = CLOSING.search(comment, begun)
+        ended, after = closing.span() if closing else (len(comment), len(comment))
+        parts.append(plain_line(comment[place : opening.start()]))
+        parts.append(comment[opening.start() : begun] + kept_lines(comment[begun:ended]))
+        parts[-1] += comment[ended:after]
+        place = after
     parts.append(plain_line(comment[place:]))
     return " ".join(part for part in parts if part)
+
+
+def kept_lines(text: str) -> str:
+    """Preformatted text, with `BREAK` where a line ends."""
+    lines = (line.expandtabs().rstrip() for line in text.split("\n"))
+    return BREAK.join(lines).replace(PARAGRAPH, " ").replace("\r", "")
 
 
 def plain_line(comment: str) -> str:

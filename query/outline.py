@@ -8,26 +8,20 @@ from array import array
 from collections.abc import Iterable, Iterator
 from itertools import chain
 
-from query.graph import put_together
+from query.active import NOTHING, Active
 from query.text import Assertion, Comment, Header, Hypothesis, Stretch, Text
 
 MOST = 1 << 32  # bytes of a text whose places fit into the arrays
 NONE = (0, 0)  # a stretch that isn't there
 
-Frame = tuple[tuple[int, ...], tuple[int, ...]]
-
 
 def to_parts(text: Text) -> dict[str, bytes]:
     """What was read of a text of less than `MOST` bytes."""
-    frames: list[Frame] = []
     numbers = array("I")
     for one in text.assertions:
-        frame = (one.essential, one.disjoint)
-        if not frames or frames[-1] != frame:
-            frames.append(frame)
-        header, number = one.header + 1, len(frames) - 1
         numbers.extend((one.kind == "p", one.place, *one.formula, *(one.proof or NONE)))
-        numbers.extend((*(one.comment or NONE), header, number))
+        numbers.extend((*(one.comment or NONE), one.header + 1))
+        numbers.extend((one.essential.last + 1, one.disjoint.last + 1))
     hypotheses = ((each.kind == "e", each.place, *each.formula) for each in text.hypotheses)
     headers = [
         (one.level, one.number, one.title, one.place, one.body, one.first, one.end, one.text)
@@ -37,8 +31,8 @@ def to_parts(text: Text) -> dict[str, bytes]:
     return {
         "labels": words(each.label for each in text.assertions),
         "assertions": numbers.tobytes(),
-        **lists("essential", (frame[0] for frame in frames)),
-        **lists("disjoint", (frame[1] for frame in frames)),
+        "essential": before_each(one.essential for one in text.assertions),
+        "disjoint": before_each(one.disjoint for one in text.assertions),
         "names": words(each.label for each in text.hypotheses),
         "hypotheses": array("I", chain.from_iterable(hypotheses)).tobytes(),
         "groups": array("I", chain.from_iterable(text.disjoint)).tobytes(),
@@ -66,9 +60,9 @@ def from_parts(data: bytes, parts: dict[str, bytes]) -> Text:
 
 def assertions_of(parts: dict[str, bytes]) -> list[Assertion]:
     """The assertions that were kept."""
-    table = columns(parts["assertions"], 10)
-    kinds, places, headers, frames = table[0], table[1], table[8], table[9]
-    essential, disjoint = tuples_of("essential", parts), tuples_of("disjoint", parts)
+    table = columns(parts["assertions"], 11)
+    kinds, places, headers = table[0], table[1], table[8]
+    essential, disjoint = (active_of(parts[name]) for name in ("essential", "disjoint"))
     made = map(
         Assertion,
         labels_of(parts["labels"]),
@@ -76,8 +70,8 @@ def assertions_of(parts: dict[str, bytes]) -> list[Assertion]:
         places,
         zip(table[2], table[3]),
         optional(table[4], table[5]),
-        map(essential.__getitem__, frames),
-        map(disjoint.__getitem__, frames),
+        map(essential.__getitem__, table[9]),
+        map(disjoint.__getitem__, table[10]),
         optional(table[6], table[7]),
         (header - 1 for header in headers),
         range(len(kinds)),
@@ -113,16 +107,23 @@ def optional(starts: "array[int]", ends: "array[int]") -> Iterator[Stretch | Non
     return ((start, end) if end else None for start, end in zip(starts, ends))
 
 
-def lists(name: str, found: Iterable[tuple[int, ...]]) -> dict[str, bytes]:
-    """Two parts with many lists of numbers."""
-    made = put_together(found)
-    return {f"{name} places": made.places.tobytes(), f"{name} targets": made.targets.tobytes()}
+def before_each(found: Iterable[Active]) -> bytes:
+    """Each number that is active somewhere, with the one before it and how many are active; the
+    numbers counted from 1, 0 where there is none."""
+    seen: dict[int, tuple[int, int]] = {}
+    for active in found:
+        for each in active.upwards():
+            if each.last in seen or each.before is None:
+                break
+            seen[each.last] = (each.before.last, each.size)
+    rows = ((last + 1, before + 1, size) for last, (before, size) in sorted(seen.items()))
+    return array("I", chain.from_iterable(rows)).tobytes()
 
 
-def tuples_of(name: str, parts: dict[str, bytes]) -> list[tuple[int, ...]]:
-    """The lists of two parts."""
-    places, targets = array("I"), array("I")
-    places.frombytes(parts[f"{name} places"])
-    targets.frombytes(parts[f"{name} targets"])
-    numbers = tuple(targets)
-    return [numbers[start:end] for start, end in zip(places, places[1:])]
+def active_of(kept: bytes) -> list[Active]:
+    """What is active where each number, counted from 1, is the last one; and 0 where none is."""
+    lasts, befores, sizes = columns(kept, 3)
+    found = [NOTHING] * (lasts[-1] + 1 if lasts else 1)
+    for last, before, size in zip(lasts, befores, sizes):
+        found[last] = Active(last - 1, found[before], size)
+    return found

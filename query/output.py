@@ -7,11 +7,18 @@ output where there is no answer.
 import errno
 import json
 import os
+import re
 from collections.abc import Iterable, Sequence
 
-from query.errors import NoAnswer
+from query.errors import NoAnswer, shown
 
 Value = str | int | float | bool | None | list[str]
+# What a spreadsheet takes as the beginning of a formula, also behind signs that it passes over.
+RUNNING = re.compile(r"[\s\x00-\x1f]*[=+\-@\uff1d\uff0b\uff0d\uff20']|[\t\r\n]")
+QUOTED = re.compile(r"[,\"\r\n]|\A\s|\s\Z")
+WIDEST = 200
+"""Columns of a table as text are so wide at the most. One long label doesn't make all lines
+long."""
 
 
 def _word(value: Value) -> str:
@@ -38,7 +45,8 @@ def _aligned(columns: Sequence[str], rows: Sequence[Sequence[Value]]) -> str:
     for name, column in zip(columns, zip(*rows, strict=True)):
         words.append([name, *map(_word, column)])
         is_right = all(isinstance(value, (int, float)) or value is None for value in column)
-        forms.append(f"{{:{'>' if is_right else '<'}{max(map(len, words[-1]))}}}")
+        width = min(max(map(len, words[-1])), WIDEST)
+        forms.append(f"{{:{'>' if is_right else '<'}{width}}}")
     form = "  ".join(forms)
     return "".join(form.format(*line).rstrip() + "\n" for line in zip(*words))
 
@@ -54,14 +62,19 @@ def _tabs(columns: Sequence[str], rows: Iterable[Sequence[Value]]) -> str:
 
 def _commas(columns: Sequence[str], rows: Iterable[Sequence[Value]]) -> str:
     """The table as CSV, lines ended by a line feed."""
-    import csv
-    import io
+    lines = [list(columns), *([_word(value) for value in row] for row in rows)]
+    # An empty line would be none.
+    return "".join((",".join(map(_cell, line)) or '""') + "\n" for line in lines)
 
-    text = io.StringIO()
-    writer = csv.writer(text, lineterminator="\n")
-    writer.writerow(columns)
-    writer.writerows([_word(value) for value in row] for row in rows)
-    return text.getvalue()
+
+def _cell(word: str) -> str:
+    """A field of CSV. What a spreadsheet would take as a formula has a `'` before it, and so has
+    what begins with `'`: who takes one `'` from the beginning of each field has the word."""
+    if RUNNING.match(word) and word != "-":
+        word = "'" + word
+    if QUOTED.search(word):
+        return '"' + word.replace('"', '""') + '"'
+    return word
 
 
 def _objects(columns: Sequence[str], rows: Iterable[Sequence[Value]]) -> str:
@@ -116,7 +129,14 @@ class Output:
 
     def flush(self) -> None:
         """Writes all of it to standard output. NoAnswer where that can't be done."""
-        write_all(1, b"".join(self.taken()))
+        data = b"".join(self.taken())
+        write_all(1, for_terminal(data) if os.isatty(1) else data)
+
+
+def for_terminal(data: bytes) -> bytes:
+    """Bytes as a terminal gets them: without any sign that it obeys but ends of lines and tabs."""
+    text = data.decode("utf-8", "surrogateescape")
+    return shown(text, "\n\t").encode("utf-8", "backslashreplace")
 
 
 def write_all(descriptor: int, data: bytes) -> None:

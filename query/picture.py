@@ -22,6 +22,7 @@ FONT = bytes.fromhex(
     "544C44000836410000007F000000413608000804081008"
 )
 WHITE, GREY, BLACK = 255, 160, 0
+ONE = ord("1")
 STEP = 6  # dots across, from one character to the next
 
 
@@ -39,18 +40,17 @@ class Dots:
         self.high = -(-self.rows // down)
         self.width = -(-self.columns // self.wide)
         self.height = -(-self.rows // self.high)
-        masks = [
-            dependence.mask_of(range(first, min(first + self.wide, self.columns)))
-            for first in range(0, self.columns, self.wide)
-        ]
-        self.lines = [self.line(first, masks) for first in range(0, self.rows, self.high)]
+        self.lines = [self.line(first) for first in range(0, self.rows, self.high)]
 
-    def line(self, first: int, masks: list[int]) -> str:
+    def line(self, first: int) -> str:
         """The line that begins at a row."""
         union = 0
         for row in range(first, min(first + self.high, self.rows)):
             union |= self.dependence.bits(row)
-        return "".join("1" if union & mask else "0" for mask in masks)
+        dots = bytearray(b"0" * self.width)
+        for column in self.dependence.columns_of(union):
+            dots[column // self.wide] = ONE
+        return dots.decode()
 
     def pbm(self) -> bytes:
         """The picture as a PBM file."""
@@ -119,9 +119,12 @@ class Axes:
 def axes_of(dots: Dots, names: list[tuple[int, str]], size: int) -> Axes:
     """The names that have room, the first ones of `names` before later ones."""
     axes = Axes(size)
+    taken: dict[int, int] = {}  # of each ten dots down the place of the name that begins in them
     for row, name in names:
         y = row // dots.high * size
-        if all(abs(y - other) >= 10 for other, _ in axes.down):
+        near = (taken.get(y // 10 + step) for step in (-1, 0, 1))
+        if all(other is None or abs(y - other) >= 10 for other in near):
+            taken[y // 10] = y
             axes.down.append((y, name[:44]))
     for column in range(0, dots.width, -(-10 // size)):
         axes.across.append((column * size, dots.dependence.axioms[column * dots.wide][:24]))

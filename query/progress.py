@@ -4,6 +4,8 @@ import os
 import signal
 from types import FrameType
 
+from query.errors import shown
+
 _doing = "working"
 _is_shown = False
 
@@ -11,7 +13,7 @@ _is_shown = False
 def now(doing: str) -> None:
     """Says what is being done, such as `verifying set.mm`."""
     global _doing
-    _doing = doing
+    _doing = shown(doing)
     if _is_shown:
         _show()
 

@@ -3,9 +3,17 @@
 The steps are carried out without being judged: the program did that, and refused the end alone.
 """
 
+from bisect import bisect_right
+
 from query.text import Assertion, Hypothesis, Text
 
 FIRST_LETTER = ord("A")
+MOST = 10_000_000
+"""So many symbols are read and written at the most: a short proof may build long formulas."""
+
+
+class TooLong(Exception):
+    """The formulas of a proof have too many symbols."""
 
 
 class Replay:
@@ -15,6 +23,11 @@ class Replay:
         self.text = text
         self.theorem = theorem
         self.hypotheses = {each.label: each for each in text.hypotheses}
+        self.floating: dict[str, list[Hypothesis]] = {}
+        for each in text.hypotheses:
+            if each.kind == "f":
+                self.floating.setdefault(text.symbols(each)[1], []).append(each)
+        self.left = MOST
         self.stack: list[list[str]] = []
         self.marked: list[list[str]] = []
         self.frames: dict[str, list[Hypothesis]] = {}
@@ -22,16 +35,16 @@ class Replay:
     def frame(self, assertion: Assertion) -> list[Hypothesis]:
         """The mandatory hypotheses of an assertion, in order of appearance."""
         if assertion.label not in self.frames:
-            floating: dict[str, Hypothesis] = {}
-            for each in self.text.hypotheses:
-                if each.place > assertion.place:
-                    break
-                if each.kind == "f":
-                    floating[self.text.symbols(each)[1]] = each
-            found = [floating[variable] for variable in self.text.mandatory(assertion)]
+            variables = self.text.mandatory(assertion)
+            found = [self.floating_before(variable, assertion.place) for variable in variables]
             found += [self.text.hypotheses[number] for number in assertion.essential]
             self.frames[assertion.label] = sorted(found, key=lambda each: each.place)
         return self.frames[assertion.label]
+
+    def floating_before(self, variable: str, place: int) -> Hypothesis:
+        """The last `$f` of a variable before a place."""
+        known = self.floating[variable]
+        return known[bisect_right(known, place, key=lambda each: each.place) - 1]
 
     def step(self, label: str) -> None:
         """Carries out a step with a label."""
@@ -48,8 +61,12 @@ class Replay:
             if each.kind == "f"
         }
         result: list[str] = []
-        for symbol in self.text.symbols(assertion):
+        symbols = self.text.symbols(assertion)
+        for symbol in symbols:
             result += values.get(symbol, [symbol])
+        self.left -= len(symbols) + len(result)
+        if self.left < 0:
+            raise TooLong
         self.stack.append(result)
 
     def letters(self, letters: str, labels: list[str]) -> None:
@@ -84,8 +101,8 @@ class Replay:
 
 def proved(text: Text, theorem: Assertion) -> str | None:
     """The formula that a theorem's proof proves, its symbols apart by spaces; None where the proof
-    isn't one whose end alone was refused."""
+    isn't one whose end alone was refused, or its formulas are too long."""
     try:
         return " ".join(Replay(text, theorem).carried_out())
-    except (IndexError, KeyError, ValueError):
+    except (IndexError, KeyError, ValueError, TooLong):
         return None

@@ -16,12 +16,14 @@ from typing import NoReturn
 
 from query.errors import NoAnswer, shown
 from query.graph import Lists
-from query.marks import Marks, bit, packed, width_of
+from query.marks import Marks, bit, mask, packed, width_of
 
 SECTIONS = ("matrix", "counts", "usage", "citations")
 LABELS = re.compile(r"[A-Za-z0-9._-]+(?:\n[A-Za-z0-9._-]+)*")
 WRONG_COUNT = "the number isn't that of the labels after it"
 NUMBER = re.compile(r"0|[1-9][0-9]{0,9}")
+MANY = 8192
+"""Up to so many axioms the bits of each are kept apart, 4 MB at the most."""
 
 
 @dataclass(frozen=True)
@@ -241,12 +243,13 @@ class Checker:
 
     def marks_by_usage(self, columns: int) -> Marks:
         """The marks that the section `usage` has."""
-        rows = [0] * len(self.found.theorems)
+        width = width_of(columns)
+        data = bytearray(width * len(self.found.theorems))
         for number, line in enumerate(self.lines("usage")):
             for label in line.rpartition(":")[2].split():
                 if label in self.rows:
-                    rows[self.rows[label]] |= bit(columns, number)
-        return packed(rows, columns)
+                    data[self.rows[label] * width + (number >> 3)] |= 0x80 >> (number & 7)
+        return Marks(len(self.found.theorems), columns, bytes(data))
 
     def check_usage(self, marks: Marks) -> None:
         """Compares the section `usage` with the marks."""
@@ -288,8 +291,11 @@ class CitationReader:
         self.found = checker.found
         first, columns = len(self.found.theorems), len(self.found.columns)
         self.nodes = {label: first + place for place, label in enumerate(self.found.columns)}
-        # The marks of each node as bits; those of theorems come as their lines are read.
-        self.bits = [0] * first + [bit(columns, number) for number in range(columns)]
+        # The marks of each node as bits; those of theorems come as their lines are read. Where
+        # axioms are many, theirs together would take the square of their number.
+        self.has_many = columns > MANY
+        self.bits = [0] * first
+        self.bits += [0] * columns if self.has_many else (bit(columns, i) for i in range(columns))
 
     def read(self) -> Marks:
         """All lines of it."""
@@ -309,11 +315,18 @@ class CitationReader:
                 self.check_order(number, cited)
             targets.extend(cited)
             places.append(len(targets))
-            bits[number] = reduce(or_, map(bits_of, cited), 0)
+            bits[number] = reduce(or_, map(bits_of, cited), self.own_bits(cited))
             nodes[self.found.theorems[number]] = number
         self.found.cites = Lists(places, targets)
         self.check_axioms()
         return packed(bits[: len(self.found.theorems)], len(self.found.columns))
+
+    def own_bits(self, cited: list[int]) -> int:
+        """The bits of the axioms among what is cited, where `bits` doesn't have them."""
+        if not self.has_many:
+            return 0
+        first, columns = len(self.found.theorems), len(self.found.columns)
+        return mask(columns, [node - first for node in cited if first <= node < first + columns])
 
     def damaged(self, number: int, why: str) -> NoReturn:
         """Raises NoAnswer about a line."""

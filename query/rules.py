@@ -6,23 +6,30 @@ gives a `Finding` for each thing that breaks it, in file order.
 
 from __future__ import annotations
 
+import os
 import re
 from collections.abc import Callable, Iterable, Iterator
 from dataclasses import dataclass
 from functools import cached_property
 
+from query.boxes import exposed
 from query.changes import Comparison, Side, text_of_side
 from query.config import RULES, Claim, Config, Labels, is_meant
 from query.graph import Graph
+from query.remarks import tokens
 from query.statements import difference, statement_of
 from query.text import Assertion, Text
 
 DISCOURAGED = re.compile(r"\(New\s+usage\s+is\s+discouraged\.\)")
 DISCOURAGED_PROOF = re.compile(r"\(Proof\s+modification\s+is\s+discouraged\.\)")
 MARKED = re.compile(rb"\$\(\s+\$j(?=\s)")
-TOKEN = re.compile(r"/\*.*?\*/|'([^']*)'|\"([^\"]*)\"|(;)|([^\s;'\"]+)", re.DOTALL)
+TOKEN = re.compile(r"'([^']*)'|\"([^\"]*)\"|(;)|([^\s;'\"]+)")
+MOST_REASONS = 1_000_000
+"""So many reasons are remembered at the most."""
 LONGEST = 200
 """How many characters of a formula are shown."""
+BEFORE = 60
+"""How many of these stand before the place where two formulas differ."""
 
 
 @dataclass(frozen=True)
@@ -45,6 +52,8 @@ class Case:
 
     comparison: Comparison
     config: Config
+    of_config: tuple[Finding, ...] = ()
+    """What breaks the rule `config`: what the file of NEW asks less than that of OLD."""
 
     @property
     def old(self) -> Side:
@@ -77,6 +86,18 @@ class Case:
         moved = self.comparison.theorems.moved
         return self.comparison.to_old.get(label, moved.get(label, ""))
 
+    def is_judged(self, typecode: str) -> bool:
+        """Whether the rule `axioms` judges the axioms of a typecode."""
+        return self.config.typecode in (None, typecode)
+
+    @cached_property
+    def open(self) -> frozenset[str]:
+        """The theorems of NEW that are left open."""
+        by_label = self.text.by_label
+        return frozenset(
+            label for label in self.new.dependence.axioms if by_label[label].kind == "p"
+        )
+
 
 def shown_formula(text: Text, assertion: Assertion) -> str:
     """A formula, cut where it is long."""
@@ -84,26 +105,52 @@ def shown_formula(text: Text, assertion: Assertion) -> str:
     return formula if len(formula) <= LONGEST else formula[:LONGEST] + " .."
 
 
+def shown_change(old: str, new: str) -> tuple[str, str]:
+    """Two formulas, where they are long from a little before the place where they differ on."""
+    start = 0
+    if len(old) > LONGEST or len(new) > LONGEST:
+        start = max(0, len(os.path.commonprefix([old, new])) - BEFORE)
+    both = []
+    for formula in (old, new):
+        end = start + LONGEST
+        dots = ".. " if start else "", " .." if end < len(formula) else ""
+        both.append(dots[0] + formula[start:end] + dots[1])
+    return both[0], both[1]
+
+
 def axioms(case: Case) -> Iterator[Finding]:
-    """An axiom of the typecode is new, changed or gone, and isn't allowed."""
-    pairing, code = case.comparison.axioms, case.config.typecode
+    """An axiom is new, changed or gone, and isn't allowed."""
+    told = set()
+    for label, reason in (*axioms_now(case), *axioms_gone(case)):
+        if label not in told and not case.config.allows("axioms", label):
+            yield case.finding("axioms", label, reason, label)
+        told.add(label)
+
+
+def axioms_now(case: Case) -> Iterator[tuple[str, str]]:
+    """The axioms of NEW that OLD hasn't, or has otherwise, with the reason."""
+    pairing = case.comparison.axioms
     new = {*pairing.new, *pairing.renamed}
     changed = set(pairing.changed)
     for one in case.text.assertions:
-        if one.label in new and case.text.typecode(one) == code:
-            reason = reason_of_new(case, one)
-        elif one.label in changed:
-            reason = reason_of_changed(case, one)
-        else:
-            continue
-        if reason and not case.config.allows("axioms", one.label):
-            yield case.finding("axioms", one.label, reason, one.label)
+        if one.label in new and case.is_judged(case.text.typecode(one)):
+            yield one.label, reason_of_new(case, one)
+        elif one.label in changed and (reason := reason_of_changed(case, one)):
+            yield one.label, reason
+
+
+def axioms_gone(case: Case) -> Iterator[tuple[str, str]]:
+    """The axioms of OLD that aren't in NEW under their label, whatever has it now, with the
+    reason."""
+    pairing = case.comparison.axioms
     kept = set(pairing.origin) - set(pairing.renamed)
     for one in case.old_text.assertions:
-        if one.kind != "a" or one.label in kept or case.old_text.typecode(one) != code:
-            continue
-        if one.label not in new and not case.config.allows("axioms", one.label):
-            yield case.finding("axioms", one.label, reason_of_gone(case, one.label), one.label)
+        if (
+            one.kind == "a"
+            and one.label not in kept
+            and case.is_judged(case.old_text.typecode(one))
+        ):
+            yield one.label, reason_of_gone(case, one.label)
 
 
 def reason_of_new(case: Case, axiom: Assertion) -> str:
@@ -126,16 +173,13 @@ def was_theorem(case: Case, label: str) -> bool:
 def reason_of_changed(case: Case, axiom: Assertion) -> str:
     """How an axiom was changed; "" where it isn't of the typecode, in neither database."""
     before = case.old_text.by_label[axiom.label]
-    codes = {case.text.typecode(axiom), case.old_text.typecode(before)}
-    if case.config.typecode not in codes:
+    if not any(map(case.is_judged, (case.text.typecode(axiom), case.old_text.typecode(before)))):
         return ""
     parts = difference(statement_of(case.old_text, before), statement_of(case.text, axiom))
     if "formula" not in parts:
         return f"a changed axiom: {parts} changed"
-    return (
-        f"a changed axiom: {parts} changed, from {shown_formula(case.old_text, before)}"
-        f" to {shown_formula(case.text, axiom)}"
-    )
+    was, now = shown_change(case.old_text.formula(before), case.text.formula(axiom))
+    return f"a changed axiom: {parts} changed, from {was} to {now}"
 
 
 def reason_of_gone(case: Case, label: str) -> str:
@@ -144,45 +188,91 @@ def reason_of_gone(case: Case, label: str) -> str:
     if now:
         return f"an axiom that is gone; its statement has the label {now}"
     after = case.text.find(label)
-    return "an axiom before, and a theorem now" if after else "an axiom that is gone"
+    if after is None:
+        return "an axiom that is gone"
+    if after.kind == "p":
+        return "an axiom before, and a theorem now"
+    return "an axiom that is gone; another one has its label"
 
 
 def watched(case: Case) -> Iterator[Finding]:
-    """A watched axiom is missing from NEW."""
-    found = [one.label for one in case.text.assertions if one.kind == "a"]
-    known = set(found)
+    """A watched axiom is missing from NEW, or its label is another one's."""
+    line = case.config.lines.get(("watch",), 0)
     for word in case.config.watch:
-        if word in known or word.endswith("*") and any(is_meant(word, each) for each in found):
-            continue
-        reason = "a watched axiom that is missing"
-        now = case.comparison.axioms.now.get(word)
-        if now:
-            reason += f"; its statement has the label {now}"
-        elif case.text.find(word):
-            reason = "a watched axiom that is a theorem now"
-        line = case.config.lines.get(("watch",), 0)
-        yield Finding("watched", case.config.name, line, word, word, reason)
+        if reason := reason_of_watched(case, word):
+            yield Finding("watched", case.config.name, line, word, word, reason)
+    watch = Labels(case.config.watch)
+    for label in case.old.dependence.axioms:
+        now = case.comparison.to_new.get(label, label)
+        if now != label and label in watch and now not in watch:
+            if label not in case.config.watch:
+                reason = f"a watched axiom whose statement has the label {now}, which isn't watched"
+                yield Finding("watched", case.config.name, line, label, label, reason)
+
+
+def reason_of_watched(case: Case, word: str) -> str:
+    """What became of the axiom that a word of `watch` names; "" where it is there."""
+    pairing = case.comparison.axioms
+    after = case.text.find(word)
+    if word.endswith("*"):
+        is_there = any(
+            one.kind == "a" and is_meant(word, one.label) for one in case.text.assertions
+        )
+        return "" if is_there else "a watched axiom that is missing"
+    reason = "a watched axiom that is missing"
+    if after is not None and after.kind == "a":
+        before = case.old_text.find(word)
+        if before is None or before.kind != "a" or pairing.origin.get(word) == word:
+            return ""
+        reason = "a watched axiom whose label another one has"
+    now = pairing.now.get(word)
+    if now:
+        return f"{reason}; its statement has the label {now}"
+    return "a watched axiom that is a theorem now" if after and after.kind == "p" else reason
 
 
 def watched_axioms(case: Case) -> list[str]:
-    """The watched axioms that NEW has, in file order."""
+    """The watched axioms that NEW has, in file order: also those that OLD had under a label that is
+    watched."""
     watch = Labels(case.config.watch)
-    return [label for label in case.new.dependence.axioms if label in watch]
+    was = case.comparison.to_old
+    return [
+        label
+        for label in case.new.dependence.axioms
+        if label in watch or was.get(label, "") in watch
+    ]
 
 
 def newly(case: Case) -> Iterator[Finding]:
-    """A theorem newly rests on a watched axiom, and isn't allowed."""
+    """A theorem that was there before newly rests on a watched axiom, and isn't allowed."""
+    for theorem, axiom, way in rests_now(case, "newly"):
+        yield case.finding("newly", theorem, f"newly rests on {axiom}: {way}", axiom)
+
+
+def new(case: Case) -> Iterator[Finding]:
+    """A new theorem rests on a watched axiom, and isn't allowed."""
+    for theorem, axiom, way in rests_now(case, "new"):
+        reason = f"a new theorem that rests on {axiom}: {way}"
+        yield case.finding("new", theorem, reason, axiom)
+
+
+def rests_now(case: Case, rule: str) -> Iterator[tuple[str, str, str]]:
+    """The theorems that rest on a watched axiom and didn't, with the axiom and the way: for `newly`
+    those that were there before, for `new` the others."""
     comparison = case.comparison
     for axiom in watched_axioms(case):
         rested = set(case.old.users(comparison.to_old.get(axiom, "")))
         reasons = None
         for theorem in case.new.users(axiom):
-            if case.was(theorem) in rested or case.config.may_rest(theorem, axiom):
+            was_there = theorem in comparison.to_old
+            if was_there != (rule == "newly") or case.was(theorem) in rested:
+                continue
+            if case.config.may_rest(rule, theorem, axiom):
                 continue
             reasons = reasons or comparison.why_gained(axiom)
             citing, cited = reasons.why(theorem)
             way = "it cites" if citing == theorem else f"{citing}, on which it rests, cites"
-            yield case.finding("newly", theorem, f"newly rests on {axiom}: {way} {cited}", axiom)
+            yield theorem, axiom, f"{way} {cited}"
 
 
 def claims(case: Case) -> Iterator[Finding]:
@@ -190,6 +280,20 @@ def claims(case: Case) -> Iterator[Finding]:
     judge = Judge(case)
     for claim in case.config.claims:
         yield from judge.judge("claims", claim, case.config.name)
+        for label in (claim.theorem, *claim.axioms):
+            if is_of_another(case, label):
+                reason = (
+                    f"the label {label} is another statement's now, which isn't what is claimed"
+                )
+                yield Finding("claims", case.config.name, claim.line, claim.theorem, "", reason)
+
+
+def is_of_another(case: Case, label: str) -> bool:
+    """Whether a statement of OLD has lost its label to another one."""
+    before, after = case.old_text.find(label), case.text.find(label)
+    if before is None or after is None or before.kind != after.kind:
+        return False
+    return case.comparison.to_old.get(label) != label
 
 
 def avoids(case: Case) -> Iterator[Finding]:
@@ -201,6 +305,34 @@ def avoids(case: Case) -> Iterator[Finding]:
         else:
             reason = "a comment `$j usage` that isn't understood"
             yield Finding("avoids", case.new.name, usage.line, usage.theorem, "", reason)
+    for theorem, axiom in promises_gone(case):
+        if not case.config.allows("avoids", theorem):
+            reason = f"the comment `$j usage` which says that it avoids {axiom} is gone"
+            yield case.finding("avoids", theorem, reason, axiom)
+
+
+def promises(text: Text) -> list[tuple[str, str]]:
+    """Each theorem with each axiom that a comment of a text says it avoids."""
+    return [
+        (usage.claim.theorem, axiom)
+        for usage in usages(text)
+        if usage.claim is not None
+        for axiom in usage.claim.axioms
+    ]
+
+
+def promises_gone(case: Case) -> Iterator[tuple[str, str]]:
+    """The theorems and axioms of NEW of which a comment of OLD rightly said that the one avoids the
+    other, and none of NEW does."""
+    to_new, old = case.comparison.to_new, case.old.dependence
+    kept = set(promises(case.text))
+    for theorem, axiom in dict.fromkeys(promises(case.old_text)):
+        now = (to_new.get(theorem, ""), to_new.get(axiom, ""))
+        row, column = old.rows.get(theorem), old.columns.get(axiom)
+        if row is None or column is None or old.is_marked(row, column):
+            continue
+        if now not in kept and now[0] and now[1] in case.new.dependence.columns:
+            yield now
 
 
 @dataclass(frozen=True)
@@ -220,7 +352,7 @@ def usages(text: Text) -> Iterator[Usage]:
         if "usage" not in body:
             continue
         words: list[tuple[int, str, bool]] = []
-        for token in TOKEN.finditer(body):
+        for token in tokens(TOKEN, body):
             if token[3]:
                 yield from usage_of(text, words, is_ended=True)
                 words = []
@@ -249,14 +381,14 @@ class Judge:
         self.case = case
         self.rows = case.new.dependence.rows
         self.columns = case.new.dependence.columns
-        self.bits: dict[int, int] = {}
+        self.because: dict[int, dict[int, str]] = {}
+        """For rows of theorems and for each column what is the first that they cite and is the
+        axiom or rests on it."""
+        self.unknown = case.new.dependence.mask_of([self.columns[label] for label in case.open])
 
     def rests(self, row: int, column: int) -> bool:
         """Whether a theorem rests on an axiom."""
-        dependence = self.case.new.dependence
-        if column not in self.bits:
-            self.bits[column] = dependence.mask_of([column])
-        return bool(dependence.bits(row) & self.bits[column])
+        return self.case.new.dependence.is_marked(row, column)
 
     def judge(self, rule: str, claim: Claim, file: str) -> Iterator[Finding]:
         """What is wrong with a claim: all of it."""
@@ -266,6 +398,8 @@ class Judge:
             yield Finding(rule, file, line, theorem, "", f"there is no theorem '{theorem}'")
         elif row is None and self.case.text.by_label[theorem].kind == "a":
             reason = f"'{theorem}' is an axiom, where a theorem is wanted"
+            yield Finding(rule, file, line, theorem, "", reason)
+        if reason := self.unjudged(theorem):
             yield Finding(rule, file, line, theorem, "", reason)
         for axiom in claim.axioms:
             column = self.columns.get(axiom)
@@ -277,24 +411,51 @@ class Judge:
             elif row is not None and self.rests(row, column):
                 yield Finding(rule, file, line, theorem, axiom, self.reason(row, axiom))
 
+    def unjudged(self, theorem: str) -> str:
+        """Why nobody knows what a theorem avoids; "" where that is known."""
+        if theorem in self.case.open:
+            return "its proof is left open, so nobody knows what it avoids"
+        row = self.rows.get(theorem)
+        dependence = self.case.new.dependence
+        unknown = 0 if row is None else dependence.bits(row) & self.unknown
+        if not unknown:
+            return ""
+        label = dependence.axioms[8 * dependence.marks.width - unknown.bit_length()]
+        return f"rests on {label}, whose proof is left open, so nobody knows what it avoids"
+
     def reason(self, row: int, axiom: str) -> str:
         """Why a theorem rests on an axiom: its first citation that does."""
-        graph = self.case.new.graph
-        column = self.columns[axiom]
-        theorem = self.case.new.dependence.theorems[row]
-        for cited in graph.cites[graph.index[theorem]]:
+        if row not in self.because:
+            if sum(map(len, self.because.values())) > MOST_REASONS:
+                self.because.clear()
+            self.because[row] = self.found_because(row)
+        label = self.because[row].get(self.columns[axiom])
+        if label is None:
+            return f"rests on {axiom}"
+        how = "it cites it" if label == axiom else f"it cites {label}, which does"
+        return f"rests on {axiom}: {how}"
+
+    def found_because(self, row: int) -> dict[int, str]:
+        """For each axiom on which a theorem rests its first citation that does."""
+        graph, dependence = self.case.new.graph, self.case.new.dependence
+        found: dict[int, str] = {}
+        left = dependence.bits(row)
+        for cited in graph.cites[graph.index[dependence.theorems[row]]]:
             label = graph.labels[cited]
-            if label == axiom:
-                return f"rests on {axiom}: it cites it"
-            if label in self.rows and self.rests(self.rows[label], column):
-                return f"rests on {axiom}: it cites {label}, which does"
-        return f"rests on {axiom}"
+            if label in self.columns:
+                bits = dependence.mask_of([self.columns[label]])
+            else:
+                bits = dependence.bits(self.rows[label]) if label in self.rows else 0
+            if left & bits:
+                found.update(dict.fromkeys(dependence.columns_of(left & bits), label))
+                left &= ~bits
+        return found
 
 
 def open_theorems(case: Case) -> Iterator[Finding]:
     """A theorem is left open, and isn't allowed."""
     for label in case.new.dependence.axioms:
-        if case.text.by_label[label].kind == "p" and not case.config.allows("open", label):
+        if label in case.open and not case.config.allows("open", label):
             yield case.finding("open", label, "a theorem whose proof is left open")
 
 
@@ -309,19 +470,30 @@ def citations(graph: Graph, labels: Iterable[str]) -> Iterator[tuple[str, str]]:
 def across_mathboxes(graph: Graph, text: Text) -> Iterator[tuple[str, str, str | None, str]]:
     """Each citation of an assertion in a mathbox from outside it: what cites, what it cites, and
     the mathboxes of both."""
-    boxes = {one.label: box for one in text.assertions if (box := text.mathbox(one)) is not None}
+    boxes = {one.label: number for one, number, _ in text.boxed()}
+    names = {one.label: name for one, _, name in text.boxed()}
     for user, cited in citations(graph, boxes):
         if boxes.get(user) != boxes[cited]:
-            yield user, cited, boxes.get(user), boxes[cited]
+            yield user, cited, names.get(user), names[cited]
 
 
 def mathboxes(case: Case) -> Iterator[Finding]:
-    """A mathbox is cited from outside it, and that isn't allowed."""
+    """A mathbox is cited from outside it, or no longer has what it had, and that isn't allowed."""
+    same = case.comparison
     for user, cited, box, other in across_mathboxes(case.new.graph, case.text):
         if not case.config.allows("mathboxes", user):
             where = f"in the mathbox for {box}, " if box else ""
             reason = f"{where}cites {cited} of the mathbox for {other}"
             yield case.finding("mathboxes", user, reason)
+    for each in exposed(case.old_text, case.text, same.to_old, same.to_new):
+        labels = [label for label in each.labels if not case.config.allows("mathboxes", label)]
+        if labels:
+            more = f", like {len(labels) - 1} more," if labels[1:] else ""
+            reason = (
+                f"stayed where it was{more} and is no longer in the mathbox for {each.mathbox}:"
+                " its header is gone or moved, or another one is before it"
+            )
+            yield case.finding("mathboxes", labels[0], reason)
 
 
 def discouraged_labels(text: Text) -> list[str]:
@@ -341,22 +513,35 @@ def is_proof_discouraged(text: Text, assertion: Assertion) -> bool:
 
 def discouraged(case: Case) -> Iterator[Finding]:
     """A theorem newly cites one whose new usage is discouraged, and that isn't allowed."""
-    for user, cited in citations(case.new.graph, discouraged_labels(case.text)):
+    marked = dict.fromkeys(discouraged_labels(case.text))
+    for user, cited in citations(case.new.graph, marked):
         was, used = case.was(user), case.was(cited)
         if used and used in case.old.cites(was) or case.config.allows("discouraged", user):
             continue
         yield case.finding("discouraged", user, f"cites {cited}, whose new usage is discouraged")
+    for label in discouraged_labels(case.old_text):
+        now = case.comparison.to_new.get(label)
+        if now and now not in marked and not case.config.allows("discouraged", now):
+            reason = "its comment no longer says `(New usage is discouraged.)`"
+            yield case.finding("discouraged", now, reason)
+
+
+def config(case: Case) -> Iterator[Finding]:
+    """The file `mmdepend.toml` of NEW asks less than that of OLD."""
+    yield from case.of_config
 
 
 JUDGES: dict[str, Callable[[Case], Iterator[Finding]]] = {
     "axioms": axioms,
     "watched": watched,
     "newly": newly,
+    "new": new,
     "claims": claims,
     "avoids": avoids,
     "open": open_theorems,
     "mathboxes": mathboxes,
     "discouraged": discouraged,
+    "config": config,
 }
 assert tuple(JUDGES) == RULES
 

@@ -5,9 +5,15 @@ import os
 import stat
 import zlib
 from dataclasses import dataclass
+from typing import TYPE_CHECKING
 
 from query.errors import NoAnswer, shown
 from query.output import reason
+
+if TYPE_CHECKING:
+    from pathlib import Path
+
+    from query.git import Repository
 
 # The program refuses longer texts, so no more than one byte more is unpacked.
 LONGEST = 2_147_483_647
@@ -76,7 +82,7 @@ def opened(word: str) -> Source:
     name = shown(word)
     if word == "-":
         return Source("standard input", unpacked("standard input", read_all(0, "standard input")))
-    if not os.path.lexists(word) and ":" in word:
+    if is_of_git(word):
         return Source(name, unpacked(name, of_git(word)))
     try:
         descriptor = os.open(word, os.O_RDONLY | os.O_CLOEXEC)
@@ -103,6 +109,24 @@ def of_file(word: str, name: str, descriptor: int) -> Source:
     return Source(name, data, os.path.abspath(word), stamp)
 
 
+def read_plainly(path: "Path") -> bytes | None:
+    """The bytes of a file that is no link; None where there is none. NoAnswer where it is a folder,
+    or can't be read."""
+    name = shown(str(path))
+    try:
+        descriptor = os.open(path, os.O_RDONLY | os.O_CLOEXEC | os.O_NOFOLLOW)
+    except FileNotFoundError:
+        return None
+    except OSError as error:
+        raise NoAnswer(f"{name}: {reason(error)}") from None
+    try:
+        if not stat.S_ISREG(os.fstat(descriptor).st_mode):
+            raise NoAnswer(f"{name}: is no plain file")
+        return read_all(descriptor, name)
+    finally:
+        os.close(descriptor)
+
+
 def read_all(descriptor: int, name: str) -> bytes:
     """All that can be read."""
     try:
@@ -112,13 +136,59 @@ def read_all(descriptor: int, name: str) -> bytes:
         raise NoAnswer(f"{name}: {reason(error)}") from None
 
 
-def of_git(word: str) -> bytes:
-    """The bytes of a file in a revision."""
+def is_of_git(word: str) -> bool:
+    """Whether a word is `REV:PATH`, and no file. NoAnswer where it could be both.
+
+    A word that begins with `/`, `./` or `../` is always a file, and one that begins with the full
+    id of a commit never.
+    """
+    if ":" not in word or word.startswith(("/", "./", "../")):
+        return False
     from pathlib import Path
 
-    from query.git import repository_of
+    from query.git import FULL_ID, repository_of
 
-    return repository_of(Path.cwd()).blob(word, Path.cwd()).content()
+    if FULL_ID.match(word) or not os.path.lexists(word):
+        return True
+    try:
+        is_revision = repository_of(Path.cwd()).has(word.partition(":")[0] or "HEAD")
+    except NoAnswer:
+        return False
+    if is_revision:
+        raise NoAnswer(
+            f"'{shown(word)}' is a file, and of a revision too: write ./{shown(word)} for the file,"
+            " and the full id of the commit (`git rev-parse REV`) for the revision"
+        )
+    return False
+
+
+def of_git(word: str) -> bytes:
+    """The bytes of a file in a revision. NoAnswer where there is none."""
+    from pathlib import Path
+
+    from query.git import repository_of, short
+    from query.objects import Objects
+
+    repository = repository_of(Path.cwd())
+    commit, path = place_of(word)
+    commit = repository.commit(commit)
+    with Objects(repository) as objects:
+        content = objects.content(commit, path_from_top(path, repository))
+    if content is None:
+        raise NoAnswer(f"{shown(path)}: revision {short(commit)} has no such file")
+    return content
+
+
+def place_of(word: str) -> tuple[str, str]:
+    """The revision and the path that `REV:PATH` names."""
+    revision, _, path = word.partition(":")
+    return revision or "HEAD", path
+
+
+def path_from_top(path: str, repository: "Repository") -> str:
+    """The path of `REV:PATH` from the top; with `./` or `../` first it is from the working
+    folder."""
+    return repository.path_of(path) if path.startswith(("./", "../")) else path
 
 
 def unpacked(name: str, data: bytes) -> bytes:

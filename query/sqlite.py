@@ -14,7 +14,7 @@ from query.database import Dependence
 from query.errors import NoAnswer, shown
 from query.output import reason
 from query.rules import is_discouraged, is_proof_discouraged
-from query.statements import statement_of
+from query.statements import distinct_pairs
 from query.text import Text
 
 APPLICATION = 0x6D6D7175
@@ -131,7 +131,7 @@ class Content:
         """The rows of `disjoint`: what binds who cites the statement."""
         for one in self.text.assertions:
             if one.disjoint:
-                for first, second in sorted(statement_of(self.text, one).disjoint):
+                for first, second in distinct_pairs(self.text, one):
                     yield one.number + 1, first, second
 
     def citations(self) -> Iterator[Row]:

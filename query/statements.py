@@ -8,44 +8,46 @@ only the proof has, aren't part of it.
 
 from __future__ import annotations
 
+from collections import deque
 from collections.abc import Callable, Iterator
 from dataclasses import dataclass, field
-from functools import cached_property
+from functools import cached_property, partial
 from typing import NamedTuple
 
-from query.text import Assertion, Pair, Text, pairs
+from query.active import Active
+from query.distinct import Pair, pairs_of, sum_of
+from query.text import Assertion, Stretch, Text
 
 Cites = Callable[[str], frozenset[str]]
 """For a theorem's label the labels that it cites."""
 
 
 class Statement(NamedTuple):
-    """What an assertion says; equal for two databases exactly where it is the same."""
+    """What an assertion says; equal for two databases exactly where it is the same. Hypotheses and
+    pairs have sums in their place: there may be many of them."""
 
     formula: str
-    hypotheses: tuple[str, ...]
-    disjoint: frozenset[Pair]
+    hypotheses: bytes
+    disjoint: bytes
     typecodes: frozenset[Pair]
     """Each variable with its typecode."""
 
 
 def statement_of(text: Text, assertion: Assertion) -> Statement:
     """The statement of an assertion."""
-    formula = text.formula(assertion)
-    hypotheses = tuple(text.formula(text.hypotheses[number]) for number in assertion.essential)
-    symbols = set(" ".join((formula, *hypotheses)).split(" "))
+    variables = text.mandatory(assertion)
     typecodes = text.variables
-    variables = {symbol for symbol in symbols if symbol in typecodes}
-    disjoint: set[Pair] = set()
-    for number in assertion.disjoint:
-        group = [variable for variable in text.group(number) if variable in variables]
-        disjoint.update((min(pair), max(pair)) for pair in pairs(group))
     return Statement(
-        formula,
-        hypotheses,
-        frozenset(disjoint),
+        text.formula(assertion),
+        text.sum_of_hypotheses(assertion),
+        sum_of(text.groups(assertion, variables)),
         frozenset((variable, typecodes[variable]) for variable in variables),
     )
+
+
+def distinct_pairs(text: Text, assertion: Assertion) -> Iterator[Pair]:
+    """The pairs of an assertion's variables that must be distinct, in order."""
+    return pairs_of(text.groups(assertion, text.mandatory(assertion)))
 
 
 def difference(old: Statement, new: Statement) -> str:
@@ -88,6 +90,77 @@ class Pairing:
         return {old: new for new, old in self.renamed.items()}
 
 
+class Written:
+    """Whether what is active at places of two texts is written alike. `old` and `new` give what
+    each number stands for, as it is written."""
+
+    def __init__(self, old: Callable[[int], bytes], new: Callable[[int], bytes]) -> None:
+        self.old = old
+        self.new = new
+        self.known: dict[tuple[int, int], bool] = {(-1, -1): True}
+
+    def is_alike(self, old: Active, new: Active) -> bool:
+        """Whether as many are active, each written as the other. What was compared once with those
+        before it isn't compared again."""
+        if old.size != new.size:
+            return False
+        passed = []
+        answer = True
+        for one, other in zip(old.upwards(), new.upwards()):
+            pair = one.last, other.last
+            known = self.known.get(pair)
+            if known is not None:
+                answer = known
+                break
+            passed.append(pair)
+            if self.old(one.last) != self.new(other.last):
+                answer = False
+                break
+        for pair in passed:
+            self.known[pair] = answer
+        return answer
+
+
+def stretch_of(text: Text, stretch: Stretch) -> bytes:
+    """A stretch as it is written."""
+    return text.data[stretch[0] : stretch[1]]
+
+
+def hypothesis_of(text: Text, number: int) -> bytes:
+    """The formula of a hypothesis, as it is written."""
+    return stretch_of(text, text.hypotheses[number].formula)
+
+
+def condition_of(text: Text, number: int) -> bytes:
+    """The variables of a `$d`, as they are written."""
+    return stretch_of(text, text.disjoint[number])
+
+
+class Candidates:
+    """Assertions by their statements and by what they cite, those of each in file order."""
+
+    def __init__(self) -> None:
+        self.all: dict[Statement, deque[str]] = {}
+        self.citing: dict[tuple[Statement, frozenset[str]], deque[str]] = {}
+        self.taken: set[str] = set()
+
+    def add(self, statement: Statement, cites: frozenset[str], label: str) -> None:
+        """Adds one."""
+        self.all.setdefault(statement, deque()).append(label)
+        self.citing.setdefault((statement, cites), deque()).append(label)
+
+    def take(self, statement: Statement, cites: frozenset[str] | None) -> str | None:
+        """The first one of a statement that wasn't taken, or the first one that cites these; None
+        where there is none."""
+        left = self.all.get(statement) if cites is None else self.citing.get((statement, cites))
+        while left:
+            label = left.popleft()
+            if label not in self.taken:
+                self.taken.add(label)
+                return label
+        return None
+
+
 class Pairer:
     """Pairs the assertions of two databases."""
 
@@ -96,32 +169,46 @@ class Pairer:
         self.new = new
         changed = set(old.variables.items()) ^ set(new.variables.items())
         self.other_variables = {variable for variable, _ in changed}
+        self.untouched: dict[int, bool] = {}
+        """Of hypotheses of NEW whether they and those before them have no other variable."""
+        self.given = Written(partial(hypothesis_of, old), partial(hypothesis_of, new))
+        self.distinct = Written(partial(condition_of, old), partial(condition_of, new))
 
     def is_same(self, old: Assertion, new: Assertion) -> bool:
         """Whether two assertions have the same statement. Most are written alike."""
-        written = self.written(self.new, new)
-        if written == self.written(self.old, old):
-            if not self.other_variables:
-                return True
-            words = b" ".join(written).decode("latin-1").split()
-            if self.other_variables.isdisjoint(words):
-                return True
+        if self.is_written_alike(old, new) and self.has_same_variables(new):
+            return True
         return statement_of(self.old, old) == statement_of(self.new, new)
 
-    @staticmethod
-    def written(text: Text, assertion: Assertion) -> list[bytes]:
-        """The formula, the hypotheses and the `$d` as they stand in the text."""
-        data = text.data
-        start, end = assertion.formula
-        parts = [data[start:end]]
-        for number in assertion.essential:
-            start, end = text.hypotheses[number].formula
-            parts.append(data[start:end])
-        parts.append(b"$d")
-        for number in assertion.disjoint:
-            start, end = text.disjoint[number]
-            parts.append(data[start:end])
-        return parts
+    def is_written_alike(self, old: Assertion, new: Assertion) -> bool:
+        """Whether formula, hypotheses and `$d` stand in both texts by the same bytes."""
+        return (
+            stretch_of(self.old, old.formula) == stretch_of(self.new, new.formula)
+            and self.given.is_alike(old.essential, new.essential)
+            and self.distinct.is_alike(old.disjoint, new.disjoint)
+        )
+
+    def has_same_variables(self, new: Assertion) -> bool:
+        """Whether what formula and hypotheses of NEW are written with has the same typecodes in
+        OLD."""
+        if not self.other_variables:
+            return True
+        passed = []
+        answer = self.is_untouched(new.formula)
+        for each in new.essential.upwards() if answer else ():
+            known = self.untouched.get(each.last)
+            if known is not None:
+                answer = known
+                break
+            passed.append(each.last)
+        for number in reversed(passed):
+            answer = answer and self.is_untouched(self.new.hypotheses[number].formula)
+            self.untouched[number] = answer
+        return answer
+
+    def is_untouched(self, stretch: Stretch) -> bool:
+        """Whether no word of a stretch of NEW is a variable of another typecode in OLD."""
+        return self.other_variables.isdisjoint(self.new.raw(stretch).split())
 
     def pair(self, kind: str, old_cites: Cites, new_cites: Cites) -> Pairing:
         """Pairs the axioms (`a`) or the theorems (`p`)."""
@@ -157,33 +244,33 @@ class Pairer:
     ) -> Iterator[tuple[str, str]]:
         """Pairs of labels, of NEW and of OLD, with the same statement: of several first those that
         cite the same, then the others in file order."""
-        candidates: dict[Statement, list[str]] = {}
+        candidates = Candidates()
         for one in old:
-            candidates.setdefault(statement_of(self.old, one), []).append(one.label)
+            candidates.add(statement_of(self.old, one), old_cites(one.label), one.label)
         left = []
         for one in new:
-            labels = candidates.get(statement_of(self.new, one), [])
-            cites = new_cites(one.label)
-            same = next((label for label in labels if old_cites(label) == cites), None)
+            statement = statement_of(self.new, one)
+            same = candidates.take(statement, new_cites(one.label))
             if same is None:
-                left.append((one.label, labels))
-                continue
-            labels.remove(same)
-            yield one.label, same
-        for label, labels in left:
-            if labels:
-                yield label, labels.pop(0)
+                left.append((one.label, statement))
+            else:
+                yield one.label, same
+        for label, statement in left:
+            other = candidates.take(statement, None)
+            if other is not None:
+                yield label, other
 
     def moves(
         self, stayed: list[Assertion], new: list[str], old_cites: Cites, new_cites: Cites
     ) -> dict[str, str]:
         """New theorems that have the statement and the citations that one of OLD had, which is
         still there but cites something else."""
-        wanted: dict[Statement, list[str]] = {}
+        wanted: dict[tuple[Statement, frozenset[str]], list[str]] = {}
+        formulas = set()
         for label in new:
             statement = statement_of(self.new, self.new.by_label[label])
-            wanted.setdefault(statement, []).append(label)
-        formulas = {statement.formula for statement in wanted}
+            wanted.setdefault((statement, new_cites(label)), []).append(label)
+            formulas.add(statement.formula)
         found: dict[str, str] = {}
         for one in stayed if wanted else ():
             if self.old.formula(one) not in formulas:
@@ -191,7 +278,6 @@ class Pairer:
             cites = old_cites(one.label)
             if cites == new_cites(one.label):
                 continue
-            for label in wanted.get(statement_of(self.old, one), ()):
-                if new_cites(label) == cites:
-                    found.setdefault(label, one.label)
+            for label in wanted.pop((statement_of(self.old, one), cites), ()):
+                found[label] = one.label
         return found

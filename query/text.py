@@ -16,7 +16,7 @@ Places are byte offsets from 0, lines and columns are counted from 1. The interf
             text.formula(hypothesis)
         for number in assertion.disjoint:          # its active `$d`
             text.group(number)             # the variables, as written
-        text.conditions(assertion)         # Conditions: pairs, mandatory and of the proof's dummies
+        text.conditions(assertion)         # Conditions: which pairs of variables must be distinct
         text.comment(assertion)            # the whole comment before it, or ""
         text.proof(assertion)              # the words between `$=` and `$.`; [] for a `$a`
         assertion.proof                    # (start, end) of that stretch, or None
@@ -37,25 +37,32 @@ from __future__ import annotations
 import gc
 import re
 from bisect import bisect_right
-from dataclasses import dataclass, field
+from dataclasses import dataclass
 from functools import cached_property
-from typing import Iterator
+from hashlib import blake2b
+
+from query.active import NOTHING, Active, Given
+from query.distinct import Distinct
 
 # The lines that enclose the title of a part, a chapter, a section and a subsection.
 DECORATIONS = ("####", "#*#*", "=-=-", "-.-.")
 
-# What stands between `$(` and `$)`, and words with comments among them.
-INNER = rb"[^$]*(?:\$(?!\))[^$]*)*"
-WORDS = rb"[^$]*(?:\$\(" + INNER + rb"\$\)[^$]*)*"
-# A comment, a statement or an end of a block, with the white space before it.
+# A comment, a statement or an end of a block, with the white space before it, if no other `$` is in
+# it than those of its keywords; else what is read by steps, or the end. So at each place something
+# is found, and nothing that was passed is tried again.
 PIECE = re.compile(
-    rb"\s*(?:\$\((?P<comment>" + INNER + rb")\$\)"
-    rb"|(?P<label>[^\s$]+)\s+(?:\$\(" + INNER + rb"\$\)\s+)*"
-    rb"\$(?P<kind>[aefp])\s(?P<formula>" + WORDS + rb")(?:\$=(?P<proof>" + WORDS + rb"))?\$\."
-    rb"|\$(?P<plain>[cdv])\s(?P<symbols>" + WORDS + rb")\$\."
-    rb"|\$(?P<brace>[{}]))"
+    rb"\s*+(?:\$\((?P<comment>[^$]*+)\$\)"
+    rb"|(?P<label>[^\s$]++)\s++\$(?P<kind>[aefp])\s"
+    rb"(?P<formula>[^$]*+)(?:\$=(?P<proof>[^$]*+))?\$\."
+    rb"|\$(?P<plain>[cdv])\s(?P<symbols>[^$]*+)\$\."
+    rb"|\$(?P<brace>[{}])"
+    rb"|(?P<other>))"
 )
-COMMENT = re.compile(rb"\$\(" + INNER + rb"\$\)")
+LABEL = re.compile(rb"([^\s$]++)\s++")
+KEYWORD = re.compile(rb"\$([aefp])\s")
+BLANK = re.compile(rb"\s++")
+PLAIN = re.compile(rb"\$([cdv])\s")
+COMMENT = re.compile(rb"\$\([^$]*+(?:\$(?!\))[^$]*+)*\$\)")
 HEADING = re.compile(
     r"\s*(?P<line>####|#\*#\*|=-=-|-\.-\.)[#*=.\-]*[ \t\r]*\n"
     r"(?P<title>(?:.*\n){1,4}?)"
@@ -70,7 +77,6 @@ BLOCK = 1 << 10  # bytes, of which the lines are counted at once
 
 Place = int
 Stretch = tuple[int, int]
-Pair = tuple[str, str]
 
 
 class UnreadableText(Exception):
@@ -100,8 +106,8 @@ class Assertion:
     place: Place
     formula: Stretch
     proof: Stretch | None
-    essential: tuple[int, ...]
-    disjoint: tuple[int, ...]
+    essential: Active
+    disjoint: Active
     comment: Stretch | None
     header: int
     number: int = 0
@@ -133,17 +139,15 @@ class Comment:
 
 @dataclass(slots=True)
 class Conditions:
-    """The pairs of variables that must be distinct, in order of the `$d` statements.
+    """Which pairs of variables must be distinct: two of `variables` bind who cites the assertion,
+    others the proof alone."""
 
-    `mandatory` binds who cites the assertion; `proof` are those with a dummy variable of the proof.
-    """
-
-    mandatory: list[Pair] = field(default_factory=list)
-    proof: list[Pair] = field(default_factory=list)
-    variables: list[str] = field(default_factory=list)
+    variables: list[str]
     """The variables of the assertion."""
-    dummies: list[str] = field(default_factory=list)
+    dummies: list[str]
     """The variables that only the proof has."""
+    groups: list[list[str]]
+    """Each two of a group must be distinct; in order of the `$d` statements."""
 
 
 class Text:
@@ -158,8 +162,8 @@ class Text:
         self.marked: list[Comment] = []
         self.typesetting: str | None = None
         self.declared: list[Stretch] = []  # the symbols of each `$v`
-        self._variables_of: dict[int, dict[str, None]] = {}  # of hypotheses, where they are known
-        self._groups: dict[int, list[str]] = {}  # of `$d` statements, likewise
+        self._groups: dict[int, list[str]] = {}  # of `$d` statements, where they are known
+        self._sums: dict[int, bytes] = {}  # of `$e` statements with those before them, likewise
 
     def words(self, stretch: Stretch) -> str:
         """The words of a stretch without comments in it, separated by single spaces."""
@@ -246,15 +250,17 @@ class Text:
         """The variable of each `$f` statement, by its label."""
         return {one.label: self.symbols(one)[1] for one in self.hypotheses if one.kind == "f"}
 
+    @cached_property
+    def _given(self) -> Given:
+        return Given(lambda number: self._variables(self.hypotheses[number]))
+
+    @cached_property
+    def _distinct(self) -> Distinct:
+        return Distinct(self.group)
+
     def mandatory(self, assertion: Assertion) -> list[str]:
         """The variables of an assertion's hypotheses and formula, each once, as they appear."""
-        found: dict[str, None] = {}
-        for number in assertion.essential:
-            known = self._variables_of.get(number)
-            if known is None:
-                known = self._variables(self.hypotheses[number])
-                self._variables_of[number] = known
-            found.update(known)
+        found = dict.fromkeys(self._given.variables_of(assertion.essential))
         found.update(self._variables(assertion))
         return list(found)
 
@@ -264,11 +270,27 @@ class Text:
         variables = self.variables
         return {symbol: None for symbol in symbols if symbol in variables}
 
+    def sum_of_hypotheses(self, assertion: Assertion) -> bytes:
+        """What is the same for assertions exactly where their active `$e` have the same formulas,
+        in the same order."""
+        known = self._sums
+        coming = []
+        total = b""
+        for each in assertion.essential.upwards():
+            if each.last in known:
+                total = known[each.last]
+                break
+            coming.append(each.last)
+        for number in reversed(coming):
+            formula = self.formula(self.hypotheses[number]).encode()
+            total = known[number] = blake2b(total + formula, digest_size=20).digest()
+        return total
+
     def dummies(self, assertion: Assertion) -> list[str]:
         """The variables that the proof names and the assertion doesn't have, as they appear."""
-        return self._dummies(assertion, self.mandatory(assertion))
+        return self._dummies(assertion, set(self.mandatory(assertion)))
 
-    def _dummies(self, assertion: Assertion, mandatory: list[str]) -> list[str]:
+    def _dummies(self, assertion: Assertion, mandatory: set[str]) -> list[str]:
         words = self._named_by_proof(assertion)
         floating = self.floating
         found = dict.fromkeys(floating[word] for word in words if word in floating)
@@ -286,21 +308,16 @@ class Text:
         return self.words((start, end if bracket < 0 else bracket)).split()
 
     def conditions(self, assertion: Assertion) -> Conditions:
-        """The pairs of an assertion's active `$d` that bind its user, and those of its proof."""
-        found = Conditions(variables=self.mandatory(assertion))
-        found.dummies = self._dummies(assertion, found.variables)
-        mandatory = set(found.variables)
-        used = mandatory.union(found.dummies)
-        seen: set[Pair] = set()
-        for number in assertion.disjoint:
-            group = [variable for variable in self.group(number) if variable in used]
-            for first, second in pairs(group):
-                if (first, second) in seen or (second, first) in seen:
-                    continue
-                seen.add((first, second))
-                is_mandatory = first in mandatory and second in mandatory
-                (found.mandatory if is_mandatory else found.proof).append((first, second))
-        return found
+        """The variables of an assertion and of its proof, and which of them must be distinct."""
+        variables = self.mandatory(assertion)
+        dummies = self._dummies(assertion, set(variables))
+        return Conditions(variables, dummies, self.groups(assertion, variables + dummies))
+
+    def groups(self, assertion: Assertion, variables: list[str]) -> list[list[str]]:
+        """What is left of each active `$d` where only these variables count."""
+        if not assertion.disjoint:
+            return []
+        return self._distinct.groups(assertion.disjoint, variables)
 
     def group(self, number: int) -> list[str]:
         """The variables of a `$d` statement, as written."""
@@ -312,24 +329,37 @@ class Text:
 
     @cached_property
     def _mathboxes(self) -> list[tuple[int, int, str]]:
-        """For each mathbox its first assertion, the one after its last, and the name."""
-        starts = [(header, MATHBOX.match(header.title)) for header in self.headers]
-        return [(header.first, header.end, match[1]) for header, match in starts if match]
+        """For each mathbox its first assertion, the one after its last, and the name. A header
+        within a mathbox makes no other one of a part of it."""
+        found: list[tuple[int, int, str]] = []
+        level = -1
+        for header in self.headers:
+            if 0 <= level < header.level:
+                continue
+            match = MATHBOX.match(header.title)
+            level = header.level if match else -1
+            if match:
+                found.append((header.first, header.end, match[1]))
+        return found
+
+    def box(self, assertion: Assertion) -> int | None:
+        """The number of the mathbox in which an assertion stands, from 0; several may have one
+        name."""
+        place = bisect_right(self._mathboxes, (assertion.number, len(self.assertions) + 1, "")) - 1
+        return place if place >= 0 and assertion.number < self._mathboxes[place][1] else None
+
+    def boxed(self) -> list[tuple[Assertion, int, str]]:
+        """Each assertion that stands in a mathbox, with the number and the name of that."""
+        return [
+            (assertion, number, name)
+            for number, (first, end, name) in enumerate(self._mathboxes)
+            for assertion in self.assertions[first:end]
+        ]
 
     def mathbox(self, assertion: Assertion) -> str | None:
         """The name of the mathbox in which an assertion stands."""
-        place = bisect_right(self._mathboxes, (assertion.number, len(self.assertions) + 1, "")) - 1
-        if place < 0:
-            return None
-        first, end, name = self._mathboxes[place]
-        return name if first <= assertion.number < end else None
-
-
-def pairs(group: list[str]) -> Iterator[Pair]:
-    """Each pair of a group, in order."""
-    for place, first in enumerate(group):
-        for second in group[place + 1 :]:
-            yield first, second
+        box = self.box(assertion)
+        return None if box is None else self._mathboxes[box][2]
 
 
 class Reading:
@@ -337,87 +367,144 @@ class Reading:
 
     def __init__(self, data: bytes) -> None:
         self.text = Text(data)
-        self.essential: list[int] = []
-        self.disjoint: list[int] = []
-        self.blocks: list[tuple[int, int]] = []
-        self.active: tuple[tuple[int, ...], tuple[int, ...]] | None = ((), ())
+        self.essential = NOTHING
+        self.disjoint = NOTHING
+        self.blocks: list[tuple[Active, Active]] = []
         self.comment: Stretch | None = None
         self.counters = [0, 0, 0, 0]
 
     def read(self) -> None:
         """Reads the whole text."""
-        place = 0
-        for match in PIECE.finditer(self.text.data):
-            start, end = match.span()
-            if start != place:
-                raise UnreadableText(place)
-            place = end
-            comment, label, kind, _, _, plain, _, brace = match.groups()
-            if kind is not None:
-                self.add_statement(match, label.decode("latin-1"), kind)
-            elif comment is not None:
-                self.add_comment(match, comment)
-                continue
-            elif plain is not None:
-                self.add_plain(match, plain)
-            else:
-                self.add_brace(brace)
-            self.comment = None
-        if self.text.data[place:].strip():
-            raise UnreadableText(place)
+        place: Place | None = 0
+        while place is not None:
+            place = self.read_from(place)
         close_chapters(self.text)
 
-    def add_statement(self, match: re.Match[bytes], label: str, kind: bytes) -> None:
+    def read_from(self, place: Place) -> Place | None:
+        """Reads up to what is read by steps, and that. Returns the place after it, None at the
+        end."""
+        for match in PIECE.finditer(self.text.data, place):
+            comment, label, kind, _, given, plain, _, brace, _ = match.groups()
+            if kind is not None:
+                is_proved = kind == b"p" and given is not None
+                proof = match.span("proof") if is_proved else None
+                self.add_statement(match.start("label"), label, kind, match.span("formula"), proof)
+            elif comment is not None:
+                self.add_comment(match.span("comment"))
+                continue
+            elif plain is not None:
+                self.add_plain(plain, match.span("symbols"))
+            elif brace is not None:
+                self.add_brace(brace)
+            else:
+                return self.read_other(match.start(), match.end())
+            self.comment = None
+        return None
+
+    def read_other(self, start: Place, place: Place) -> Place | None:
+        """Reads a comment or a statement in which `$` or comments stand. UnreadableText from
+        `start` where there is none."""
+        data = self.text.data
+        if place == len(data):
+            return None
+        try:
+            if data.startswith(b"$(", place):
+                end = data.index(b"$)", place + 2)
+                self.add_comment((place + 2, end))
+                return end + 2
+            end = self.read_plain(place) or self.read_statement(place)
+        except ValueError:
+            raise UnreadableText(start) from None
+        self.comment = None
+        return end
+
+    def dollar_after(self, place: Place) -> Place:
+        """The place of the next `$` that isn't one of a comment. ValueError where there is none."""
+        data = self.text.data
+        place = data.index(b"$", place)
+        while data.startswith(b"$(", place):
+            place = data.index(b"$", data.index(b"$)", place + 2) + 2)
+        return place
+
+    def end_after(self, place: Place) -> Place:
+        """The place of the `$.` that comes next but for comments. ValueError where it isn't."""
+        end = self.dollar_after(place)
+        return self.text.data.index(b"$.", end, end + 2)
+
+    def read_plain(self, place: Place) -> Place | None:
+        """Reads a `$c`, `$d` or `$v`. Returns the place after it, None where another word is."""
+        match = PLAIN.match(self.text.data, place)
+        if match is None:
+            return None
+        end = self.end_after(match.end())
+        self.add_plain(match[1], (match.end(), end))
+        return end + 2
+
+    def read_statement(self, place: Place) -> Place:
+        """Reads a statement with a label. Returns the place after it. ValueError where there is
+        none."""
+        data = self.text.data
+        label = matched(LABEL, data, place)
+        at = label.end()
+        while data.startswith(b"$(", at):
+            at = matched(BLANK, data, data.index(b"$)", at + 2) + 2).end()
+        keyword = matched(KEYWORD, data, at)
+        formula = (keyword.end(), self.dollar_after(keyword.end()))
+        proof = None
+        end = formula[1]
+        if data.startswith(b"$=", end):
+            end = self.end_after(end + 2)
+            proof = (formula[1] + 2, end)
+        end = data.index(b"$.", end, end + 2)
+        kind = keyword[1]
+        self.add_statement(place, label[1], kind, formula, proof if kind == b"p" else None)
+        return end + 2
+
+    def add_statement(
+        self, place: Place, label: bytes, kind: bytes, formula: Stretch, proof: Stretch | None
+    ) -> None:
         text = self.text
-        place = match.start("label")
-        formula = match.span("formula")
+        name = label.decode("latin-1")
         if kind == b"a" or kind == b"p":
-            if self.active is None:
-                self.active = (tuple(self.essential), tuple(self.disjoint))
-            proof = match.span("proof") if kind == b"p" else None
-            number = len(text.assertions)
             text.assertions.append(
                 Assertion(
-                    label,
+                    name,
                     "p" if proof else "a",
                     place,
                     formula,
                     proof,
-                    *self.active,
+                    self.essential,
+                    self.disjoint,
                     self.comment,
                     len(text.headers) - 1,
-                    number,
+                    len(text.assertions),
                 )
             )
             return
         if kind == b"e":
-            self.essential.append(len(text.hypotheses))
-            self.active = None
-        text.hypotheses.append(Hypothesis(label, kind.decode(), place, formula))
+            self.essential = self.essential.and_then(len(text.hypotheses))
+        text.hypotheses.append(Hypothesis(name, kind.decode(), place, formula))
 
-    def add_plain(self, match: re.Match[bytes], kind: bytes) -> None:
+    def add_plain(self, kind: bytes, symbols: Stretch) -> None:
         """Adds a `$c`, `$d` or `$v`."""
         if kind == b"d":
-            self.disjoint.append(len(self.text.disjoint))
-            self.text.disjoint.append(match.span("symbols"))
-            self.active = None
+            self.disjoint = self.disjoint.and_then(len(self.text.disjoint))
+            self.text.disjoint.append(symbols)
         elif kind == b"v":
-            self.text.declared.append(match.span("symbols"))
+            self.text.declared.append(symbols)
 
     def add_brace(self, brace: bytes) -> None:
         if brace == b"{":
-            self.blocks.append((len(self.essential), len(self.disjoint)))
+            self.blocks.append((self.essential, self.disjoint))
             return
         if not self.blocks:
             raise UnreadableText(0)
-        essential, disjoint = self.blocks.pop()
-        if essential < len(self.essential) or disjoint < len(self.disjoint):
-            del self.essential[essential:], self.disjoint[disjoint:]
-            self.active = None
+        self.essential, self.disjoint = self.blocks.pop()
 
-    def add_comment(self, match: re.Match[bytes], body: bytes) -> None:
+    def add_comment(self, stretch: Stretch) -> None:
         text = self.text
-        start, end = match.span("comment")
+        start, end = stretch
+        body = text.data[start:end]
         special = SPECIAL.match(body)
         if special:
             said = body[special.end() :].decode("latin-1")
@@ -440,6 +527,14 @@ class Reading:
         text.headers.append(
             Header(level, number, title, start - 2, (start, end), first, first, heading.end())
         )
+
+
+def matched(pattern: re.Pattern[bytes], data: bytes, place: Place) -> re.Match[bytes]:
+    """What a pattern matches at a place. ValueError where it doesn't."""
+    match = pattern.match(data, place)
+    if match is None:
+        raise ValueError
+    return match
 
 
 def close_chapters(text: Text) -> None:

@@ -7,16 +7,23 @@ is written.
 """
 
 import re
-from dataclasses import dataclass
+from collections import Counter
 from collections.abc import Iterator
+from dataclasses import dataclass
 from html import unescape
 
+from query.remarks import Remarks
 from query.visible import visible
 
-# A remark, a quoted text (a doubled quote in it stands for one), a sign, or a word.
-TOKEN = re.compile(r"""/\*.*?\*/|'(?:[^']|'')*'|"(?:[^"]|"")*"|[;+]|[^\s;+'"]+""", re.S)
-TAG = re.compile(r"<(/?)([A-Za-z]+)((?:\s+[^<>]*)?)>")
-ATTRIBUTE = re.compile(r"""([A-Za-z]+)\s*=\s*("[^"]*"|'[^']*'|[^\s"'>]+)""")
+# A sign, or a word; a quote begins a quoted text.
+TOKEN = re.compile(r"""[;+'"]|[^\s;+'"]+""")
+TAG = re.compile(r"<(/?)([A-Za-z]+)((?:\s[^<>]*)?)>")
+ATTRIBUTE = re.compile(
+    r"""(?<![A-Za-z])([A-Za-z]+)\s*=\s*("[^"]*"|'[^']*'|[^\s"'>]+)""",
+)
+# Zeros before a number of a reference such as `&#0065;`, and one that is longer than any sign's.
+ZEROS = re.compile(r"(?<=&#)0+(?=[0-9])")
+TOO_LARGE = re.compile(r"&#[0-9]{8,};?")
 
 # The tags that are kept, and by which name.
 TAGS = {
@@ -76,13 +83,43 @@ class Typesetting:
 def statements(text: str) -> Iterator[list[str]]:
     """The statements of a `$t` comment as lists of words, quotes included; remarks are left out."""
     words: list[str] = []
-    for match in TOKEN.finditer(text):
-        word = match[0]
+    for word in words_of(text):
         if word == ";":
             yield words
             words = []
         elif not word.startswith("/*"):
             words.append(word)
+
+
+def words_of(text: str) -> Iterator[str]:
+    """The signs, words and quoted texts of a `$t` comment; a doubled quote in one stands for it."""
+    remarks = Remarks(text)
+    place = 0
+    while match := TOKEN.search(text, place):
+        word, start, place = match[0], match.start(), match.end()
+        if is_quoted(word):
+            end = quote_end(text, start)
+            if not end:
+                continue
+            word, place = text[start:end], end
+        elif end := remarks.end(start):
+            place = end
+            continue
+        yield word
+
+
+def quote_end(text: str, place: int) -> int:
+    """The place after the quoted text that begins at a place; 0 where it isn't closed. If only a
+    doubled quote could close it, the first of the last two does."""
+    quote = text[place]
+    end = 0
+    at = text.find(quote, place + 1)
+    while at >= 0:
+        end = at + 1
+        if not text.startswith(quote, end):
+            break
+        at = text.find(quote, at + 2)
+    return end
 
 
 def is_quoted(word: str) -> bool:
@@ -142,7 +179,7 @@ def names_of(tag: str, attributes: str) -> tuple[str, ...] | None:
             names.append("big" if value[0] == "+" else "small")
         elif key == "style":
             names += style_names(value)
-    return tuple(name for name in names if name)
+    return tuple(dict.fromkeys(name for name in names if name))
 
 
 def style_names(style: str) -> list[str | None]:
@@ -160,35 +197,72 @@ def style_names(style: str) -> list[str | None]:
     return names
 
 
+class OpenTags:
+    """The tags that are open at a place of a definition."""
+
+    def __init__(self) -> None:
+        self.stack: list[tuple[str, tuple[str, ...]]] = []
+        self.tags: Counter[str] = Counter()
+        self.names: Counter[str] = Counter()
+        """How many are open of each tag, and how many keep each name, as these came."""
+
+    def open(self, tag: str, names: tuple[str, ...]) -> None:
+        """Opens a tag of which these names are kept."""
+        self.stack.append((tag, names))
+        self.tags[tag] += 1
+        self.names.update(names)
+
+    def close(self, tag: str) -> None:
+        """Closes the last one of a tag that is open, and those that were opened after it."""
+        last = ""
+        while last != tag:
+            last, names = self.stack.pop()
+            self.tags[last] -= 1
+            for name in names:
+                self.names[name] -= 1
+                if not self.names[name]:
+                    del self.names[name]
+
+
+class Pieces:
+    """The pieces of a definition while it is read."""
+
+    def __init__(self) -> None:
+        self.made: list[tuple[list[str], tuple[str, ...]]] = []
+        self.open = OpenTags()
+
+    def add(self, markup: str) -> None:
+        """Adds a text within the tags that are open."""
+        known = TOO_LARGE.sub("\ufffd", ZEROS.sub("", markup))
+        text = visible(unescape(known).replace("\xa0", " ").replace("\n", " "))
+        tags = tuple(self.open.names)
+        if text and self.made and self.made[-1][1] == tags:
+            self.made[-1][0].append(text)
+        elif text:
+            self.made.append(([text], tags))
+
+    def all(self) -> list[Piece]:
+        """All of them."""
+        return [Piece("".join(texts), tags) for texts, tags in self.made]
+
+
 def pieces(markup: str) -> list[Piece]:
     """The pieces of a definition. Tags that don't fit together end where the definition ends."""
-    made: list[Piece] = []
-    open_tags: list[tuple[str, tuple[str, ...]]] = []
-
-    def add(text: str) -> None:
-        text = visible(unescape(text).replace("\xa0", " ").replace("\n", " "))
-        tags = tuple(dict.fromkeys(name for _, names in open_tags for name in names))
-        if text and made and made[-1].tags == tags:
-            made[-1] = Piece(made[-1].text + text, tags)
-        elif text:
-            made.append(Piece(text, tags))
-
+    found = Pieces()
     place = 0
     for match in TAG.finditer(markup):
-        name = match[2].lower()
-        names = names_of(name, match[3])
-        is_open = any(name == other for other, _ in open_tags)
-        if names is None or (match[1] and not is_open):
+        tag = match[2].lower()
+        names = names_of(tag, match[3])
+        if names is None or (match[1] and not found.open.tags[tag]):
             continue  # it is text, with what is around it
-        add(markup[place : match.start()])
+        found.add(markup[place : match.start()])
         place = match.end()
-        if not match[1]:
-            open_tags.append((name, names))
-            continue
-        while open_tags and open_tags.pop()[0] != name:
-            pass
-    add(markup[place:])
-    return made
+        if match[1]:
+            found.open.close(tag)
+        else:
+            found.open.open(tag, names)
+    found.add(markup[place:])
+    return found.all()
 
 
 def is_seen(parts: list[Piece]) -> bool:

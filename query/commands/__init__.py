@@ -61,7 +61,7 @@ MODULES: dict[str, dict[str, str]] = {
         ),
     },
     "gate": {
-        "gate": "the check of a pull request: what mmdepend.toml and the merge base ask for",
+        "gate": "the check of a pull request: what the base and its mmdepend.toml ask for",
     },
     "structure": {
         "chapters": "headers, with how many theorems below each rest on axioms",

@@ -2,17 +2,19 @@
 
 import argparse
 import os
+from collections.abc import Mapping
 from dataclasses import dataclass, field
 from pathlib import Path
 
-from query.changes import Comparison, sides
+from query.branch import Asked, Wish, branch_of, brought, compared, read
+from query.changes import Comparison, Side, sides, text_of_side
 from query.commands import Command
-from query.config import FILE_NAME, RULES, Config, find_config, load_config, read_config
+from query.config import FILE_NAME, RULES, find_config, load_config
 from query.context import Context
 from query.database import Database
 from query.errors import NoAnswer, shown
-from query.findings import Verdict, as_annotations, as_markdown, as_object, as_text
-from query.git import Repository, repository_of, short
+from query.findings import Verdict, as_annotations, as_markdown, as_object, as_summary, as_text
+from query.git import short
 from query.options import Options, add_database
 from query.output import reason
 from query.program import Refused
@@ -24,20 +26,24 @@ ASKED = Options(only=None, open=True)
 """Any axiom may be watched. An open theorem isn't a fault, but breaks a rule."""
 
 PAGE = """
-Checks a database as a pull request should be checked. Without OLD it is compared with what it is
-in the merge base of HEAD and REV in its git repository. mmdepend.toml at the top of the repository
-says which axioms are watched, what is allowed, what is claimed, and which rules are off. The status
-is 1 where
+Checks a database as a pull request should be checked. Without OLD, what the base would be after the
+merge of HEAD is compared with what it is; the base is the last commit of REV. The base's
+mmdepend.toml says which axioms are watched, what is allowed, what is claimed, and which rules are
+off. The status is 1 where
 
-  axioms       an axiom (|-) is new, changed or gone
-  watched      a watched axiom is missing
-  newly        a theorem newly rests on a watched axiom; one that was renamed (the same statement
-               under another label) isn't new
+  axioms       an axiom is new, changed or gone
+  watched      a watched axiom is missing, or its label is another one's
+  newly        a theorem that was there before newly rests on a watched axiom; one that was renamed
+               (the same statement under another label) was there
+  new          a new theorem rests on a watched axiom
   claims       a theorem rests on an axiom that mmdepend.toml claims it avoids
-  avoids       the same of a comment $( $j usage 'T' avoids 'A'; $)
+  avoids       the same of a comment $( $j usage 'T' avoids 'A'; $), or that comment is gone
   open         a theorem is left open: its proof is ?
-  mathboxes    a statement of a section `Mathbox for ..` is cited from outside it
-  discouraged  a theorem newly cites one whose comment says (New usage is discouraged.)
+  mathboxes    a statement of a section `Mathbox for ..` is cited from outside it, or the section no
+               longer has it
+  discouraged  a theorem newly cites one whose comment says (New usage is discouraged.), or a
+               comment no longer says so
+  config       the mmdepend.toml that is brought asks less than the base's
   valid        the database is refused
 
 unless mmdepend.toml allows it. Each line has file, line, label, reason and rule; the last line says
@@ -55,9 +61,20 @@ class Request:
     old: Database
     new: Database
     base: str
-    config: Config
-    notes: list[str] = field(default_factory=list)
-    paths: dict[str, str] = field(default_factory=dict)
+    asked: Asked
+    notes: tuple[str, ...] = ()
+    paths: Mapping[str, str] = field(default_factory=dict)
+
+    def all_notes(self) -> list[str]:
+        """Remarks that change nothing of the answer."""
+        config = self.asked.config
+        notes = [*self.notes, *self.asked.notes]
+        if config.typecode is not None and "axioms" in config.rules:
+            notes.append(
+                f"`typecode` of {config.name} leaves the axioms of '{config.typecode}'; others"
+                " aren't judged, and a new one can make proofs of anything"
+            )
+        return notes
 
 
 def configure(parser: argparse.ArgumentParser) -> None:
@@ -67,53 +84,14 @@ def configure(parser: argparse.ArgumentParser) -> None:
     parser.add_argument(
         "--base", metavar="REV", help="the base (else mmdepend.toml's: origin/main)"
     )
+    parser.add_argument(
+        "--merge-base", action="store_true", help="compare with the merge base, and merge nothing"
+    )
     parser.add_argument("--config", metavar="FILE", help="FILE in place of mmdepend.toml")
+    parser.add_argument(
+        "--config-of-new", action="store_true", help="judge by the file of NEW, not by the base's"
+    )
     parser.add_argument("--summary", metavar="FILE", help="adds a summary in Markdown to FILE")
-
-
-@dataclass(frozen=True)
-class Branch:
-    """A file as a branch has it. `commit` is the branch's last one; `is_committed` is whether the
-    file is taken from it, and not from the working tree. `path` is from the top."""
-
-    repository: Repository
-    commit: str
-    path: str
-    is_committed: bool
-
-    def config(self, given: str | None) -> tuple[Config, str | None]:
-        """The file of this name, or `mmdepend.toml` of the branch; and its path from the top, None
-        where it isn't there."""
-        top = self.repository.top
-        if given is not None:
-            return load_config(Path(given)), self.repository.path_within(Path(given))
-        if self.is_committed:
-            data = self.repository.content(self.commit, FILE_NAME)
-            name = f"{short(self.commit)}:{FILE_NAME}"
-            return (Config() if data is None else read_config(data, name)), FILE_NAME
-        file = top / FILE_NAME
-        return load_config(Path(os.path.relpath(file)) if file.exists() else None), FILE_NAME
-
-    def now(self, path: str) -> bytes | None:
-        """The content of a file; None where it isn't there."""
-        if self.is_committed:
-            return self.repository.content(self.commit, path)
-        file = self.repository.top / path
-        return file.read_bytes() if file.exists() else None
-
-
-def branch_of(word: str) -> Branch:
-    """The branch of the file that a word names: that of HEAD, or that of `REV:PATH`."""
-    if word == "-":
-        raise NoAnswer("standard input is in no repository; name two files: mmquery gate OLD NEW")
-    if not os.path.lexists(word) and ":" in word:
-        repository = repository_of(Path.cwd())
-        blob = repository.blob(word, Path.cwd())
-        return Branch(repository, blob.commit, blob.path, True)
-    if not os.path.exists(word):
-        raise NoAnswer(f"{shown(word)}: there is no such file")
-    repository = repository_of(Path(word).parent)
-    return Branch(repository, repository.commit("HEAD"), repository.path_of(Path(word)), False)
 
 
 def opened(source: Source, context: Context) -> Database:
@@ -123,47 +101,42 @@ def opened(source: Source, context: Context) -> Database:
     return Database(source, ASKED, context.uses_cache)
 
 
-def between_files(context: Context, old: str, new: str, arguments: argparse.Namespace) -> Request:
+def between_files(context: Context, old: str, new: str, wish: Wish) -> Request:
     """The request of two words."""
-    if arguments.base is not None:
-        raise NoAnswer("gate: --base goes with one database, not with two")
+    if wish.base is not None or wish.is_merge_base:
+        option = "--base" if wish.base is not None else "--merge-base"
+        raise NoAnswer(f"gate: {option} goes with one database, not with two")
     before, after = (opened(context.database(word).source, context) for word in (old, new))
-    file = find_config(Path(new).parent)
-    if arguments.config is not None:
-        file = Path(arguments.config)
-    elif file is not None:
-        file = Path(os.path.relpath(file))
-    return Request(before, after, before.name, load_config(file))
+    if old != new and os.path.exists(old) and os.path.exists(new) and os.path.samefile(old, new):
+        raise NoAnswer(f"{before.name} and {after.name} are the same file")
+    return Request(before, after, before.name, asked_of_files(old, new, wish))
 
 
-def with_base(context: Context, word: str, arguments: argparse.Namespace) -> Request:
+def asked_of_files(old: str, new: str, wish: Wish) -> Asked:
+    """What is asked of two files: by the file `mmdepend.toml` that holds for OLD, or by that which
+    the options name."""
+    if wish.config is not None:
+        return Asked(load_config(Path(wish.config)))
+    before, after = (find_config(Path(each).parent) for each in (old, new))
+    of_old, of_new = (None if each is None else each.read_bytes() for each in (before, after))
+    name = FILE_NAME if after is None else os.path.relpath(after)
+    if wish.is_config_of_new:
+        return Asked(read(of_new, name))
+    config = read(of_old, FILE_NAME if before is None else os.path.relpath(before))
+    if after is None or of_old == of_new:
+        return Asked(config)
+    return Asked(config, *compared(config, of_new, name))
+
+
+def with_base(context: Context, word: str, wish: Wish) -> Request:
     """The request of one word: a file in a repository, or `REV:PATH`."""
     branch = branch_of(word)
-    repository, path = branch.repository, branch.path
-    config, config_path = branch.config(arguments.config)
-    base = config.base if arguments.base is None else arguments.base
-    merge_base = repository.merge_base(repository.commit(base), branch.commit)
-    said = f"the merge base with {base}, {short(merge_base)}"
-    data = repository.content(merge_base, path)
-    if data is None:
-        raise NoAnswer(
-            f"{shown(path)}: not in {shown(said)}; `mmquery verify` checks a new database"
-        )
-    name = shown(f"{short(merge_base)}:{path}")
-    old = opened(Source(name, unpacked(name, data)), context)
-    new = opened(context.database(word).source, context)
-    paths = {new.name: path}
-    notes = []
-    if merge_base == branch.commit:
-        notes.append(
-            "the base has this commit already, so only what isn't committed is compared;"
-            " on a push, name the commit before by --base"
-        )
-    if config_path is not None:
-        paths[config.name] = config_path
-        if repository.content(merge_base, config_path) != branch.now(config_path):
-            notes.append(f"{config_path} isn't the same in the merge base")
-    return Request(old, new, said, config, notes, paths)
+    found = brought(branch, wish)
+    name = shown(f"{short(found.commit)}:{branch.path}")
+    old = opened(Source(name, unpacked(name, found.old)), context)
+    new = opened(Source(shown(word), unpacked(shown(word), found.new)), context)
+    paths = {**found.asked.paths, new.name: branch.path}
+    return Request(old, new, found.base, found.asked, found.notes, paths)
 
 
 def judged(request: Request) -> list[Finding]:
@@ -174,7 +147,17 @@ def judged(request: Request) -> list[Finding]:
         if refused.source is not request.new.source:
             raise
         return [refusal_of(refused)]
-    return judge(Case(Comparison(old, new), request.config))
+    for side in (old, new):
+        see_agreement(side)
+    return judge(Case(Comparison(old, new), request.asked.config, request.asked.findings))
+
+
+def see_agreement(side: Side) -> None:
+    """NoAnswer where other statements were read in a text than the program verified."""
+    kinds = {one.label: one.kind for one in text_of_side(side).assertions}
+    axioms, theorems = side.dependence.axioms, side.dependence.theorems
+    if kinds.keys() != {*axioms, *theorems} or any(kinds[each] != "p" for each in theorems):
+        raise NoAnswer(f"{side.name}: other statements were read than verified")
 
 
 def refusal_of(refused: Refused) -> Finding:
@@ -195,15 +178,18 @@ def add_summary(path: str, text: str) -> None:
 
 def run(context: Context, arguments: argparse.Namespace) -> int:
     """Answers."""
+    wish = Wish(arguments.base, arguments.config, arguments.config_of_new, arguments.merge_base)
+    if wish.config is not None and wish.is_config_of_new and arguments.old is not None:
+        raise NoAnswer("gate: --config-of-new goes with one database where --config is given")
     if arguments.old is not None:
-        request = between_files(context, arguments.old, arguments.database, arguments)
+        request = between_files(context, arguments.old, arguments.database, wish)
     else:
-        request = with_base(context, arguments.database, arguments)
-    rules = tuple(rule for rule in RULES if rule in request.config.rules)
-    found = judged(request)
-    verdict = Verdict(request.new.name, request.base, rules, found, request.notes, request.paths)
+        request = with_base(context, arguments.database, wish)
+    rules = tuple(rule for rule in RULES if rule in request.asked.config.rules)
+    found, notes = judged(request), request.all_notes()
+    verdict = Verdict(request.new.name, request.base, rules, found, notes, request.paths)
     if arguments.summary is not None:
-        add_summary(arguments.summary, as_markdown(verdict))
+        add_summary(arguments.summary, as_summary(verdict, arguments.summary))
     if context.out.format == "json":
         context.out.value(as_object(verdict))
     else:

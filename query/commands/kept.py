@@ -3,7 +3,7 @@
 import argparse
 import os
 
-from query import cache
+from query import cache, secret
 from query.commands import Command
 from query.context import Context
 from query.errors import NoAnswer, shown
@@ -13,7 +13,10 @@ PAGE = """
 Results are kept in the folder $XDG_CACHE_HOME/mmquery, else ~/.cache/mmquery, under the sums of
 database and program and the options, so that a second question on a database is answered at once.
 All together take at most 1 GB; the ones used longest ago go first. It is always safe to clear
-them.
+them. Each has a code that is made with the user's secret, $XDG_CONFIG_HOME/mmquery/secret, else
+~/.config/mmquery/secret, so nothing that somebody else put there is believed. Nothing is kept or
+taken where the folder or the secret lies in a git checkout, is a link, belongs to somebody else or
+may be changed by others, or where others may read the secret; standard error says so.
 
 show     the folder, how many results are in it, and how many bytes they take (the default)
 clear    removes them
@@ -21,6 +24,9 @@ clear    removes them
   $ mmquery cache
   $ mmquery cache clear
 """
+
+
+COLUMNS = ["folder", "results", "bytes"]
 
 
 def configure(parser: argparse.ArgumentParser) -> None:
@@ -33,15 +39,21 @@ def run(context: Context, arguments: argparse.Namespace) -> int:
     place = cache.folder()
     if place is None:
         raise NoAnswer("there is no cache folder, since HOME isn't set")
+    wrong = secret.wrong_folder(place)
+    if arguments.what == "clear" and wrong is not None:
+        raise NoAnswer(f"{shown(place)}: nothing is removed there, since {wrong}")
+    why = cache.wrong()
+    if why is not None:
+        context.tell(f"nothing is kept or taken: {why}")
     try:
         if arguments.what == "clear":
             cache.clear()
             return 0
-        files = cache.entries(place) if os.path.isdir(place) else []
+        files = cache.entries(place) if wrong is None and os.path.isdir(place) else []
     except OSError as error:
         raise NoAnswer(f"{shown(place)}: {reason(error)}") from None
     size = sum(file[1] for file in files)
-    context.out.table(["folder", "results", "bytes"], [[shown(place), len(files), size]])
+    context.out.table(COLUMNS, [[shown(place), len(files), size]])
     return 0
 
 

@@ -16,6 +16,7 @@ from typing import Any
 
 from query.errors import NoAnswer
 from query.markup import marks, one_line
+from query.marks import columns_of
 from query.page.conditions import Grouping, line
 from query.parallel import Task
 from query.text import Assertion, Text
@@ -95,12 +96,9 @@ def pack_matrix(marked: Marked, row_of: dict[str, int]) -> tuple[Numbers, Number
         above.add(named)
         lengths.add(fewest)
         expected = 0
-        while best:
-            length = best.bit_length()
-            column = width - length
+        for column in columns_of(best, width):
             gaps.add(column - expected)
             expected = column + 1
-            best ^= 1 << (length - 1)
     return above, lengths, gaps
 
 

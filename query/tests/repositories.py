@@ -62,6 +62,12 @@ class Repositories(World):
         self.git("commit", "--quiet", "--allow-empty", "--message", "a change")
         return self.git("rev-parse", "HEAD")
 
+    def ask(self, text: str) -> None:
+        """Writes `mmdepend.toml` and commits it where we are, with the database as it is there."""
+        self.write("mmdepend.toml", text)
+        self.git("add", "mmdepend.toml")
+        self.git("commit", "--quiet", "--allow-empty", "--message", "what is asked")
+
     def branch(self, name: str = "work") -> None:
         """Makes a branch and goes to it."""
         self.git("checkout", "--quiet", "-b", name)

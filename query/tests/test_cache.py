@@ -24,6 +24,10 @@ class Cache(World):
         self.folder = self.cache / "mmquery"
         self.wanted = ["ax-1", "ax-mp"]
 
+    def places(self) -> dict[str, str]:
+        """Where what is kept, and the secret, are in the tests."""
+        return {"XDG_CACHE_HOME": str(self.cache), "XDG_CONFIG_HOME": str(self.config)}
+
     def counted(self) -> str:
         """A program that notes each time that it verifies something."""
         script = f'#!/bin/sh\n[ "$1" = --version ] || echo x >>runs\nexec {program()} "$@"\n'
@@ -63,7 +67,7 @@ class Cache(World):
         wanted = self.answers("chapters", "small.mm")
         kept = {path: path.read_bytes() for path in self.files()}
         self.assertEqual(len(kept), 2)
-        with mock.patch.dict(os.environ, {"XDG_CACHE_HOME": str(self.cache)}):
+        with mock.patch.dict(os.environ, self.places()):
             with mock.patch("query.text.read_text") as reading:
                 found = Database.opened(str(self.room / "small.mm"), Options(), True).read()
             reading.assert_not_called()
@@ -97,15 +101,26 @@ class Cache(World):
                 self.assertEqual(self.answers("rests", "small.mm", "a2"), self.wanted)
                 self.assertEqual(path.read_bytes(), whole)
             else:
-                self.assertIsNone(cache.unpacked(path.read_bytes()))
+                self.assertIsNone(self.loaded(path.name))
         for end in range(len(whole)):
-            self.assertIsNone(cache.unpacked(whole[:end]))
-        self.assertIsNone(cache.unpacked(whole + b"x"))
+            path.write_bytes(whole[:end])
+            self.assertIsNone(self.loaded(path.name))
+        path.write_bytes(whole + b"x")
+        self.assertIsNone(self.loaded(path.name))
+        path.write_bytes(whole)
+        self.assertIsNotNone(self.loaded(path.name))
+
+    def loaded(self, key: str) -> dict[str, bytes] | None:
+        """What is taken from the cache."""
+        with mock.patch.dict(os.environ, self.places()):
+            return cache.load(key)
 
     def test_folders_that_can_not_be_used(self) -> None:
         (self.room / "file").write_text("")
-        for more in ({"XDG_CACHE_HOME": str(self.room / "file")}, {"XDG_CACHE_HOME": "/proc"}):
-            self.assertEqual(self.answers("rests", "small.mm", "a2", **more), self.wanted)
+        for variable in ("XDG_CACHE_HOME", "XDG_CONFIG_HOME"):
+            for place in (str(self.room / "file"), "/proc", "/dev/null"):
+                more = {variable: place}
+                self.assertEqual(self.answers("rests", "small.mm", "a2", **more), self.wanted)
         more = {"XDG_CACHE_HOME": "", "HOME": ""}
         self.assertEqual(self.answers("rests", "small.mm", "a2", **more), self.wanted)
         self.refuses("cache", why="HOME isn't set", **more)
@@ -143,30 +158,35 @@ class Cache(World):
             self.assertEqual(clear.wait(), 0)
 
     def test_the_oldest_go_first(self) -> None:
-        surroundings = {"XDG_CACHE_HOME": str(self.cache)}
-        with mock.patch.dict(os.environ, surroundings), mock.patch.object(cache, "MOST", 10_000):
-            for number in range(8):
-                cache.store(f"k{number}", {"part": bytes(2000)})
-                os.utime(self.folder / f"k{number}", (number, number))
+        keys = [f"{number:040x}" for number in range(9)]
+        with mock.patch.dict(os.environ, self.places()), mock.patch.object(cache, "MOST", 10_000):
+            for number, key in enumerate(keys[:8]):
+                cache.store(key, {"part": bytes(2000)})
+                os.utime(self.folder / key, (number, number))
                 if number > 0:
-                    self.assertIsNotNone(cache.load("k0"))  # used now, so it isn't the oldest
+                    self.assertIsNotNone(cache.load(keys[0]))  # used now, so it isn't the oldest
             names = [file.name for file in self.files()]
-            self.assertEqual(names, ["k0", "k5", "k6", "k7"])
-            cache.store("large", {"part": bytes(6000)})
-            self.assertNotIn("large", [file.name for file in self.files()])
+            self.assertEqual(names, [keys[0], *keys[5:8]])
+            cache.store(keys[8], {"part": bytes(6000)})
+            self.assertNotIn(keys[8], [file.name for file in self.files()])
             self.assertLessEqual(sum(file.stat().st_size for file in self.files()), 10_000)
 
     def test_unfinished_files_that_were_left_behind_go(self) -> None:
         self.folder.mkdir()
-        old, new = self.folder / ".new-1-old", self.folder / ".new-2-new"
+        old, new = self.folder / ".new-1-0d", self.folder / ".new-2-ee"
         for file in (old, new):
             file.write_text("x")
         past = time.time() - 7200
         os.utime(old, (past, past))
+        other = self.folder / "letter.txt"
+        other.write_text("x")
+        os.utime(other, (past, past))
         self.answers("rests", "small.mm", "a2")
         self.assertFalse(old.exists())
         self.assertTrue(new.exists())
         new.unlink()
+        self.answers("cache", "clear")
+        self.assertEqual(self.files(), [other])
 
 
 if __name__ == "__main__":

@@ -9,8 +9,11 @@ from query.tests.world import MMQUERY, TOP
 
 TOOLS = Path("/usr/bin")
 MOST_LINES = 40  # of a function
-SCRIPTS = ["check", "mmdepend", "package", "docs/ci/check-database", "tests/first-run"]
-PYTHON = ["query", str(MMQUERY), "query/tests/check", "web/page/build", "web/page/check"]
+SCRIPTS = ["check", "test", "mmdepend", "package", "docs/ci/check-database", "tests/first-run"]
+PYTHON = [
+    *("query", str(MMQUERY), "query/tests/check", "web/page/build", "web/page/check"),
+    *("library/compile", "tests/library"),
+]
 
 
 class Code(unittest.TestCase):

@@ -137,12 +137,13 @@ class Comparisons(World):
         self.refuses("compare", "a.mm", why="compare")
 
     def test_gate(self) -> None:
-        """The gate's `newly` and `axioms` against the same."""
+        """The gate's `newly`, `new` and `axioms` against the same."""
         tried = 0
         for number, (old, new) in enumerate(self.pairs(20)):
             watched = [part for part in new.parts if part.is_axiom][:4]
             lines = [f"{label!r}" for label in (part.label for part in watched)]
-            self.write("mmdepend.toml", f"watch = [{', '.join(lines)}]\n")
+            asked = f"typecode = '|-'\nwatch = [{', '.join(lines)}]\n"
+            self.write("mmdepend.toml", asked)
             came = self.query("gate", "--format", "json", f"old.{number}.mm", f"new.{number}.mm")
             found = self.json_findings(came.out)
             wanted = set()
@@ -153,8 +154,9 @@ class Comparisons(World):
                     before = old.part(part.number)
                     rested = before is not None and axiom.number in old.rests(part.number)
                     if axiom.number in new.rests(part.number) and not rested:
-                        wanted.add(("newly", part.label, axiom.label))
-            self.assertEqual({each for each in found if each[0] == "newly"}, wanted)
+                        rule = "new" if before is None else "newly"
+                        wanted.add((rule, part.label, axiom.label))
+            self.assertEqual({each for each in found if each[0] in ("newly", "new")}, wanted)
             tried += len(wanted)
             axioms = {part.label for part in (*old.parts, *new.parts) if part.is_axiom}
             same = {

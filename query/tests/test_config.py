@@ -88,8 +88,10 @@ class Reading(unittest.TestCase):
         self.assertEqual(config.rules, frozenset(RULES) - {"open"})
         self.assertTrue(config.allows("axioms", "df-x") and not config.allows("axioms", "dfx"))
         self.assertTrue(config.allows("open", "o") and not config.allows("mathboxes", "o"))
-        self.assertTrue(config.may_rest("a", "ax-ac2") and config.may_rest("b.1", "ax-ac2"))
-        self.assertTrue(config.may_rest("c", "ax-reg") and not config.may_rest("c", "ax-ac2"))
+        for rule in ("newly", "new"):
+            for theorem, axiom in (("a", "ax-ac2"), ("b.1", "ax-ac2"), ("c", "ax-reg")):
+                self.assertTrue(config.may_rest(rule, theorem, axiom))
+            self.assertFalse(config.may_rest(rule, "c", "ax-ac2"))
         self.assertEqual(
             config.claims,
             (
@@ -103,7 +105,8 @@ class Reading(unittest.TestCase):
 
     def test_nothing(self) -> None:
         config = read_config(b"", "m.toml")
-        self.assertEqual(config, Config(name="m.toml", lines=config.lines))
+        resting: dict[str, dict[str, Labels]] = {"newly": {}, "new": {}}
+        self.assertEqual(config, Config(name="m.toml", resting=resting, lines=config.lines))
         self.assertEqual(config.rules, frozenset(RULES))
         self.assertTrue("anything" in Labels(("*",)) and "" not in Labels(("a",)))
 
@@ -140,9 +143,9 @@ class Guide(unittest.TestCase):
     def test_each_key_is_explained(self) -> None:
         told = set(re.findall(r"^\| `([a-z]+(?:\.[a-z]+)*(?:\.[A-Z]+)?)` \|", GUIDE, re.MULTILINE))
         wanted = {
-            key for key in keys(SHAPE) if not key.startswith(("rules.", "allow.newly", "claims"))
+            key for key in keys(SHAPE) if not key.startswith(("rules.", "allow.new", "claims"))
         }
-        wanted |= {"rules.RULE", "allow.newly.AXIOM", "claims.THEOREM"}
+        wanted |= {"rules.RULE", "allow.newly.AXIOM", "allow.new.AXIOM", "claims.THEOREM"}
         self.assertEqual({each for each in told if each not in (*RULES, "valid")}, wanted)
 
     def test_each_rule_is_explained(self) -> None:
@@ -156,5 +159,5 @@ class Guide(unittest.TestCase):
         self.assertEqual(len(example), 1)
         config = read_config(example[0].encode(), "m.toml")
         self.assertEqual(config.rules, frozenset(RULES) - {"discouraged"})
-        self.assertTrue(config.may_rest("zorn2", "ax-ac2"))
+        self.assertTrue(config.may_rest("newly", "zorn2", "ax-ac2"))
         self.assertEqual(config.claims[0].theorem, "2p2e4")

@@ -19,7 +19,7 @@ class TheTwoFailures(Repositories):
 
     def test_an_axiom_is_added(self) -> None:
         for config in ("", WATCH):
-            self.write("mmdepend.toml", config)
+            self.ask(config)
             lines = self.gate_of(changed(BASE, CHEAT), status=1)
             self.assertEqual(lines, ["db.mm:10: ax-cheat: a new axiom: |- ( 2 + 2 ) = 4 [axioms]"])
 
@@ -36,7 +36,7 @@ class TheTwoFailures(Repositories):
                 " label ax-ac2x [watched]",
             ],
         )
-        self.write("mmdepend.toml", WATCH + '[allow]\naxioms = ["ax-ac2*"]\n')
+        self.ask(WATCH + '[allow]\naxioms = ["ax-ac2*"]\n')
         lines = self.gate_of(BASE.replace("ax-ac2", "ax-ac2x"), status=1)
         self.assertEqual([line.rpartition(" ")[2] for line in lines], ["[watched]"])
 
@@ -55,9 +55,7 @@ class Bases(Repositories):
         came = self.query("gate", "--base", "main", "db.mm")
         self.assertEqual(came.status, 0)
         commit = self.git("rev-parse", "HEAD")[:12]
-        self.assertEqual(
-            came.lines()[-1], f"passed: db.mm compared with the merge base with main, {commit}"
-        )
+        self.assertEqual(came.lines()[-1], f"passed: db.mm compared with main, {commit}")
         self.assertIn("note: the base has this commit already", came.out)
 
     def test_the_base_freed_a_theorem(self) -> None:
@@ -67,6 +65,7 @@ class Bases(Repositories):
         self.commit(changed(BASE, FREED))
         self.git("checkout", "--quiet", "work")
         self.assertEqual(self.gate(status=0), [])
+        self.assertEqual(self.gate("--merge-base", "--base", "main", "db.mm", status=0), [])
         self.write("tip.mm", changed(BASE, FREED))
         lines = self.gate("tip.mm", "db.mm", status=1)
         self.assertEqual(len(lines), 2)
@@ -77,13 +76,23 @@ class Bases(Repositories):
         clone = self.room / "clone"
         self.git("clone", "--quiet", str(self.room), str(clone))
         self.write("clone/db.mm", changed(BASE, CHEAT))
-        self.assertEqual(len(self.gate("clone/db.mm", status=1)), 1)
-        (clone / "db.mm").write_text(BASE + ADDED)
-        self.assertEqual(self.gate("clone/db.mm", status=0), [])
+        self.has_no_answer("clone/db.mm", why="clone is a repository or a submodule of its own")
+        self.room = clone
+        self.assertEqual(len(self.gate("db.mm", status=1)), 1)
+        self.write("db.mm", BASE + ADDED)
+        self.assertEqual(self.gate("db.mm", status=0), [])
 
     def test_the_base_of_the_file(self) -> None:
-        self.write("mmdepend.toml", 'base = "main"\n' + WATCH)
+        self.ask('base = "main"\n' + WATCH)
+        self.has_no_answer("db.mm", why="name it by --base")
+        self.git("update-ref", "refs/remotes/origin/main", "HEAD")
         self.assertEqual(len(self.gate_of(changed(BASE, CHEAT), "db.mm", status=1)), 1)
+        self.branch()
+        self.ask('base = "nowhere"\n' + WATCH)
+        told = "mmdepend.toml:1: the base was 'main', and is 'nowhere' [config]"
+        self.assertEqual(self.gate("db.mm", status=1), [told])
+        self.git("update-ref", "refs/remotes/origin/main", "HEAD")
+        self.has_no_answer("db.mm", why="git has no revision 'nowhere'")
 
     def test_on_a_push_the_commit_before(self) -> None:
         self.commit(changed(BASE, FREED))
@@ -111,7 +120,7 @@ class Bases(Repositories):
     def test_a_bare_repository(self) -> None:
         self.branch()
         self.commit(changed(BASE, CHEAT))
-        bare = self.room / "bare.git"
+        bare = self.room.parent / "bare.git"
         self.git("clone", "--quiet", "--bare", str(self.room), str(bare))
         self.room = bare
         self.assertEqual(len(self.gate("--base", "main", "work:db.mm", status=1)), 1)
@@ -128,14 +137,6 @@ class Bases(Repositories):
         self.commit(changed(BASE, CHEAT), "deep/down/other.mm")
         self.assertEqual(len(self.gate("--base", "main", "deep/down/other.mm", status=1)), 1)
         self.assertEqual(self.gate(status=0), [])
-
-    def test_a_config_that_was_changed_is_noted(self) -> None:
-        self.branch()
-        self.write("mmdepend.toml", WATCH + '[allow]\naxioms = ["*"]\n')
-        self.commit(changed(BASE, CHEAT))
-        came = self.query("gate", "--base", "main", "db.mm")
-        self.assertEqual(came.status, 0)
-        self.assertIn("note: mmdepend.toml isn't the same in the merge base\n", came.out)
 
 
 class NoAnswers(Repositories):
@@ -156,10 +157,12 @@ class NoAnswers(Repositories):
             "clone", "--quiet", "--depth=1", "--no-single-branch", f"file://{self.room}", str(clone)
         )
         self.git("checkout", "--quiet", "work", folder=clone)
+        self.room = clone
         why = "isn't known: the clone is shallow; fetch the whole history (`fetch-depth: 0`)"
-        self.has_no_answer("shallow/db.mm", why=why)
-        self.has_no_answer("--base", "HEAD~3", "shallow/db.mm", why="the clone is shallow")
-        self.assertEqual(self.gate("--base", "HEAD", "shallow/db.mm", status=0), [])
+        self.has_no_answer("db.mm", why=why)
+        self.has_no_answer("--merge-base", "db.mm", why=why)
+        self.has_no_answer("--base", "HEAD~3", "db.mm", why="the clone is shallow")
+        self.assertEqual(self.gate("--base", "HEAD", "db.mm", status=0), [])
 
     def test_no_common_history(self) -> None:
         self.git("checkout", "--quiet", "--orphan", "alone")
@@ -169,9 +172,7 @@ class NoAnswers(Repositories):
     def test_a_file_that_is_new(self) -> None:
         self.branch()
         self.commit(BASE, "other.mm")
-        self.has_no_answer(
-            "--base", "main", "other.mm", why="other.mm: not in the merge base with main"
-        )
+        self.has_no_answer("--base", "main", "other.mm", why="other.mm: not in main, ")
 
     def test_a_file_that_is_missing(self) -> None:
         self.has_no_answer("nowhere.mm", why="nowhere.mm: there is no such file")
@@ -183,7 +184,11 @@ class NoAnswers(Repositories):
         outside = self.room.parent / "outside"
         outside.mkdir()
         (outside / "db.mm").write_text(BASE)
-        self.has_no_answer("--base", "main", str(outside / "db.mm"), why="not a git repository")
+        word = str(outside / "db.mm")
+        self.has_no_answer("--base", "main", word, why="not in the repository")
+        room, self.room = self.room, outside
+        self.has_no_answer("--base", "main", "db.mm", why="not a git repository")
+        self.room = room
         self.assertEqual(self.gate("db.mm", str(outside / "db.mm"), status=0), [])
 
     def test_no_git(self) -> None:
@@ -219,7 +224,13 @@ class NoAnswers(Repositories):
             ("x", "mmdepend.toml: "),
             ("\xff", "mmdepend.toml: not UTF-8"),
         ):
+            self.ask(WATCH)
             self.write("mmdepend.toml", text)
+            line = self.gate(status=1)[-1]
+            self.assertTrue(line.startswith("mmdepend.toml") and line.endswith(" [config]"), line)
+            self.assertIn(why.removeprefix("mmdepend.toml"), line)
+            self.has_no_answer("--base", "main", "--config-of-new", "db.mm", why=why)
+            self.ask(text)
             self.has_no_answer("--base", "main", "db.mm", why=why)
 
 
@@ -257,14 +268,17 @@ class Rules(Repositories):
             allow = '[allow]\naxioms = ["ax-1*"]\n'
             self.breaks("axioms", changed(short, change), part, before=short, allow=allow)
         self.commit(BASE)
-        self.assertEqual(self.gate_of(BASE + "wx $a wff 2 $.\n", status=0), [])
+        lines = self.gate_of(BASE + "wx $a wff 2 $.\n", status=1)
+        self.assertEqual(lines, ["db.mm:16: wx: a new axiom: wff 2 [axioms]"])
 
     def test_a_variable_that_becomes_another(self) -> None:
         text = "$c |- a b $. $v p $. wp $f a p $. wb $a b p $. ax $a |- p $.\n"
         self.write("mmdepend.toml", "")
         new = text.replace("wp $f a p", "wp $f b p")
-        part = "ax: a changed axiom: the typecodes of variables changed"
-        self.breaks("axioms", new, part, before=text, allow='[allow]\naxioms = ["ax"]\n')
+        parts = [f"{each}: a changed axiom: the typecodes of variables" for each in ("wb", "ax")]
+        self.breaks("axioms", new, *parts, before=text, allow='[allow]\naxioms = ["ax", "wb"]\n')
+        self.write("mmdepend.toml", 'typecode = "|-"\n')
+        self.breaks("axioms", new, parts[1], before=text, allow='[allow]\naxioms = ["ax"]\n')
 
     def test_a_hypothesis_of_all_that_follows(self) -> None:
         text = changed(BASE, ("ax-1 $a", "cheat $e |- ( 2 + 2 ) = 4 $.\nax-1 $a")).split("2p2e4")[0]
@@ -318,7 +332,9 @@ class Rules(Repositories):
         self.breaks("newly", new, part, allow='[allow.newly]\nax-ac2 = ["free"]\n')
         self.breaks("newly", new, part, allow='[allow.newly]\n"ax-*" = ["fr*"]\n')
         more = "more $p |- ( q -> ( p -> ( p -> p ) ) ) $= wp wq zorn $.\n"
-        self.breaks("newly", BASE + more, "more: newly rests on ax-ac2: it cites zorn", allow="")
+        part = "more: a new theorem that rests on ax-ac2: it cites zorn"
+        self.breaks("new", BASE + more, part, allow='[allow.newly]\nax-ac2 = ["more"]\n')
+        self.breaks("new", BASE + more, part, allow='[allow.new]\nax-ac2 = ["more"]\n')
         user = "user $p |- ( p -> ( p -> p ) ) $= wp free $.\n"
         part = "user: newly rests on ax-ac2: free, on which it rests, cites axac3"
         both = changed(new, ("= wp axac3 $.\n", "= wp axac3 $.\n" + user))
@@ -375,20 +391,50 @@ class Rules(Repositories):
         copied = changed(BASE, (old, old + "\n" + old.replace("axac3", "axac3OLD")))
         self.assertEqual(len(self.gate_of(copied, status=1)), 1)
 
+    def test_what_rests_now_and_what_is_new(self) -> None:
+        more = "more $p |- ( q -> ( p -> ( p -> p ) ) ) $= wp wq zorn $.\n"
+        both = (
+            changed(
+                BASE,
+                (
+                    "free $p |- ( p -> ( p -> p ) ) $= wp wp ax-1",
+                    "free $p |- ( p -> ( p -> p ) ) $= wp axac3",
+                ),
+            )
+            + more
+        )
+        for config, rules in (
+            ("", ["[newly]", "[new]"]),
+            ("[rules]\nnewly = false\n", []),
+            ("[rules]\nnew = false\n", ["[newly]"]),
+            ("[rules]\nnewly = false\nnew = true\n", ["[new]"]),
+            ('[allow.newly]\nax-ac2 = ["*"]\n', []),
+            ('[allow]\nnewly.ax-ac2 = ["*"]\nnew = {}\n', ["[new]"]),
+            ('[allow.new]\nax-ac2 = ["*"]\n', ["[newly]"]),
+        ):
+            self.ask(WATCH + config)
+            lines = self.gate_of(both, status=1 if rules else 0)
+            self.assertEqual([line.rpartition(" ")[2] for line in lines], rules, config)
+
     def test_a_watched_axiom_that_was_renamed_in_the_config_too(self) -> None:
         self.branch()
         self.write(
             "mmdepend.toml", 'watch = ["ax-ac2x"]\n[allow]\naxioms = ["ax-ac2", "ax-ac2x"]\n'
         )
         self.commit(BASE.replace("ax-ac2", "ax-ac2x"))
-        self.assertEqual(self.gate(status=0), [])
+        self.assertEqual(self.gate("--base", "main", "--config-of-new", "db.mm", status=0), [])
+        lines = self.gate(status=1)
+        rules = ["axioms", "axioms", "watched", "config", "config", "config"]
+        self.assertEqual(
+            [line.rpartition(" ")[2] for line in lines], [f"[{each}]" for each in rules]
+        )
 
     def test_claims(self) -> None:
         claims = (
             '[claims]\nzorn = ["ax-ac2", "ax-1", "ax-none"]\n"2p2e4" = ["ax-ac2"]\n'
             'none = ["ax-1", "ax1"]\nax-1 = ["wi"]\n'
         )
-        self.write("mmdepend.toml", claims)
+        self.ask(claims)
         lines = self.gate_of(BASE, status=1)
         self.assertEqual(
             [line.removesuffix(" [claims]") for line in lines],
@@ -401,7 +447,7 @@ class Rules(Repositories):
                 "mmdepend.toml:5: ax-1: 'ax-1' is an axiom, where a theorem is wanted",
             ],
         )
-        self.write("mmdepend.toml", "[rules]\nclaims = false\n" + claims)
+        self.ask("[rules]\nclaims = false\n" + claims)
         self.assertEqual(self.gate_of(BASE, status=0), [])
 
     def test_avoids(self) -> None:

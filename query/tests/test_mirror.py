@@ -19,7 +19,7 @@ from query.commands.page import name_of
 from query.options import Options
 from query.page import tables
 from query.page.pack import Blocks, pack_comments, pack_statements
-from query.tests import test_page, test_text
+from query.tests import shapes, test_page, test_text
 from query.tests.blocks import blocks_of, request_of
 from query.tests.browser import databases
 from query.tests.generations import generation, next_generation
@@ -101,6 +101,14 @@ class Texts(Room):
         texts = [test_text.SMALL, test_page.TEXT, TYPESET.encode("latin-1")]
         texts += [odd_text(chance) for _ in range(400)]
         self.compare([self.of_text(text, f"{at}.mm") for at, text in enumerate(texts)])
+
+    def test_texts_that_are_made_to_hurt(self) -> None:
+        made = [shapes.remarks(50_000), shapes.preformatted(20_000), shapes.tags(5_000)]
+        made += [shapes.quotes(20_000), shapes.inner_comments(20_000), shapes.deep_blocks(50_000)]
+        made += [shapes.many_hypotheses(300), shapes.many_distinct(5_000), shapes.distinct(300)]
+        made += [shapes.far_distinct(300), shapes.dummies(300), shapes.white_space(100_000)]
+        texts = [files.get("b.mm", files["a.mm"]) for files in made]
+        self.compare([self.of_text(text, f"h{at}.mm") for at, text in enumerate(texts)])
 
     def test_sums(self) -> None:
         sizes = [0, 1, 55, 56, 63, 64, 65, 119, 120, 1000]

@@ -4,12 +4,13 @@ import re
 import shutil
 import subprocess
 import unittest
+from itertools import combinations
 
 from query.markup import HAS_COMMENT, MODIFICATION_DISCOURAGED, USAGE_DISCOURAGED, marks, one_line
 from query.page.assemble import SCRIPTS, WEB, assemble, script, shared
 from query.page.conditions import Grouping, line
 from query.page.pack import Numbers, pack_lists, zigzag
-from query.text import pairs, read_text
+from query.text import read_text
 from query.typesetting import Piece, hue, pieces, read_typesetting
 from query.visible import visible
 
@@ -105,9 +106,9 @@ class Conditions(unittest.TestCase):
     def test_groups(self) -> None:
         variables = dict.fromkeys("abcdef", "v")
         for wanted in (["abc"], ["abc", "cd"], ["abcd", "ef"], ["ab", "ac", "bd", "cd"]):
-            given = [pair for group in wanted for pair in pairs(list(group))]
+            given = [pair for group in wanted for pair in combinations(group, 2)]
             groups = Grouping(variables).groups(given)
-            came = {frozenset(pair) for group in groups for pair in pairs(list(group))}
+            came = {frozenset(pair) for group in groups for pair in combinations(group, 2)}
             self.assertEqual(came, {frozenset(pair) for pair in given})
             self.assertEqual(len(groups), len(wanted))
 

@@ -86,18 +86,18 @@ class Reader(unittest.TestCase):
         first = self.text.by_label["first"]
         given = [self.text.hypotheses[number] for number in first.essential]
         self.assertEqual([self.text.formula(one) for one in given], ["|- p"])
-        self.assertEqual(self.text.by_label["third"].essential, ())
+        self.assertEqual(list(self.text.by_label["third"].essential), [])
         self.assertEqual(self.text.variables["x"], "set")
 
     def test_conditions(self) -> None:
         first = self.text.conditions(self.text.by_label["first"])
-        self.assertEqual(first.mandatory, [("p", "x")])
+        self.assertEqual(first.variables, ["p", "x"])
         self.assertEqual(first.dummies, ["y"])
-        self.assertEqual(first.proof, [("x", "y"), ("p", "y")])
+        self.assertEqual(first.groups, [["x", "y"], ["p", "x", "y"]])
         groups = [self.text.group(one) for one in self.text.by_label["second"].disjoint]
         self.assertEqual(groups, [["x", "y", "z"], ["p", "x", "y"], ["q", "z"], ["p", "q"]])
-        self.assertEqual(self.text.conditions(self.text.by_label["second"]).mandatory, [("p", "q")])
-        self.assertEqual(self.text.conditions(self.text.by_label["fourth"]).mandatory, [])
+        for label, found in (("second", [["p", "q"]]), ("fourth", [])):
+            self.assertEqual(self.text.conditions(self.text.by_label[label]).groups, found)
 
     def test_comments(self) -> None:
         self.assertIn("Whole\n     comment", self.text.comment(self.text.by_label["first"]))

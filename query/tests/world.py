@@ -57,8 +57,9 @@ class World(unittest.TestCase):
         self.addCleanup(room.cleanup)
         self.room = Path(room.name) / "room"
         self.cache = Path(room.name) / "cache"
+        self.config = Path(room.name) / "config"
         self.temporary = Path(room.name) / "tmp"
-        for folder in (self.room, self.cache, self.temporary):
+        for folder in (self.room, self.cache, self.config, self.temporary):
             folder.mkdir()
 
     def tearDown(self) -> None:
@@ -66,6 +67,8 @@ class World(unittest.TestCase):
         kept = self.cache / "mmquery"
         left = [file.name for file in kept.glob(".*")] if kept.exists() else []
         self.assertEqual(left, [], "an unfinished file was left in the cache")
+        secrets = [file.name for file in self.config.glob("mmquery/*")]
+        self.assertLessEqual(set(secrets), {"secret"}, "an unfinished secret was left")
 
     def surroundings(self, **more: str) -> dict[str, str]:
         """The variables with which commands run."""
@@ -73,6 +76,7 @@ class World(unittest.TestCase):
             "PATH": f"{os.path.dirname(sys.executable)}:/usr/bin:/bin",
             "HOME": str(self.room),
             "XDG_CACHE_HOME": str(self.cache),
+            "XDG_CONFIG_HOME": str(self.config),
             "TMPDIR": str(self.temporary),
             "MMDEPEND": program() or "",
             "LANG": "C.UTF-8",

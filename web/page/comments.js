@@ -129,8 +129,10 @@ function putPlainLine(writer, data, start, end) {
 function preformattedAfter(data, place, end) {
     let start = tagAfter(data, place, end, OPENING);
     while (start >= 0 && isWordByte(data[start + OPENING.length])) start = tagAfter(data, start + 1, end, OPENING);
-    const tagEnd = start < 0 ? 0 : data.indexOf(Byte.more, start) + 1;
-    if (tagEnd === 0 || tagEnd > end) return null;
+    if (start < 0) return null;
+    let tagEnd = start;
+    while (tagEnd < end && data[tagEnd] !== Byte.more) tagEnd++;
+    if (tagEnd++ === end) return null; // as no other one is closed either
     const contentEnd = tagAfter(data, tagEnd, end, CLOSING);
     if (contentEnd < 0) return { start, tagEnd, contentEnd: end, end };
     return { start, tagEnd, contentEnd, end: contentEnd + CLOSING.length };

@@ -167,14 +167,12 @@ export class Pairer {
     }
 
     /**
-     * Whether two assertions cite the same labels.
-     * @param {number} old
+     * What an assertion of NEW cites, by the numbers of OLD; null where it cites what OLD hasn't.
      * @param {number} now
      */
-    citesSame(old, now) {
-        const before = new Set(this.old.cites(old));
-        const after = this.now.cites(now);
-        return before.size === after.length && after.every((cited) => before.has(this.sameLabel[cited]));
+    citedBefore(now) {
+        const cited = Array.from(this.now.cites(now), (number) => this.sameLabel[number]);
+        return cited.includes(-1) ? null : cited;
     }
 
     /**
@@ -219,29 +217,84 @@ export class Pairer {
      * @param {number[]} now
      */
     renames(old, now) {
-        /** @type {Map<string, number[]>} */
-        const candidates = new Map();
+        const candidates = new Candidates();
         for (const number of old) {
-            const statement = this.old.statement(number);
-            const known = candidates.get(statement);
-            if (known) known.push(number);
-            else candidates.set(statement, [number]);
+            candidates.add(this.old.statement(number), Array.from(this.old.cites(number)), number);
         }
         /** @type {Map<number, number>} */
         const found = new Map();
         const left = [];
         for (const number of now) {
-            const those = candidates.get(this.now.statement(number)) ?? [];
-            const at = those.findIndex((other) => this.citesSame(other, number));
-            if (at < 0) left.push({ number, those });
-            else found.set(number, those.splice(at, 1)[0]);
+            const statement = this.now.statement(number);
+            const cited = this.citedBefore(number);
+            const other = cited === null ? -1 : candidates.take(candidates.citing, withCited(statement, cited));
+            if (other < 0) left.push({ number, statement });
+            else found.set(number, other);
         }
-        for (const { number, those } of left) {
-            const other = those.shift();
-            if (other !== undefined) found.set(number, other);
+        for (const { number, statement } of left) {
+            const other = candidates.take(candidates.all, statement);
+            if (other >= 0) found.set(number, other);
         }
         return found;
     }
+}
+
+/** Assertions by their statements, and by what they cite besides; those of each in file order. */
+class Candidates {
+    constructor() {
+        /** @type {Map<string, Queue>} */
+        this.all = new Map();
+        /** @type {Map<string, Queue>} */
+        this.citing = new Map();
+        /** @type {Set<number>} */
+        this.taken = new Set();
+    }
+
+    /**
+     * @param {string} statement
+     * @param {number[]} cited
+     * @param {number} number
+     */
+    add(statement, cited, number) {
+        for (const [map, key] of /** @type {[Map<string, Queue>, string][]} */ ([
+            [this.all, statement],
+            [this.citing, withCited(statement, cited)],
+        ])) {
+            const queue = map.get(key);
+            if (queue) queue.numbers.push(number);
+            else map.set(key, { numbers: [number], next: 0 });
+        }
+    }
+
+    /**
+     * The first one of a key that wasn't taken, or -1.
+     * @param {Map<string, Queue>} map
+     * @param {string} key
+     */
+    take(map, key) {
+        const queue = map.get(key);
+        while (queue && queue.next < queue.numbers.length) {
+            const number = queue.numbers[queue.next++];
+            if (this.taken.has(number)) continue;
+            this.taken.add(number);
+            return number;
+        }
+        return -1;
+    }
+}
+
+/**
+ * Numbers of which those before `next` were taken.
+ * @typedef {{ numbers: number[], next: number }} Queue
+ */
+
+/**
+ * A statement and what is cited, as a text.
+ * @param {string} statement
+ * @param {number[]} cited
+ */
+function withCited(statement, cited) {
+    return `${statement}\n$=\n${cited.sort((one, other) => one - other).join(" ")}`;
 }
 
 /**

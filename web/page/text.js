@@ -1,7 +1,7 @@
 // Reads the text of a database that the program accepted: what stands in it beside marks and citations. It is
 // query/text.py over bytes; a test compares both.
 
-import { Byte, Row, Rows, Words, afterComment, closeOf, isComment, textAt } from "./bytes.js";
+import { Byte, Chains, Row, Words, afterComment, closeOf, isComment, textAt } from "./bytes.js";
 
 /** The lines that enclose the title of a part, a chapter, a section and a subsection. */
 const DECORATIONS = ["####", "#*#*", "=-=-", "-.-."];
@@ -63,8 +63,8 @@ export class Text {
         this.essentialOf = new Row();
         this.disjointOf = new Row();
         /** Lists of numbers of `hypotheses`, and of `groups`. */
-        this.essential = new Rows();
-        this.disjoint = new Rows();
+        this.essential = new Chains();
+        this.disjoint = new Chains();
         /** The comment before each assertion; 0 and 0 where there is none. */
         this.comments = new Row();
         this.commentEnds = new Row();
@@ -125,14 +125,11 @@ class Reading {
     constructor(data) {
         this.data = data;
         this.text = new Text(data);
-        /** @type {number[]} */
-        this.essential = [];
-        /** @type {number[]} */
-        this.disjoint = [];
+        /** The lists of what is active, and those at the beginnings of blocks. */
+        this.essential = 0;
+        this.disjoint = 0;
         /** @type {[number, number][]} */
         this.blocks = [];
-        this.isEssentialKept = false;
-        this.isDisjointKept = false;
         /** The comment that was read last, if nothing came after it. */
         this.comment = 0;
         this.commentEnd = 0;
@@ -198,10 +195,9 @@ class Reading {
         if (sign !== Letter.c && sign !== Letter.d && sign !== Letter.v) throw new UnreadableText(place);
         const end = this.endAfter(place + 3);
         if (sign === Letter.d) {
-            this.disjoint.push(this.text.groups.size);
+            this.disjoint = this.text.disjoint.add(this.disjoint);
             this.text.groups.push(place + 3);
             this.text.groupEnds.push(end);
-            this.isDisjointKept = false;
         }
         return end + 2;
     }
@@ -212,16 +208,12 @@ class Reading {
      */
     addBrace(brace, place) {
         if (brace === Brace.open) {
-            this.blocks.push([this.essential.length, this.disjoint.length]);
+            this.blocks.push([this.essential, this.disjoint]);
             return;
         }
         const block = this.blocks.pop();
         if (!block) throw new UnreadableText(place);
-        const [essential, disjoint] = block;
-        if (essential < this.essential.length) this.isEssentialKept = false;
-        if (disjoint < this.disjoint.length) this.isDisjointKept = false;
-        this.essential.length = essential;
-        this.disjoint.length = disjoint;
+        [this.essential, this.disjoint] = block;
     }
 
     /**
@@ -247,10 +239,7 @@ class Reading {
         if (kind !== Letter.e && kind !== Letter.f) throw new UnreadableText(dollar);
         const end = this.endAfter(formula);
         const statements = kind === Letter.e ? text.hypotheses : text.floating;
-        if (kind === Letter.e) {
-            this.essential.push(statements.size);
-            this.isEssentialKept = false;
-        }
+        if (kind === Letter.e) this.essential = text.essential.add(this.essential);
         statements.push(place, labelEnd, formula);
         statements.formulaEnds.push(end);
         return end + 2;
@@ -263,11 +252,8 @@ class Reading {
      */
     addAssertion(proof, proofEnd) {
         const { text } = this;
-        if (!this.isEssentialKept) text.essential.add(this.essential);
-        if (!this.isDisjointKept) text.disjoint.add(this.disjoint);
-        this.isEssentialKept = this.isDisjointKept = true;
-        text.essentialOf.push(text.essential.size - 1);
-        text.disjointOf.push(text.disjoint.size - 1);
+        text.essentialOf.push(this.essential);
+        text.disjointOf.push(this.disjoint);
         text.proofs.push(proof);
         text.proofEnds.push(proofEnd);
         text.comments.push(this.comment);

@@ -14,7 +14,8 @@ import { visible } from "./visible.js";
  */
 
 const TAG = /<(\/?)([A-Za-z]+)((?:\s[^<>]*)?)>/g;
-const ATTRIBUTE = /([A-Za-z]+)\s*=\s*("[^"]*"|'[^']*'|[^\s"'>]+)/g;
+/** A name, and its value where it has one. */
+const ATTRIBUTE = /([A-Za-z]+)(?:\s*=\s*("[^"]*"|'[^']*'|[^\s"'>]+))?/g;
 const REFERENCE = /&(#[0-9]+;?|#[xX][0-9a-fA-F]+;?|[^\t\n\f <&#;]{1,32};?)/g;
 /** The tags that are kept, and by which name. */
 const TAGS = new Map([
@@ -79,6 +80,7 @@ function* statementsOf(text) {
  */
 function* tokensOf(text) {
     const plain = /[^\s;+'"]+/y;
+    const lastRemarkEnd = text.lastIndexOf("*/");
     let place = 0;
     while (place < text.length) {
         const sign = text[place];
@@ -89,7 +91,8 @@ function* tokensOf(text) {
             else end = place + 1;
         } else if (sign === ";" || sign === "+") yield sign;
         else if (!/\s/.test(sign)) {
-            const remarkEnd = text.startsWith("/*", place) ? text.indexOf("*/", place + 2) : -1;
+            const isRemark = text.startsWith("/*", place) && place + 2 <= lastRemarkEnd;
+            const remarkEnd = isRemark ? text.indexOf("*/", place + 2) : -1;
             plain.lastIndex = place;
             end = remarkEnd < 0 ? place + (plain.exec(text)?.[0].length ?? 1) : remarkEnd + 2;
             yield text.slice(place, end);
@@ -171,6 +174,7 @@ function namesOf(tag, attributes) {
     if (!GROUPS.includes(tag)) return null;
     const names = [];
     for (const match of attributes.matchAll(ATTRIBUTE)) {
+        if (match[2] === undefined) continue;
         const key = match[1].toLowerCase();
         const value = match[2].replace(/^["']+|["']+$/g, "");
         if (key === "color") names.push(hue(value));

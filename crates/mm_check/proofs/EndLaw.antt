@@ -19,7 +19,7 @@ use Rattle.mm_spec.specs.Citation.{context_at, is_theorem, IsProof, Cites}
 use Rattle.mm_spec.proofs.FindsLaw.{got_lt_length}
 use Rattle.mm_database.specs.Database.{end_at}
 use Rattle.mm_rules.specs.Rules.{RuleLists}
-use Rattle.mm_machine.specs.DisjointCache.{AreDisjointAt}
+use Rattle.mm_machine.specs.DisjointCache.{KnownPairs, AreDisjointAt}
 use Rattle.mm_machine.specs.State.{MachineState, machine_state}
 use Rattle.mm_check.specs.Contract.{IsChecked}
 use Rattle.mm_check.specs.Reached.{IsReached, AreStepsOf, steps_of}
@@ -31,7 +31,7 @@ use Rattle.mm_check.proofs.ReachLaw.{end_derives, end_code_is_fault, proof_end_i
 module _ (db : List Statement) (t : ℕ) (steps : List PlacedStep) where
   -- no step is performed yet
   pub no_step_performed : (m : MachineState) (rules : RuleLists) (noted : List ℕ)
-      (cache : List (ℕ × ℕ))
+      (cache : KnownPairs)
       → (symbol_count : ℕ)
       → AreOfDatabase db symbol_count rules → AreStepsOf db t steps → m
       ≡ machine_state [] [] [] symbol_count → noted ≡ []

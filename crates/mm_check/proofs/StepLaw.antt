@@ -11,6 +11,7 @@ use Rattle.mm_spec.specs.Valid.{Reason}
 use Rattle.mm_spec.specs.Citation.{context_at}
 use Rattle.mm_spec.specs.Laws.Stack.{IsCompleteReferent, label_entries}
 use Rattle.mm_rule.specs.Assertions.{is_assertion_at}
+use Rattle.mm_machine.specs.DisjointCache.{KnownPairs}
 use Rattle.mm_machine.specs.State.{MachineState, machine_state, applied}
 use Rattle.mm_machine.specs.Applied.{IsRefusalOf}
 use Rattle.mm_machine.specs.declared.machine.StepRefused.{StepRefused}
@@ -48,7 +49,7 @@ module _ (db : List Statement) (t : ℕ) where
   module _ (c : CheckerState) (a : ℕ)
       (rule_is_complete : IsCompleteReferent (context_at db t) ((context_at db t).referent a))
       (is_assertion : is_assertion_at db a ≡ true) where
-    pub applied_step_performs : (m : MachineState) (noted : List ℕ) (cache : List (ℕ × ℕ))
+    pub applied_step_performs : (m : MachineState) (noted : List ℕ) (cache : KnownPairs)
         → applied db t a c.machine.stack ≡ Ok m.stack → m.marks ≡ c.machine.marks
         → m.formulas ≡ c.machine.formulas → 0 < length m.stack
         → ((x : ℕ) → is_member noted x ≡ (is_member c.noted x || (x == a)))

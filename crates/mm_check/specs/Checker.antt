@@ -9,7 +9,7 @@ use Rattle.mm_spec.specs.Laws.Complete.{AreComplete}
 use Rattle.mm_spec.specs.Laws.Stack.{step_entries}
 use Rattle.mm_rule.specs.Assertions.{is_assertion_at}
 use Rattle.mm_rules.specs.Rules.{RuleLists, AreRules}
-use Rattle.mm_machine.specs.DisjointCache.{AreDisjointAt}
+use Rattle.mm_machine.specs.DisjointCache.{KnownPairs, AreDisjointAt}
 use Rattle.mm_machine.specs.State.{MachineState}
 use Rattle.mm_machine.specs.Applied.{IsRefusalOf}
 use Rattle.mm_machine.specs.declared.machine.StepRefused.{StepRefused}
@@ -22,9 +22,9 @@ pub record CheckerState : Type 0 where
   pub machine : MachineState
   pub rules : RuleLists
   pub noted : List ℕ
-  pub cache : List (ℕ × ℕ)
+  pub cache : KnownPairs
 
-abbrev pub checker_state : MachineState → RuleLists → List ℕ → List (ℕ × ℕ) → CheckerState
+abbrev pub checker_state : MachineState → RuleLists → List ℕ → KnownPairs → CheckerState
 checker_state machine rules noted cache =
     record { machine = machine; rules = rules; noted = noted; cache = cache }
 
@@ -40,7 +40,7 @@ IsMadeFor db c = AreOfDatabase db c.machine.symbol_count c.rules
 
 -- the symbols and the rules are those of the database, and the pairs are disjoint at the theorem
 pub record AreAtTheorem (db : List Statement) (t symbol_count : ℕ) (rules : RuleLists)
-    (cache : List (ℕ × ℕ)) :
+    (cache : KnownPairs) :
     Type 0 where
   pub made_for : AreOfDatabase db symbol_count rules
   pub theorem_lt_length : t < length db

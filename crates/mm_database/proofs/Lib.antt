@@ -1,7 +1,7 @@
 -- `Database` has an invariant, `IsDatabase`: each field is what the definitions say of the
 -- statements. The calls go back from fields to statements: names by `index_of_distinct`
--- (`SymbolsLaw.antt`) and `names_inserted` (`NamesLaw.antt`), where a word longer than the longest
--- is none (`none_longer_with_name`, `LongestLaw.antt`); kinds by `test_by_kind`, and theorems by
+-- (`SymbolsLaw.antt`), and a word by its slots in a `NameMap`, of which those before a free one
+-- have other names (`absent_at_free_slot`, `NameMapLaw.antt`); kinds by `test_by_kind`, theorems by
 -- `theorems_by_kind` (`KindsLaw.antt`). Lists that are kept one after the other are the lists that
 -- were joined (`joined_with_one_more`, `joined_lists_are_part`, `ListsLaw.antt` of `mm_lists`):
 -- labels and proofs
@@ -16,7 +16,7 @@
 -- count.
 pub mod SymbolsLaw
 pub mod NamesLaw
-pub mod LongestLaw
+pub mod NameMapLaw
 pub mod DisjointIndexLaw
 pub mod StartsLaw
 pub mod TogetherLaw

@@ -1,6 +1,6 @@
 -- The names that the code knows.
-use Rattle.std.specs.Prelude.{◌≡◌, ◌<◌, ℕ, Bool, true, false, ◌&&◌, not, List, Option, None, Some}
-use Rattle.std.specs.Prelude.{bytes_eq, length, map, [], ◌∷◌, ◌++◌, if◌then◌else◌}
+use Rattle.std.specs.Prelude.{ℕ, Bool, true, false, ◌&&◌, not, List, Option, None, Some}
+use Rattle.std.specs.Prelude.{bytes_eq, map, [], ◌∷◌, ◌++◌, if◌then◌else◌}
 use Rattle.std.specs.Map.{keys_of, lookup}
 use Rattle.mm_spec.specs.Text.{is_in}
 use Rattle.mm_database.specs.declared.name.Name.{Name}
@@ -14,10 +14,6 @@ module _ {V : Type 0} where
   -- the names of the list, in order
   abbrev pub names_of : List (Name × V) → List (List ℕ)
   names_of es = map (λ k. k.bytes.now) (keys_of es)
-
-  -- no name of the list is longer than n
-  abbrev pub AreNoLonger : List (Name × V) → ℕ → Type 0
-  AreNoLonger es n = (w : List ℕ) → n < length w → find es w ≡ None
 
 abbrev pub is_constant_in : Option Symbol → Bool
 is_constant_in None = false
@@ -44,9 +40,3 @@ pub record KnownNames : Type 0 where
 
 abbrev pub known_names : List (Name × Symbol) → List (Name × ℕ) → KnownNames
 known_names symbols labels = record { symbols = symbols; labels = labels }
-
--- no symbol is there twice, and no name is longer than the longest
-pub record IsNameTable (n : KnownNames) (longest_symbol longest_label : ℕ) : Type 0 where
-  pub distinct : are_distinct (names_of n.symbols) ≡ true
-  pub no_symbol_is_longer : AreNoLonger n.symbols longest_symbol
-  pub no_label_is_longer : AreNoLonger n.labels longest_label

@@ -62,7 +62,7 @@ impl<A: Allocator> Piece<A> {
     }
 
     /// Whether it is a part of a word, or empty, and touches neither end of the text.
-    pub fn is_unbroken(&self) -> bool
+    pub fn unbroken(&self) -> bool
         ensures { result ≡ not (is_some self.now.between) }
     {
         self.between.is_none()

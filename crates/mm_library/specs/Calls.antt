@@ -1,6 +1,6 @@
 -- What a call of the library requests by its arguments, and how it ends (this project's own).
 use Rattle.std.specs.Prelude.{◌≡◌, ◌≢◌, ℕ, Bool, ◌==◌, if◌then◌else◌, List, [], ◌∷◌, ◌≤◌, ◌<◌, ◌⊎◌}
-use Rattle.std.specs.Prelude.{length, map, sum, flat_map, Option, None, Some, slice_get, ⊤}
+use Rattle.std.specs.Prelude.{drop, length, map, sum, flat_map, Option, None, Some, slice_get, ⊤}
 use Rattle.std.specs.Prelude.{MatchResult, Result}
 use Rattle.std.specs.List.{AllZip}
 use Rattle.std.specs.Str.{IsUtf8}
@@ -91,37 +91,39 @@ HasVerdict Refused text with_open =
 HasVerdict _ text with_open = ⊥
 
 -- the outputs of a text for these requests, of these lengths, stand one behind the other at the
--- front of `out`
+-- front of `out`, and behind them it is as it was before
 pub record HasOutputs (text : List ℕ) (requests : List Request)
-    (lengths out : List ℕ) : Type 0 where
+    (lengths before out : List ℕ) : Type 0 where
   pub outputs : List (List ℕ)
   pub are_outputs : AllZip (IsOutput text) requests outputs
   pub are_lengths : lengths ≡ map length outputs
   pub is_at_front : IsAtFront (flat_map (λ bytes. bytes) outputs) out
+  pub rest_stays : drop (sum lengths) out ≡ drop (sum lengths) before
 
--- how it ends to write these outputs
-abbrev pub WritingEnds : Status → (with_open : Bool) → List Request → (text lengths out : List ℕ)
+-- how it ends to write these outputs to `out`, which held other bytes before
+abbrev pub WritingEnds : Status → (with_open : Bool) → List Request
+    → (text lengths before out : List ℕ)
     → Type 0
-WritingEnds TypecodeNotUtf8 with_open requests text lengths out = ⊥
-WritingEnds NoSuchRequest with_open requests text lengths out = ⊥
-WritingEnds RoomTooSmall with_open requests text lengths out = sum lengths ≡ 0
-WritingEnds OutTooShort with_open requests text lengths out =
-    HasOutputs text requests lengths out × (length out < sum lengths)
-WritingEnds verdict with_open requests text lengths out =
-    HasVerdict verdict text with_open × HasOutputs text requests lengths out
+WritingEnds TypecodeNotUtf8 with_open requests text lengths before out = ⊥
+WritingEnds NoSuchRequest with_open requests text lengths before out = ⊥
+WritingEnds RoomTooSmall with_open requests text lengths before out = sum lengths ≡ 0
+WritingEnds OutTooShort with_open requests text lengths before out =
+    HasOutputs text requests lengths before out × (length out < sum lengths)
+WritingEnds verdict with_open requests text lengths before out =
+    HasVerdict verdict text with_open × HasOutputs text requests lengths before out
     × (sum lengths ≤ length out)
 
--- how a call ends that writes the outputs for its request
+-- how a call ends that writes the outputs for its request to `out`, which held other bytes before
 abbrev pub CallEnds : Status → Call → (requests_for : Request → List Request)
-    → (text lengths out : List ℕ)
+    → (text lengths before out : List ℕ)
     → Type 0
-CallEnds TypecodeNotUtf8 call requests_for text lengths out = Refuses TypecodeNotUtf8 call × (sum
-    lengths ≡ 0)
-CallEnds NoSuchRequest call requests_for text lengths out =
-    Refuses NoSuchRequest call × (sum lengths ≡ 0)
-CallEnds status call requests_for text lengths out =
+CallEnds TypecodeNotUtf8 call requests_for text lengths before out =
+    Refuses TypecodeNotUtf8 call × (sum lengths ≡ 0) × (out ≡ before)
+CallEnds NoSuchRequest call requests_for text lengths before out =
+    Refuses NoSuchRequest call × (sum lengths ≡ 0) × (out ≡ before)
+CallEnds status call requests_for text lengths before out =
     (request : Request) × Asks call request
-    × WritingEnds status request.with_open (requests_for request) text lengths out
+    × WritingEnds status request.with_open (requests_for request) text lengths before out
 
 -- a request turned into the one for the citations
 abbrev pub citing : Request → Request

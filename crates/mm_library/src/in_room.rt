@@ -4,6 +4,7 @@ ghost use Rattle.std.specs.Prelude.{◌≡◌, ◌⊎◌, ◌≤◌, length, tak
 ghost use Rattle.mm_spec.specs.Ends.{reading_limit};
 ghost use Rattle.mm_library.specs.Calls.{Call, CallEnds, IsAnswer, WritingEnds};
 ghost use Rattle.mm_library.specs.Calls.{lengths_of, requests_of};
+ghost use Rattle.mm_library.specs.declared.status.Status.TheVariants.{RoomTooSmall};
 
 use crate::report::outputs;
 use crate::status::Status;
@@ -31,7 +32,7 @@ fn outputs_in_arena<A: Allocator + Copy>(
     requires length_le_limit { length text.now ≤ reading_limit }
     ensures { WritingEnds result.0 request.now.with_open
         (requests_of with_citations request.now) text.now
-        (lengths_of with_citations result.1 result.2) out.new }
+        (lengths_of with_citations result.1 result.2) out.old out.new }
 {
     match Reusing::new(arena) {
         Ok(alloc) => outputs(&alloc, text, request, with_citations, out),
@@ -39,7 +40,8 @@ fn outputs_in_arena<A: Allocator + Copy>(
     }
 }
 
-/// The call `outputs` in a room, on the part of the text that is read.
+/// The call `outputs` in a room, on the part of the text that is read. If a block of the room was
+/// leaked, the room is lost, and the room counts as too small.
 fn outputs_in_room(
     room: &mut Room,
     text: &[u8],
@@ -47,18 +49,24 @@ fn outputs_in_room(
     with_citations: bool,
     out: &mut [u8],
 ) -> (Status, usize, usize)
-    ensures room_comes_back { (room.new.units ≡ room.old.units) ⊎ (room.new.units ≡ 0) }
+    ensures room_comes_back { (room.new.units ≡ room.old.units)
+        ⊎ ((result.0 ≡ RoomTooSmall) × (room.new.units ≡ 0)) }
     ensures writes_outputs { WritingEnds result.0 request.now.with_open
         (requests_of with_citations request.now) (take reading_limit text.now)
-        (lengths_of with_citations result.1 result.2) out.new }
+        (lengths_of with_citations result.1 result.2) out.old out.new }
 {
     let lender = Lender::new(replace(room, Room::none()));
     let ended = match lender.arena() {
         Ok(arena) => outputs_in_arena(&arena, read_part(text), request, with_citations, out),
         Err(_) => (Status::RoomTooSmall, 0, 0),
     };
-    *room = lender.into_room();
-    ended
+    match lender.into_room() {
+        Some(whole_room) => {
+            *room = whole_room;
+            ended
+        }
+        None => (Status::RoomTooSmall, 0, 0),
+    }
 }
 
 /// Writes the output for a request to the front of `out`, if there is a request, and if
@@ -72,10 +80,11 @@ pub(crate) fn outputs_if_asked(
     with_citations: bool,
     out: &mut [u8],
 ) -> (Status, usize, usize)
-    ensures room_comes_back { (room.new.units ≡ room.old.units) ⊎ (room.new.units ≡ 0) }
+    ensures room_comes_back { (room.new.units ≡ room.old.units)
+        ⊎ ((result.0 ≡ RoomTooSmall) × (room.new.units ≡ 0)) }
     ensures call_ends { (call : Call) → IsAnswer call request.entry
         → CallEnds result.0 call (requests_of with_citations) (take reading_limit text.now)
-        (lengths_of with_citations result.1 result.2) out.new }
+        (lengths_of with_citations result.1 result.2) out.old out.new }
 {
     match request {
         Ok(request) => outputs_in_room(room, text, &request, with_citations, out),

@@ -4,11 +4,12 @@
 //! length is 0, it may be dangling.
 #![tactic(auto)]
 
-ghost use Rattle.std.specs.Prelude.{◌≡◌, ◌⊎◌, [], ◌∷◌, length, take};
+ghost use Rattle.std.specs.Prelude.{◌≡◌, ◌⊎◌, [], ◌∷◌, drop, length, take};
 ghost use Rattle.mm_spec.specs.Ends.{reading_limit};
 ghost use Rattle.mm_library.specs.Calls.{CallEnds, call_of, citing, status_number};
 ghost use Rattle.mm_library.specs.Fronts.{IsAtFront};
 ghost use Rattle.mm_library.specs.declared.status.Status.{Status};
+ghost use Rattle.mm_library.specs.declared.status.Status.TheVariants.{RoomTooSmall};
 ghost use Rattle.mm_version.specs.declared.TheConstants.{VERSION};
 
 mod front;
@@ -17,6 +18,8 @@ mod in_room;
 mod report;
 mod request;
 mod status;
+#[cfg(test)]
+mod tests;
 
 use crate::front::copy_behind;
 use crate::in_room::outputs_if_asked;
@@ -28,13 +31,14 @@ use mm_version::VERSION;
 /// Verifies the proofs of a text, a Metamath database, and writes the report that is requested, or
 /// the refusal for the text's first fault, to the front of `out`.
 ///
-/// - `room`: memory to work in, which comes back: an address that is a multiple of 16, and a number
-///   of units of 16 bytes. If it comes back with no unit, it was leaked. Nothing of it is read.
+/// - `room`: memory to work in, which comes back whole: an address that is a multiple of 16, and a
+///   number of units of 16 bytes. Only with status 4 it may come back with no unit, and then it is
+///   lost. Nothing of it is read.
 /// - `text`: the database. Of a text of more than 2,147,483,648 bytes only these are read, and they
 ///   are refused.
 /// - `only`: the typecode of the axioms that are columns and of the citations that are listed, as
 ///   UTF-8, if `has_only`. Otherwise it isn't read.
-/// - `choice`: the sections: 0 matrix, counts and usage, 1 the matrix, 2 the counts, 3 the usage, 4
+/// - `part`: the sections: 0 matrix, counts and usage, 1 the matrix, 2 the counts, 3 the usage, 4
 ///   the citations.
 /// - `form`: how the matrix is written: 1 a digit for each column, 2 a hexadecimal digit for every
 ///   four.
@@ -46,27 +50,29 @@ use mm_version::VERSION;
 /// The result is a status. 0: `out` begins with the report. 1: `out` begins with the refusal. 2:
 /// `only` isn't UTF-8. 3: `out` is too short, and has as much of the output as it holds; a second
 /// call with `written` bytes has room for it. 4: the room is too small. 5: no sections have the
-/// number `choice`, or no form has the number `form`. With 2, 4 and 5 the bytes of `out` are not to
-/// be read.
+/// number `part`, or no form has the number `form`. With 2 and 5 `out` stays as it was. With 4
+/// its bytes are not to be read.
 #[unsafe(no_mangle)]
 pub extern "C" fn mmdepend_report(
     room: &mut Room,
     text: &[u8],
     only: &[u8],
     has_only: bool,
-    choice: u32,
+    part: u32,
     form: u32,
     essential: bool,
     with_open: bool,
     out: &mut [u8],
     written: &mut usize,
 ) -> u32
-    ensures room_comes_back { (room.new.units ≡ room.old.units) ⊎ (room.new.units ≡ 0) }
+    ensures room_comes_back { (room.new.units ≡ room.old.units)
+        ⊎ ((result ≡ status_number RoomTooSmall) × (room.new.units ≡ 0)) }
     ensures call_ends { (status : Status) × (result ≡ status_number status)
-        × CallEnds status (call_of has_only only.now choice form essential with_open)
-        (λ request. request ∷ []) (take reading_limit text.now) (written.new ∷ []) out.new }
+        × CallEnds status (call_of has_only only.now part form essential with_open)
+        (λ request. request ∷ []) (take reading_limit text.now) (written.new ∷ [])
+        out.old out.new }
 {
-    let request = request(only, has_only, choice, form, essential, with_open);
+    let request = request(only, has_only, part, form, essential, with_open);
     let with_citations = false;
     let (status, len, _) = outputs_if_asked(room, text, request, with_citations, out);
     *written = len;
@@ -83,7 +89,7 @@ pub extern "C" fn mmdepend_report_and_citations(
     text: &[u8],
     only: &[u8],
     has_only: bool,
-    choice: u32,
+    part: u32,
     form: u32,
     essential: bool,
     with_open: bool,
@@ -91,13 +97,14 @@ pub extern "C" fn mmdepend_report_and_citations(
     report_len: &mut usize,
     citations_len: &mut usize,
 ) -> u32
-    ensures room_comes_back { (room.new.units ≡ room.old.units) ⊎ (room.new.units ≡ 0) }
+    ensures room_comes_back { (room.new.units ≡ room.old.units)
+        ⊎ ((result ≡ status_number RoomTooSmall) × (room.new.units ≡ 0)) }
     ensures call_ends { (status : Status) × (result ≡ status_number status)
-        × CallEnds status (call_of has_only only.now choice form essential with_open)
+        × CallEnds status (call_of has_only only.now part form essential with_open)
         (λ request. request ∷ citing request ∷ []) (take reading_limit text.now)
-        (report_len.new ∷ citations_len.new ∷ []) out.new }
+        (report_len.new ∷ citations_len.new ∷ []) out.old out.new }
 {
-    let request = request(only, has_only, choice, form, essential, with_open);
+    let request = request(only, has_only, part, form, essential, with_open);
     let with_citations = true;
     let (status, first_len, second_len) = outputs_if_asked(
         room,
@@ -112,10 +119,12 @@ pub extern "C" fn mmdepend_report_and_citations(
 }
 
 /// Puts the version's text, as the program prints it after its name, at the front of `out`, as much
-/// of it as `out` holds. Returns the length of the whole text in bytes.
+/// of it as `out` holds. What is behind it stays as it was. Returns the length of the whole text in
+/// bytes.
 #[unsafe(no_mangle)]
 pub extern "C" fn mmdepend_version(out: &mut [u8]) -> usize
-    ensures { (result ≡ length VERSION.now) × IsAtFront VERSION.now out.new }
+    ensures version_is { (result ≡ length VERSION.now) × IsAtFront VERSION.now out.new }
+    ensures rest_stays { drop (length VERSION.now) out.new ≡ drop (length VERSION.now) out.old }
 {
     copy_behind(out, 0, VERSION.as_bytes());
     VERSION.len()

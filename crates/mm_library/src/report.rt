@@ -1,6 +1,6 @@
 //! The outputs of a text, at the front of memory.
 
-ghost use Rattle.std.specs.Prelude.{◌≡◌, ◌≤◌, ℕ, List, ◌++◌, IfOk, length};
+ghost use Rattle.std.specs.Prelude.{◌≡◌, ◌≤◌, ℕ, List, ◌++◌, IfOk, OnOk, length};
 ghost use Rattle.mm_spec.specs.Ends.{reading_limit};
 ghost use Rattle.mm_spec.specs.Output.{IsOutput};
 ghost use Rattle.mm_run.specs.Counted.{IsJudgedText};
@@ -40,7 +40,8 @@ fn write_output<'a, A: Allocator + Copy>(
 ) -> Result<Status, NotWritten>
     requires is_judged { IsJudgedText text.now request.now.essential request.now.with_open
         judged.now }
-    ensures name_stays { to.new.out.ghost_name ≡ to.old.out.ghost_name }
+    ensures name_stays { OnOk result (to.new.out.ghost_name ≡ to.old.out.ghost_name) }
+    ensures before_stays { OnOk result (to.new.before.bytes ≡ to.old.before.bytes) }
     ensures appends_output { IfOk result (λ status. HasVerdict status text.now request.now.with_open
         × ((bytes : List ℕ) × IsOutput text.now request.now bytes
         × (to.new.written.bytes ≡ to.old.written.bytes ++ bytes))) }
@@ -67,7 +68,7 @@ fn write_outputs<'a, A: Allocator + Copy>(
         judged.now }
     ensures { WritingEnds result.0 request.now.with_open
         (requests_of with_citations request.now) text.now
-        (lengths_of with_citations result.1 result.2) out.new }
+        (lengths_of with_citations result.1 result.2) out.old out.new }
 {
     let mut to = Front::new(out);
     let Ok(verdict) = write_output(alloc, text, request, judged, &mut to) else {
@@ -97,7 +98,7 @@ pub(crate) fn outputs<A: Allocator + Copy>(
     requires length_le_limit { length text.now ≤ reading_limit }
     ensures { WritingEnds result.0 request.now.with_open
         (requests_of with_citations request.now) text.now
-        (lengths_of with_citations result.1 result.2) out.new }
+        (lengths_of with_citations result.1 result.2) out.old out.new }
 {
     match judge_alone(alloc, text, request.essential, request.with_open) {
         Ok(judged) => write_outputs(alloc, text, request, with_citations, &judged, out),

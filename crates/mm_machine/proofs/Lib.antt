@@ -4,8 +4,10 @@
 -- so that cutting the list takes away exactly the last ones.
 pub mod AloneLaw
 pub mod DisjointLaw
+pub mod DistinctLaw
 pub mod FillLaw
 pub mod FitLaw
+pub mod FlagRowsLaw
 pub mod FollowLaw
 pub mod GrowLaw
 pub mod MarkedFormulaLaw

@@ -3,6 +3,7 @@ use Rattle.std.specs.Prelude.{◌≡◌, ℕ, ◌<◌, true, All, List, [], ◌�
 use Rattle.mm_spec.specs.Statement.{Statement}
 use Rattle.mm_spec.specs.Derivation.{are_disjoint}
 use Rattle.mm_spec.specs.Citation.{context_at}
+use Rattle.mm_machine.specs.FlagRows.{RowsOfFlags, AreRowsDisjointAt}
 
 -- the pair of symbols is in the list, in this order
 abbrev pub HasPair : List (ℕ × ℕ) → ℕ → ℕ → Type 0
@@ -14,5 +15,18 @@ abbrev pub MayInsertPair : List (ℕ × ℕ) → ℕ → ℕ → List (ℕ × �
 MayInsertPair ps s t qs = (qs ≡ ps) ⊎ (qs ≡ ps ++ (s, t) ∷ [])
 
 -- each of the pairs of symbols is disjoint at the theorem
-abbrev pub AreDisjointAt : List Statement → ℕ → List (ℕ × ℕ) → Type 0
-AreDisjointAt db t ps = All (λ (p : ℕ × ℕ). are_disjoint (context_at db t) p.0 p.1 ≡ true) ps
+abbrev pub ArePairsDisjointAt : List Statement → ℕ → List (ℕ × ℕ) → Type 0
+ArePairsDisjointAt db t ps = All (λ (p : ℕ × ℕ). are_disjoint (context_at db t) p.0 p.1 ≡ true) ps
+
+-- pairs of symbols that are listed, and pairs that have flags in rows
+pub record KnownPairs : Type 0 where
+  pub pairs : List (ℕ × ℕ)
+  pub rows : RowsOfFlags
+
+abbrev pub known_pairs : List (ℕ × ℕ) → RowsOfFlags → KnownPairs
+known_pairs pairs rows = record { pairs = pairs; rows = rows }
+
+-- all these pairs are disjoint at the theorem
+pub record AreDisjointAt (db : List Statement) (t : ℕ) (k : KnownPairs) : Type 0 where
+  pub pairs_are_disjoint : ArePairsDisjointAt db t k.pairs
+  pub rows_are_disjoint : AreRowsDisjointAt db t k.rows

@@ -11,7 +11,9 @@
 
 mod arena;
 mod disjoint_cache;
+mod distinct;
 mod fill;
+mod flag_rows;
 mod machine;
 mod reason;
 mod rule_test;

@@ -18,6 +18,7 @@ ghost use Rattle.mm_machine.specs.Applied.{IsRefusalOf, IsApplied};
 
 use crate::arena::{Span, Store, Symbols, build};
 use crate::disjoint_cache::DisjointCache;
+use crate::distinct::DistinctVariables;
 use crate::fill::fill;
 use crate::reason::Reason;
 use crate::rule_test::test_rule;
@@ -61,6 +62,8 @@ pub struct Machine<A: Allocator> {
     short: Vec<Sym, A>,
     /// Where the formula of a step is built if it isn't short.
     long: Vec<Sym, A>,
+    /// The variables of the premises of a step, if their formulas are long.
+    distinct: DistinctVariables<A>,
     /// How many symbols the database has.
     symbol_count: usize,
 }
@@ -77,6 +80,7 @@ impl<A: Allocator> Drop for Machine<A> {
             slots: _,
             short: _,
             long: _,
+            distinct: _,
             symbol_count: _,
         } = self;
     }
@@ -137,6 +141,7 @@ impl<A: Allocator> Machine<A> {
             slots,
             short,
             long: Vec::new(alloc),
+            distinct: DistinctVariables::new(alloc, symbol_count)?,
             symbol_count,
         })
     }
@@ -151,6 +156,7 @@ impl<A: Allocator> Machine<A> {
         empty(&mut self.marks);
         empty(&mut self.marked_spans);
         empty(&mut self.long);
+        self.distinct.empty();
     }
 
     /// Pushes a formula.
@@ -266,7 +272,16 @@ impl<A: Allocator> Machine<A> {
             unmarked: self.unmarked.as_slice(),
             marked: self.marked.as_slice(),
         };
-        match test_rule(database, theorem, rule, &symbols, &self.stack, cache) {
+        let distinct = &mut self.distinct;
+        match test_rule(
+            database,
+            theorem,
+            rule,
+            &symbols,
+            &self.stack,
+            distinct,
+            cache,
+        ) {
             Err(reason) => Err(StepRefused::Fault(reason)),
             Ok(below) => replace_by_formula(
                 below,

@@ -18,6 +18,7 @@ ghost use Rattle.mm_machine.specs.Arena.{
   AreEntries,
 };
 ghost use Rattle.mm_machine.specs.DisjointCache.{AreDisjointAt};
+ghost use Rattle.mm_machine.specs.FlagRows.{AreColumnsOf};
 ghost use Rattle.mm_rule.specs.Rule.{IsVariableBelow, IsCompiled, all_parts};
 ghost use Rattle.mm_rule.specs.Rule.{total_stored_part_count};
 ghost use Rattle.mm_machine.specs.Replaced.{replacement, replaced};
@@ -25,10 +26,15 @@ ghost use Rattle.mm_machine.specs.State.{TestsRule};
 
 use crate::arena::{Span, Store, Symbols, replacement_of};
 use crate::disjoint_cache::DisjointCache;
+use crate::distinct::DistinctVariables;
 use crate::reason::Reason;
 use mm_database::{Database, Sym};
 use mm_rule::{Hypothesis, PackedPart, Rule, RulePart};
 use std::alloc::Allocator;
+
+/// How many pairs of symbols a step tests at most before it looks for the variables of its premises
+/// first, each once.
+const MAX_SYMBOL_PAIRS: usize = 4_096;
 
 /// Whether the stretch of list `store` from index `from` to index `to` begins with the formula of
 /// an entry.
@@ -135,6 +141,7 @@ fn are_disjoint<A: Allocator>(
     ensures tells_disjoint { result
         ≡ disjoint_pair (context_at database.now.statements theorem) first second }
     ensures cached_are_disjoint { AreDisjointAt database.now.statements theorem cache.new }
+    ensures rows_stay { cache.new.rows ≡ cache.old.rows }
 {
     if cache.has(first, second) {
         return true;
@@ -163,6 +170,7 @@ fn are_disjoint_in_database<A: Allocator>(
 }
 
 /// Whether a symbol is disjoint from each of the others.
+#[inline(always)]
 fn is_disjoint_from<A: Allocator>(
     database: &Database<A>,
     theorem: u32,
@@ -178,6 +186,7 @@ fn is_disjoint_from<A: Allocator>(
     ensures tells_disjoint { result
         ≡ disjoint_symbol (context_at database.now.statements theorem) symbol others.now }
     ensures cached_are_disjoint { AreDisjointAt database.now.statements theorem cache.new }
+    ensures rows_stay { cache.new.rows ≡ cache.old.rows }
 {
     if !database.is_variable(symbol) {
         return true;
@@ -191,6 +200,7 @@ fn is_disjoint_from<A: Allocator>(
 }
 
 /// Whether each variable of `first` is disjoint from each variable of `second`.
+#[inline(always)]
 fn are_all_disjoint<A: Allocator>(
     database: &Database<A>,
     theorem: u32,
@@ -216,14 +226,107 @@ fn are_all_disjoint<A: Allocator>(
     true
 }
 
+/// Whether a symbol is disjoint from each of the others, whose columns are listed.
+fn is_disjoint_from_listed<A: Allocator>(
+    database: &Database<A>,
+    theorem: u32,
+    symbol: Sym,
+    others: &[Sym],
+    columns: &[usize],
+    cache: &mut DisjointCache<A>,
+) -> bool
+    requires theorem_lt_length { theorem < length database.now.statements }
+    requires is_symbol { symbol < length (symbol_names database.now.statements) }
+    requires others_are_symbols { All (λ symbol. symbol < length (symbol_names
+        database.now.statements)) others.now }
+    requires cached_are_disjoint { AreDisjointAt database.now.statements theorem cache.old }
+    requires are_columns { AreColumnsOf cache.old.rows.symbols columns.now others.now }
+    ensures tells_disjoint { result
+        ≡ disjoint_symbol (context_at database.now.statements theorem) symbol others.now }
+    ensures cached_are_disjoint { AreDisjointAt database.now.statements theorem cache.new }
+    ensures are_columns { AreColumnsOf cache.new.rows.symbols columns.now others.now }
+{
+    if cache.has_flags(symbol, columns) {
+        return true;
+    }
+    if !is_disjoint_from(database, theorem, symbol, others, cache) {
+        return false;
+    }
+    cache.insert_in_rows(symbol, others);
+    true
+}
+
+/// Whether each variable of `first` is disjoint from each variable of `second`. What is known of
+/// a symbol of `first` is asked at once for all of `second`.
+#[cold]
+#[inline(never)]
+fn are_all_disjoint_by_rows<A: Allocator>(
+    database: &Database<A>,
+    theorem: u32,
+    first: &[Sym],
+    second: &[Sym],
+    columns: &mut Vec<usize, A>,
+    cache: &mut DisjointCache<A>,
+) -> bool
+    requires theorem_lt_length { theorem < length database.now.statements }
+    requires first_are_symbols { All (λ symbol. symbol < length (symbol_names
+        database.now.statements)) first.now }
+    requires second_are_symbols { All (λ symbol. symbol < length (symbol_names
+        database.now.statements)) second.now }
+    requires cached_are_disjoint { AreDisjointAt database.now.statements theorem cache.old }
+    ensures tells_disjoint { result
+        ≡ disjoint_lists (context_at database.now.statements theorem) first.now second.now }
+    ensures cached_are_disjoint { AreDisjointAt database.now.statements theorem cache.new }
+{
+    if !cache.list_columns(second, columns) {
+        return are_all_disjoint(database, theorem, first, second, cache);
+    }
+    for symbol in first {
+        if !is_disjoint_from_listed(database, theorem, *symbol, second, columns, cache) {
+            return false;
+        }
+    }
+    true
+}
+
+/// Whether each variable of `first` is disjoint from each variable of `second`, which both may be
+/// long.
+#[inline(always)]
+fn are_apart<A: Allocator>(
+    database: &Database<A>,
+    theorem: u32,
+    first: &[Sym],
+    second: &[Sym],
+    columns: &mut Vec<usize, A>,
+    cache: &mut DisjointCache<A>,
+) -> bool
+    requires theorem_lt_length { theorem < length database.now.statements }
+    requires first_are_symbols { All (λ symbol. symbol < length (symbol_names
+        database.now.statements)) first.now }
+    requires second_are_symbols { All (λ symbol. symbol < length (symbol_names
+        database.now.statements)) second.now }
+    requires cached_are_disjoint { AreDisjointAt database.now.statements theorem cache.old }
+    ensures tells_disjoint { result
+        ≡ disjoint_lists (context_at database.now.statements theorem) first.now second.now }
+    ensures cached_are_disjoint { AreDisjointAt database.now.statements theorem cache.new }
+{
+    if first.len().saturating_mul(second.len()) > MAX_SYMBOL_PAIRS {
+        are_all_disjoint_by_rows(database, theorem, first, second, columns, cache)
+    } else {
+        are_all_disjoint(database, theorem, first, second, cache)
+    }
+}
+
 /// Whether for each pair of variables, each variable in what replaces the first is disjoint from
 /// each variable in what replaces the second.
+#[inline(always)]
 fn pairs_are_disjoint<A: Allocator>(
     database: &Database<A>,
     theorem: u32,
     symbols: &Symbols,
     premises: &[Span],
     pairs: &[(u32, u32)],
+    columns: &mut Vec<usize, A>,
     cache: &mut DisjointCache<A>,
 ) -> bool
     requires theorem_lt_length { theorem < length database.now.statements }
@@ -242,11 +345,107 @@ fn pairs_are_disjoint<A: Allocator>(
     for pair in pairs {
         let first = symbols.formula(replacement_of(premises, pair.0));
         let second = symbols.formula(replacement_of(premises, pair.1));
-        if !are_all_disjoint(database, theorem, first, second, cache) {
+        if !are_apart(database, theorem, first, second, columns, cache) {
             return false;
         }
     }
     true
+}
+
+/// Whether the lists that replace the variables of the pairs have more pairs of symbols than are
+/// tested one by one.
+#[inline(always)]
+fn has_many_symbol_pairs(premises: &[Span], pairs: &[(u32, u32)]) -> bool
+    requires { All (λ (p : ℕ × ℕ). (p.0 < length premises.now) × (p.1 < length premises.now))
+        pairs.now }
+{
+    let mut count: usize = 0;
+    for pair in pairs {
+        let first = replacement_of(premises, pair.0);
+        let second = replacement_of(premises, pair.1);
+        let first_count = first.end.saturating_sub(first.start);
+        let second_count = second.end.saturating_sub(second.start);
+        count = count.saturating_add(first_count.saturating_mul(second_count));
+    }
+    count > MAX_SYMBOL_PAIRS
+}
+
+/// Whether for each pair of variables, each variable in what replaces the first is disjoint from
+/// each variable in what replaces the second. A variable of a formula is looked at once, if there
+/// is memory for that.
+#[cold]
+#[inline(never)]
+fn long_pairs_are_disjoint<A: Allocator>(
+    database: &Database<A>,
+    theorem: u32,
+    symbols: &Symbols,
+    premises: &[Span],
+    pairs: &[(u32, u32)],
+    distinct: &mut DistinctVariables<A>,
+    cache: &mut DisjointCache<A>,
+) -> bool
+    requires theorem_lt_length { theorem < length database.now.statements }
+    requires are_entries { AreEntries (length (symbol_names database.now.statements)) symbols.now
+        premises.now }
+    requires pairs_in_range { All
+        (λ (p : ℕ × ℕ). (p.0 < length premises.now) × (p.1 < length premises.now)) pairs.now }
+    requires cached_are_disjoint { AreDisjointAt database.now.statements theorem cache.old }
+    ensures tells_disjoint { result
+        ≡ list_all
+        (λ (p : ℕ × ℕ). disjoint_lists (context_at database.now.statements theorem)
+        (replacement symbols.now premises.now p.0) (replacement symbols.now premises.now p.1))
+        pairs.now }
+    ensures cached_are_disjoint { AreDisjointAt database.now.statements theorem cache.new }
+{
+    match distinct.collect(database, symbols, premises) {
+        Err(_) => {
+            let columns = &mut distinct.columns;
+            pairs_are_disjoint(database, theorem, symbols, premises, pairs, columns, cache)
+        }
+        Ok(()) => {
+            let reduced = Symbols {
+                unmarked: &distinct.symbols,
+                marked: &[],
+            };
+            let entries = &distinct.entries;
+            let columns = &mut distinct.columns;
+            pairs_are_disjoint(database, theorem, &reduced, entries, pairs, columns, cache)
+        }
+    }
+}
+
+/// Whether for each pair of variables, each variable in what replaces the first is disjoint from
+/// each variable in what replaces the second.
+#[inline(always)]
+fn keeps_disjoint<A: Allocator>(
+    database: &Database<A>,
+    theorem: u32,
+    symbols: &Symbols,
+    premises: &[Span],
+    pairs: &[(u32, u32)],
+    distinct: &mut DistinctVariables<A>,
+    cache: &mut DisjointCache<A>,
+) -> bool
+    requires theorem_lt_length { theorem < length database.now.statements }
+    requires are_entries { AreEntries (length (symbol_names database.now.statements)) symbols.now
+        premises.now }
+    requires pairs_in_range { All
+        (λ (p : ℕ × ℕ). (p.0 < length premises.now) × (p.1 < length premises.now)) pairs.now }
+    requires cached_are_disjoint { AreDisjointAt database.now.statements theorem cache.old }
+    ensures tells_disjoint { result
+        ≡ list_all
+        (λ (p : ℕ × ℕ). disjoint_lists (context_at database.now.statements theorem)
+        (replacement symbols.now premises.now p.0) (replacement symbols.now premises.now p.1))
+        pairs.now }
+    ensures cached_are_disjoint { AreDisjointAt database.now.statements theorem cache.new }
+{
+    if has_many_symbol_pairs(premises, pairs) {
+        return long_pairs_are_disjoint(
+            database, theorem, symbols, premises, pairs, distinct, cache,
+        );
+    }
+    let columns = &mut distinct.columns;
+    pairs_are_disjoint(database, theorem, symbols, premises, pairs, columns, cache)
 }
 
 /// Tests an assertion's step on the entries of the stack, except for the length of its formula.
@@ -258,6 +457,7 @@ pub fn test_rule<A: Allocator>(
     rule: &Rule,
     symbols: &Symbols,
     stack: &[Span],
+    distinct: &mut DistinctVariables<A>,
     cache: &mut DisjointCache<A>,
 ) -> Result<usize, Reason>
     requires theorem_lt_length { theorem < length database.now.statements }
@@ -279,7 +479,7 @@ pub fn test_rule<A: Allocator>(
         return Err(Reason::Unmatched);
     }
     let pairs = rule.pairs();
-    if !pairs_are_disjoint(database, theorem, symbols, premises, pairs, cache) {
+    if !keeps_disjoint(database, theorem, symbols, premises, pairs, distinct, cache) {
         return Err(Reason::NotDisjoint);
     }
     Ok(below)

@@ -64,7 +64,7 @@ fn with_digit_of_large(number: u64, base: u64, digit: u64) -> u64
 
 /// The value of a number in letters: any number of letters `U` to `Y`, followed by one of `A` to
 /// `T`. It is `None` for any other word, and for a value above 4,294,967,295.
-pub fn value_of_letters(letters: &[u8]) -> Option<u32>
+pub fn number(letters: &[u8]) -> Option<u32>
     ensures value_is { IfSome result (λ n. IsNumber letters.now n) }
     ensures is_too_large { IfNone result ((n : ℕ) → IsNumber letters.now n → 4294967295 < n) }
 {

@@ -14,7 +14,7 @@ mod letters;
 mod reader;
 mod refused;
 
-pub use digits::value_of_letters;
+pub use digits::number;
 pub use mm_database::{Code, Fault};
 pub use mm_steps::{Step, Steps};
 pub use reader::read_proof;

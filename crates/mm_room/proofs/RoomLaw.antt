@@ -5,18 +5,19 @@ use Rattle.std.proofs.Common.{IfSome, None, Some, refl, sym, ap, subst, ◌∙�
 use seplogic.Ra.Ura.{Ura}
 use mir.Syntax.{Ty, Body}
 use mir.Val.{Val, vcons, vnil, of_list}
+use base.Fml.{froom}
 use base.Logic.{ent, sep, id⊢}
 use prog.Memory.{size, capped}
 use prog.Capped.{capped_is, capped_small}
 use prog.Wp.{Env, Calls, Loops, Wp, after_seq, after_block}
 use types.Logic.{Logic, sem}
 use types.Kit.{Item, Goal, Seq, Post, any_q, post, ‵, ◌$◌, move, drop, rewrite, fsplit, fpick}
-use types.Kit.{feq_l}
+use types.Kit.{feq_l, use1}
 use types.Match.{live}
 use denote.RattleType.{RattleType}
 use denote.Laws.{Is}
 use denote.RawPtr.{Ptr, block_ptr, in_a_block}
-use denote.Steps.{only, peeks}
+use denote.Steps.{nothing, only, peeks}
 use Rattle.core.specs.contracts.option.Option as option
 use Rattle.core.proofs.slots.Carves.{carve}
 use Rattle.mm_room.specs.Units.{units, units_at, way_back}
@@ -80,6 +81,13 @@ module _ {M : Type 1} {𝓤 : Ura M} {𝓛 : Logic 𝓤} {K : Type 0} {Γ : List
         (ap only value_is ∙ ap (λ (ws : List Val). live 1 (of_list ws)) (parts_are
         ∙ ap (λ (ws : List Val). ws ++ []) (memory_is m.address vss.0 is_fields))
         ∙ ap (λ (p : Ptr). live 1 (vcons (memory_val p) vnil)) address_is)))))))
+
+    -- a block for u units is the units
+    pub units_of_block : K → (u b o : ℕ) → Seq K 𝓛 (‵ (units_at (block_ptr b o) u) ∷ Γ) G
+        → Seq K 𝓛 (‵ (froom (units u) b o) ∷ Γ) G
+    units_of_block t zero b o goes_on = drop t $ nothing t $ goes_on
+    units_of_block t (suc n) b o goes_on =
+        use1 𝓛 (‵ (units_at (block_ptr b o) (suc n))) (id⊢ 𝓤 _) $ goes_on
 
 -- what comes after a statement b' of a body, where the rest is b
 abbrev pub rest_runs : {M : Type 1} {𝓤 : Ura M} (𝓛 : Logic 𝓤) → Calls 𝓤 𝓛.H → Loops 𝓤 𝓛.H

@@ -1,6 +1,6 @@
 //! The allocator over a room.
 
-ghost use Rattle.std.specs.Prelude.{◌≡◌, ◌*◌, ◌^◌, ◌<◌, ◌≤◌, ◌⊎◌, IfSome};
+ghost use Rattle.std.specs.Prelude.{◌≡◌, ◌*◌, ◌^◌, ◌<◌, ◌≤◌, IfSome};
 ghost use Rattle.mm_room.specs.Units.{way_back};
 
 use crate::memory::Memory;
@@ -44,14 +44,14 @@ impl Lender {
         Bump::try_with_capacity(self, size.saturating_sub(ARENA_OVERHEAD))
     }
 
-    /// The room back, whole, or a room of no unit if a block is still out.
-    pub fn into_room(self) -> Room
-        ensures { (result.units ≡ self.units) ⊎ (result.units ≡ 0) }
+    /// The room back, whole. `None` if a block is still out: then the room is lost.
+    pub fn into_room(self) -> Option<Room>
+        ensures { IfSome result (λ room. room.units ≡ self.units) }
     {
         let Lender { units, room } = self;
         match room.into_inner() {
-            Some(room) if room.units == units => room,
-            _ => Room::none(),
+            Some(room) if room.units == units => Some(room),
+            _ => None,
         }
     }
 

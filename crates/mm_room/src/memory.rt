@@ -1,8 +1,10 @@
 //! Memory by its address.
 
-ghost use Rattle.std.specs.Prelude.{◌≡◌, ℕ};
+ghost use Rattle.std.specs.Prelude.{◌≡◌, ℕ, ◌*◌, ◌^◌, ◌<◌, IfSome};
 ghost use Rattle.mm_room.specs.Units.{units_at};
 
+use crate::room::UNIT;
+use std::alloc::Allocator;
 use std::marker::Model;
 use std::ptr::null_mut;
 
@@ -26,6 +28,17 @@ impl Memory {
     {
         Memory {
             address: null_mut(),
+        }
+    }
+
+    /// New memory of `units` units, if the allocator has it. The allocator never gets it back.
+    pub(crate) fn leaked<A: Allocator>(alloc: &A, units: usize) -> Option<Memory>
+        requires { units * 16 < 2 ^ 63 }
+        ensures { IfSome result (λ m. m.units ≡ units) }
+    {
+        match alloc.allocate(units * UNIT, UNIT) {
+            Ok(address) => Some(Memory { address }),
+            Err(_) => None,
         }
     }
 }

@@ -5,7 +5,7 @@ ghost use Rattle.mm_room.specs.Units.{block_units, block_back};
 
 use crate::block::Block;
 use crate::free_list::FreeList;
-use crate::room::UNIT;
+use crate::room::{MOST_UNITS, UNIT};
 use counted_slot::{Counted, FREE, TAKEN};
 use std::alloc::{AllocError, Allocator};
 use std::marker::PhantomData;
@@ -19,9 +19,6 @@ const SIZES_TO_NEXT_POWER: usize = 4;
 
 /// How many lists there are: for each place of the first set bit, one for each of the four sizes.
 const LISTS: usize = 64 * SIZES_TO_NEXT_POWER;
-
-/// The most units of a block.
-const MOST_UNITS: usize = isize::MAX as usize / UNIT;
 
 /// An allocator over another, which keeps freed blocks in lists and uses them again for requests of
 /// about the same size. The other allocator gets a block back early only if no list takes it, and

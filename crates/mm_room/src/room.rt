@@ -1,11 +1,15 @@
 //! Memory that is lent.
 
-ghost use Rattle.std.specs.Prelude.{◌≡◌};
+ghost use Rattle.std.specs.Prelude.{◌≡◌, IfSome};
 
 use crate::memory::Memory;
+use std::alloc::Allocator;
 
 /// The bytes of a unit, and the alignment of the first.
 pub(crate) const UNIT: usize = 16;
+
+/// The most units that memory can have.
+pub(crate) const MOST_UNITS: usize = isize::MAX as usize / UNIT;
 
 /// Memory that is lent: an address, a multiple of 16, and the number of units of 16 bytes that lie
 /// there. Whoever has the value owns the memory, and nothing lies in it. With no unit there is no
@@ -27,6 +31,18 @@ impl Room {
             memory: Memory::none(),
             units: 0,
         }
+    }
+
+    /// A room of `units` units that an allocator gives for good: it never gets them back. `None` if
+    /// it hasn't that much. A caller in C makes its room itself.
+    pub fn leaked<A: Allocator>(alloc: &A, units: usize) -> Option<Room>
+        ensures { IfSome result (λ room. room.units ≡ units) }
+    {
+        if units > MOST_UNITS {
+            return None;
+        }
+        let memory = Memory::leaked(alloc, units)?;
+        Some(Room { memory, units })
     }
 
     /// How many units of 16 bytes the room has.

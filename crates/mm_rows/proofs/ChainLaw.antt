@@ -16,7 +16,7 @@ use Rattle.mm_cites.specs.Citing.{theorem_at, list_at}
 use Rattle.mm_spec.specs.Chains.{RestsOn}
 use Rattle.mm_spec.proofs.ChainsLaw.{rests_by_one_step}
 use Rattle.mm_spec.proofs.BoolLaw.{or_with_false}
-use Rattle.mm_rows.specs.BitRows.{IsBitRow, HasCitedRows, row_at}
+use Rattle.mm_rows.specs.BitRows.{IsBitRow, AreBitRows, row_at}
 
 -- a rising list has a number once
 pub index_is_unique : (xs : List ℕ) (i j : ℕ) → IsStatementList xs → i < length xs → j < length xs
@@ -30,6 +30,26 @@ index_is_unique xs i j is_statement_list i_lt_length j_lt_length elements_equal 
         let elements_rise = is_statement_list.rises i j i_lt_j j_lt_length in absurd (omega arith)
     indices_equal (inr (inr j_lt_i)) =
         let elements_rise = is_statement_list.rises j i j_lt_i i_lt_length in absurd (omega arith)
+
+-- in file order a cited theorem has an earlier row
+pub earlier_row : (c : Citing) (i r k : ℕ) → IsFileOrder c → i < length c.theorems
+    → k < length (list_at c i) → r < length c.theorems → theorem_at c r ≡ get_or (list_at c i) k 0
+    → r < i
+earlier_row c i r k is_file_order i_lt_theorems is_listed r_lt_theorems theorem_is_cited =
+    row_is_earlier (cases_order r i)
+  where
+    cited_is_earlier : get_or (list_at c i) k 0 < theorem_at c i
+    cited_is_earlier = is_file_order.cited_are_earlier i k i_lt_theorems is_listed
+
+    row_is_earlier : (r ≡ i) ⊎ ((r < i) ⊎ (i < r)) → r < i
+    row_is_earlier (inl r_is_i) =
+        let theorems_equal = ap (theorem_at c) r_is_i in let cited_lt_theorem = cited_is_earlier in
+        absurd (omega (arith, theorems_equal, cited_lt_theorem))
+    row_is_earlier (inr (inl r_lt_i)) = r_lt_i
+    row_is_earlier (inr (inr i_lt_r)) =
+        let theorems_rise = is_file_order.theorems_rise.rises i r i_lt_r r_lt_theorems in
+        let cited_lt_theorem = cited_is_earlier in
+        absurd (omega (arith, cited_lt_theorem, theorems_rise))
 
 -- a place of a list below n whose statement is a, or rests on it
 abbrev pub IsVia : Citing → List ℕ → ℕ → ℕ → Type 0
@@ -211,19 +231,19 @@ filled_from_nothing c axioms cited row row_has_words no_bit_is_set = record {
 
 -- what is ready for one citation
 pub cited_row_is_ready : (c : Citing) (axioms bits : List ℕ) (i k : ℕ) (cited row : List ℕ)
-    → cited ≡ list_at c i → k < length cited → length row ≡ words_for (length axioms)
-    → HasCitedRows c axioms bits i
+    → IsFileOrder c → i < length c.theorems → cited ≡ list_at c i → k < length cited
+    → length row ≡ words_for (length axioms) → AreBitRows c axioms i bits
     → (r : ℕ) → r < length c.theorems → theorem_at c r ≡ get_or cited k 0
     → IsBitRow c axioms (get_or cited k 0) (row_at bits (length row) r)
-cited_row_is_ready c axioms bits i k cited row cited_is k_lt_length row_has_words
-    cited_rows_are_known r
-    r_lt_theorems theorem_is =
+cited_row_is_ready c axioms bits i k cited row is_file_order i_lt_theorems cited_is k_lt_length
+    row_has_words are_bit_rows r r_lt_theorems theorem_is =
     let k_lt_list : k < length (list_at c i) = subst (λ xs. k < length xs) cited_is k_lt_length in
     let theorem_is_cited : theorem_at c r ≡ get_or (list_at c i) k 0 =
     theorem_is ∙ ap (λ xs. get_or xs k 0) cited_is in
     subst (λ w. IsBitRow c axioms (get_or cited k 0) (row_at bits w r)) (sym row_has_words)
     (subst (λ t. IsBitRow c axioms t (row_at bits (words_for (length axioms)) r)) theorem_is
-    (cited_rows_are_known r k r_lt_theorems k_lt_list theorem_is_cited))
+    (are_bit_rows.each_is_bit_row r
+    (earlier_row c i r k is_file_order i_lt_theorems k_lt_list r_lt_theorems theorem_is_cited)))
 
 -- a row as a part of longer words
 pub row_of_longer_is_kept : (bits later : List ℕ) (width r : ℕ) → r * width + width ≤ length bits

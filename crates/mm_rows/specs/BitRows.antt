@@ -3,7 +3,7 @@ use Rattle.std.specs.Prelude.{◌≡◌, ℕ, ◌+◌, ◌*◌, slice_range, ◌
 use Rattle.std.specs.Prelude.{length, slice_index, Decides}
 use Rattle.std.specs.List.{range_with_len}
 use Rattle.mm_spec.specs.Chains.{RestsOn}
-use Rattle.mm_cites.specs.Citing.{Citing, HasCitation, theorem_at, list_at}
+use Rattle.mm_cites.specs.Citing.{Citing, HasCitation, theorem_at}
 use Rattle.mm_rows.specs.Bits.{is_bit, words_for, bit_index}
 use Rattle.mm_rows.specs.Marks.{Marks}
 
@@ -24,13 +24,6 @@ abbrev pub IsRowKnown : Citing → List ℕ → List ℕ → ℕ → ℕ → Typ
 IsRowKnown c axioms bits width t =
     (r : ℕ) → r < length c.theorems → theorem_at c r ≡ t
     → IsBitRow c axioms t (row_at bits width r)
-
--- among the words of all rows, those of the theorems that theorem i cites are known
-abbrev pub HasCitedRows : Citing → List ℕ → List ℕ → ℕ → Type 0
-HasCitedRows c axioms bits i =
-    (r k : ℕ) → r < length c.theorems → k < length (list_at c i)
-    → theorem_at c r ≡ slice_index (list_at c i) k
-    → IsBitRow c axioms (theorem_at c r) (row_at bits (words_for (length axioms)) r)
 
 -- the words of the first n theorems, row by row
 pub record AreBitRows (c : Citing) (axioms : List ℕ) (n : ℕ) (bits : List ℕ) : Type 0 where

@@ -31,6 +31,7 @@ fn mark_columns(has_mark: &mut [u64], bits: &[u64], rows: usize, w: usize)
 }
 
 /// Returns byte `byte_index` of each row of band w, and zeros past the last row.
+#[tactic(auto, using(crate::proofs::BandLaw::row_word_lt_length))]
 fn row_bytes(bits: &[u64], across: usize, rows: usize, w: usize, byte_index: usize) -> [u8; 64]
     requires size_is { length bits.now ≡ rows * across }
     requires rows_lt_2_31 { rows < 2 ^ 31 }
@@ -58,6 +59,7 @@ fn lane_bits(bytes: u8x64, b: usize) -> u64
 }
 
 /// Writes the words that band w makes of the columns of byte `byte_index`.
+#[tactic(auto, using(crate::proofs::BandLaw::row_word_lt_length))]
 fn write_columns(
     transposed: &mut [u64],
     bits: &[u64],

@@ -1,18 +1,14 @@
-//! The output of a text that is in memory, on the calling thread alone.
+//! A text that is in memory judged on the calling thread alone.
 
-ghost use Rattle.std.specs.Prelude.{◌≡◌, ◌≤◌, IfOk, length};
-ghost use Rattle.mm_spec.specs.Ends.{Answers, reading_limit};
+ghost use Rattle.std.specs.Prelude.{◌≤◌, IfOk, length};
+ghost use Rattle.mm_spec.specs.Ends.{reading_limit};
 ghost use Rattle.mm_run.specs.Counted.{IsJudgedText};
 
-use crate::RunEnd;
 use crate::judged_text::{JudgedText, judged_text};
-use crate::output::write_judged;
 use mm_lex::lex_alone;
-use mm_report::Request;
 use mm_stmt::read_alone;
 use mm_work::check_alone;
 use std::alloc::{AllocError, Allocator};
-use std::io::Write;
 
 /// Reads a text and checks all its proofs on the calling thread alone. What its theorems cite is
 /// found by the essential nodes of proofs only, if `essential`; open theorems count as axioms, if
@@ -30,21 +26,4 @@ pub fn judge_alone<'a, A: Allocator + Copy>(
     let database = read_alone(alloc, text, lexed, with_open)?;
     let judged = check_alone(alloc, &database, essential)?;
     Ok(judged_text(database, judged))
-}
-
-/// Writes the output of a text on the calling thread alone: the refusal for its first fault, or the
-/// report that is requested. The text isn't cut, and no thread is started.
-pub fn answer_alone<A: Allocator + Copy, W: Write>(
-    alloc: A,
-    text: &[u8],
-    request: &Request<'_>,
-    to: &mut W,
-) -> RunEnd
-    requires length_le_limit { length text.now ≤ reading_limit }
-    ensures { Answers result text.now request.now (W.contents to.old) (W.contents to.new) }
-{
-    match judge_alone(alloc, text, request.essential, request.with_open) {
-        Ok(judged) => write_judged(alloc, text, request, &judged, to),
-        Err(_) => RunEnd::NoMemory,
-    }
 }

@@ -14,7 +14,7 @@ mod output;
 ghost use Rattle.mm_plan.specs.Plans.{IsLawfulPlan, request_of};
 ghost use Rattle.mm_spec.specs.Ends.{Ends};
 
-pub use crate::alone::{answer_alone, judge_alone};
+pub use crate::alone::judge_alone;
 use crate::input::{ReadRefused, read_all};
 pub use crate::judged_text::JudgedText;
 use crate::output::answer;

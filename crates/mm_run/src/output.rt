@@ -21,7 +21,7 @@ use mm_report::{
     Choice, Request, has_usage, write_refusal, write_requested_citations, write_requested_report,
     write_rows,
 };
-use mm_rows::{Columns, MarkedRows, Matrix, marked_rows_alone, matrix_alone};
+use mm_rows::{Columns, MarkedRows, Matrix, marked_rows, matrix};
 use mm_spec::Fault;
 use mm_stmt::read_owned;
 use mm_work::{Citations, Judged, Open, check_all, check_alone};
@@ -127,12 +127,13 @@ fn report_dependence<'a, A: Allocator + Copy, W: Write>(
         return RunEnd::NoMemory;
     };
     if has_usage(request.choice) {
-        match matrix_alone(alloc, citations, &chosen) {
+        // The rows are made on the calling thread, and so no runtime is lent.
+        match matrix(&(), alloc, citations, &chosen) {
             Ok(matrix) => report_usage(request, database, &chosen, &matrix, to),
             Err(_) => RunEnd::NoMemory,
         }
     } else {
-        match marked_rows_alone(alloc, citations, &chosen) {
+        match marked_rows(alloc, citations, &chosen) {
             Ok(marked) => report_rows(request, database, &chosen, &marked, to),
             Err(_) => RunEnd::NoMemory,
         }

@@ -14,9 +14,7 @@ ghost use Rattle.mm_scope.specs.Knows.{fault_at, listed_codes, lists_symbols};
 ghost use Rattle.mm_scope.specs.Scopes.{IsAmong, IsLeastFault, names_in};
 
 use crate::scope::Scope;
-use indexmap::IndexMap;
-use mm_database::name::Name;
-use mm_database::names::NameMap;
+use mm_database::name_map::NameMap;
 use mm_outline::parts::{Kind, Outline};
 use mm_outline::symbol::Sym;
 use mm_spec::{Code, Fault, Word};
@@ -76,7 +74,7 @@ impl<'a, A: Allocator + Copy> Scope<'a, A> {
             (λ n. faults_at_each (listed_codes n kind) [] (between text.now tokens.now from to))) }
     {
         let is_short = to - from <= MAX_WORDS_COMPARED;
-        let mut seen = IndexMap::new(alloc);
+        let mut seen = NameMap::new(alloc);
         let mut least_found = None;
         for token_index in from..to {
             let repeated = is_repeated(&mut seen, is_short, text, tokens, from, token_index)?;
@@ -387,35 +385,20 @@ fn is_repeated<'a, A: Allocator + Copy>(
     requires from_le_index { from ≤ token_index }
     requires index_lt_length { token_index < length tokens.now }
     requires seen_has_earlier_words { is_short ≡ false → (w : List ℕ)
-        → is_some (find seen.old.entries w)
+        → is_some (find seen.old w)
         ≡ is_in w (words (between text.now tokens.now from token_index)) }
     ensures tells_repeated { IfOk result
         (λ b. b ≡ is_in (token_at text.now tokens.now token_index).word
         (words (between text.now tokens.now from token_index))) }
     ensures word_is_seen { OnOk result
         (is_short ≡ false → (w : List ℕ)
-        → is_some (find seen.new.entries w)
+        → is_some (find seen.new w)
         ≡ is_in w (words (between text.now tokens.now from (token_index + 1)))) }
 {
     if is_short {
         Ok(is_among(text, tokens, from, token_index))
     } else {
         let token = tokens[token_index as usize];
-        insert_word(seen, token.bytes(text))
+        seen.insert(token.bytes(text), 0)
     }
-}
-
-/// Adds the word to `seen`, whose values say nothing, and returns whether it was there before.
-fn insert_word<'a, A: Allocator + Copy>(
-    seen: &mut NameMap<'a, u32, A>,
-    word: &'a [u8],
-) -> Result<bool, AllocError>
-    ensures was_seen { IfOk result (λ b. b ≡ is_some (find seen.old.entries word.now)) }
-    ensures word_is_inserted { OnOk result
-        ((w : List ℕ)
-        → find seen.new.entries w
-        ≡ (if bytes_eq word.now w then Some 0 else find seen.old.entries w)) }
-{
-    let previous = seen.insert(Name { bytes: word }, 0)?;
-    Ok(previous.is_some())
 }

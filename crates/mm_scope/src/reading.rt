@@ -93,8 +93,10 @@ fn no_scope<'a, A: Allocator + Copy>(alloc: A) -> Result<Scope<'a, A>, AllocErro
     ensures has_no_names { IfOk result (λ s. names_in s ≡ []) }
 {
     let blocks = no_blocks(alloc)?;
-    let names = no_names(alloc)?;
-    Ok(Scope { names, blocks })
+    Ok(Scope {
+        names: no_names(alloc),
+        blocks,
+    })
 }
 
 /// Returns the fault at the end of a text.

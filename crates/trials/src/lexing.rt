@@ -198,7 +198,7 @@ fn summarizes_stretches(rt: HostRuntime) -> Result<(), AllocError> {
             let piece = lex_piece(rt.alloc(), STRETCHED_TEXT, from, to)?;
             assert_piece(&rt, &piece, ends, outside, inside_fault);
             assert!(&rt; piece.from() as usize == from && piece.to() as usize == to);
-            assert_eq!(rt; piece.is_unbroken(), from == 6);
+            assert_eq!(rt; piece.unbroken(), from == 6);
         }
     }
     Ok(())

@@ -1,4 +1,4 @@
-use mm_proof::value_of_letters;
+use mm_proof::number;
 use std::rt::HostRuntime;
 
 /// Letters of numbers, and their values.
@@ -27,9 +27,9 @@ const VALUES: [(&[u8], Option<u32>); 19] = [
 #[test]
 fn numbers_have_their_values(rt: HostRuntime) {
     for (letters, value) in VALUES {
-        assert!(&rt; value_of_letters(letters) == value);
+        assert!(&rt; number(letters) == value);
     }
     let mut long = [b'Y'; 100];
     long[99] = b'A';
-    assert!(&rt; value_of_letters(&long) == None);
+    assert!(&rt; number(&long) == None);
 }

@@ -16,7 +16,7 @@ use mm_check::check;
 use mm_lex::{Cuts, Piece, join, lex, lex_piece};
 use mm_line::line;
 use mm_plan::{Cutting, Plan};
-use mm_proof::{Step, read_proof, value_of_letters};
+use mm_proof::{Step, number, read_proof};
 use mm_report::{write_citations, write_refusal, write_report};
 use mm_rows::{Columns, Matrix, matrix, ones, or_row, waves};
 use mm_rule::is_assertion;
@@ -85,9 +85,7 @@ fn bytes(rt: HostRuntime) {
 
 /// Asserts what a piece of the whole text says.
 fn assert_whole<R: Abort>(rt: &R, piece: &Piece<Global>) {
-    assert!(rt;
-        piece.from() == 0 && piece.to() as usize == FIRST_TEXT.len() && !piece.is_unbroken()
-    );
+    assert!(rt; piece.from() == 0 && piece.to() as usize == FIRST_TEXT.len() && !piece.unbroken());
     let head = piece.head();
     let tail = piece.tail();
     assert!(rt; head.start == 0 && head.end == 0 && tail.start == TEXT_END && tail.end == TEXT_END);
@@ -193,7 +191,7 @@ fn proofs(rt: HostRuntime) -> Result<(), AllocError> {
         }
         Err(_) => assert!(&rt; false),
     }
-    assert!(&rt; value_of_letters(b"UA") == Some(21));
+    assert!(&rt; number(b"UA") == Some(21));
     Ok(())
 }
 

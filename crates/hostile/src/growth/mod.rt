@@ -5,6 +5,7 @@
 //! A loop refuses growth 1 of a call, then growth 2, and so on, up to the first call that meets no
 //! refusal. The number with which it compares that growth is how many have to be refused at least.
 
+mod alone;
 mod given;
 mod lists;
 mod proofs;

@@ -304,14 +304,14 @@ fn a_board_without_memory(rt: HostRuntime) {
 }
 
 /// Whether this is what both theorems cite.
-fn are_cited<A: Allocator>(citations: &Citations<A>) -> bool {
+pub(crate) fn are_cited<A: Allocator>(citations: &Citations<A>) -> bool {
     citations.theorems() == [13u32, 17].as_slice()
         && citations.of(0) == [4u32, 5, 9].as_slice()
         && citations.of(1) == [4u32, 13].as_slice()
 }
 
 /// Whether both proofs were found valid, with what they cite.
-fn is_judged<A: Allocator>(answer: Result<Judged<A>, AllocError>) -> Option<bool> {
+pub(crate) fn is_judged<A: Allocator>(answer: Result<Judged<A>, AllocError>) -> Option<bool> {
     match answer {
         Ok(Judged::Valid(citations)) => Some(citations.rows() == 2 && are_cited(&citations)),
         Ok(Judged::Faulty(_)) => Some(false),

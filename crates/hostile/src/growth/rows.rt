@@ -109,8 +109,8 @@ fn is_full_matrix<A: Allocator>(answer: Result<Matrix<A>, AllocError>) -> Option
 }
 
 /// Refuses each growth of computing the matrix in turn. Returns whether the last call met no
-/// refusal, and the first five did.
-fn rows_in_turn<'h, R: Abort + Threads + Sync>(
+/// refusal, and the first six did.
+fn rows_in_turn<'h, R: Abort>(
     rt: &R,
     heap: &'h Refusing<Global>,
     citations: &Citations<&'h Refusing<Global>>,
@@ -125,7 +125,7 @@ fn rows_in_turn<'h, R: Abort + Threads + Sync>(
         );
         assert!(rt; is_full_matrix(matrix(rt, heap, citations, columns)) == Some(true));
         if !refused {
-            return growth > 5;
+            return growth > 6;
         }
     }
     false
@@ -154,8 +154,8 @@ fn are_full_rows<A: Allocator>(answer: Result<MarkedRows<A>, AllocError>) -> Opt
 }
 
 /// Refuses each growth of computing the rows alone in turn. Returns whether the last call met no
-/// refusal, and the first three did.
-fn rows_alone_in_turn<'h, R: Abort + Threads + Sync>(
+/// refusal, and the first four did.
+fn rows_alone_in_turn<'h, R: Abort>(
     rt: &R,
     heap: &'h Refusing<Global>,
     citations: &Citations<&'h Refusing<Global>>,
@@ -166,11 +166,11 @@ fn rows_alone_in_turn<'h, R: Abort + Threads + Sync>(
         let refused = was_refused(
             rt,
             heap,
-            are_full_rows(marked_rows(rt, heap, citations, columns)),
+            are_full_rows(marked_rows(heap, citations, columns)),
         );
-        assert!(rt; are_full_rows(marked_rows(rt, heap, citations, columns)) == Some(true));
+        assert!(rt; are_full_rows(marked_rows(heap, citations, columns)) == Some(true));
         if !refused {
-            return growth > 3;
+            return growth > 4;
         }
     }
     false

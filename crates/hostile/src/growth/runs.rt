@@ -112,8 +112,7 @@ fn a_run_without_memory_writes_nothing(rt: HostRuntime) {
     }
 }
 
-/// A database of `count` theorems. Its report is written in several pieces, and several threads
-/// compute its rows.
+/// A database of `count` theorems. Its report is written in several pieces.
 fn many_theorems(alloc: Global, count: u32) -> Result<Vec<u8>, AllocError> {
     let mut text = BEGINNING.to_vec(alloc)?;
     for theorem in 0..count {

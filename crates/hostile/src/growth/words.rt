@@ -135,7 +135,7 @@ fn pieces_joined_without_memory(rt: HostRuntime) -> Result<(), AllocError> {
 }
 
 /// Whether these are the tokens of the first text.
-fn is_lexed<A: Allocator>(answer: Result<Lexed<A>, AllocError>) -> Option<bool> {
+pub(crate) fn is_lexed<A: Allocator>(answer: Result<Lexed<A>, AllocError>) -> Option<bool> {
     match answer {
         Ok(lexed) => Some(
             lexed.tokens.len() == TOKENS

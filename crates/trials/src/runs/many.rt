@@ -48,10 +48,10 @@ fn many_theorems(rt: HostRuntime) -> Result<(), AllocError> {
 }
 
 /// How many axioms the wide text has: more than a word of a row has bits.
-const AXIOMS: u32 = 70;
+pub(crate) const AXIOMS: u32 = 70;
 
-/// How many theorems each of its two waves has: so many that threads compute their rows.
-const WAVE_LENGTH: u32 = 700;
+/// How many theorems each of its two waves has.
+pub(crate) const WAVE_LENGTH: u32 = 700;
 
 /// Adds the labels with this letter, each with this end.
 fn add_lines(report: &mut Vec<u8>, letter: u8, count: u32, end: &[u8]) -> Result<(), AllocError> {
@@ -103,7 +103,7 @@ pub(crate) fn wide_text(alloc: Global) -> Result<Vec<u8>, AllocError> {
 }
 
 /// Whether the theorem with this letter and number rests on the axiom.
-fn rests_on(letter: u8, k: u32, axiom: u32) -> bool {
+pub(crate) fn rests_on(letter: u8, k: u32, axiom: u32) -> bool {
     axiom == axiom_of(b't', k) || letter == b'u' && axiom == axiom_of(b'u', k)
 }
 

@@ -10,4 +10,5 @@ invariant-loop-other g l = record {
       (take l.other-index l.others)
       ≡ true;
   cache : AreDisjointAt l.database.statements l.theorem l.cache;
+  rows_stay : l.cache.rows ≡ l.initial.cache.rows;
 }

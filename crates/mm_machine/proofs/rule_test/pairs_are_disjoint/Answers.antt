@@ -22,9 +22,9 @@ list_all_fails is_disjoint (q ∷ ps) (suc i) i_lt_length pair_fails =
     ap (λ b. is_disjoint q && b) (list_all_fails is_disjoint ps i (omega arith) pair_fails)
     ∙ and-false (is_disjoint q)
 
-pub returns-then-not-are_all_disjoint-clause-tells_disjoint :
-    goal.returns-then-not-are_all_disjoint-clause-tells_disjoint
-returns-then-not-are_all_disjoint-clause-tells_disjoint g c =
+pub returns-then-not-are_apart-clause-tells_disjoint :
+    goal.returns-then-not-are_apart-clause-tells_disjoint
+returns-then-not-are_apart-clause-tells_disjoint g c =
     let context = context_at c.args.database.now.statements c.args.theorem in
     let xs = c.args.symbols.now in
     let es = c.args.premises.now in
@@ -34,15 +34,15 @@ returns-then-not-are_all_disjoint-clause-tells_disjoint g c =
     ap₂ (are_all_disjoint context)
     (sym (c.formula-first.ensures ∙ ap (span_formula xs) c.replacement_of.ensures))
     (sym (c.formula-second.ensures ∙ ap (span_formula xs) c.replacement_of-in-loop-pair.ensures))
-    ∙ sym c.are_all_disjoint.ensures.tells_disjoint ∙ c.if-not-are_all_disjoint.true in
+    ∙ sym c.are_apart.ensures.tells_disjoint ∙ c.if-not-are_apart.true in
     sym (list_all_fails
     (λ (q : ℕ × ℕ). are_all_disjoint context (replacement xs es q.0) (replacement xs es q.1))
     c.args.pairs.now
     c.loop-pair.pair-index c.loop-pair-test.true pair_fails)
 
-pub are_all_disjoint-requires-clause-second_are_symbols :
-    goal.are_all_disjoint-requires-clause-second_are_symbols
-are_all_disjoint-requires-clause-second_are_symbols g c =
+pub are_apart-requires-clause-second_are_symbols :
+    goal.are_apart-requires-clause-second_are_symbols
+are_apart-requires-clause-second_are_symbols g c =
     let n = length (symbol_names c.args.database.now.statements) in
     subst (All (λ s. s < n)) (sym c.formula-second.ensures)
     (formula_in_range n c.args.symbols.now c.replacement_of-in-loop-pair.result
@@ -63,9 +63,9 @@ formula-second-requires g c =
     (c.requires.pairs_in_range c.loop-pair.pair-index (0, 0) c.loop-pair-test.true).1
     c.replacement_of-in-loop-pair.ensures
 
-pub are_all_disjoint-requires-clause-first_are_symbols :
-    goal.are_all_disjoint-requires-clause-first_are_symbols
-are_all_disjoint-requires-clause-first_are_symbols g c = let n = length
+pub are_apart-requires-clause-first_are_symbols :
+    goal.are_apart-requires-clause-first_are_symbols
+are_apart-requires-clause-first_are_symbols g c = let n = length
     (symbol_names c.args.database.now.statements)
     in
     subst (All (λ s. s < n)) (sym c.formula-first.ensures)

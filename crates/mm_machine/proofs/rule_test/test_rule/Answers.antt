@@ -28,9 +28,9 @@ returns-then-not-premises_match-clause-tests_rule g c =
     (take_rest stack (length stack - n)) c.requires.are_entries.entries_in_arena _ refl false _
     (sym c.if-not-premises_match.true ∙ c.premises_match.ensures) refl
 
-pub returns-then-not-pairs_are_disjoint-clause-tests_rule :
-    goal.returns-then-not-pairs_are_disjoint-clause-tests_rule
-returns-then-not-pairs_are_disjoint-clause-tests_rule g c =
+pub returns-then-not-keeps_disjoint-clause-tests_rule :
+    goal.returns-then-not-keeps_disjoint-clause-tests_rule
+returns-then-not-keeps_disjoint-clause-tests_rule g c =
     let stack = c.args.stack.now in
     let n = length c.hypotheses-hypotheses.result.now in
     rule_test_by_stack c.args.database.now.statements c.args.theorem c.args.rule.now
@@ -43,7 +43,7 @@ returns-then-not-pairs_are_disjoint-clause-tests_rule g c =
     (take_rest stack (length stack - n)) c.requires.are_entries.entries_in_arena
     c.pairs-pairs.result.now
     c.pairs-pairs.ensures true false (sym c.if-not-premises_match.false ∙ c.premises_match.ensures)
-    (sym c.if-not-pairs_are_disjoint.true ∙ c.pairs_are_disjoint.ensures.tells_disjoint)
+    (sym c.if-not-keeps_disjoint.true ∙ c.keeps_disjoint.ensures.tells_disjoint)
 
 pub returns-clause-tests_rule : goal.returns-clause-tests_rule
 returns-clause-tests_rule g c =
@@ -64,7 +64,7 @@ returns-clause-tests_rule g c =
           c.pairs-pairs.result.now
           c.pairs-pairs.ensures true true (sym c.if-not-premises_match.false
           ∙ c.premises_match.ensures)
-          (sym c.if-not-pairs_are_disjoint.false ∙ c.pairs_are_disjoint.ensures.tells_disjoint),
+          (sym c.if-not-keeps_disjoint.false ∙ c.keeps_disjoint.ensures.tells_disjoint),
     )
 
 pub premises_match-requires-clause-premises_in_arena :
@@ -72,9 +72,9 @@ pub premises_match-requires-clause-premises_in_arena :
 premises_match-requires-clause-premises_in_arena g c = slice_entries_are_in _ _ _ _
     c.requires.are_entries.entries_in_arena
 
-pub pairs_are_disjoint-requires-clause-are_entries :
-    goal.pairs_are_disjoint-requires-clause-are_entries
-pairs_are_disjoint-requires-clause-are_entries g c =
+pub keeps_disjoint-requires-clause-are_entries :
+    goal.keeps_disjoint-requires-clause-are_entries
+keeps_disjoint-requires-clause-are_entries g c =
     record {
       arena_in_range = c.requires.are_entries.arena_in_range;
       entries_in_arena = slice_entries_are_in _ _ _ _ c.requires.are_entries.entries_in_arena;

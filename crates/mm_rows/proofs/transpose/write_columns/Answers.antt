@@ -1,9 +1,8 @@
-use Rattle.std.proofs.Common.{ℕ, ◌≡◌, ◌<◌, ◌≤◌, ◌+◌, ◌*◌, arith, subst, length, ap, sym, ◌∙◌}
+use Rattle.std.proofs.Common.{ℕ, ◌≡◌, ◌<◌, ◌≤◌, ◌+◌, ◌*◌, arith, subst, ap, sym, ◌∙◌}
 use Rattle.mm_rows.specs.Bits.{words_for}
 use Rattle.mm_rows.specs.Bands.{AreRowBytes, ColumnsWritten}
 use Rattle.mm_rows.proofs.BandLaw.{lane_is_column_word, next_word_is_written, zero_word_is_written}
 use Rattle.mm_rows.proofs.BandLaw.{zero_words_are_written}
-use Rattle.mm_rows.proofs.BandLaw.{row_word_lt_length}
 use Rattle.mm_rows.proofs.transpose.write_columns.Goals as goal
 use Rattle.mm_rows.proofs.transpose.write_columns.Goals.{then-word-ne0, else-word-ne0}
 
@@ -57,58 +56,6 @@ returns c =
     c.loop-j.j (8 * c.args.byte_index + 8) w_lt_words
     (λ i j_le_i i_lt_last i_lt_columns. absurd (omega (arith, end_is, end_le_j)))
     c.loop-j.invariant.within c.loop-j.invariant.written
-
-pub bounds-transposed-j : goal.bounds-transposed-j
-bounds-transposed-j c =
-    let j_lt_end = c.loop-j-test.true in
-    let end_is = c.min-j-end.ensures in
-    let band_lt_words = c.requires.band_has_row in
-    let j_lt_columns : c.loop-j.j < c.args.columns = omega (arith, j_lt_end, end_is) in
-    let w_lt_words : c.args.w < words_for c.args.rows = omega (arith, band_lt_words) in
-    let word_lt_length =
-    row_word_lt_length c.args.columns (words_for c.args.rows) c.loop-j.j c.args.w
-    (length c.loop-j.transposed) c.loop-j.invariant.written.size_is j_lt_columns w_lt_words in
-    let products_equal = ap (λ n. c.loop-j.j * n) c.div_ceil-down.ensures in
-    omega (arith, word_lt_length, products_equal)
-
-pub offset_bounds-transposed-j : goal.offset_bounds-transposed-j
-offset_bounds-transposed-j c =
-    let j_lt_end = c.loop-j-test.true in
-    let end_is = c.min-j-end.ensures in
-    let band_lt_words = c.requires.band_has_row in
-    let j_lt_columns : c.loop-j.j < c.args.columns = omega (arith, j_lt_end, end_is) in
-    let w_lt_words : c.args.w < words_for c.args.rows = omega (arith, band_lt_words) in
-    let word_lt_length =
-    row_word_lt_length c.args.columns (words_for c.args.rows) c.loop-j.j c.args.w
-    (length c.loop-j.transposed) c.loop-j.invariant.written.size_is j_lt_columns w_lt_words in
-    let products_equal = ap (λ n. c.loop-j.j * n) c.div_ceil-down.ensures in
-    omega (arith, word_lt_length, products_equal)
-
-pub overflow_add-transposed : goal.overflow_add-transposed
-overflow_add-transposed c =
-    let j_lt_end = c.loop-j-test.true in
-    let end_is = c.min-j-end.ensures in
-    let band_lt_words = c.requires.band_has_row in
-    let j_lt_columns : c.loop-j.j < c.args.columns = omega (arith, j_lt_end, end_is) in
-    let w_lt_words : c.args.w < words_for c.args.rows = omega (arith, band_lt_words) in
-    let word_lt_length =
-    row_word_lt_length c.args.columns (words_for c.args.rows) c.loop-j.j c.args.w
-    (length c.loop-j.transposed) c.loop-j.invariant.written.size_is j_lt_columns w_lt_words in
-    let products_equal = ap (λ n. c.loop-j.j * n) c.div_ceil-down.ensures in
-    omega (arith, word_lt_length, products_equal)
-
-pub overflow_mul-transposed : goal.overflow_mul-transposed
-overflow_mul-transposed c =
-    let j_lt_end = c.loop-j-test.true in
-    let end_is = c.min-j-end.ensures in
-    let band_lt_words = c.requires.band_has_row in
-    let j_lt_columns : c.loop-j.j < c.args.columns = omega (arith, j_lt_end, end_is) in
-    let w_lt_words : c.args.w < words_for c.args.rows = omega (arith, band_lt_words) in
-    let word_lt_length =
-    row_word_lt_length c.args.columns (words_for c.args.rows) c.loop-j.j c.args.w
-    (length c.loop-j.transposed) c.loop-j.invariant.written.size_is j_lt_columns w_lt_words in
-    let products_equal = ap (λ n. c.loop-j.j * n) c.div_ceil-down.ensures in
-    omega (arith, word_lt_length, products_equal)
 
 pub row_bytes-bytes-requires-clause-words_le_2_26 :
     goal.row_bytes-bytes-requires-clause-words_le_2_26

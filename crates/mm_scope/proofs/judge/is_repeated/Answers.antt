@@ -6,11 +6,11 @@ use Rattle.mm_database.proofs.NamesLaw.{on_ok_then}
 
 pub returns-else-is_short-clause-word_is_seen : goal.returns-else-is_short-clause-word_is_seen
 returns-else-is_short-clause-word_is_seen g c =
-    on_ok_then c.insert_word.result c.insert_word.ensures.word_is_inserted
+    on_ok_then c.insert.result c.insert.ensures.value_is_set
     (λ inserted is_not_short. seen_between_push c.args.text.now c.args.tokens.now c.args.from
     c.args.token_index
     c.requires.from_le_index
-    c.requires.index_lt_length (find c.args.seen.now.entries) (find c.insert_word.new.seen.entries)
+    c.requires.index_lt_length (find c.args.seen.now) (find c.insert.new.self)
     (λ w. inserted w
-    ∙ ap (λ b. if bytes_eq b w then Some 0 else find c.args.seen.now.entries w) c.bytes.ensures)
+    ∙ ap (λ b. if bytes_eq b w then Some 0 else find c.args.seen.now w) c.bytes.ensures)
     (c.requires.seen_has_earlier_words is_not_short))

@@ -1,4 +1,4 @@
-use Rattle.std.proofs.Common.{◌≡◌, ◌≤◌, ◌+◌, ◌++◌, ◌∙◌, length, sym, ap, ap₂, subst, arith, refl}
+use Rattle.std.proofs.Common.{◌+◌, ◌++◌, ◌∙◌, length, sym, ap, ap₂, subst, arith, refl}
 use Rattle.std.proofs.Common.{append-nil, length-append}
 use Rattle.mm_database.specs.Frames.{frames_at, AreFrameIndices}
 use Rattle.mm_database.proofs.FrameIndicesLaw.{frames_at_joined, joined_indices, all_are_shifted}

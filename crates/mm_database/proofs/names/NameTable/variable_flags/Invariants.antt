@@ -6,7 +6,7 @@ abbrev pub invariant-loop-i : goal.invariant-loop-i
 invariant-loop-i g l = record {
   count : length l.variable_flags.items ≡ l.i;
   each : (j : ℕ) (w : List ℕ) → j < l.i
-      → slice_get (names_of l.self-inside.symbols.entries) j ≡ Some w
+      → slice_get (names_of l.self-inside.symbols) j ≡ Some w
       → get_or l.variable_flags.items j false
-      ≡ is_variable_in (find l.self-inside.symbols.entries w);
+      ≡ is_variable_in (find l.self-inside.symbols w);
 }

@@ -24,8 +24,8 @@ rule_is_tested g c =
     i.stack.items c.deref.result.now (Ok c.in-Ok.below)
     c.as_slice.ensures c.as_slice-2.ensures c.deref.ensures.value c.in-Ok.ensures.tests_rule
 
-pub invariant_of-self : goal.invariant_of-self
-invariant_of-self g c =
+pub invariant_of-self-in-Ok : goal.invariant_of-self-in-Ok
+invariant_of-self-in-Ok g c =
     let i = c.self.inside in
     let db = c.args.database.now.statements in
     let symbol_count : i.symbol_count ≡ length (symbol_names db) =
@@ -37,7 +37,7 @@ invariant_of-self g c =
     (rule_parts_in_range db c.args.theorem c.args.rule.now i.unmarked i.marked
     c.as_slice-in-Ok.result.now
     i.stack.items c.in-Ok.below c.formula.result.now c.as_slice-in-Ok.ensures c.formula.ensures
-    (rule_is_tested g (goal.at.invariant_of-self g c).In-Ok) c.requires.is_compiled i.symbol_count
+    (rule_is_tested g (goal.at.invariant_of-self-in-Ok g c).In-Ok) c.requires.is_compiled i.symbol_count
     symbol_count)
     c.replace_by_formula.ensures.stays_stack
 
@@ -54,7 +54,7 @@ returns-in-Err-clause-is_applied g c =
           i.marked c.as_slice-2.result.now i.stack.items c.deref.result.now (Err c.in-Err.reason)
           c.as_slice.ensures c.as_slice-2.ensures c.deref.ensures.value
           c.in-Err.ensures.tests_rule);
-      symbol_count_stays = refl;
+      symbol_count_stays = ap (λ (s : MachineState). s.symbol_count) c.self.view_is;
     }
 
 pub returns-in-Ok-clause-is_applied : goal.returns-in-Ok-clause-is_applied

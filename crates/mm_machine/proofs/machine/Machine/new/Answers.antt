@@ -1,5 +1,4 @@
-use Rattle.std.proofs.Common.{rules, arith, [], List, ℕ}
-use Rattle.mm_machine.specs.State.{IsMachine}
+use Rattle.std.proofs.Common.{rules, arith}
 use Rattle.mm_machine.proofs.machine.Machine.new.Goals as goal
 
 pub invariant_of-result : goal.invariant_of-result

@@ -1,0 +1,172 @@
+//! The calls that start no thread, by which a text in memory is judged and its outputs are written.
+
+ghost use Rattle.std.specs.Prelude.{IfSome, false};
+ghost use Rattle.mm_run.specs.Counted.{IsJudgedText};
+
+use super::proofs::{are_cited, database_of, is_judged};
+use super::words::is_lexed;
+use super::{MOST_GROWTHS, WITHOUT_OPEN, was_refused};
+use crate::heap::Refusing;
+use crate::texts::{CITED_TWICE, CITED_TWICE_REPORT, FIRST_TEXT};
+use mm_lex::lex_alone;
+use mm_run::{JudgedText, RunEnd, judge_alone, write_judged};
+use mm_spec::{Choice, Request, TEXT_LIMIT};
+use mm_stmt::Database;
+use mm_work::check_alone;
+use std::alloc::{AllocError, Allocator, Global};
+use std::process::Abort;
+
+/// A theorem cites by all nodes of its proof.
+const BY_ALL_NODES: bool = false;
+
+#[test]
+fn lexing_alone_without_memory(rt: HostRuntime) {
+    let heap = Refusing::new(rt.alloc());
+    for growth in 1..MOST_GROWTHS {
+        heap.refuse(growth);
+        let refused = was_refused(&rt, &heap, is_lexed(lex_alone(&heap, FIRST_TEXT)));
+        assert!(&rt; is_lexed(lex_alone(&heap, FIRST_TEXT)) == Some(true));
+        if !refused {
+            assert!(&rt; growth > 1);
+            return;
+        }
+    }
+    assert!(&rt; false);
+}
+
+/// Refuses each growth of checking all proofs on one thread in turn.
+fn checked_alone_in_turn<'h, R: Abort>(
+    rt: &R,
+    heap: &'h Refusing<Global>,
+    database: &Database<'static, &'h Refusing<Global>>,
+) -> bool {
+    for growth in 1..MOST_GROWTHS {
+        heap.refuse(growth);
+        let refused = was_refused(
+            rt,
+            heap,
+            is_judged(check_alone(heap, database, BY_ALL_NODES)),
+        );
+        assert!(rt; is_judged(check_alone(heap, database, BY_ALL_NODES)) == Some(true));
+        if !refused {
+            return growth > 10;
+        }
+    }
+    false
+}
+
+#[test]
+fn all_proofs_checked_alone_without_memory(rt: HostRuntime) -> Result<(), AllocError> {
+    let heap = Refusing::new(rt.alloc());
+    let database = database_of(&rt, &heap)?;
+    assert!(&rt; checked_alone_in_turn(&rt, &heap, &database));
+    Ok(())
+}
+
+/// What judging a text comes to. `None` if the text is too long or there is no memory.
+fn judged<'a, A: Allocator + Copy>(alloc: A, text: &'a [u8]) -> Option<JudgedText<'a, A>>
+    ensures { IfSome result (IsJudgedText text.now false false) }
+{
+    if text.len() > TEXT_LIMIT {
+        return None;
+    }
+    judge_alone(alloc, text, BY_ALL_NODES, WITHOUT_OPEN).ok()
+}
+
+/// Whether this is what judging the text with two theorems comes to.
+fn is_sound<A: Allocator>(answer: Option<JudgedText<'_, A>>) -> Option<bool> {
+    match answer? {
+        JudgedText::Sound(database, citations) => {
+            Some(database.text() == CITED_TWICE && are_cited(&citations))
+        },
+        JudgedText::Faulty(_) => Some(false),
+    }
+}
+
+#[test]
+fn a_text_judged_alone_without_memory(rt: HostRuntime) {
+    let heap = Refusing::new(rt.alloc());
+    for growth in 1..MOST_GROWTHS {
+        heap.refuse(growth);
+        let refused = was_refused(&rt, &heap, is_sound(judged(&heap, CITED_TWICE)));
+        assert!(&rt; is_sound(judged(&heap, CITED_TWICE)) == Some(true));
+        if !refused {
+            assert!(&rt; growth > 20);
+            return;
+        }
+    }
+    assert!(&rt; false);
+}
+
+/// The report on what the two theorems rest on, without its columns.
+const MATRIX: &[u8] = b"mmdepend 1\naxioms 3\ntheorems 2\nmatrix\na1i:111\na2:111\nend\n";
+
+/// The report on what the two theorems cite.
+const CITATIONS: &[u8] =
+    b"mmdepend 1\naxioms 3\ntheorems 2\ncitations\na1i:3:wi ax-1 ax-mp\na2:2:wi a1i\nend\n";
+
+/// Whether exactly this output is written for the sections of a judged text. `None` if there is no
+/// memory and nothing was written.
+fn is_written<'a, A: Allocator + Copy>(
+    alloc: A,
+    memory: Global,
+    text: &[u8],
+    judged: &JudgedText<'a, A>,
+    choice: Choice,
+    output: &[u8],
+) -> Option<bool>
+    requires { IsJudgedText text.now false false judged.now }
+{
+    let mut request = Request::without_options();
+    request.choice = choice;
+    let mut written = Vec::new(memory);
+    match write_judged(alloc, text, &request, judged, &mut written) {
+        RunEnd::Accepted => Some(written.as_slice() == output),
+        RunEnd::NoMemory if written.is_empty() => None,
+        _ => Some(false),
+    }
+}
+
+/// Refuses each growth of writing an output of a judged text in turn.
+fn written_in_turn<'h, R: Abort>(
+    rt: &R,
+    heap: &'h Refusing<Global>,
+    memory: Global,
+    text: &[u8],
+    judged: &JudgedText<'_, &'h Refusing<Global>>,
+    choice: Choice,
+    output: &[u8],
+) -> bool
+    requires { IsJudgedText text.now false false judged.now }
+{
+    for growth in 1..MOST_GROWTHS {
+        heap.refuse(growth);
+        let is_right = is_written(heap, memory, text, judged, choice, output);
+        let refused = was_refused(rt, heap, is_right);
+        let is_right_again = is_written(heap, memory, text, judged, choice, output);
+        assert!(rt; is_right_again == Some(true));
+        if !refused {
+            return growth > 1;
+        }
+    }
+    false
+}
+
+#[test]
+fn outputs_of_a_judged_text_written_without_memory(rt: HostRuntime) {
+    let memory = rt.alloc();
+    let heap = Refusing::new(memory);
+    let text = CITED_TWICE;
+    let Some(judged) = judged(&heap, text) else {
+        assert!(&rt; false);
+        return;
+    };
+    let rows = [
+        (Choice::All, CITED_TWICE_REPORT),
+        (Choice::Matrix, MATRIX),
+        (Choice::Citations, CITATIONS),
+    ];
+    for (choice, output) in rows {
+        assert!(&rt; written_in_turn(&rt, &heap, memory, text, &judged, choice, output));
+    }
+}

@@ -1,0 +1,233 @@
+//! Tests of the calls for C: each status, what the lengths are with it, what is in `out` and behind
+//! the output, and that the room comes back.
+
+use crate::{mmdepend_report, mmdepend_report_and_citations, mmdepend_version};
+use mm_room::Room;
+use mm_version::VERSION;
+use std::alloc::Global;
+use std::process::Abort;
+
+/// A database with one theorem, and what is written for it.
+const TEXT: &[u8] =
+    b"$c wff |- ( -> ) $.\n$v p q $.\nwp $f wff p $.\nwq $f wff q $.\nwi $a wff ( p -> q ) $.\nax-1 $a |- ( p -> ( q -> p ) ) $.\nwi2 $p wff ( p -> ( q -> p ) ) $= wp wq wp wi wi $.\n";
+
+const REPORT: &[u8] =
+    b"mmdepend 1\naxioms 2\ntheorems 1\nmatrix\nwi2:10\ncounts\nwi2:1\nusage\nwi:1:wi2\nax-1:0:\nend\n";
+
+const CITATIONS: &[u8] = b"mmdepend 1\naxioms 2\ntheorems 1\ncitations\nwi2:1:wi\nend\n";
+
+/// The report on axioms of the typecode `|-`, and its part with the counts alone.
+const LOGICAL_COUNTS: &[u8] = b"mmdepend 1\naxioms 1\ntheorems 1\ncounts\nwi2:0\nend\n";
+
+/// A text whose first statement has a bad byte, and what is written for it.
+const FAULTY: &[u8] = b"$c wff \x80 $.\n";
+
+const REFUSAL: &[u8] = b"refused 1:8 E01\n";
+
+/// The numbers of the sections, of the form, and of the statuses, as C has them.
+const ALL: u32 = 0;
+
+const COUNTS: u32 = 2;
+
+const NO_PART: u32 = 5;
+
+const FORM_1: u32 = 1;
+
+const ACCEPTED: u32 = 0;
+
+const REFUSED: u32 = 1;
+
+const NOT_UTF8: u32 = 2;
+
+const OUT_TOO_SHORT: u32 = 3;
+
+const ROOM_TOO_SMALL: u32 = 4;
+
+const NO_SUCH_REQUEST: u32 = 5;
+
+/// What `out` holds before a call.
+const BEFORE: u8 = b'.';
+
+/// How many bytes `out` has: more than any output here.
+const OUT: usize = 256;
+
+/// The units of a room that is large enough for these texts.
+const ROOM: usize = 65_536;
+
+/// How a call ended, and what it wrote.
+#[derive(Drop)]
+struct Ended {
+    status: u32,
+    written: usize,
+    out: [u8; OUT],
+    room_is_whole: bool,
+}
+
+impl Ended {
+    /// Whether the call ended so, with this output at the front of `out`, and nothing behind it.
+    fn is(&self, status: u32, output: &[u8]) -> bool {
+        self.status == status
+            && self.written == output.len()
+            && self.out.starts_with(output)
+            && self
+                .out
+                .iter()
+                .skip(output.len())
+                .all(|byte| *byte == BEFORE)
+            && self.room_is_whole
+    }
+}
+
+/// A call for sections of the report on a text in a new room. Its typecode is `only`, if that has a
+/// byte.
+fn called(memory: Global, units: usize, text: &[u8], only: &[u8], choice: u32) -> Option<Ended> {
+    let mut room = Room::leaked(&memory, units)?;
+    let mut out = [BEFORE; OUT];
+    let mut written = OUT;
+    let status = mmdepend_report(
+        &mut room,
+        text,
+        only,
+        !only.is_empty(),
+        choice,
+        FORM_1,
+        false,
+        false,
+        &mut out,
+        &mut written,
+    );
+    Some(Ended {
+        status,
+        written,
+        out,
+        room_is_whole: room.units() == units,
+    })
+}
+
+/// Whether a call ends so, and writes this and nothing else.
+fn answers(
+    memory: Global,
+    text: &[u8],
+    only: &[u8],
+    choice: u32,
+    status: u32,
+    output: &[u8],
+) -> bool {
+    called(memory, ROOM, text, only, choice).is_some_and(|ended| ended.is(status, output))
+}
+
+#[test]
+fn each_status_comes_with_its_output(rt: HostRuntime) {
+    let memory = rt.alloc();
+    assert!(&rt; answers(memory, TEXT, b"", ALL, ACCEPTED, REPORT));
+    assert!(&rt; answers(memory, TEXT, b"|-", COUNTS, ACCEPTED, LOGICAL_COUNTS));
+    assert!(&rt; answers(memory, FAULTY, b"", ALL, REFUSED, REFUSAL));
+    assert!(&rt; answers(memory, TEXT, b"\xFF", ALL, NOT_UTF8, b""));
+    assert!(&rt; answers(memory, TEXT, b"", NO_PART, NO_SUCH_REQUEST, b""));
+}
+
+/// How many units one room of the next test has more than the one before.
+const ROOM_STEP: usize = 1024;
+
+/// In a room that is too small a call writes no length, and the room comes back. From some size on
+/// each room is large enough.
+#[test]
+fn rooms_of_growing_size(rt: HostRuntime) {
+    let memory = rt.alloc();
+    let mut was_too_small = false;
+    let mut is_large_enough = false;
+    for steps in 0..64usize {
+        let Some(ended) = called(memory, steps * ROOM_STEP, TEXT, b"", ALL) else {
+            assert!(&rt; false);
+            return;
+        };
+        if ended.status == ROOM_TOO_SMALL {
+            assert!(&rt; ended.written == 0 && !is_large_enough);
+            was_too_small = true;
+        } else {
+            assert!(&rt; ended.is(ACCEPTED, REPORT));
+            is_large_enough = true;
+        }
+        assert!(&rt; ended.room_is_whole);
+    }
+    assert!(&rt; was_too_small && is_large_enough);
+}
+
+/// An `out` of every length that is too short has the beginning of the output, and nothing behind
+/// it; the length of the whole is told.
+#[test]
+fn outputs_of_every_length(rt: HostRuntime) {
+    let memory = rt.alloc();
+    for len in 0..=REPORT.len() {
+        let Some(mut room) = Room::leaked(&memory, ROOM) else {
+            assert!(&rt; false);
+            return;
+        };
+        let mut out = [BEFORE; OUT];
+        let mut written = 0;
+        let status = mmdepend_report(
+            &mut room,
+            TEXT,
+            b"",
+            false,
+            ALL,
+            FORM_1,
+            false,
+            false,
+            &mut out[..len],
+            &mut written,
+        );
+        let wanted = if len < REPORT.len() {
+            OUT_TOO_SHORT
+        } else {
+            ACCEPTED
+        };
+        assert!(&rt; status == wanted && written == REPORT.len());
+        assert!(&rt; out[..len] == REPORT[..len]);
+        assert!(&rt; out[len..].iter().all(|byte| *byte == BEFORE));
+        assert!(&rt; room.units() == ROOM);
+    }
+}
+
+#[test]
+fn the_citations_stand_behind_the_report(rt: HostRuntime) {
+    let memory = rt.alloc();
+    let Some(mut room) = Room::leaked(&memory, ROOM) else {
+        assert!(&rt; false);
+        return;
+    };
+    let mut out = [BEFORE; OUT];
+    let mut report_len = 0;
+    let mut citations_len = 0;
+    let status = mmdepend_report_and_citations(
+        &mut room,
+        TEXT,
+        b"",
+        false,
+        ALL,
+        FORM_1,
+        false,
+        false,
+        &mut out,
+        &mut report_len,
+        &mut citations_len,
+    );
+    assert!(&rt; status == ACCEPTED);
+    assert!(&rt; report_len == REPORT.len() && citations_len == CITATIONS.len());
+    assert!(&rt; out.starts_with(REPORT));
+    assert!(&rt; out[report_len..].starts_with(CITATIONS));
+    assert!(&rt;
+        out[report_len + citations_len..]
+            .iter()
+            .all(|byte| *byte == BEFORE)
+    );
+    assert!(&rt; room.units() == ROOM);
+}
+
+#[test]
+fn the_version_is_told(rt: HostRuntime) {
+    let mut out = [BEFORE; OUT];
+    assert!(&rt; mmdepend_version(&mut out) == VERSION.len());
+    assert!(&rt; out.starts_with(VERSION.as_bytes()));
+    assert!(&rt; out[VERSION.len()..].iter().all(|byte| *byte == BEFORE));
+}

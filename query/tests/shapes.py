@@ -1,0 +1,355 @@
+"""Texts that are made to hurt: each has much of one thing, and commands that read it.
+
+`bench/hostile-query` measures how time and memory grow with them, and `test_growth.py` gives them
+less of both than a reader needs that takes the square. All are databases that the program accepts.
+"""
+
+import os
+import resource
+from collections.abc import Callable, Mapping
+from dataclasses import dataclass
+from pathlib import Path
+
+from query.tests.world import MMQUERY
+
+Files = dict[str, bytes]
+
+HEAD = """$c wff |- ( ) -> $.
+$v p q $.
+wp $f wff p $.
+wq $f wff q $.
+ax $a |- p $.
+other $a |- p $.
+${ two.1 $e |- p $. two.2 $e |- p $. two $a |- p $. $}
+${ via.1 $e |- q $. via $a |- p $. $}
+wi $a wff ( p -> q ) $.
+"""
+
+
+@dataclass(frozen=True)
+class Shape:
+    """What is made for a size, and the commands that are run beside it. `size` is that of the
+    benchmark, and `small` the one of the test. `is_answer` is whether the answer itself has the
+    square of the size."""
+
+    name: str
+    make: Callable[[int], Files]
+    size: int
+    small: int
+    commands: tuple[str, ...]
+    is_answer: bool = False
+
+
+@dataclass(frozen=True)
+class Took:
+    """What a command took: seconds of the processor and bytes of memory at its peak, those of the
+    program included; how it ended, and what it wrote to standard error."""
+
+    seconds: float
+    memory: int
+    status: int
+    said: str
+
+
+def ran(words: list[str], room: Path, limit: int, surroundings: Mapping[str, str]) -> Took:
+    """Runs a command without kept results in a folder, for so many seconds of the processor at the
+    most."""
+    name, *others = words
+    child = os.fork()
+    if child == 0:
+        os.chdir(room)
+        nowhere = os.open(os.devnull, os.O_RDWR)
+        errors = os.open("errors", os.O_WRONLY | os.O_CREAT | os.O_TRUNC, 0o600)
+        for number, descriptor in enumerate((nowhere, nowhere, errors)):
+            os.dup2(descriptor, number)
+        resource.setrlimit(resource.RLIMIT_CPU, (limit, limit))
+        os.execve(MMQUERY, ["mmquery", name, "--no-cache", *others], dict(surroundings))
+    _, status, usage = os.wait4(child, 0)
+    said = (room / "errors").read_text("latin-1")
+    seconds, memory = usage.ru_utime + usage.ru_stime, usage.ru_maxrss * 1024
+    return Took(seconds, memory, os.waitstatus_to_exitcode(status), said)
+
+
+def one(text: str) -> Files:
+    """A database."""
+    return {"a.mm": (HEAD + text).encode("latin-1")}
+
+
+def two(old: str, new: str, config: str = "") -> Files:
+    """Two databases, and what is asked of the second one."""
+    files = {"a.mm": old, "b.mm": new}
+    made = {name: (HEAD + text).encode("latin-1") for name, text in files.items()}
+    return {**made, "mmdepend.toml": config.encode()} if config else made
+
+
+def proof(labels: list[str]) -> str:
+    """A proof of `|- p` that cites these, each of which says so."""
+    steps = "".join(f"wp {label} two " for label in labels[1:])
+    return "wp " * len(labels) + f"{labels[0]} " + steps
+
+
+def theorem(label: str, *cited: str) -> str:
+    """A theorem that cites these."""
+    return f"{label} $p |- p $= {proof(list(cited))}$.\n"
+
+
+def theorems(count: int, cited: str = "ax", name: str = "t") -> str:
+    """Many theorems that cite the same."""
+    return "".join(theorem(f"{name}{number}", cited) for number in range(count))
+
+
+def names(count: int, name: str = "t") -> list[str]:
+    """The labels of these."""
+    return [f"{name}{number}" for number in range(count)]
+
+
+def axioms(count: int, name: str = "a") -> str:
+    """Many axioms."""
+    return "".join(f"{name}{number} $a |- p $.\n" for number in range(count))
+
+
+def variables(count: int) -> tuple[str, list[str]]:
+    """The statements that make variables, and these."""
+    found = [f"x{number}" for number in range(count)]
+    floating = "".join(f"w{name} $f wff {name} $.\n" for name in found)
+    return f"$v {' '.join(found)} $.\n{floating}", found
+
+
+def white_space(count: int) -> Files:
+    """Line feeds after the last statement."""
+    return two("", "\n" * count)
+
+
+def blanks(count: int) -> Files:
+    """White space between words, in comments and in a heading."""
+    gap = " " * count
+    text = f"$({gap}$)\n$(\n####\n{gap}\n####\n$)\nx{gap}$a {gap} |-{gap}p{gap}$.\n"
+    return two(text, text + f"$( (New{gap}usage $)\ny $a |- p $.\n$( $t{gap}$)\n")
+
+
+def dollars(count: int) -> Files:
+    """A comment full of `$`."""
+    return two("", f"$( {'$x ' * count}$)\nx $p |- p $= $( {'$y ' * count}$) wp ax $.\n")
+
+
+def inner_comments(count: int) -> Files:
+    """Comments within formula and proof."""
+    some = "$( ( $) " * count
+    return two("", f"x $( ) $) $p |- {some}p {some}$= {some}wp ax $.\n")
+
+
+def remarks(count: int) -> Files:
+    """Remarks that are never closed, in comments that are read word by word."""
+    return two("", f"$( $j usage {'/* ' * count}$)\n$( $t {'/* ' * count}$)\n")
+
+
+def quotes(count: int) -> Files:
+    """Quotes, doubled and not closed."""
+    said = "''" * count
+    return one(f"$( $t althtmldef 'p' as '{said} ; \" {'+ ' * count} $)\n")
+
+
+def preformatted(count: int) -> Files:
+    """Tags of preformatted text that aren't closed."""
+    comments = "".join(f"$( <pre {number} $)\nx{number} $a |- p $.\n" for number in range(count))
+    return one(f"$( {'<pre ' * count}$)\nx $a |- p $.\n$( <pre>{'<pre> ' * count}$)\n" + comments)
+
+
+def tags(count: int) -> Files:
+    """Definitions with many tags that are open, long ones, and long numbers."""
+    parts = ["<i>" * count, "<i>x" * count, "<b>x</b>" * count, "<span " + "a" * count + ">x"]
+    parts += ["<i" + " " * count + "<", "<span style='" + "color:red;" * count + "'>x"]
+    parts += ["&#" + "1" * count + ";", "&#" + "0" * count + "65;", "<" * count, "x" * count]
+    lines = "".join(f'althtmldef "p" as "{part}" ;\n' for part in parts)
+    return one(f"$( $t\n{lines} $)\n")
+
+
+def renamed(count: int) -> Files:
+    """Theorems of the same statement, all of them renamed and in other order, by what they cite."""
+    some = 128
+    pairs = [(f"a{number % some}", f"a{some + number // some}") for number in range(count)]
+    head = axioms(some + count // some + 1)
+    old = "".join(theorem(f"t{number}", *pair) for number, pair in enumerate(pairs))
+    new = "".join(theorem(f"u{number}", *pair) for number, pair in enumerate(reversed(pairs)))
+    return two(head + old, head + new)
+
+
+def proved_anew(count: int) -> Files:
+    """The same, with new ones that have the old proofs."""
+    return two(theorems(count), theorems(count, "other") + theorems(count, "ax", "u"))
+
+
+def distinct(count: int) -> Files:
+    """A `$d` of many variables, and an axiom of all of them, written otherwise in NEW."""
+    made, found = variables(count)
+    formula = " -> ".join(found)
+    text = f"{made}${{ $d {' '.join(found)} $. x $a |- ( {formula} ) $. $}}\n"
+    return two(text, text.replace("|- (", "|-  ("))
+
+
+def far_distinct(count: int) -> Files:
+    """A `$d` of many variables around many assertions of two."""
+    made, found = variables(count)
+    lines = f"{made}$d {' '.join(found)} $.\n"
+    for number, name in enumerate(found[1:]):
+        lines += f"y{number} $a |- ( x0 -> {name} ) $.\n"
+    return two(lines, lines.replace("|- (", "|-  ("))
+
+
+def many_distinct(count: int) -> Files:
+    """The same `$d` before each of many assertions in one block."""
+    lines = "".join(f"$d p q $. y{number} $a |- ( p -> q ) $.\n" for number in range(count))
+    return two(f"${{\n{lines}$}}\n", f"${{\n{lines.replace('|- (', '|-  (')}$}}\n")
+
+
+def many_hypotheses(count: int) -> Files:
+    """A `$e` before each of many assertions in one block, of which each has all before it."""
+    lines = "".join(f"e{number} $e |- p $. y{number} $a |- p $.\n" for number in range(count))
+    return two(f"${{\n{lines}$}}\n", f"${{\n{lines.replace('|- p', '|-  p')}$}}\n")
+
+
+def deep_blocks(count: int) -> Files:
+    """Blocks within blocks."""
+    return two("", "${\n" * count + "x $a |- p $.\n" + "$}\n" * count)
+
+
+def many_axioms(count: int) -> Files:
+    """Many axioms, and few theorems, of which one cites them all."""
+    text = axioms(count) + theorems(5) + theorem("all", *names(count, "a"))
+    return two(text, text + theorem("more", "all"), 'watch = ["a0"]\n')
+
+
+def axioms_in_other_order(count: int) -> Files:
+    """Axioms that stand the other way round in NEW."""
+    lines = axioms(count).splitlines(keepends=True)
+    end = theorems(20) + theorem("all", *names(count, "a"))
+    return two("".join(lines) + end, "".join(reversed(lines)) + end)
+
+
+def watched_axioms(count: int) -> Files:
+    """New axioms that are watched, each with a theorem that came to rest on it."""
+    new = "".join(theorem(f"t{number}", f"a{number}") for number in range(count))
+    return two(theorems(count), axioms(count) + new, 'watch = ["a*"]\n')
+
+
+def long_chain(count: int) -> Files:
+    """A chain of theorems, and others of which each cites its last one and another one."""
+    lines = theorem("t0", "ax")
+    lines += "".join(theorem(f"t{i + 1}", f"t{i}") for i in range(count))
+    lines += "".join(theorem(f"u{i}", f"t{count}", f"t{i}") for i in range(count))
+    return one(lines)
+
+
+def wide(count: int) -> Files:
+    """A theorem that cites many, each of which cites the same."""
+    return one(theorems(count) + theorem("last", *names(count)))
+
+
+def claims(count: int) -> Files:
+    """Claims that are broken, all of one theorem that cites many."""
+    text = axioms(count)
+    text += "".join(theorem(f"t{number}", f"a{number}") for number in range(count))
+    text += theorem("last", *names(count))
+    said = "".join(f"usage 'last' avoids 'a{number}';\n" for number in range(count))
+    return two(text, f"{text}$( $j\n{said} $)\n")
+
+
+def discouraged(count: int) -> Files:
+    """A theorem that cites many whose new usage is discouraged."""
+    lines = "".join(
+        f"$( (New usage is discouraged.) $)\n{theorem(f't{number}', 'ax')}"
+        for number in range(count)
+    )
+    return two(lines + theorem("last", *names(count)), lines + theorem("last", *names(count)))
+
+
+def long_label(count: int) -> Files:
+    """A label that is as long as all the others together."""
+    label = "l" * count
+    return one(theorem(label, "ax") + theorem("l", label) + theorems(count // 20))
+
+
+def headers(count: int) -> Files:
+    """Headers of mathboxes, each with a theorem that cites that of another one."""
+    lines = ""
+    for number in range(count):
+        lines += f"$(\n####\n  Mathbox for {number}\n####\n$)\n"
+        lines += theorem(f"t{number}", f"t{number - 1}" if number else "ax")
+    return two(lines, lines)
+
+
+def dummies(count: int) -> Files:
+    """A proof that names many variables which its theorem doesn't have."""
+    made, found = variables(count)
+    items = [f"wp w{name} w{name} ax via" for name in found]
+    steps = "wp " * (count - 1) + items[0] + "".join(f" {item} two" for item in items[1:])
+    group = f"$d {' '.join(found[: count // 2 + 1])} p $."
+    return one(f"{made}${{ {group} x $p |- p $= {steps} $. $}}\n")
+
+
+def letters(number: int) -> str:
+    """A number of a compressed proof, from 1."""
+    last = chr(ord("A") + (number - 1) % 20)
+    number = (number - 1) // 20
+    first = ""
+    while number:
+        first = chr(ord("U") + (number - 1) % 5) + first
+        number = (number - 1) // 5
+    return first + last
+
+
+def long_formulas(count: int) -> Files:
+    """A proof with long formulas, which proves another one than its theorem says."""
+    doublings = 17
+    steps = "AABZ" + "".join(letters(5 + k) + "BZ" for k in range(1, doublings))
+    long = 2 * letters(5 + doublings) + "B"
+    item = f"A{long}{long}CD"
+    start = f"A{steps}{letters(5 + doublings)}CD"
+    letters_of = "A" * count + start + f"{item}E" * count
+    return one(f"x $p |- ( p -> p ) $= ( wi ax via two ) {letters_of} $.\n")
+
+
+SHAPES = [
+    Shape("white space at the end", white_space, 100_000, 100_000,
+          ("verify b.mm", "chapters b.mm", "gate a.mm b.mm", "page b.mm")),
+    Shape("white space within", blanks, 100_000, 100_000, ("gate a.mm b.mm", "page b.mm")),
+    Shape("`$` in comments", dollars, 1_000_000, 100_000, ("gate a.mm b.mm", "chapters b.mm")),
+    Shape("comments within statements", inner_comments, 200_000, 20_000,
+          ("gate a.mm b.mm", "page b.mm")),
+    Shape("open remarks", remarks, 20_000, 100_000, ("gate a.mm b.mm", "page b.mm")),
+    Shape("quotes", quotes, 100_000, 100_000, ("page a.mm",)),
+    Shape("open `<pre`", preformatted, 40_000, 100_000, ("page a.mm",)),
+    Shape("tags", tags, 40_000, 40_000, ("page a.mm",)),
+    Shape("equal statements renamed", renamed, 4_000, 4_000,
+          ("compare a.mm b.mm", "gate a.mm b.mm", "page --against a.mm b.mm")),
+    Shape("equal statements with the old proofs", proved_anew, 4_000, 10_000,
+          ("compare a.mm b.mm", "gate a.mm b.mm")),
+    Shape("a long `$d`", distinct, 2_000, 4_000,
+          ("compare a.mm b.mm", "gate a.mm b.mm", "page a.mm")),
+    Shape("a long `$d` around", far_distinct, 2_000, 4_000,
+          ("compare a.mm b.mm", "gate a.mm b.mm", "page a.mm", "export --sqlite out.db a.mm")),
+    Shape("a `$d` before each", many_distinct, 4_000, 3_000,
+          ("chapters a.mm", "compare a.mm b.mm", "gate a.mm b.mm", "page a.mm",
+           "export --sqlite out.db a.mm")),
+    Shape("a `$e` before each", many_hypotheses, 4_000, 8_000,
+          ("chapters a.mm", "compare a.mm b.mm", "gate a.mm b.mm")),
+    Shape("deep blocks", deep_blocks, 200_000, 100_000, ("gate a.mm b.mm", "page b.mm")),
+    Shape("axioms", many_axioms, 100_000, 100_000,
+          ("rests b.mm more", "falls b.mm a0", "top b.mm", "compare a.mm b.mm", "gate a.mm b.mm",
+           "picture b.mm", "page b.mm")),
+    Shape("axioms in other order", axioms_in_other_order, 20_000, 20_000,
+          ("compare a.mm b.mm", "gate a.mm b.mm")),
+    Shape("watched axioms", watched_axioms, 2_000, 3_000, ("compare a.mm b.mm", "gate a.mm b.mm")),
+    Shape("a long chain", long_chain, 10_000, 10_000,
+          ("frees a.mm ax", "way-out a.mm ax", "why a.mm t500 ax", "uncited a.mm")),
+    Shape("a wide theorem", wide, 20_000, 10_000,
+          ("way-out a.mm last ax", "frees a.mm ax", "page a.mm")),
+    Shape("claims", claims, 2_000, 2_000, ("gate a.mm b.mm",)),
+    Shape("discouraged", discouraged, 10_000, 3_000, ("gate a.mm b.mm", "discouraged b.mm")),
+    Shape("a long label", long_label, 400_000, 200_000, ("cites a.mm t1 t2", "order a.mm",
+          "way-out a.mm ax", "compare a.mm a.mm")),
+    Shape("headers", headers, 20_000, 10_000,
+          ("chapters a.mm ax", "mathboxes a.mm", "picture a.mm --png", "page a.mm")),
+    Shape("dummy variables", dummies, 2_000, 2_000, ("page a.mm",), is_answer=True),
+    Shape("long formulas", long_formulas, 20, 40, ("verify a.mm",)),
+]  # fmt: skip

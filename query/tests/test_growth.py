@@ -1,0 +1,115 @@
+"""Texts that are made to hurt take no more time and memory than a reader needs that passes each
+stretch once. How much they take, and how it grows, says `bench/hostile-query`."""
+
+import unittest
+from pathlib import Path
+
+from query import rules, typesetting
+from query.markup import one_line
+from query.remarks import tokens
+from query.tests import shapes
+from query.tests.world import World
+from query.text import UnreadableText, read_text
+
+SECONDS = 20
+MEMORY = 500_000_000
+
+
+class Shapes(World):
+    """Two commands over each shape."""
+
+    def test_they_are_answered(self) -> None:
+        for shape in shapes.SHAPES:
+            for name, data in shape.make(shape.small).items():
+                (self.room / name).write_bytes(data)
+            for line in dict.fromkeys((shape.commands[0], shape.commands[-1])):
+                with self.subTest(f"{shape.name}: {line}"):
+                    took = shapes.ran(line.split(), self.room, SECONDS, self.surroundings())
+                    self.assertIn(took.status, (0, 1), took)
+                    self.assertLess(took.memory, MEMORY, took)
+            for path in self.room.iterdir():
+                path.unlink()
+
+
+class Refused(unittest.TestCase):
+    """Texts that the program refuses are read while it does."""
+
+    def test_they_end(self) -> None:
+        many = 1_000_000
+        for text in (
+            b" " * many + b"$",
+            b"$( " * many,
+            b"x " * many,
+            b"x $p a $= $( $) " + b"$( $) " * many,
+            b"x " + b"$( $) " * many,
+            b"$v " + b"$( $x $) " * many,
+            b"$" * many,
+            b"${ " * many + b"x",
+            b"x" * many,
+        ):
+            with self.assertRaises(UnreadableText):
+                read_text(text)
+
+
+class Parts(unittest.TestCase):
+    """What reads comments."""
+
+    def test_remarks(self) -> None:
+        many = 200_000
+        self.assertEqual(len(list(tokens(rules.TOKEN, "/* " * many))), many)
+        self.assertEqual(len(list(tokens(rules.TOKEN, "/* ; */ " * many + "x"))), 1)
+        self.assertEqual(list(typesetting.statements("/* " * many + ";")), [[]])
+
+    def test_remarks_are_what_they_were(self) -> None:
+        for text, wanted in (
+            ("a /* b */ c", ["a", "c"]),
+            ("a/* b */ c", ["a/*", "b", "*/", "c"]),
+            ("/*/ a */ b", ["b"]),
+            ("/* a", ["/*", "a"]),
+            ("/**/x", ["x"]),
+            ("'/* a' */", ["'/* a'", "*/"]),
+        ):
+            found = [match[0] for match in tokens(rules.TOKEN, text)]
+            self.assertEqual(found, wanted, text)
+
+    def test_quoted(self) -> None:
+        for text, wanted in (
+            ("'a''b' c;", ["'a''b'", "c"]),
+            ("'a'' c;", ["'a'", "c"]),
+            ("'a;", ["a"]),
+            ("'''';", ["''''"]),
+            ("''';", ["''"]),
+            ("'a\"b' \"c'd\";", ["'a\"b'", '"c\'d"']),
+        ):
+            self.assertEqual(list(typesetting.statements(text)), [wanted], text)
+
+    def test_preformatted(self) -> None:
+        many = 200_000
+        self.assertEqual(one_line("<pre " * many).count("<pre"), many)
+        self.assertEqual(one_line("a <pre\n> b\nc"), "a <pre\n>\x0bb\x0bc".replace("\x0bb", " b"))
+
+    def test_definitions(self) -> None:
+        many = 50_000
+        self.assertEqual(len(typesetting.pieces("<i>x" * many)), 1)
+        self.assertEqual(len(typesetting.pieces("<i>x</i>y" * many)), 2 * many)
+        self.assertEqual(typesetting.pieces("<i" + " " * many + "<")[0].tags, ())
+        (piece,) = typesetting.pieces(f"<span {'a' * many}>x</span>")
+        self.assertEqual((piece.text, piece.tags), ("x", ()))
+        for digits, wanted in (("0" * many + "65", "A"), ("1" * many, "\ufffd"), ("8364", "€")):
+            self.assertEqual(typesetting.pieces(f"&#{digits};")[0].text, wanted)
+
+
+class Small(unittest.TestCase):
+    """The shapes themselves."""
+
+    def test_commands_read_what_is_made(self) -> None:
+        for shape in shapes.SHAPES:
+            files = shape.make(3)
+            self.assertLessEqual(set(files), {"a.mm", "b.mm", "mmdepend.toml"})
+            for line in shape.commands:
+                named = {word for word in line.split() if Path(word).suffix == ".mm"}
+                self.assertLessEqual(named, set(files), line)
+
+
+if __name__ == "__main__":
+    unittest.main()

@@ -1,0 +1,848 @@
+"""The gate against whoever wants past it: each way played as a git repository, and beside it the
+control that is found. The first class has the ways that were passed once, by their numbers; the
+others have more."""
+
+import os
+import re
+import subprocess
+import tempfile
+import unittest
+from collections.abc import Mapping
+from pathlib import Path
+
+from query.tests.repositories import ADDED, BASE, WATCH, Repositories, changed
+from query.tests.world import DATABASES, TOP
+
+CHEAT = (
+    "2p2e4 $p |- ( 2 + 2 ) = 4 $= df-4",
+    "ax-cheat $a |- ( 2 + 2 ) = 4 $.\n2p2e4 $p |- ( 2 + 2 ) = 4 $= ax-cheat",
+)
+TOLD = "db.mm:10: ax-cheat: a new axiom: |- ( 2 + 2 ) = 4 [axioms]"
+NEEDS = changed(
+    BASE,
+    (
+        "free $p |- ( p -> ( p -> p ) ) $= wp wp ax-1 $.",
+        "free $p |- ( p -> ( p -> p ) ) $= wp axac3 $.",
+    ),
+)
+"""A theorem that was free of `ax-ac2` rests on it."""
+
+# A part of logic in which `( F. -> ph )` and `( ph -> ph )` are known.
+LOGIC = """$c wff |- ( -> ) T. F. 2 5 + = $.
+$v ph ps $.
+wph $f wff ph $.
+wps $f wff ps $.
+wi $a wff ( ph -> ps ) $.
+wtru $a wff T. $.
+wfal $a wff F. $.
+w5 $a wff ( 2 + 2 ) = 5 $.
+${ min $e |- ph $. maj $e |- ( ph -> ps ) $. ax-mp $a |- ps $. $}
+tru $a |- T. $.
+id $a |- ( ph -> ph ) $.
+falim $a |- ( F. -> ph ) $.
+"""
+# What docs/SYNTAX.md shows. FIVE stands for the steps that make the formula.
+WITHOUT_BRACKETS = """wbad $a wff ph -> ps $.
+bad1 $p |- ( T. -> F. -> T. -> F. ) $= wtru wfal wbad id $.
+bad2 $p |- F. -> T. -> F. $=
+  wtru wfal wtru wfal wbad wbad tru bad1 ax-mp $.
+bad3 $p |- ( F. -> T. -> F. -> ( 2 + 2 ) = 5 ) $=
+  wtru wfal FIVE wbad wbad falim $.
+2p2e5 $p |- ( 2 + 2 ) = 5 $=
+  wfal wtru wfal wbad wbad FIVE bad2 bad3 ax-mp $.
+"""
+
+
+class Hostile(Repositories):
+    """What the tries share."""
+
+    def told(
+        self, *words: str, status: int = 1, more: Mapping[str, str] | None = None
+    ) -> list[str]:
+        """The lines of the gate on the branch, without notes and the last one."""
+        given = words or ("--base", "main", "db.mm")
+        came = self.query("gate", *given, given=b"", **(more or {}))
+        self.assertEqual((came.status, came.err), (status, ""), came)
+        return [line for line in came.lines()[:-1] if not line.startswith("note: ")]
+
+    def cheats(self, name: str = "db.mm") -> None:
+        """Commits a new axiom on a branch."""
+        self.branch()
+        self.commit(changed(BASE, CHEAT), name)
+
+    def asks(self, text: str, before: str = BASE) -> None:
+        """Puts a file `mmdepend.toml` and a database on `main`, and a branch beside it."""
+        self.ask(text)
+        self.commit(before)
+        self.branch()
+
+    def rules(self, *words: str) -> list[str]:
+        """The rules that the branch breaks."""
+        return [line.rpartition(" [")[2].rstrip("]") for line in self.told(*words)]
+
+    def is_refused(self, *words: str, why: str, **more: str) -> None:
+        """The gate says why there is no answer."""
+        self.refuses("gate", *(words or ("--base", "main", "db.mm")), why=why, **more)
+
+
+class TheTwelve(Hostile):
+    """What was passed with status 0 once."""
+
+    def test_1_a_syntax_axiom(self) -> None:
+        self.asks("", before=LOGIC)
+        self.commit(LOGIC + WITHOUT_BRACKETS.replace("FIVE", "w5"))
+        told = ["db.mm:13: wbad: a new axiom: wff ph -> ps [axioms]"]
+        self.assertEqual(self.told("--base", "main", "db.mm"), told)
+        self.git("checkout", "--quiet", "main")
+        self.git("branch", "--delete", "--force", "--quiet", "work")
+        self.asks('typecode = "|-"\n', before=LOGIC)
+        self.commit(LOGIC + WITHOUT_BRACKETS.replace("FIVE", "w5"))
+        came = self.query("gate", "--base", "main", "db.mm")
+        self.assertEqual(came.status, 0)
+        self.assertIn("note: `typecode` of mmdepend.toml leaves the axioms of '|-'", came.out)
+
+    def inner(self) -> Path:
+        """Puts the files of a bare repository beside the database, whose `main` has what is
+        committed there. Returns what exists when its address was called."""
+        marker = self.room.parent / "marker"
+        seed, inner = self.room.parent / "seed", self.room.parent / "inner.git"
+        self.git("init", "--quiet", "--initial-branch=main", str(seed))
+        (seed / "set.mm").write_text(changed(BASE, CHEAT))
+        self.git("add", "--all", folder=seed)
+        self.git("commit", "--quiet", "--message", "all of it", folder=seed)
+        self.git("clone", "--quiet", "--bare", str(seed), str(inner))
+        for name in ("HEAD", "objects", "refs", "config", "packed-refs"):
+            os.rename(inner / name, self.room / "db" / name)
+        commit = self.git("rev-parse", "HEAD", folder=seed)
+        (self.room / "db/refs/heads/main").write_text(f"{commit}\n")
+        for setting in (
+            "extensions.partialClone=origin",
+            "core.repositoryFormatVersion=1",
+            f"remote.origin.url=ext::touch {marker}",
+            "remote.origin.promisor=true",
+            "protocol.ext.allow=always",
+        ):
+            self.git("config", "--file", "db/config", *setting.split("=", 1))
+        return marker
+
+    def test_3_a_repository_within(self) -> None:
+        (self.room / "db").mkdir()
+        self.commit(BASE, "db/set.mm")
+        self.branch()
+        self.commit(changed(BASE, CHEAT), "db/set.mm")
+        words = ("--base", "main", "db/set.mm")
+        self.assertEqual(len(self.told(*words)), 1)
+        marker = self.inner()
+        self.is_refused(*words, why="db is a repository or a submodule")
+        blob = self.git("rev-parse", "work:db/set.mm")
+        (self.room / "db/objects" / blob[:2] / blob[2:]).unlink()
+        self.is_refused(*words, why="db is a repository or a submodule")
+        room, self.room = self.room, self.room / "db"
+        self.is_refused("--base", "main", "set.mm", why="has the files of a bare repository")
+        self.is_refused("--base", "main", "HEAD:set.mm", why="has the files of a bare repository")
+        self.refuses("rests", "HEAD:set.mm", "zorn", why="has the files of a bare repository")
+        self.room = room
+        self.assertFalse(marker.exists())
+        self.git("add", "--all")
+        self.git("commit", "--quiet", "--message", "a repository")
+        self.is_refused("--base", "main", "HEAD:db/set.mm", why="the files of a bare repository")
+
+    def test_4_a_folder_that_becomes_a_link(self) -> None:
+        for name in ("db", "unjudged"):
+            (self.room / name).mkdir()
+            self.commit(BASE if name == "db" else changed(BASE, CHEAT), f"{name}/set.mm")
+        self.branch()
+        self.commit(changed(BASE, CHEAT), "db/set.mm")
+        self.assertEqual(len(self.told("--base", "main", "db/set.mm")), 1)
+        (self.room / "db/set.mm").unlink()
+        (self.room / "db").rmdir()
+        (self.room / "db").symlink_to("unjudged")
+        self.is_refused("--base", "main", "db/set.mm", why="db is a link")
+        self.git("add", "--all")
+        self.git("commit", "--quiet", "--message", "a link")
+        self.is_refused("--base", "main", "HEAD:db/set.mm", why="db is a link")
+        room = self.room
+        self.room = room / "db"
+        self.is_refused(
+            "--base", "main", "set.mm", why="was reached by this link", PWD=str(room / "db")
+        )
+        self.room = room
+
+    def test_5_an_old_commit(self) -> None:
+        self.branch("first")
+        begun = self.commit(changed(BASE, CHEAT))
+        self.commit(BASE)
+        self.git("checkout", "--quiet", "main")
+        self.git("merge", "--quiet", "--no-ff", "--no-edit", "first")
+        self.git("checkout", "--quiet", "-b", "work", begun)
+        self.commit(changed(BASE, CHEAT) + ADDED)
+        came = self.query("gate", "--base", "main", "db.mm")
+        self.assertEqual(came.status, 0)  # the merge doesn't have the axiom
+        self.assertIn("note: lines of db.mm are those of its merge with main, ", came.out)
+        self.commit(changed(BASE, CHEAT).replace("ax-cheat $a", "ax-cheat  $a"))
+        self.is_refused(why="can't be merged: CONFLICT")
+        self.git("merge", "--quiet", "--no-edit", "--strategy=ours", "main")
+        self.assertEqual(self.told(), [TOLD])
+
+    def test_5_what_the_merge_base_has(self) -> None:
+        self.commit(changed(BASE, CHEAT))
+        self.branch()
+        self.commit(changed(BASE, CHEAT) + ADDED)
+        self.assertEqual(self.told(status=0), [])
+        self.git("checkout", "--quiet", "main")
+        self.commit(BASE)
+        self.git("checkout", "--quiet", "work")
+        self.git("merge", "--quiet", "--no-commit", "--no-ff", "main")
+        self.commit(changed(BASE, CHEAT) + ADDED)
+        self.assertEqual(self.told(), [TOLD])
+
+    def test_7_a_label_that_another_axiom_gets(self) -> None:
+        text = changed(BASE, ("ax-ac2 $a", "wt $a wff 2 $.\nax-t $a |- 2 $.\nax-ac2 $a"))
+        text = text.split("2p2e4 $p")[0]
+        new = changed(text, ("wt $a wff 2 $.\nax-t $a |- 2 $.", "ax-t $a wff 2 $."))
+        for config in ("", 'typecode = "|-"\n'):
+            self.asks(config, before=text)
+            self.commit(changed(text, ("wt $a wff 2 $.\nax-t $a |- 2 $.", "wt $a wff 2 $.")))
+            self.assertEqual(self.told(), ["db.mm: ax-t: an axiom that is gone [axioms]"])
+            self.commit(new)
+            lines = [line for line in self.told() if "ax-t: " in line]
+            self.assertEqual(len(lines), 1)
+            self.git("checkout", "--quiet", "main")
+            self.git("branch", "--delete", "--force", "--quiet", "work")
+
+    def test_7_labels_of_axioms_that_are_swapped(self) -> None:
+        swapped = BASE.replace("ax-1 ", "x ").replace("ax-ac2 ", "ax-1 ").replace("x ", "ax-ac2 ")
+        self.asks(WATCH + '[allow]\naxioms = ["ax-*"]\n')
+        self.commit(swapped)
+        told = "mmdepend.toml:1: ax-ac2: a watched axiom whose label another one has; its statement"
+        self.assertTrue(any(line.startswith(told) for line in self.told()))
+
+    def test_8_a_file_with_the_name_of_a_revision(self) -> None:
+        self.commit(BASE, "HEAD:db.mm")
+        self.cheats()
+        commit = self.git("rev-parse", "HEAD")
+        words = ("--base", "main", "HEAD:db.mm")
+        self.write(f"{commit}:db.mm", BASE)
+        self.is_refused(
+            *words, why="write ./HEAD:db.mm for the file, and the full id of the commit"
+        )
+        self.assertEqual(len(self.told("--base", "main", f"{commit}:db.mm")), 1)
+        self.refuses("rests", "HEAD:db.mm", "zorn", why="is a file, and of a revision too")
+        self.assertEqual(self.told("./HEAD:db.mm", "db.mm"), [TOLD])
+        (self.room / "HEAD:db.mm").unlink()
+        self.assertEqual(self.told(*words), ["HEAD:" + TOLD])
+
+    def test_9_a_comment_usage_that_is_gone(self) -> None:
+        said = "$( $j usage 'free' avoids 'ax-ac2' 'df-4'; $)\n"
+        self.asks("", before=BASE + said)
+        self.commit(NEEDS + said)
+        self.assertEqual(self.rules(), ["avoids"])
+        self.commit(BASE + said.replace("usage", "/* usage").replace("; $)", "; */ $)"))
+        self.assertEqual(self.rules(), ["avoids", "avoids"])
+        self.commit(NEEDS)
+        told = "db.mm:15: free: the comment `$j usage` which says that it avoids ax-ac2 is gone"
+        self.assertIn(f"{told} [avoids]", self.told())
+        self.commit((BASE + said).replace("free", "freed"))
+        self.assertEqual(self.told(status=0), [])
+        self.commit((BASE + said).replace("free", "freed").replace("'freed'", "'zorn'"))
+        self.assertEqual(self.rules(), ["avoids"] * 3)
+
+    def test_9_a_comment_usage_that_may_go(self) -> None:
+        said = "$( $j usage 'free' avoids 'ax-ac2'; usage 'zorn' avoids 'ax-ac2'; $)\n"
+        self.asks('[allow]\navoids = ["free"]\n', before=BASE + said)
+        self.commit(BASE)
+        self.assertEqual(self.told(status=0), [])
+
+    def test_9_a_mark_that_is_gone(self) -> None:
+        mark = "$( (New usage is discouraged.) $)\n"
+        marked = changed(BASE, ("axac3 $p", f"{mark}axac3 $p"))
+        user = "user $p |- ( p -> ( p -> p ) ) $= wp axac3 $.\n"
+        self.asks("", before=marked)
+        self.commit(marked + user)
+        self.assertEqual(self.rules(), ["discouraged"])
+        gone = "axac3: its comment no longer says `(New usage is discouraged.)` [discouraged]"
+        for text in (BASE, marked.replace(mark, mark + "$( A word. $)\n")):
+            self.commit(text + user)
+            self.assertEqual([line.split(": ", 1)[1] for line in self.told()], [gone])
+        self.commit((BASE + user).replace("axac3", "axac4"))
+        self.assertEqual(self.rules(), ["discouraged"])
+
+    def boxes(self, *parts: str) -> str:
+        """A database with parts after it: `Ann` is a header, `x/y` a theorem that cites one."""
+        text = BASE
+        for part in parts:
+            label, sign, cited = part.partition("/")
+            if sign:
+                text += f"{label} $p |- ( p -> ( q -> p ) ) $= wp wq {cited} $.\n"
+            else:
+                line = "####" if part == "Main" else "-.-." if part.islower() else "=-=-"
+                title = part if part == "Main" else f"Mathbox for {part}"
+                text += f"$(\n{line}\n  {title}\n{line}\n$)\n"
+        return text
+
+    def test_9_headers_of_mathboxes(self) -> None:
+        before = ("m/ax1", "Ann", "a1/m", "a2/a1", "Bo", "b1/ax1")
+        self.asks("", before=self.boxes(*before))
+        self.commit(self.boxes(*before, "b2/a1"))
+        self.assertEqual(self.rules(), ["mathboxes"])
+        for parts in (
+            ("m/ax1", "a1/m", "a2/a1", "Bo", "b1/ax1", "b2/a1"),
+            ("m/ax1", "a1/m", "Ann", "a2/a1", "Bo", "b1/ax1", "b2/a1"),
+            ("m/ax1", "Ann", "Main", "a1/m", "a2/a1", "Bo", "b1/ax1", "b2/a1"),
+            ("m/ax1", "Ann", "a1/m", "a2/a1", "b1/ax1", "b2/a1"),
+            ("m/ax1", "Bo", "a1/m", "a2/a1", "b1/ax1", "b2/a1"),
+        ):
+            self.commit(self.boxes(*parts))
+            self.assertEqual(self.rules(), ["mathboxes"], parts)
+        for parts in (
+            ("m/ax1", "Eve", "a1/m", "a2/a1", "Bo", "b1/ax1"),
+            ("m/ax1", "a2/m", "Ann", "a1/a2", "Bo", "b1/ax1", "b2/a2"),
+            ("m/ax1", "Ann", "a1/m", "a2/a1", "Bo", "b1/ax1", "Cy", "c1/b1"[:2] + "/ax1"),
+        ):
+            self.commit(self.boxes(*parts))
+            self.assertEqual(self.told(status=0), [], parts)
+
+    def test_9_a_header_within_a_mathbox(self) -> None:
+        before = ("m/ax1", "Ann", "a1/m", "Bo", "b1/ax1")
+        self.asks("", before=self.boxes(*before))
+        for more in (("Ann", "b2/a1"), ("ann", "b2/a1"), ("x", "Main", "b2/a1")):
+            self.commit(self.boxes(*before, *more))
+            self.assertEqual(self.rules(), ["mathboxes"], more)
+        self.commit(self.boxes("m/ax1", "Ann", "eve", "e/m", "a1/m", "Bo", "b1/ax1", "b2/a1"))
+        self.assertEqual(self.rules(), ["mathboxes"])
+
+    def test_10_a_claim_on_an_open_chain(self) -> None:
+        config = '[claims]\nzorn = ["ax-ac2"]\n[allow]\nopen = ["axac3", "zorn"]\n'
+        said = "$( $j usage 'zorn' avoids 'ax-ac2'; $)\n"
+        for text, reason in (
+            (BASE, "rests on ax-ac2: it cites axac3, which does"),
+            (
+                changed(BASE, ("$= wp ax-ac2 $.", "$= ? $.")),
+                "rests on axac3, whose proof is left open, so nobody knows what it avoids",
+            ),
+            (
+                changed(BASE, ("$= wp wp wp wi wi wq wp axac3 a1i $.", "$= ? $.")),
+                "its proof is left open, so nobody knows what it avoids",
+            ),
+        ):
+            self.asks(config, before=BASE)
+            self.commit(text + said)
+            lines = [
+                f"mmdepend.toml:2: zorn: {reason} [claims]",
+                f"db.mm:16: zorn: {reason} [avoids]",
+            ]
+            self.assertEqual(self.told(), lines)
+            self.git("checkout", "--quiet", "main")
+            self.git("branch", "--delete", "--force", "--quiet", "work")
+
+    def test_11_the_file_of_the_branch(self) -> None:
+        config = WATCH + '[claims]\nfree = ["ax-ac2"]\n'
+        self.asks(config)
+        self.commit(changed(BASE, CHEAT))
+        self.assertEqual(self.told(), [TOLD])
+        for text, reasons in (
+            (config + "[rules]\naxioms = false\n", ["the rule `axioms` is switched off"]),
+            ('[claims]\nfree = ["ax-ac2"]\n', ["ax-ac2: 'ax-ac2' isn't watched any more"]),
+            (WATCH, ["free: the claim that free avoids ax-ac2 is dropped"]),
+            (config + '[allow]\naxioms = ["*"]\n', ["*: `allow.axioms` has '*' now"]),
+            ('typecode = "wff"\n' + config, ["`typecode` leaves those of 'wff', where all"]),
+            (config + "[rules]\nconfig = false\n", ["the rule `config` is switched off"]),
+            ("[", ["Invalid"]),
+        ):
+            self.write("mmdepend.toml", text)
+            for self_committed in (False, True):
+                if self_committed:
+                    self.commit(changed(BASE, CHEAT))
+                lines = self.told()
+                self.assertEqual(lines[0], TOLD)
+                self.assertEqual(len(lines) - 1, len(reasons), lines)
+                for line, part in zip(lines[1:], reasons):
+                    self.assertIn(part, line)
+                    self.assertTrue(line.startswith("mmdepend.toml") and line.endswith(" [config]"))
+
+    def test_11_a_file_that_is_gone_and_one_that_asks_more(self) -> None:
+        self.asks(WATCH + '[allow]\nopen = ["x"]\n')
+        self.write("mmdepend.toml", 'watch = ["ax-*"]\n')
+        self.commit(BASE)
+        came = self.query("gate", "--base", "main", "db.mm")
+        self.assertEqual(came.status, 0)
+        self.assertIn(
+            "note: mmdepend.toml isn't that of the base; what it asks counts once", came.out
+        )
+        (self.room / "mmdepend.toml").unlink()
+        self.assertEqual(self.rules(), ["config"])
+        self.commit(NEEDS)
+        self.assertEqual(self.rules(), ["newly", "config"])
+
+    def test_12_replaced_objects_and_grafts(self) -> None:
+        tip = self.git("rev-parse", "HEAD")
+        self.cheats()
+        head = self.git("rev-parse", "HEAD")
+        self.assertEqual(self.told(), [TOLD])
+        old, new = (self.git("rev-parse", f"{commit}:db.mm") for commit in (tip, head))
+        self.git("replace", new, old)
+        self.assertEqual(self.told("--base", "main", "HEAD:db.mm"), ["HEAD:" + TOLD])
+        self.git("replace", "--delete", new)
+        self.git("replace", tip, head)
+        self.assertEqual(self.told(), [TOLD])
+        self.git("replace", "--delete", tip)
+        (self.room / ".git/info/grafts").write_text(f"{head}\n{tip} {head}\n")
+        self.assertEqual(self.told(), [TOLD])
+        self.assertEqual(self.told("--base", "HEAD~1", "db.mm"), [TOLD])
+
+    def test_12_variables_of_git(self) -> None:
+        self.cheats()
+        other = self.room.parent / "other"
+        self.git("clone", "--quiet", "--branch=main", ".", str(other))
+        marker = self.room.parent / "marker"
+        for more in (
+            {"GIT_DIR": str(other / ".git")},
+            {"GIT_COMMON_DIR": str(other / ".git")},
+            {"GIT_OBJECT_DIRECTORY": str(other / ".git/objects")},
+            {"GIT_NAMESPACE": "x"},
+            {"GIT_CEILING_DIRECTORIES": str(self.room)},
+            {
+                "GIT_CONFIG_COUNT": "1",
+                "GIT_CONFIG_KEY_0": "core.worktree",
+                "GIT_CONFIG_VALUE_0": "/",
+            },
+            {"GIT_CONFIG_PARAMETERS": "'core.bare=true'"},
+            {"GIT_EXEC_PATH": str(other)},
+            {"GIT_EXTERNAL_DIFF": f"touch {marker}"},
+            {"GIT_TRACE": str(marker)},
+            {"GIT_LITERAL_PATHSPECS": "1"},
+            {"GIT_SHALLOW_FILE": "/nowhere"},
+            {"GIT_REPLACE_REF_BASE": "refs/heads/"},
+        ):
+            self.assertEqual(self.told(more=more), [TOLD], more)
+        self.assertFalse(marker.exists())
+
+    def test_12_attributes(self) -> None:
+        self.cheats()
+        self.assertEqual(self.told(), [TOLD])
+        self.write(".gitattributes", "*.mm ident working-tree-encoding=UTF-16 filter=x merge=x\n")
+        self.git("config", "filter.x.clean", "true")
+        self.git("config", "filter.x.smudge", "true")
+        self.git("config", "merge.x.driver", "true")
+        self.assertEqual(self.told("--base", "main", "HEAD:db.mm"), ["HEAD:" + TOLD])
+        self.write("db.mm", changed(BASE, CHEAT) + ADDED)
+        self.is_refused(why="db.mm: .gitattributes gives it a filter, so what lies there isn't")
+
+    def test_12_a_shallow_clone(self) -> None:
+        self.cheats()
+        clone = self.room.parent / "clone"
+        self.git(
+            "clone", "--quiet", "--depth=1", "--branch=work", f"file://{self.room}", str(clone)
+        )
+        self.room = clone
+        self.is_refused("--base", "HEAD~1", "db.mm", why="the clone is shallow")
+        self.git("fetch", "--quiet", "--depth=1", "origin", "main:main")
+        self.is_refused(why="the clone is shallow; fetch the whole history")
+
+    def test_12_a_pointer_of_lfs(self) -> None:
+        pointer = "version https://git-lfs.github.com/spec/v1\noid sha256:0\nsize 1\n"
+        self.branch()
+        self.commit(pointer)
+        self.is_refused(why="db.mm: a pointer of Git LFS")
+        self.git("checkout", "--quiet", "main")
+        self.commit(pointer, "lfs.mm")
+        self.write("lfs.mm", BASE)
+        self.is_refused("--base", "main", "lfs.mm", why="lfs.mm: a pointer of Git LFS")
+
+    def test_12_a_submodule(self) -> None:
+        (self.room / "db").mkdir()
+        self.commit(BASE, "db/set.mm")
+        self.branch()
+        self.commit(changed(BASE, CHEAT), "db/set.mm")
+        commit = self.git("rev-parse", "HEAD")
+        self.git("rm", "--quiet", "-r", "--cached", "db")
+        self.git("update-index", "--add", "--cacheinfo", f"160000,{commit},db")
+        self.git("commit", "--quiet", "--message", "a submodule")
+        self.is_refused("--base", "main", "HEAD:db/set.mm", why="db is a submodule")
+        (self.room / "db/.git").write_text("gitdir: ../.git\n")
+        self.is_refused("--base", "main", "db/set.mm", why="db is a repository or a submodule")
+
+    def test_12_names_that_differ_in_case(self) -> None:
+        self.cheats()
+        for name in ("DB.mm", "MMDEPEND.toml"):
+            self.write(name, BASE)
+            self.git("add", name)
+            self.git("commit", "--quiet", "--message", name)
+            self.is_refused(why=f"{name} stands beside it, which differs in case alone")
+            self.git("reset", "--quiet", "--hard", "HEAD~1")
+        self.assertEqual(self.told(), [TOLD])
+
+
+class OfGit(Hostile):
+    """More tries that git's ways of reading offer."""
+
+    def test_a_tag_with_the_name_of_the_base(self) -> None:
+        self.git("update-ref", "refs/remotes/origin/main", "HEAD")
+        self.cheats()
+        self.assertEqual(self.told("db.mm"), [TOLD])
+        self.git("tag", "origin/main")
+        self.is_refused("db.mm", why="'origin/main' names more than one revision")
+        self.assertEqual(self.told("--base", "refs/remotes/origin/main", "db.mm"), [TOLD])
+        self.git("update-ref", "refs/heads/HEAD", "main")
+        self.assertEqual(self.told("--base", "refs/remotes/origin/main", "db.mm"), [TOLD])
+
+    def test_a_git_in_the_working_tree(self) -> None:
+        self.cheats()
+        self.write("git", "#!/bin/sh\ntouch marker\n")
+        os.chmod(self.room / "git", 0o755)
+        path = self.surroundings()["PATH"]
+        for more in (f".:{path}", f":{path}"):
+            self.assertEqual(self.told(more={"PATH": more}), [TOLD])
+        self.assertFalse((self.room / "marker").exists())
+
+    def test_settings_that_are_committed(self) -> None:
+        self.git("config", "include.path", "../.gitconfig")
+        self.cheats()
+        driver = '[merge "x"]\n\tdriver = touch marker\n'
+        monitor = "[core]\n\tfsmonitor = touch marker\n\thooksPath = .\n"
+        monitor += '[filter "x"]\n\tclean = touch marker\n'
+        self.write(".gitattributes", "* merge=x\n")
+        self.write(".gitconfig", driver + monitor)
+        self.assertEqual(self.told(), [TOLD])
+        self.git("checkout", "--quiet", "main")
+        self.commit(BASE + ADDED)
+        self.git("checkout", "--quiet", "work")
+        (self.room / "marker").unlink(missing_ok=True)
+        self.assertEqual(self.told(), [TOLD])
+        self.assertFalse((self.room / "marker").exists())
+        self.write(".gitconfig", "[core]\n\tworktree = /\n")
+        self.assertEqual(self.told(), [TOLD])
+        self.git("config", "core.worktree", "/")
+        self.is_refused(why="not the top of the working tree that git sees")
+
+    def test_a_merge_by_the_attributes_of_the_branch(self) -> None:
+        self.branch()
+        self.write(".gitattributes", "*.mm merge=union\n")
+        self.commit(changed(BASE, ("( 2 + 2 ) = 4 $.\nax-1", "( 2 + 2 ) = 2 $.\nax-1")))
+        self.git("checkout", "--quiet", "main")
+        self.commit(changed(BASE, ("( 2 + 2 ) = 4 $.\nax-1", "( 2 + 4 ) = 4 $.\nax-1")))
+        self.git("checkout", "--quiet", "work")
+        self.is_refused(why="can't be merged: CONFLICT (content): Merge conflict in db.mm")
+
+    def test_a_partial_clone(self) -> None:
+        self.cheats()
+        self.git("config", "uploadpack.allowFilter", "true")
+        clone = self.room.parent / "clone"
+        words = ("--quiet", "--filter=blob:none", "--no-checkout", "--branch=work")
+        self.git("clone", *words, f"file://{self.room}", str(clone))
+        marker = self.room.parent / "marker"
+        self.room = clone
+        self.git("config", "remote.origin.url", f"ext::touch {marker}")
+        self.git("config", "protocol.ext.allow", "always")
+        self.is_refused("--base", "origin/main", "HEAD:db.mm", why="git: ")
+        self.assertFalse(marker.exists())
+
+    def test_links(self) -> None:
+        self.branch()
+        self.write("old.mm", BASE)
+        (self.room / "db.mm").unlink()
+        (self.room / "db.mm").symlink_to("old.mm")
+        self.is_refused(why="db.mm is a link")
+        self.git("add", "--all")
+        self.git("commit", "--quiet", "--message", "a link")
+        self.is_refused("--base", "main", "HEAD:db.mm", why="db.mm is a link")
+        self.is_refused("old.mm", "db.mm", why="are the same file")
+        self.git("reset", "--quiet", "--hard", "main")
+        (self.room / "mmdepend.toml").unlink()
+        (self.room / "mmdepend.toml").symlink_to("/dev/null")
+        self.is_refused(why="mmdepend.toml is a link")
+        self.git("add", "--all")
+        self.git("commit", "--quiet", "--message", "a link")
+        self.is_refused("--base", "main", "HEAD:db.mm", why="mmdepend.toml is a link")
+
+    def test_a_link_to_the_top(self) -> None:
+        self.cheats()
+        (self.room / "loop").symlink_to(".")
+        self.is_refused("--base", "main", "loop/db.mm", why="loop is a link")
+        (self.room / "deep" / "down").mkdir(parents=True)
+        self.write("deep/db.mm", BASE)
+        (self.room / "away").symlink_to("deep/down")
+        self.is_refused("--base", "main", "away/../db.mm", why="there is a link on the way")
+
+    def test_names_of_every_kind(self) -> None:
+        for name in ("-n", "a\nb.mm", "x:y.mm", "\xe9.mm", "#.mm", '"q".mm', "*.mm", ":(top)x.mm"):
+            self.git("checkout", "--quiet", "main")
+            self.commit(BASE, name)
+            self.git("checkout", "--quiet", "-B", "work")
+            self.commit(changed(BASE, CHEAT), name)
+            came = self.query("gate", "--base", "main", f"./{name}")
+            self.assertEqual((came.status, came.err), (1, ""), name)
+            self.assertEqual(len(came.lines()), 2, name)
+
+    def test_a_branch_that_names_itself_as_the_base(self) -> None:
+        self.git("update-ref", "refs/remotes/origin/main", "HEAD")
+        self.cheats()
+        for base in ("HEAD", "work"):
+            self.ask(f'base = "{base}"\n' + WATCH)
+            told = f"mmdepend.toml:1: the base was 'origin/main', and is '{base}' [config]"
+            self.assertEqual(self.told("db.mm"), [TOLD, told])
+
+    def test_a_file_that_config_names(self) -> None:
+        self.write("own.toml", WATCH)
+        self.commit(BASE)
+        self.cheats()
+        words = ("--base", "main", "--config", "own.toml", "db.mm")
+        self.assertEqual(self.told(*words), [TOLD])
+        self.write("own.toml", WATCH + "[rules]\naxioms = false\n")
+        self.commit(changed(BASE, CHEAT))
+        self.assertEqual(
+            self.told(*words), [TOLD, "own.toml:3: the rule `axioms` is switched off [config]"]
+        )
+        self.write("other.toml", "[rules]\naxioms = false\n")
+        other = ("--base", "main", "--config", "other.toml", "db.mm")
+        self.assertEqual(self.told(*other, status=0), [])
+        self.commit(changed(BASE, CHEAT))
+        self.is_refused(*other, why="other.toml: the branch brings it, and the base has none")
+
+    def test_a_link_that_config_names(self) -> None:
+        self.write("own.toml", WATCH)
+        self.commit(BASE)
+        self.cheats()
+        (self.room / "own.toml").unlink()
+        (self.room / "own.toml").symlink_to("/dev/null")
+        words = ("--base", "main", "--config", "own.toml")
+        self.is_refused(*words, "db.mm", why="own.toml is a link")
+        self.commit(changed(BASE, CHEAT))
+        self.is_refused(*words, "HEAD:db.mm", why="own.toml is a link")
+
+    def test_a_file_that_takes_long_to_read(self) -> None:
+        self.cheats()
+        for text, why in (
+            ("x = " + "[" * 100000, "nested too deeply"),
+            ("#" * (1 << 20) + "\n", "longer than 1048576 bytes"),
+        ):
+            self.write("mmdepend.toml", text)
+            self.assertIn(why, self.told()[-1])
+
+    def test_a_branch_that_hides_the_database(self) -> None:
+        self.branch()
+        self.git("rm", "--quiet", "db.mm")
+        self.git("commit", "--quiet", "--message", "gone")
+        self.is_refused("--base", "main", "HEAD:db.mm", why="db.mm: ")
+        self.is_refused(why="db.mm: there is no such file")
+
+
+class OfTexts(Hostile):
+    """More tries that the text of a database offers."""
+
+    def test_an_axiom_that_differs_in_one_thing(self) -> None:
+        ax = "ax-1 $a |- ( p -> ( q -> p ) ) $."
+        two = "${ e1 $e |- p $. e2 $e |- q $. ax-2h $a |- ( p -> q ) $. $}\n"
+        apart = "${ $d p q $. ax-d $a |- ( q -> p ) $. $}\n"
+        before = changed(BASE.split("2p2e4")[0], (ax, two + apart + ax))
+        self.asks("", before=before)
+        for change in (
+            ("$d p q $. ", ""),
+            ("e1 $e |- p $. e2 $e |- q $.", "e2 $e |- q $. e1 $e |- p $."),
+            (two, two.replace("e2 $e |- q $. ", "")),
+            (ax, "${ h $e |- q $. " + ax + " $}"),
+            (ax, ax.replace("|-", "wff")),
+            (ax, ax.replace("q -> p", "q $( -> q ) $) -> p").replace("( q", "( p")),
+        ):
+            self.commit(changed(before, change))
+            lines = self.told()
+            self.assertEqual(len(lines), 1, change)
+            self.assertIn("a changed axiom", lines[0])
+        self.commit(changed(before, (ax, ax.replace("q -> p", "q $( x $) -> p"))))
+        self.assertEqual(self.told(status=0), [])
+
+    def test_an_axiom_behind_what_looks_like_a_comment(self) -> None:
+        self.branch()
+        for hidden in (
+            "$( a $)ax-x $a |- 2 $.\n",
+            "$( a $( ax-x $a |- 2 $. $)\n",
+            "$( $)\n$( b$) ax-x $a |- 2 $. $)\n",
+            "$( x $[ y $) ax-x $a |- 2 $. $( $] $)\n",
+            "$(x$) ax-x $a |- 2 $.\n",
+            "ax-x$a |- 2 $.\n",
+        ):
+            self.commit(BASE + hidden)
+            came = self.query("gate", "--base", "main", "db.mm")
+            self.assertEqual((came.status, came.err), (1, ""), hidden)
+
+    def test_a_variable_of_two_typecodes(self) -> None:
+        text = (
+            "$c |- a b $. ${ $v x $. wx $f a x $. ax-x $a |- x $. $}\n"
+            "${ $v x $. vx $f a x $. ax-y $a |- x x $. $}\n"
+        )
+        self.asks("", before=text)
+        self.commit(changed(text, ("wx $f a x", "wx $f b x")))
+        self.assertEqual(self.rules(), ["valid"])
+        self.commit(text.replace("$f a x", "$f b x"))
+        self.assertEqual(self.rules(), ["axioms", "axioms"])
+
+    def test_a_watched_axiom_that_a_new_one_proves(self) -> None:
+        self.asks(WATCH)
+        text = changed(
+            BASE,
+            (
+                "ax-ac2 $a |- ( p -> ( p -> p ) ) $.",
+                "ax-x $a |- ( p -> ( p -> p ) ) $.\nax-ac2 $p |- ( p -> ( p -> p ) ) $= wp ax-x $.",
+            ),
+        )
+        self.commit(text)
+        self.assertEqual(self.rules(), ["axioms", "axioms", "watched", "new"])
+
+    def test_a_pattern_that_no_longer_means_an_axiom(self) -> None:
+        self.asks('watch = ["ax-a*"]\n[allow]\naxioms = ["*"]\n')
+        text = BASE.replace("ax-ac2", "choice") + "ax-any $a |- 2 $.\n"
+        self.commit(text)
+        told = (
+            "mmdepend.toml:1: ax-ac2: a watched axiom whose statement has the label choice, which"
+        )
+        self.assertIn(told, self.told()[0])
+
+    def test_an_axiom_that_is_there_twice(self) -> None:
+        self.asks(WATCH)
+        again = "ax-free $a |- ( p -> ( p -> p ) ) $.\n"
+        self.commit(
+            changed(BASE, ("ax-ac2 $a", again + "ax-ac2 $a"), ("= wp ax-ac2", "= wp ax-free"))
+        )
+        self.assertEqual(self.rules(), ["axioms"])
+
+    def test_a_claim_whose_label_another_theorem_gets(self) -> None:
+        self.asks('[claims]\nfree = ["ax-ac2"]\n')
+        swapped = NEEDS.replace("free ", "freed ") + "free $p |- ( 2 + 2 ) = 4 $= 2p2e4 $.\n"
+        self.commit(swapped)
+        told = "mmdepend.toml:2: free: the label free is another statement's now, which isn't what"
+        self.assertEqual([line[: len(told)] for line in self.told()], [told])
+        self.commit(BASE)
+        self.assertEqual(self.told(status=0), [])
+
+    def test_a_theorem_that_is_moved_across_a_label(self) -> None:
+        self.asks(WATCH + "[rules]\nnew = false\n")
+        self.commit(NEEDS)
+        self.assertEqual(self.rules(), ["newly"])
+        self.commit(NEEDS.replace("free", "freed"))
+        self.assertEqual(self.rules(), ["newly"])
+        swapped = BASE.replace("free ", "x ").replace("axac3 ", "free ").replace("x ", "axac3 ")
+        self.commit(swapped)
+        self.assertEqual(self.rules(), ["newly", "newly"][: len(self.rules())])
+
+    def test_notes_of_what_is_not_text(self) -> None:
+        self.branch()
+        for text in ("mmdepend 1\naxioms 0\ntheorems 0\nend\n", "refused 1:1 E00\n"):
+            self.commit(text)
+            self.is_refused(why="db.mm: a report, where the database is wanted")
+
+    def test_two_files_of_a_folder_that_is_brought(self) -> None:
+        for name, config in (("base", WATCH), ("brought", WATCH + "[rules]\naxioms = false\n")):
+            (self.room / name).mkdir()
+            self.write(f"{name}/mmdepend.toml", config)
+            self.write(f"{name}/db.mm", BASE if name == "base" else changed(BASE, CHEAT))
+        lines = self.told("base/db.mm", "brought/db.mm")
+        self.assertEqual([line.rpartition(" ")[2] for line in lines], ["[axioms]", "[config]"])
+        self.assertEqual(self.told("--config-of-new", "base/db.mm", "brought/db.mm", status=0), [])
+
+
+class Honest(Hostile):
+    """What has to pass."""
+
+    def test_changes_that_pass(self) -> None:
+        self.asks(WATCH + '[allow]\naxioms = ["df-*", "wnew"]\n')
+        for text in (
+            BASE.replace("zorn", "zorn1"),
+            changed(BASE, ("$= wp ax-ac2 $.", "$= wp wp ax-1 $.")),
+            BASE + ADDED,
+            BASE + "df-new $a |- ( 2 -> 2 ) $.\n",
+            BASE + "wnew $a wff 2 $.\n",
+            BASE.replace("\n", "\r\n"),
+        ):
+            self.commit(text)
+            self.assertEqual(self.told(status=0), [])
+
+    def test_a_base_that_goes_on(self) -> None:
+        self.branch()
+        self.commit(BASE + ADDED)
+        self.git("checkout", "--quiet", "main")
+        self.commit(
+            changed(
+                BASE,
+                ("$= wp ax-ac2 $.", "$= wp wp ax-1 $."),
+                ("ax-1 $a", "wn $a wff 2 $.\nax-1 $a"),
+            )
+        )
+        self.git("checkout", "--quiet", "work")
+        for words in ((), ("--merge-base", "--base", "main", "db.mm")):
+            self.assertEqual(self.told(*words, status=0), [])
+        came = self.query("gate", "--base", "main", "db.mm")
+        self.assertIn("note: lines of db.mm are those of its merge with main, ", came.out)
+        self.git("merge", "--quiet", "--no-edit", "main")
+        self.assertEqual(self.told(status=0), [])
+        self.write("db.mm", (self.room / "db.mm").read_text() + "% $( x $)\n".replace("% ", ""))
+        self.assertEqual(self.told(status=0), [])
+
+    def test_nothing_is_written_to_the_repository(self) -> None:
+        self.cheats()
+        self.write("db.mm", changed(BASE, CHEAT) + ADDED)
+        before = sorted(str(each) for each in (self.room / ".git").rglob("*"))
+        self.assertEqual(len(self.told()), 1)
+        self.assertEqual(sorted(str(each) for each in (self.room / ".git").rglob("*")), before)
+
+    def test_a_working_tree_of_its_own(self) -> None:
+        other = self.room.parent / "other"
+        self.git("worktree", "add", "--quiet", "-b", "work", str(other))
+        self.room = other
+        self.write("db.mm", changed(BASE, CHEAT))
+        self.assertEqual(self.told(), [TOLD])
+
+
+GUIDE = (TOP / "docs" / "SYNTAX.md").read_text()
+OF_SET_MM = WITHOUT_BRACKETS.replace("FIVE", "c2 c2 caddc co c5 wceq")
+
+
+class Guide(unittest.TestCase):
+    """docs/SYNTAX.md: its example is the one that is tried here."""
+
+    def test_the_example(self) -> None:
+        self.assertEqual(GUIDE.split("```\n")[1], OF_SET_MM)
+
+
+@unittest.skipUnless((DATABASES / "set.mm").exists(), "there is no set.mm")
+class SetMm(Hostile):
+    """What docs/SYNTAX.md shows of set.mm, but for the line and the commit."""
+
+    def test_a_syntax_axiom_without_brackets(self) -> None:
+        self.git("config", "core.compression", "0")
+        (self.room / "db.mm").unlink()
+        self.ask("")
+        text = (DATABASES / "set.mm").read_text("latin-1")
+        self.commit(text, "set.mm")
+        self.git("update-ref", "refs/remotes/origin/main", "HEAD")
+        self.branch()
+        after = text.index("$.", text.index(" 2p2e4 $p ")) + len("$.\n")
+        self.commit(text[:after] + OF_SET_MM + text[after:], "set.mm")
+        numbers = re.compile(r":\d+:|[0-9a-f]{12}")
+        for block in re.findall(r"^```console\n(.*?)^```", GUIDE, re.DOTALL | re.MULTILINE):
+            for part in block.split("$ mmquery ")[1:]:
+                command, *shown = part.splitlines()
+                came = self.query(*command.split())
+                lines = [numbers.sub("", line) for line in came.lines()]
+                self.assertEqual(lines, [numbers.sub("", line) for line in shown], command)
+
+
+def has_metamath() -> bool:
+    """Whether metamath.exe is there."""
+    return Path("/usr/bin/metamath").exists()
+
+
+@unittest.skipUnless(has_metamath(), "there is no metamath.exe")
+class Metamath(unittest.TestCase):
+    """The example of docs/SYNTAX.md is valid for metamath.exe too."""
+
+    def test_the_small_database(self) -> None:
+        with tempfile.TemporaryDirectory() as folder:
+            (Path(folder) / "db.mm").write_text(LOGIC + WITHOUT_BRACKETS.replace("FIVE", "w5"))
+            done = subprocess.run(
+                ["/usr/bin/metamath", "read db.mm", "verify proof *", "exit"],
+                cwd=folder,
+                stdin=subprocess.DEVNULL,
+                capture_output=True,
+                check=False,
+            )
+        self.assertIn(b"All proofs in the database were verified", done.stdout)
