@@ -127,6 +127,7 @@ fn premises_match(symbols: &Symbols, rule: &Rule, premises: &[Span]) -> bool
 
 /// Whether two symbols are disjoint at the theorem: they aren't both variables, or an active `$d`
 /// has both. The first pairs that are found to be disjoint are added to `cache`.
+#[inline(always)]
 fn are_disjoint<A: Allocator>(
     database: &Database<A>,
     theorem: u32,
@@ -154,6 +155,7 @@ fn are_disjoint<A: Allocator>(
 }
 
 /// Whether two symbols are disjoint at the theorem, found without a cache.
+#[inline(never)]
 fn are_disjoint_in_database<A: Allocator>(
     database: &Database<A>,
     theorem: u32,
@@ -352,24 +354,6 @@ fn pairs_are_disjoint<A: Allocator>(
     true
 }
 
-/// Whether the lists that replace the variables of the pairs have more pairs of symbols than are
-/// tested one by one.
-#[inline(always)]
-fn has_many_symbol_pairs(premises: &[Span], pairs: &[(u32, u32)]) -> bool
-    requires { All (λ (p : ℕ × ℕ). (p.0 < length premises.now) × (p.1 < length premises.now))
-        pairs.now }
-{
-    let mut count: usize = 0;
-    for pair in pairs {
-        let first = replacement_of(premises, pair.0);
-        let second = replacement_of(premises, pair.1);
-        let first_count = first.end.saturating_sub(first.start);
-        let second_count = second.end.saturating_sub(second.start);
-        count = count.saturating_add(first_count.saturating_mul(second_count));
-    }
-    count > MAX_SYMBOL_PAIRS
-}
-
 /// Whether for each pair of variables, each variable in what replaces the first is disjoint from
 /// each variable in what replaces the second. A variable of a formula is looked at once, if there
 /// is memory for that.
@@ -415,7 +399,8 @@ fn long_pairs_are_disjoint<A: Allocator>(
 }
 
 /// Whether for each pair of variables, each variable in what replaces the first is disjoint from
-/// each variable in what replaces the second.
+/// each variable in what replaces the second. Where there are many pairs of symbols, those of each
+/// formula that are variables are looked for first.
 #[inline(always)]
 fn keeps_disjoint<A: Allocator>(
     database: &Database<A>,
@@ -439,13 +424,21 @@ fn keeps_disjoint<A: Allocator>(
         pairs.now }
     ensures cached_are_disjoint { AreDisjointAt database.now.statements theorem cache.new }
 {
-    if has_many_symbol_pairs(premises, pairs) {
-        return long_pairs_are_disjoint(
-            database, theorem, symbols, premises, pairs, distinct, cache,
-        );
+    let mut count: usize = 0;
+    for pair in pairs {
+        let first = symbols.formula(replacement_of(premises, pair.0));
+        let second = symbols.formula(replacement_of(premises, pair.1));
+        count = count.saturating_add(first.len().saturating_mul(second.len()));
+        if count > MAX_SYMBOL_PAIRS {
+            return long_pairs_are_disjoint(
+                database, theorem, symbols, premises, pairs, distinct, cache,
+            );
+        }
+        if !are_all_disjoint(database, theorem, first, second, cache) {
+            return false;
+        }
     }
-    let columns = &mut distinct.columns;
-    pairs_are_disjoint(database, theorem, symbols, premises, pairs, columns, cache)
+    true
 }
 
 /// Tests an assertion's step on the entries of the stack, except for the length of its formula.

@@ -1,9 +1,9 @@
-use Rattle.std.proofs.Common.{◌≡◌, ℕ, zero, suc, ◌<◌, Bool, ◌&&◌, false, List, [], ◌∷◌, All, length}
+use Rattle.std.proofs.Common.{◌≡◌, ℕ, ◌<◌, false, All, length}
 use Rattle.std.proofs.Common.{subst, ap, ap₂, sym, ◌∙◌, arith, get_or}
 use Rattle.std.specs.List.{list_all}
 use Rattle.std.proofs.lemmas.Grind.{common_steps}
 use Rattle.std.proofs.lemmas.List.{take_all}
-use Rattle.std.proofs.Math.Bool.{and-false}
+use Rattle.std.proofs.lemmas.List.Folds.{list_all_at}
 use Rattle.mm_spec.specs.Derivation.{are_all_disjoint}
 use Rattle.mm_spec.specs.Citation.{context_at}
 use Rattle.mm_spec.specs.Frame.{symbol_names}
@@ -11,16 +11,6 @@ use Rattle.mm_machine.specs.Arena.{span_formula}
 use Rattle.mm_machine.specs.Replaced.{replacement}
 use Rattle.mm_machine.proofs.GrowLaw.{formula_in_range, replacement_is_in}
 use Rattle.mm_machine.proofs.rule_test.pairs_are_disjoint.Goals as goal
-
--- a pair that fails
-list_all_fails : (is_disjoint : ℕ × ℕ → Bool) (ps : List (ℕ × ℕ)) (i : ℕ) → i < length ps
-    → is_disjoint (get_or ps i (0, 0)) ≡ false → list_all is_disjoint ps ≡ false
-list_all_fails is_disjoint [] i i_lt_length pair_fails = absurd (omega arith)
-list_all_fails is_disjoint (q ∷ ps) zero i_lt_length pair_fails = ap (λ b. b && list_all is_disjoint
-    ps) pair_fails
-list_all_fails is_disjoint (q ∷ ps) (suc i) i_lt_length pair_fails =
-    ap (λ b. is_disjoint q && b) (list_all_fails is_disjoint ps i (omega arith) pair_fails)
-    ∙ and-false (is_disjoint q)
 
 pub returns-then-not-are_apart-clause-tells_disjoint :
     goal.returns-then-not-are_apart-clause-tells_disjoint
@@ -35,10 +25,10 @@ returns-then-not-are_apart-clause-tells_disjoint g c =
     (sym (c.formula-first.ensures ∙ ap (span_formula xs) c.replacement_of.ensures))
     (sym (c.formula-second.ensures ∙ ap (span_formula xs) c.replacement_of-in-loop-pair.ensures))
     ∙ sym c.are_apart.ensures.tells_disjoint ∙ c.if-not-are_apart.true in
-    sym (list_all_fails
+    sym (list_all_at
     (λ (q : ℕ × ℕ). are_all_disjoint context (replacement xs es q.0) (replacement xs es q.1))
     c.args.pairs.now
-    c.loop-pair.pair-index c.loop-pair-test.true pair_fails)
+    c.loop-pair.pair-index (0, 0) c.loop-pair-test.true pair_fails)
 
 pub are_apart-requires-clause-second_are_symbols :
     goal.are_apart-requires-clause-second_are_symbols
