@@ -11,13 +11,14 @@ from typing import Any
 from query.tests.blocks import Blocks, blocks_in, lines_in
 from query.tests.browser import databases
 from query.tests.repositories import Repositories
-from query.tests.world import SMALL, World, invented
+from query.tests.world import PROGRAM_FOR_NODE, SMALL, World, invented
 from query.text import read_text
 
 TYPESET = databases.EVIL + databases.EVIL_TYPESETTING
 FORBIDDEN = ("innerHTML", "outerHTML", "insertAdjacentHTML", "document.write", "eval(", "Function(")
 
 
+@unittest.skipUnless(PROGRAM_FOR_NODE.exists(), "web/build wasn't run")
 class Page(World):
     """The command."""
 
@@ -113,6 +114,7 @@ class Page(World):
         self.assertIn("made by Node 18 or later, and there is no command node", came.err)
 
 
+@unittest.skipUnless(PROGRAM_FOR_NODE.exists(), "web/build wasn't run")
 class Releases(Repositories):
     """Beside an older release."""
 
@@ -126,6 +128,7 @@ class Releases(Repositories):
         self.assertEqual(len(against["added"]), 1)
 
 
+@unittest.skipUnless(PROGRAM_FOR_NODE.exists(), "web/build wasn't run")
 class Readers(World):
     """The page has what mmquery's own reader finds in a text."""
 
