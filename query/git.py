@@ -11,13 +11,13 @@ from __future__ import annotations
 
 import os
 import re
-import shutil
 import subprocess
 from collections.abc import Mapping
 from dataclasses import dataclass
 from pathlib import Path
 
 from query.errors import NoAnswer, shown
+from query.program import located
 
 NO_COMMIT = "0" * 40
 """What GitHub gives as the commit before a push that makes a branch."""
@@ -174,11 +174,8 @@ def said(done: subprocess.CompletedProcess[bytes]) -> str:
 
 
 def program() -> str:
-    """Where git is. A folder of PATH that is relative to the working folder doesn't count, since
-    whoever fills that folder could bring a git."""
-    folders = os.environ.get("PATH", os.defpath).split(os.pathsep)
-    path = os.pathsep.join(folder for folder in folders if os.path.isabs(folder))
-    found = shutil.which("git", path=path)
+    """Where git is."""
+    found = located("git")
     if found is None:
         raise NoAnswer("git isn't installed")
     return found

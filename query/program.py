@@ -4,6 +4,7 @@ import hashlib
 import os
 import re
 import shutil
+from collections.abc import Mapping, Sequence
 from dataclasses import dataclass
 from functools import cached_property
 
@@ -35,9 +36,18 @@ class Refused(NoAnswer):
 
 
 class Running:
-    """The program while it runs. A signal that ends the command ends it too."""
+    """The program while it runs. A signal that ends the command ends it too. It gets the open files
+    `passed`, and the variables `surroundings` in place of ours."""
 
-    def __init__(self, path: str, words: list[str], given: int, errors: int | None) -> None:
+    def __init__(
+        self,
+        path: str,
+        words: list[str],
+        given: int,
+        errors: int | None,
+        passed: Sequence[int] = (),
+        surroundings: Mapping[str, str] | None = None,
+    ) -> None:
         import subprocess
 
         try:
@@ -47,6 +57,8 @@ class Running:
                 stdout=subprocess.PIPE,
                 stderr=errors,
                 pipesize=PIPE,
+                pass_fds=passed,
+                env=surroundings,
             )
         except OSError as error:
             raise NoAnswer(f"{shown(path)} can't be run: {reason(error)}") from None
@@ -103,6 +115,14 @@ def devnull() -> int:
     import subprocess
 
     return subprocess.DEVNULL
+
+
+def located(command: str) -> str | None:
+    """Where a command is. A folder of PATH that is relative to the working folder doesn't count,
+    since whoever fills that folder could bring a command."""
+    folders = os.environ.get("PATH", os.defpath).split(os.pathsep)
+    path = os.pathsep.join(folder for folder in folders if os.path.isabs(folder))
+    return shutil.which(command, path=path)
 
 
 def found() -> Program:

@@ -1,4 +1,4 @@
-// What node.js needs of Node, for who checks its types where Node's own declarations aren't at hand.
+// What the program in Node needs of Node, for who checks its types where Node's own declarations aren't at hand.
 
 declare module "node:fs" {
     export function openSync(path: string): number;
@@ -7,7 +7,27 @@ declare module "node:fs" {
 }
 
 declare module "node:zlib" {
+    export function deflateSync(bytes: Uint8Array, options: { level: number }): { toString(form: "base64"): string };
+    export function gunzipSync(bytes: Uint8Array, options: { maxOutputLength: number }): Uint8Array;
     export function inflateRawSync(bytes: Uint8Array): Uint8Array;
+}
+
+declare module "node:crypto" {
+    export const webcrypto: unknown;
+}
+
+declare module "node:path" {
+    export function basename(path: string): string;
+}
+
+declare module "node:util" {
+    type Kind = { type: "string" | "boolean"; multiple?: boolean; short?: string };
+    type Value<K extends Kind> = K["type"] extends "boolean" ? boolean : K["multiple"] extends true ? string[] : string;
+    export function parseArgs<O extends Record<string, Kind>>(asked: {
+        args: string[];
+        options: O;
+        allowPositionals: boolean;
+    }): { values: { [name in keyof O]?: Value<O[name]> }; positionals: string[] };
 }
 
 declare const process: { argv: string[]; exitCode: number | undefined };

@@ -21,4 +21,13 @@
  * @property {number} memory how many bytes of memory the module has at the end
  */
 
+/**
+ * What the scripts are told by the builder, which has it of Python.
+ * @typedef {object} Tables
+ * @property {string} maker which program it is
+ * @property {import("./packer/typesetting.js").Entities} entities
+ * @property {Record<string, [string, string]>} faults what each code means, and what to do
+ * @property {[string, string]} unknown the same for another code
+ */
+
 export {};

@@ -1,22 +1,16 @@
-"""`page`: one HTML file that shows a whole database, or one beside an older release of it."""
+"""`page`: one HTML file that shows a whole database, or one beside an older release of it. The
+program for Node makes it."""
 
 import argparse
-import hashlib
 import os
-from typing import Any
+from contextlib import ExitStack
 
 from query import progress
-from query.changes import Comparison, Side, text_of
 from query.commands import Command
 from query.context import Context
 from query.database import Database
-from query.errors import NoAnswer, shown
+from query.errors import NoAnswer
 from query.options import Options, add_choice_of_citations, add_database
-from query.page.assemble import assemble
-from query.page.pack import Blocks, Marked, pack
-from query.report import Prepared
-from query.text import Text
-from query.visible import visible
 
 PAGE = """
 Writes one HTML file to standard output. It loads nothing else and needs no server; a browser of
@@ -27,10 +21,11 @@ without it; for each chapter what it states and which axioms come in there.
 Without --only the axioms are all $a statements. With --watch AXIOM, as often as wanted, each
 chapter says first how many of its theorems rest on these. With --against OLD the page shows
 besides what is new, gone, renamed and changed since, and which axioms theorems gained and lost,
-with the reason.
+with the reason. The page is made by Node 18 or later: `node mmdepend.mjs page` does the same.
 
 Example: mmquery page --against v1:set.mm set.mm > set.html
 """
+PROGRAM = "mmdepend.mjs"
 
 
 def configure(parser: argparse.ArgumentParser) -> None:
@@ -47,95 +42,95 @@ def configure(parser: argparse.ArgumentParser) -> None:
     add_choice_of_citations(parser)
 
 
-def marked(database: Database, found: Prepared) -> Marked:
-    """Marks and citations as the page packs them."""
-    if found.marks is None or found.cites is None:
-        raise NoAnswer(f"{database.name}: marks and citations are wanted")
-    if not found.columns and database.options.only is not None:
-        raise NoAnswer(
-            f"{database.name}: has no axiom of typecode '{shown(database.options.only)}'"
-        )
-    if not found.columns and not found.theorems:
-        raise NoAnswer(f"{database.name}: has neither axioms nor theorems")
-    labels = found.theorems + found.columns + found.others
-    return Marked(
-        theorems=found.theorems,
-        columns=found.columns,
-        rows=[found.marks.row(number) for number in range(found.marks.rows)],
-        width=8 * found.marks.width,
-        users=found.marks.sizes(),
-        cited=[[labels[node] for node in found.cites[row]] for row in range(len(found.theorems))],
-    )
-
-
 def name_of(word: str) -> str:
     """How the page calls what a word of the command line names."""
     return "standard input" if word == "-" else os.path.basename(word) or word
 
 
-def watched(arguments: argparse.Namespace, database: Database, columns: list[str]) -> list[str]:
-    """The axioms that are watched. NoAnswer where one isn't an axiom of the page."""
-    labels = [label for word in arguments.watch for label in word.split(",") if label]
-    for label in labels:
-        if label not in columns:
-            raise NoAnswer(f"{database.name}: has no axiom '{shown(label)}' to be watched")
-    return labels
+def words_of(arguments: argparse.Namespace) -> list[str]:
+    """The options for the program."""
+    words = [f"--name={name_of(arguments.database)}"]
+    words += [f"--{name}" for name in ("essential", "open") if getattr(arguments, name)]
+    for name in ("only", "title"):
+        value = getattr(arguments, name)
+        words += [] if value is None else [f"--{name}={value}"]
+    return words + [f"--watch={word}" for word in arguments.watch]
 
 
-def maker() -> str:
-    """What the program says of its version."""
-    from query import program
+def program() -> str:
+    """The program for Node: beside `mmquery` where it was unpacked, else where it was built.
+    NoAnswer where there is none."""
+    from query.program import HOME
 
-    running = program.Running(program.found().path, ["--version"], program.devnull(), None)
-    out, _, status = running.ended()
-    if status != 0:
-        raise NoAnswer(f"{shown(program.found().path)} can't be run")
-    return out.decode("latin-1").strip()
-
-
-def about(arguments: argparse.Namespace, database: Database, columns: list[str]) -> dict[str, Any]:
-    """What the page says of its making."""
-    data = database.text()
-    name = name_of(arguments.database)
-    return {
-        "title": visible(arguments.title or name),
-        "file": visible(name),
-        "bytes": len(data),
-        "sha256": hashlib.sha256(data).hexdigest(),
-        "maker": visible(maker()),
-        "only": arguments.only and visible(arguments.only),
-        "essential": arguments.essential,
-        "open": arguments.open,
-        "watched": watched(arguments, database, columns),
-    }
+    for path in (os.path.join(HOME, PROGRAM), os.path.join(HOME, "out", "web", PROGRAM)):
+        if os.path.exists(path):
+            return path
+    raise NoAnswer(f"there is no {PROGRAM}, which makes pages; web/build makes it")
 
 
-def difference(arguments: argparse.Namespace, old: Database, new: Database, text: Text) -> Blocks:
-    """The block of the comparison with an older release."""
-    from query.page.against import Difference
+def node() -> str:
+    """Where Node is. NoAnswer where it isn't."""
+    from query.program import located
 
-    progress.now(f"comparing {old.name} and {new.name}")
-    before = text_of(old)
-    comparison = Comparison(Side(old.dependence(), before), Side(new.dependence(), text))
-    return {"against": Difference(comparison, before, text).block(name_of(arguments.against))}
+    found = located("node")
+    if found is None:
+        raise NoAnswer("pages are made by Node 18 or later, and there is no command node")
+    return found
+
+
+def made(databases: list[Database], words: list[str]) -> bytes:
+    """The page that the program makes of the database, beside an older one where there are two.
+    NoAnswer where it makes none."""
+    import subprocess
+
+    from query.program import Running, devnull
+
+    with ExitStack() as opened:
+        places = {}
+        for database in databases:
+            descriptor = database.source.opened()
+            opened.callback(os.close, descriptor)
+            places[descriptor] = f"/dev/fd/{descriptor}"
+        first, *others = places.values()
+        line = [program(), "page", *words, *(f"--against={place}" for place in others), first]
+        surroundings = {
+            name: value for name, value in os.environ.items() if not name.startswith("NODE_")
+        }
+        running = Running(node(), line, devnull(), subprocess.PIPE, tuple(places), surroundings)
+        out, errors, status = running.ended()
+    for database in databases:
+        database.source.see_unchanged()
+    if status == 0:
+        return out
+    if status < 0:
+        raise NoAnswer(f"{databases[0].name}: the program was ended by signal {-status}")
+    raise NoAnswer(
+        told(errors.decode("utf-8", "replace"), databases, list(places.values()), status)
+    )
+
+
+def told(said: str, databases: list[Database], places: list[str], status: int) -> str:
+    """Why the program made no page, with the names of databases in place of those that it got."""
+    line = (said.strip().splitlines() or [f"the program ended with status {status}"])[-1]
+    line = line.removeprefix("mmdepend: ")
+    for database, place in zip(databases, places):
+        if line.startswith(f"{place}:"):
+            return database.name + line.removeprefix(place)
+    return f"{databases[0].name}: {line}"
 
 
 def run(context: Context, arguments: argparse.Namespace) -> int:
     """Answers."""
     options = Options(only=arguments.only, essential=arguments.essential, open=arguments.open)
-    database = context.database(arguments.database, options)
-    database.text()  # no report has one
-    old = context.database(arguments.against, options) if arguments.against else None
-    if old is not None:
-        old.text()
-    found = database.prepared(options.only)
-    marks = marked(database, found)
-    facts = about(arguments, database, found.columns)
-    progress.now(f"reading {database.name}")
-    text = text_of(database)
-    more = difference(arguments, old, database, text) if old else {}
-    progress.now(f"packing {database.name}")
-    context.out.write(assemble({**pack(text, marks, facts), **more}, facts["title"]))
+    databases = [context.database(arguments.database, options)]
+    words = words_of(arguments)
+    if arguments.against:
+        databases.append(context.database(arguments.against, options))
+        words.append(f"--against-name={name_of(arguments.against)}")
+    for database in databases:
+        database.text()  # no report has one
+    progress.now(f"verifying {databases[0].name}")
+    context.out.write(made(databases, words))
     return 0
 
 

@@ -1,33 +1,19 @@
-"""The blocks of a page as `mmquery page` packs them, for tests of who else packs them."""
+"""The blocks of a page that `mmquery page` wrote, for tests of what a page has."""
 
-import argparse
-from pathlib import Path
-from typing import Any
+import base64
+import re
+import zlib
 
-from query.changes import text_of
-from query.commands.page import about, difference, marked
-from query.database import Database
-from query.options import Options
-from query.page.pack import Blocks, pack
+Blocks = dict[str, bytes]
+
+HOLDER = re.compile(r'<script type="application/octet-stream" id="data-([^"]*)">([^<]*)</script>')
 
 
-def request_of(options: Options) -> dict[str, Any]:
-    """What the page's scripts call the options."""
-    return {"only": options.only, "essential": options.essential, "open": options.open}
+def blocks_in(page: str) -> Blocks:
+    """The blocks of a page, by their names."""
+    return {name: zlib.decompress(base64.b64decode(signs)) for name, signs in HOLDER.findall(page)}
 
 
-def blocks_of(path: Path, options: Options, older: Path | None = None) -> tuple[Blocks, str]:
-    """The blocks of a database's page, beside an older release of it, and what it says of its
-    maker."""
-    database = Database.opened(str(path), options, False)
-    found = database.prepared(options.only)
-    words = argparse.Namespace(
-        database=str(path), against=str(older), title=None, watch=[], **request_of(options)
-    )
-    facts = about(words, database, found.columns)
-    text = text_of(database)
-    blocks = pack(text, marked(database, found), facts)
-    if older is not None:
-        old = Database.opened(str(older), options, False)
-        blocks.update(difference(words, old, database, text))
-    return blocks, str(facts["maker"])
+def lines_in(blocks: Blocks, name: str) -> list[str]:
+    """The lines of a block that is a text."""
+    return blocks[name].decode().split("\n")

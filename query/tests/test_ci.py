@@ -9,7 +9,7 @@ import unittest
 from pathlib import Path
 
 from query.tests.repositories import ADDED, BASE, WATCH, Repositories, changed
-from query.tests.world import TOP, Came, World, program
+from query.tests.world import PROGRAM_FOR_NODE, TOP, Came, World, program
 
 SCRIPT = TOP / "docs" / "ci" / "check-database"
 JOB = TOP / "docs" / "ci" / "github.yml"
@@ -72,6 +72,7 @@ class Script(Repositories):
         folder.mkdir()
         shutil.copy(TOP / "mmquery", folder)
         shutil.copy(program() or "", folder / "mmdepend")
+        shutil.copy(PROGRAM_FOR_NODE, folder)
         hidden = shutil.ignore_patterns("tests", "__pycache__")
         shutil.copytree(TOP / "query", folder / "query", ignore=hidden)
         names = sorted(

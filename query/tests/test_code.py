@@ -11,8 +11,8 @@ TOOLS = Path("/usr/bin")
 MOST_LINES = 40  # of a function
 SCRIPTS = ["check", "test", "mmdepend", "package", "docs/ci/check-database", "tests/first-run"]
 PYTHON = [
-    *("query", str(MMQUERY), "query/tests/check", "web/page/build", "web/page/check"),
-    *("library/compile", "tests/library"),
+    *("query", str(MMQUERY), "query/tests/check", "web/build", "web/bundle.py", "web/check"),
+    *("web/verifier/build", "web/verifier/check", "library/compile", "tests/library"),
 ]
 
 

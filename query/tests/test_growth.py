@@ -4,8 +4,7 @@ stretch once. How much they take, and how it grows, says `bench/hostile-query`."
 import unittest
 from pathlib import Path
 
-from query import rules, typesetting
-from query.markup import one_line
+from query import rules
 from query.remarks import tokens
 from query.tests import shapes
 from query.tests.world import World
@@ -58,7 +57,6 @@ class Parts(unittest.TestCase):
         many = 200_000
         self.assertEqual(len(list(tokens(rules.TOKEN, "/* " * many))), many)
         self.assertEqual(len(list(tokens(rules.TOKEN, "/* ; */ " * many + "x"))), 1)
-        self.assertEqual(list(typesetting.statements("/* " * many + ";")), [[]])
 
     def test_remarks_are_what_they_were(self) -> None:
         for text, wanted in (
@@ -71,32 +69,6 @@ class Parts(unittest.TestCase):
         ):
             found = [match[0] for match in tokens(rules.TOKEN, text)]
             self.assertEqual(found, wanted, text)
-
-    def test_quoted(self) -> None:
-        for text, wanted in (
-            ("'a''b' c;", ["'a''b'", "c"]),
-            ("'a'' c;", ["'a'", "c"]),
-            ("'a;", ["a"]),
-            ("'''';", ["''''"]),
-            ("''';", ["''"]),
-            ("'a\"b' \"c'd\";", ["'a\"b'", '"c\'d"']),
-        ):
-            self.assertEqual(list(typesetting.statements(text)), [wanted], text)
-
-    def test_preformatted(self) -> None:
-        many = 200_000
-        self.assertEqual(one_line("<pre " * many).count("<pre"), many)
-        self.assertEqual(one_line("a <pre\n> b\nc"), "a <pre\n>\x0bb\x0bc".replace("\x0bb", " b"))
-
-    def test_definitions(self) -> None:
-        many = 50_000
-        self.assertEqual(len(typesetting.pieces("<i>x" * many)), 1)
-        self.assertEqual(len(typesetting.pieces("<i>x</i>y" * many)), 2 * many)
-        self.assertEqual(typesetting.pieces("<i" + " " * many + "<")[0].tags, ())
-        (piece,) = typesetting.pieces(f"<span {'a' * many}>x</span>")
-        self.assertEqual((piece.text, piece.tags), ("x", ()))
-        for digits, wanted in (("0" * many + "65", "A"), ("1" * many, "\ufffd"), ("8364", "€")):
-            self.assertEqual(typesetting.pieces(f"&#{digits};")[0].text, wanted)
 
 
 class Small(unittest.TestCase):

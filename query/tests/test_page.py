@@ -1,151 +1,166 @@
-"""What the page is made of: the `$t` comment, comments, conditions, and its scripts."""
+"""`mmquery page`: what the page of a database has, and why there is none."""
 
-import re
+import hashlib
+import json
+import random
 import shutil
-import subprocess
 import unittest
-from itertools import combinations
+from pathlib import Path
+from typing import Any
 
-from query.markup import HAS_COMMENT, MODIFICATION_DISCOURAGED, USAGE_DISCOURAGED, marks, one_line
-from query.page.assemble import SCRIPTS, WEB, assemble, script, shared
-from query.page.conditions import Grouping, line
-from query.page.pack import Numbers, pack_lists, zigzag
+from query.tests.blocks import Blocks, blocks_in, lines_in
+from query.tests.browser import databases
+from query.tests.repositories import Repositories
+from query.tests.world import PROGRAM_FOR_NODE, SMALL, World, invented
 from query.text import read_text
-from query.typesetting import Piece, hue, pieces, read_typesetting
-from query.visible import visible
 
-DECLARED = re.compile(r"^(?:async )?(?:function|class|const|let) (\w+)", re.M)
-TEXT = b"""$c |- set wff = $. $v x y z p q $.
-vx $f set x $. vy $f set y $. vz $f set z $. wp $f wff p $. wq $f wff q $.
-${ $d x y z $. $d p x $. $d q x $. $d q y $. $d q z $.
-  all $p |- x = p $= ( vq vz wq ) A $. some $p |- x = p $= ( vy vz ) A $. $}
-none $a |- x = y $.
-"""
+TYPESET = databases.EVIL + databases.EVIL_TYPESETTING
+FORBIDDEN = ("innerHTML", "outerHTML", "insertAdjacentHTML", "document.write", "eval(", "Function(")
 
 
-class Typesetting(unittest.TestCase):
-    """The reader of the `$t` comment."""
+@unittest.skipUnless(PROGRAM_FOR_NODE.exists(), "web/build wasn't run")
+class Page(World):
+    """The command."""
 
-    def test_definitions(self) -> None:
-        found = read_typesetting(
-            """ htmldef "a" as "no"; /* althtmldef "a" as "remark"; */
-            althtmldef "a" as ' &forall; ' + "<SUB>x</SUB>"; latexdef "a" as "no";
-            althtmldef 'it"""
-            "''s' as 'say \"x\"'; "
-            """althtmldef "empty" as ' &nbsp; '; althtmldef "b" as 'bad' 'two';
-            htmlvarcolor '<FONT COLOR="#0000FF">wff</FONT>';"""
-        )
-        self.assertEqual(found.symbols["a"], [Piece(" \u2200 ", ()), Piece("x", ("sub",))])
-        self.assertEqual(found.symbols["it's"], [Piece('say "x"', ())])
-        self.assertEqual(sorted(found.symbols), ["a", "it's"])
-        self.assertEqual(found.legend, [Piece("wff", ("blue",))])
-        self.assertEqual(read_typesetting(None).symbols, {})
+    def page(self, *words: str, given: bytes = b"") -> str:
+        """The page that the words ask for."""
+        came = self.query("page", *words, given=given)
+        self.assertEqual((came.status, came.err), (0, ""), words)
+        return came.out
 
-    def test_later_definitions(self) -> None:
-        found = read_typesetting('althtmldef "a" as "one"; althtmldef "a" as "two";')
-        self.assertEqual(found.symbols["a"], [Piece("two", ())])
-        found = read_typesetting('althtmldef "a" as "one"; althtmldef "a" as "";')
-        self.assertEqual(found.symbols, {})
+    def blocks(self, *words: str, given: bytes = b"") -> Blocks:
+        """Its blocks."""
+        return blocks_in(self.page(*words, given=given))
 
-    def test_markup(self) -> None:
-        kept = pieces("<SPAN CLASS=hidden STYLE='color:#C3C;display:none'>A<i>b</i></span>c")
-        wanted = [Piece("A", ("purple",)), Piece("b", ("purple", "i")), Piece("c", ())]
-        self.assertEqual(kept, wanted)
-        for text in ("<script>1</script>", "a < b", "</b>", "<img src=x onerror=y>", "<b x"):
-            self.assertEqual(pieces(text), [Piece(text, ())])
-        self.assertEqual(pieces("&lt;b&gt;"), [Piece("<b>", ())])
-        self.assertEqual(pieces("<b onclick='x'>y"), [Piece("y", ("b",))])
-        self.assertEqual(pieces("&#8238;x&#0;"), [Piece("\ufffdx\ufffd", ())])
+    def facts(self, *words: str, given: bytes = b"") -> dict[str, Any]:
+        """What it says of its making."""
+        facts: dict[str, Any] = json.loads(self.blocks(*words, given=given)["facts"])
+        return facts
 
-    def test_hues(self) -> None:
-        known = {"#0000FF": "blue", "red": "red", "#CC33CC": "purple", "#00CC00": "green"}
-        known |= {"#CC4400": "orange", "gray": "gray", "#ffffff": "gray"}
-        for colour, name in known.items():
-            self.assertEqual(hue(colour), name)
-        for colour in ("black", "#000", "rgb(1,2,3)", "", "url(x)", "#12345"):
-            self.assertIsNone(hue(colour))
-
-    def test_visible(self) -> None:
-        self.assertEqual(visible("a\x1b\x7f\u200b\u202eb"), "a\u241b\u2421\ufffd\ufffdb")
-        self.assertEqual(visible("\u2200\U0001d465"), "\u2200\U0001d465")
-
-
-class Comments(unittest.TestCase):
-    """Comments as lines."""
-
-    def test_one_line(self) -> None:
-        self.assertEqual(one_line("  One\n  two.\n\n  Three \t four \n"), "One two.\fThree four")
-        kept = one_line("a <HTML><PRE>\n x\n\n  y\n</PRE>\n b </HTML>")
-        self.assertEqual(kept, "a <HTML> <PRE>\v x\v\v  y\v</PRE> b </HTML>")
-        self.assertNotIn("\n", one_line("<pre>\nnever closed\n\n"))
-
-    def test_marks(self) -> None:
-        both = "(New usage\n is discouraged.) (Proof modification is  discouraged.)"
-        wanted = HAS_COMMENT | USAGE_DISCOURAGED | MODIFICATION_DISCOURAGED
-        self.assertEqual(marks(both), wanted)
-        self.assertEqual(marks("It is discouraged."), HAS_COMMENT)
-        self.assertEqual(marks(" \n "), 0)
-
-
-class Conditions(unittest.TestCase):
-    """Conditions as lines."""
-
-    def test_lines(self) -> None:
-        text = read_text(TEXT.replace(b"vq ", b"vy "))
-        grouping = Grouping(text.variables)
-        lines = [line(text, grouping, one) for one in text.assertions]
-        self.assertEqual(lines[0], "x p\ty z q\ty x z q$z x y q$q x y z")
-        self.assertEqual(lines[1], "x p\ty z\ty x z$z x y")
-        self.assertEqual(lines[2], "")
-        whole = read_text(
-            b"$c |- set $. $v x y $. vx $f set x $. vy $f set y $. $d x y $. a $p |- x $= vy $."
-        )
-        found = line(whole, Grouping(whole.variables), whole.assertions[0])
-        self.assertEqual(found, "\ty\t*")
-
-    def test_groups(self) -> None:
-        variables = dict.fromkeys("abcdef", "v")
-        for wanted in (["abc"], ["abc", "cd"], ["abcd", "ef"], ["ab", "ac", "bd", "cd"]):
-            given = [pair for group in wanted for pair in combinations(group, 2)]
-            groups = Grouping(variables).groups(given)
-            came = {frozenset(pair) for group in groups for pair in combinations(group, 2)}
-            self.assertEqual(came, {frozenset(pair) for pair in given})
-            self.assertEqual(len(groups), len(wanted))
-
-
-class Packed(unittest.TestCase):
-    """Numbers, and the one file."""
-
-    def test_numbers(self) -> None:
-        numbers = Numbers()
-        for number in (0, 127, 128, 300):
-            numbers.add(number)
-        self.assertEqual(bytes(numbers), b"\x00\x7f\x80\x01\xac\x02")
-        self.assertEqual([zigzag(number) for number in (0, -1, 1, -2)], [0, 1, 2, 3])
-        lengths, gaps = pack_lists([[0, 1, 5], []])
-        self.assertEqual((bytes(lengths), bytes(gaps)), (b"\x03\x00", b"\x00\x00\x03"))
-
-    def test_file(self) -> None:
-        page = assemble({"facts": b"</script>{{script}}"}, "{{data}}<b>").decode()
+    def test_the_file(self) -> None:
+        self.write("b.mm", SMALL)
+        page = self.page("b.mm", "--title", "{{data}}<b>")
+        self.assertTrue(page.startswith("<!doctype html>"))
         self.assertIn("<title>{{data}}&lt;b&gt;</title>", page)
-        self.assertEqual(page.count("</script>"), 2)
         self.assertEqual(page.count("default-src 'none'"), 1)
+        self.assertEqual(page.count('<script type="module">'), 1)
+        for word in FORBIDDEN:
+            self.assertNotIn(word, page)
+        self.assertEqual(page, self.page("b.mm", "--title", "{{data}}<b>"))
 
-    def test_scripts(self) -> None:
-        known = {*SCRIPTS, "main.js", "types.js"}
-        self.assertEqual(known, {path.name for path in WEB.glob("*.js")})
-        code = script([*shared(), WEB / "main.js"])
-        names = DECLARED.findall(code)
-        self.assertEqual(sorted(names), sorted(set(names)))
-        kept = re.findall(r"(?m)^(?:import|export)\b.*", code)
-        self.assertEqual(kept, [])
-        for word in ("innerHTML", "outerHTML", "insertAdjacentHTML", "document.write", "eval("):
-            self.assertFalse(word in code, word)
+    def test_what_it_says_of_its_making(self) -> None:
+        self.write("b.mm", SMALL)
+        data = SMALL.encode("latin-1")
+        facts = self.facts("b.mm")
+        self.assertEqual((facts["title"], facts["file"]), ("b.mm", "b.mm"))
+        self.assertEqual(facts["bytes"], len(data))
+        self.assertEqual(facts["sha256"], hashlib.sha256(data).hexdigest())
+        self.assertRegex(facts["maker"], r"\Ammdepend [0-9.]+")
+        self.assertEqual(
+            facts["maker"], self.ran(self.surroundings()["MMDEPEND"], "-V").out.strip()
+        )
+        self.assertEqual((facts["only"], facts["essential"], facts["open"]), (None, False, False))
+        facts = self.facts("b.mm", "--only", "|-", "--essential", "--open", "--watch", "ax-1,ax-mp")
+        self.assertEqual((facts["only"], facts["essential"], facts["open"]), ("|-", True, True))
+        self.assertEqual(facts["watched"], ["ax-1", "ax-mp"])
 
-    @unittest.skipUnless(shutil.which("tsc"), "node-typescript isn't installed")
-    def test_types(self) -> None:
-        done = subprocess.run(["tsc", "-p", str(WEB)], stdout=subprocess.PIPE, check=False)
-        self.assertEqual((done.returncode, done.stdout.decode()), (0, ""))
+    def test_where_databases_come_from(self) -> None:
+        data = SMALL.encode("latin-1")
+        self.assertEqual(self.facts("-", given=data)["file"], "standard input")
+        self.write("-b.mm", SMALL)
+        self.assertEqual(self.facts("--", "-b.mm")["file"], "-b.mm")
+        self.write("b.mm", SMALL)
+        self.ran("xz", "b.mm")
+        self.assertEqual(self.facts("b.mm.xz")["sha256"], hashlib.sha256(data).hexdigest())
+
+    def test_the_words_of_the_environment(self) -> None:
+        self.write("b.mm", SMALL)
+        self.write("other.js", "process.stdout.write('other'); process.exit(0);\n")
+        came = self.query("page", "b.mm", NODE_OPTIONS="--require ./other.js")
+        self.assertTrue(came.out.startswith("<!doctype html>"), came.out[:200])
+        script = Path(self.write("node", "#!/bin/sh\necho other\n"))
+        (self.room / script).chmod(0o755)
+        came = self.query("page", "b.mm", PATH=f".::{self.surroundings()['PATH']}")
+        self.assertTrue(came.out.startswith("<!doctype html>"), came.out[:200])
+
+    def test_why_there_is_none(self) -> None:
+        self.write("b.mm", SMALL)
+        self.write("bad.mm", SMALL + "x $p |- p $= $.\n")
+        self.write("empty.mm", "$c a $.\n")
+        self.write("report", self.report("b.mm"))
+        came = self.query("page", "bad.mm")
+        self.assertEqual((came.status, came.out), (2, ""))
+        self.assertEqual(came.err, self.query("rests", "bad.mm", "x").err)
+        old = self.query("page", "b.mm", "--against", "bad.mm")
+        self.assertEqual((old.status, old.err), (2, came.err))
+        for words, why in {
+            ("empty.mm",): "empty.mm: has neither axioms nor theorems",
+            ("b.mm", "--only", "none"): "b.mm: has no axiom of typecode 'none'",
+            ("b.mm", "--watch", "none"): "b.mm: has no axiom 'none' to be watched",
+            ("b.mm", "--against", "empty.mm"): "empty.mm: has neither axioms nor theorems",
+            ("report",): "report: a report, where the database is wanted",
+            ("b.mm", "--against", "report"): "report: a report, where the database is wanted",
+            ("none.mm",): "none.mm: there is no such file",
+        }.items():
+            self.refuses("page", *words, why=why)
+
+    def test_without_node(self) -> None:
+        self.write("b.mm", SMALL)
+        (self.room / "bin").mkdir()
+        for command in ("python3", "env", "sh"):
+            (self.room / "bin" / command).symlink_to(shutil.which(command) or "")
+        came = self.query("page", "b.mm", PATH=str(self.room / "bin"))
+        self.assertEqual((came.status, came.out), (2, ""))
+        self.assertIn("made by Node 18 or later, and there is no command node", came.err)
+
+
+@unittest.skipUnless(PROGRAM_FOR_NODE.exists(), "web/build wasn't run")
+class Releases(Repositories):
+    """Beside an older release."""
+
+    def test_a_revision_of_git(self) -> None:
+        self.commit(SMALL)
+        self.write("db.mm", SMALL + "last $p |- p $= ? $.\n")
+        came = self.query("page", "--open", "--against", "HEAD:db.mm", "db.mm")
+        self.assertEqual((came.status, came.err), (0, ""))
+        against = json.loads(blocks_in(came.out)["against"])
+        self.assertEqual(against["name"], "HEAD:db.mm")
+        self.assertEqual(len(against["added"]), 1)
+
+
+@unittest.skipUnless(PROGRAM_FOR_NODE.exists(), "web/build wasn't run")
+class Readers(World):
+    """The page has what mmquery's own reader finds in a text."""
+
+    def test_they_agree(self) -> None:
+        chance = random.Random(5)
+        texts = [SMALL, databases.EVIL, TYPESET, databases.OLDER, *databases.CORNERS.values()]
+        texts += [invented(chance).text for _ in range(20)]
+        for at, text in enumerate(texts):
+            name = self.write(f"{at}.mm", text)
+            came = self.query("page", name)
+            self.assertEqual((came.status, came.err), (0, ""), text)
+            self.compare(blocks_in(came.out), text)
+
+    def compare(self, blocks: Blocks, text: str) -> None:
+        """The blocks are those of the text."""
+        read = read_text(text.encode("latin-1"))
+        facts = json.loads(blocks["facts"])
+        self.assertEqual(lines_in(blocks, "labels"), [one.label for one in read.assertions])
+        self.assertEqual(
+            lines_in(blocks, "formulas"), [read.formula(one) for one in read.assertions]
+        )
+        essential = [one for one in read.hypotheses if one.kind == "e"]
+        self.assertEqual(facts["hypotheses"], len(essential))
+        given = [read.formula(one) for one in essential] or [""]
+        self.assertEqual(lines_in(blocks, "hypothesis-formulas"), given)
+        self.assertEqual(facts["variables"], [list(pair) for pair in read.variables.items()])
+        self.assertEqual([row[0] for row in facts["chapters"]], [one.level for one in read.headers])
+        conditions = [read.conditions(one) for one in read.assertions]
+        dummies = [(line.split("\t") + [""])[1] for line in lines_in(blocks, "conditions")]
+        self.assertEqual(dummies, [" ".join(one.dummies) for one in conditions])
+        marks = [bool(read.comment(one).strip()) for one in read.assertions]
+        self.assertEqual([bool(flag & 4) for flag in blocks["flags"]], marks)
 
 
 if __name__ == "__main__":

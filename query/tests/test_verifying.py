@@ -1,10 +1,10 @@
 """The file of the page that verifies, and its scripts."""
 
 import base64
+import hashlib
 import json
 import os
 import re
-import runpy
 import shutil
 import subprocess
 import tempfile
@@ -13,24 +13,29 @@ import zlib
 from pathlib import Path
 
 from query.faults import FAULTS
-from query.page.assemble import SCRIPTS, hash_of
 from query.tests.world import TOP
 
-PAGE = TOP / "web" / "page"
+WEB = TOP / "web"
+BUILD = WEB / "verifier" / "build"
 STUB = TOP / "query" / "tests" / "library_stub.js"
 FORBIDDEN = ("innerHTML", "outerHTML", "insertAdjacentHTML", "document.write", "eval(", "Function(")
 
 
+def hash_of(text: str) -> str:
+    """The hash by which a policy allows a text."""
+    return f"'sha256-{base64.b64encode(hashlib.sha256(text.encode()).digest()).decode()}'"
+
+
 class Build(unittest.TestCase):
-    """What web/page/build makes."""
+    """What web/verifier/build makes."""
 
     def built(self, maker: str = "mmdepend <1>") -> str:
         """The page, with a file in place of the module."""
         with tempfile.TemporaryDirectory() as room:
             module = Path(room) / "module"
             module.write_bytes(b"\0asm</script>")
-            words = [str(PAGE / "build"), str(module), maker]
-            surroundings = {**os.environ, "LIBRARY": str(STUB)}
+            words = [str(BUILD), str(module), maker]
+            surroundings = {**os.environ, "LIBRARY_SCRIPT": str(STUB)}
             done = subprocess.run(words, env=surroundings, stdout=subprocess.PIPE, check=True)
         return done.stdout.decode()
 
@@ -64,27 +69,21 @@ class Build(unittest.TestCase):
         self.assertEqual(set(rules) & {"connect-src", "img-src", "frame-src"}, set())
 
     def test_scripts(self) -> None:
-        names = runpy.run_path(str(PAGE / "build"))
-        known = {*names["PAGE"], *names["WORKER"], "types.js"}
-        self.assertEqual(known, {path.name for path in PAGE.glob("*.js")})
         page = self.built()
         (code,) = re.findall(r'<script type="module">(.*?)</script>', page, re.S)
         for script in (code, self.block(page, "worker").decode()):
-            self.assertEqual(re.findall(r"(?m)^(?:import|export)\b.*", script), [])
+            self.assertEqual(re.findall(r"\b(?:import|require)\b[\s(\"']", script), [])
             for word in FORBIDDEN:
                 self.assertFalse(word in script, word)
-        self.assertEqual(code.count("class Model"), 1)
-        self.assertIn("page.js", SCRIPTS)
 
     def test_words(self) -> None:
-        done = subprocess.run([str(PAGE / "build")], capture_output=True, check=False)
+        done = subprocess.run([str(BUILD)], capture_output=True, check=False)
         self.assertEqual((done.returncode, done.stdout), (2, b""))
-        self.assertIn(b"Usage: web/page/build MODULE MAKER", done.stderr)
+        self.assertIn(b"Usage: web/verifier/build MODULE MAKER", done.stderr)
 
     @unittest.skipUnless(shutil.which("tsc"), "node-typescript isn't installed")
-    @unittest.skipUnless((TOP / "web" / "library.js").exists(), "web/library.js isn't there")
     def test_types(self) -> None:
-        done = subprocess.run(["tsc", "-p", str(PAGE)], stdout=subprocess.PIPE, check=False)
+        done = subprocess.run(["tsc", "-p", str(WEB)], stdout=subprocess.PIPE, check=False)
         self.assertEqual((done.returncode, done.stdout.decode()), (0, ""))
 
 

@@ -18,6 +18,7 @@ from query.output import Output
 
 TOP = Path(__file__).resolve().parent.parent.parent
 MMQUERY = TOP / "mmquery"
+PROGRAM_FOR_NODE = TOP / "out" / "web" / "mmdepend.mjs"
 DATABASES = Path(os.environ.get("MMQUERY_DATABASES", "/usr/share/metamath/databases"))
 
 

@@ -18,16 +18,16 @@ from pathlib import Path
 
 from query.faults import FAULTS
 from query.options import Options
-from query.tests.blocks import blocks_of
+from query.tests.blocks import blocks_in
 from query.tests.browser.browsers import Browser, Chromium, Keys, WebKit
 from query.tests.browser.counting import count, figure, same
 from query.tests.browser.databases import EVIL, EVIL_TYPESETTING, NEWER, OLDER, OPEN
 from query.tests.browser.scripts import CONTRAST, GATHER, NAMES, TARGETS
 from query.tests.browser.truth import DATABASES, HERE, PROGRAM, Truth
 from query.tests.browser.views import Shown
-from query.tests.browser.whole import Asked
+from query.tests.browser.whole import Asked, run
 
-BUILD = HERE / "web" / "page" / "build"
+BUILD = HERE / "web" / "verifier" / "build"
 STUB = HERE / "query" / "tests" / "library_stub.js"
 LEAKING = HERE / "query" / "tests" / "library_leaking.js"
 REPORTS = ("all", "matrix", "counts", "usage", "citations")
@@ -204,7 +204,7 @@ class Room:
         module = self.module or self.answers()
         surroundings = dict(os.environ)
         if self.module is None:
-            surroundings["LIBRARY"] = str(STUB)
+            surroundings["LIBRARY_SCRIPT"] = str(STUB)
         words = [str(BUILD), str(module), self.maker, str(self.page)]
         done = subprocess.run(words, env=surroundings, stderr=subprocess.PIPE, check=False)
         count(done.returncode == 0, "the page is built", done.stderr.decode())
@@ -320,7 +320,10 @@ def told_within(browser: Browser, what: str, *parts: str) -> str:
 
 def check_blocks(browser: Browser, path: Path, options: Options, older: Path | None = None) -> None:
     """The blocks of the page are those of the command."""
-    blocks, _ = blocks_of(path, options, older)
+    words = ["page", str(path), *(["--against", str(older)] if older else [])]
+    words += [] if options.only is None else ["--only", options.only]
+    words += ["--essential"] * options.essential + ["--open"] * options.open
+    blocks = blocks_in(run(words).stdout.decode())
     wanted = {name: hashlib.sha256(block).hexdigest() for name, block in blocks.items()}
     came = browser.call("allSums")
     odd = sorted(name for name in {*came, *wanted} if came.get(name) != wanted.get(name))
@@ -391,7 +394,7 @@ def check_workers(browser: Browser, room: Room) -> None:
     module, page = room.path("address"), room.path("leaking.html")
     module.write_text(f"http://127.0.0.1:{server.server_port}")
     words = [str(BUILD), str(module), "leaking", str(page)]
-    subprocess.run(words, env={**os.environ, "LIBRARY": str(LEAKING)}, check=True)
+    subprocess.run(words, env={**os.environ, "LIBRARY_SCRIPT": str(LEAKING)}, check=True)
     Asked.paths.clear()
     browser.go(page.as_uri())
     browser.wait("document.documentElement.dataset.state === 'start'")

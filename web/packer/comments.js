@@ -1,0 +1,206 @@
+// Comments as lines to be packed, and the marks that are read of them. What markup a comment has is left as it is:
+// markup.js of the view reads it.
+//
+// White space becomes single spaces, but a page break stands where a paragraph ends, and a vertical tab where a line
+// ends within `<PRE>`.
+
+import { Byte, encoded, isSame, textAt } from "./bytes.js";
+import { visible } from "./visible.js";
+
+/** @typedef {import("./bytes.js").Writer} Writer */
+
+/** The marks of a comment, as bits. */
+export const Mark = { usage: 1, modification: 2, comment: 4 };
+
+/**
+ * The four words of each sentence that is a mark: the first may follow other signs, and the last have more after it.
+ */
+const SENTENCES = [
+    { words: ["(New", "usage", "is", "discouraged.)"], mark: Mark.usage },
+    { words: ["(Proof", "modification", "is", "discouraged.)"], mark: Mark.modification },
+].map(({ words, mark }) => ({ words: words.map(encoded), mark }));
+const LAST = SENTENCES[0].words[3];
+const OPENING = encoded("<pre");
+const CLOSING = encoded("</pre>");
+
+/**
+ * The bits of the marks that a comment has.
+ * @param {Uint8Array} data
+ * @param {number} start
+ * @param {number} end
+ */
+export function marksOf(data, start, end) {
+    let found = 0;
+    const places = new Uint32Array(8); // of the last four words, beginnings and ends in turn
+    let place = start;
+    while (place < end) {
+        if (data[place] <= Byte.space) {
+            place++;
+            continue;
+        }
+        found |= Mark.comment;
+        places.copyWithin(0, 2);
+        places[6] = place;
+        while (place < end && data[place] > Byte.space) place++;
+        places[7] = place;
+        if (data[places[6]] === LAST[0]) found |= markAt(data, places);
+    }
+    return found;
+}
+
+/**
+ * The mark whose sentence four words are, or 0.
+ * @param {Uint8Array} data
+ * @param {Uint32Array} places
+ */
+function markAt(data, places) {
+    const last = places[6];
+    if (!isSame(data, last, Math.min(places[7], last + LAST.length), LAST, 0, LAST.length)) return 0;
+    for (const { words, mark } of SENTENCES) {
+        const first = Math.max(places[0], places[1] - words[0].length);
+        const begins = isSame(data, first, places[1], words[0], 0, words[0].length);
+        const middle = [1, 2].every((at) =>
+            isSame(data, places[2 * at], places[2 * at + 1], words[at], 0, words[at].length),
+        );
+        if (begins && middle) return mark;
+    }
+    return 0;
+}
+
+/**
+ * Adds a comment as one line, without signs that no screen shows.
+ * @param {Writer} writer
+ * @param {Uint8Array} data
+ * @param {number} start
+ * @param {number} end
+ */
+export function putLine(writer, data, start, end) {
+    const first = writer.size;
+    let place = start;
+    for (;;) {
+        const found = preformattedAfter(data, place, end);
+        const before = writer.size;
+        if (before > first) writer.push(Byte.space);
+        const begun = writer.size;
+        putPlainLine(writer, data, place, found ? found.start : end);
+        if (writer.size === begun) writer.size = before;
+        if (!found) break;
+        if (writer.size > first) writer.push(Byte.space);
+        putPreformatted(writer, data, found);
+        place = found.end;
+    }
+}
+
+/**
+ * Adds a comment without preformatted text: its words, a page break between those of different paragraphs.
+ * @param {Writer} writer
+ * @param {Uint8Array} data
+ * @param {number} start
+ * @param {number} end
+ */
+function putPlainLine(writer, data, start, end) {
+    writer.reserve(end - start + 1);
+    const { bytes } = writer;
+    let { size } = writer;
+    let place = start;
+    let isFirst = true;
+    while (place < end) {
+        let newlines = 0;
+        for (; place < end && data[place] <= Byte.space; place++) if (data[place] === Byte.newline) newlines++;
+        if (place === end) break;
+        if (!isFirst) bytes[size++] = newlines > 1 ? Byte.pageBreak : Byte.space;
+        isFirst = false;
+        while (place < end && data[place] > Byte.space) bytes[size++] = data[place++];
+    }
+    writer.size = size;
+}
+
+/**
+ * Preformatted text: where its tag begins and ends, and where its content and it end.
+ * @typedef {{ start: number, tagEnd: number, contentEnd: number, end: number }} Preformatted
+ */
+
+/**
+ * The next preformatted text of a comment at or after a place, or null.
+ * @param {Uint8Array} data
+ * @param {number} place
+ * @param {number} end
+ * @returns {Preformatted | null}
+ */
+function preformattedAfter(data, place, end) {
+    let start = tagAfter(data, place, end, OPENING);
+    while (start >= 0 && isWordByte(data[start + OPENING.length])) start = tagAfter(data, start + 1, end, OPENING);
+    if (start < 0) return null;
+    let tagEnd = start;
+    while (tagEnd < end && data[tagEnd] !== Byte.more) tagEnd++;
+    if (tagEnd++ === end) return null; // as no other one is closed either
+    const contentEnd = tagAfter(data, tagEnd, end, CLOSING);
+    if (contentEnd < 0) return { start, tagEnd, contentEnd: end, end };
+    return { start, tagEnd, contentEnd, end: contentEnd + CLOSING.length };
+}
+
+/**
+ * Where a tag begins next, in capitals or not, or -1.
+ * @param {Uint8Array} data
+ * @param {number} place
+ * @param {number} end
+ * @param {Uint8Array} tag in small letters
+ */
+function tagAfter(data, place, end, tag) {
+    for (let start = place; start + tag.length <= end; start++) {
+        if (data[start] !== tag[0]) continue;
+        let size = 1;
+        while (size < tag.length && smallLetter(data[start + size]) === tag[size]) size++;
+        if (size === tag.length) return start;
+    }
+    return -1;
+}
+
+/** @param {number} byte */
+function smallLetter(byte) {
+    return byte >= 0x41 && byte <= 0x5a ? byte | 0x20 : byte;
+}
+
+/**
+ * Whether a byte is a letter, a digit or `_`.
+ * @param {number} byte
+ */
+function isWordByte(byte) {
+    const small = smallLetter(byte);
+    return (small >= 0x61 && small <= 0x7a) || (byte >= 0x30 && byte <= 0x39) || byte === 0x5f;
+}
+
+/**
+ * Adds preformatted text, with a vertical tab where a line ends.
+ * @param {Writer} writer
+ * @param {Uint8Array} data
+ * @param {Preformatted} found
+ */
+function putPreformatted(writer, data, found) {
+    const lines = textAt(data, found.tagEnd, found.contentEnd).split("\n");
+    const kept = lines.map((line) => withoutTabs(line).trimEnd()).join("\v");
+    const content = kept.replace(/\f/g, " ").replace(/\r/g, "");
+    const whole = textAt(data, found.start, found.tagEnd) + content + textAt(data, found.contentEnd, found.end);
+    const parts = whole.split("\f").map((part) => part.split("\v").map(visible).join("\v"));
+    writer.text(parts.join("\f"));
+}
+
+/**
+ * A line with spaces for each tab, up to the next eighth column; a carriage return begins the columns anew.
+ * @param {string} line
+ */
+function withoutTabs(line) {
+    if (!line.includes("\t")) return line;
+    let made = "";
+    let column = 0;
+    for (const sign of line) {
+        if (sign === "\t") {
+            made += " ".repeat(8 - (column % 8));
+            column = 0;
+            continue;
+        }
+        made += sign;
+        column = sign === "\r" ? 0 : column + 1;
+    }
+    return made;
+}

@@ -1,0 +1,106 @@
+// Makes the blocks of a page of a text and of the reports of it.
+
+import { packDifference } from "./against.js";
+import { packReports, packText } from "./pack.js";
+import { readReports } from "./reports.js";
+import { Side } from "./statements.js";
+import { sumOf } from "./sum.js";
+import { readText } from "./text.js";
+import { visible } from "./visible.js";
+
+/** @typedef {import("./pack.js").Blocks} Blocks */
+/** @typedef {import("./reports.js").Request} Request */
+/** @typedef {import("./typesetting.js").Entities} Entities */
+
+/**
+ * The matrix in form 2 and the citations, both of all typecodes, as the program writes them.
+ * @typedef {{ matrix: Uint8Array, citations: Uint8Array }} Reports
+ */
+
+/** Something that the page of a database needs and the database lacks; the message is a sentence for the reader. */
+export class NoAnswer extends Error {
+    /**
+     * @param {string} name of the database
+     * @param {string} lack such as `has no axiom`
+     */
+    constructor(name, lack) {
+        super(`${visible(name)} ${lack}.`);
+        this.lack = lack;
+    }
+}
+
+/**
+ * What a page is made with beside its database.
+ * @typedef {object} Wishes
+ * @property {string} maker which program makes it
+ * @property {Entities} entities
+ * @property {string} [title] else it is the name of the file
+ * @property {string[]} [watched] labels of axioms that each chapter speaks of first
+ */
+
+/** A database while it is packed: first its text alone, then with the reports. */
+export class Making {
+    /**
+     * @param {string} name how the page calls the file
+     * @param {Uint8Array} data
+     * @param {Request} request
+     */
+    constructor(name, data, request) {
+        this.name = name;
+        this.request = request;
+        this.sum = sumOf(data);
+        this.text = readText(data);
+    }
+
+    /**
+     * The blocks that the text alone gives.
+     * @param {Wishes} wishes
+     * @returns {Promise<Blocks>}
+     */
+    async ofText({ maker, entities, title = this.name, watched = [] }) {
+        const { data } = this.text;
+        const { only, essential, open } = this.request;
+        const about = {
+            title: visible(title),
+            file: visible(this.name),
+            bytes: data.length,
+            sha256: await this.sum,
+            maker: visible(maker),
+            only: only && visible(only),
+            essential,
+            open,
+            watched,
+        };
+        return packText(this.text, about, entities);
+    }
+
+    /**
+     * The text beside what the reports say of it.
+     * @param {Reports} reports
+     */
+    side({ matrix, citations }) {
+        const dependence = readReports(this.text, this.request, matrix, citations);
+        if (dependence.axioms.length === 0 && this.request.only !== null) {
+            throw new NoAnswer(this.name, `has no axiom of typecode '${visible(this.request.only)}'`);
+        }
+        if (this.text.size === 0) throw new NoAnswer(this.name, "has neither axioms nor theorems");
+        return new Side(this.text, dependence);
+    }
+
+    /**
+     * The blocks that the reports give, and with an older release that of the comparison.
+     * @param {Side} side
+     * @param {{ name: string, side: Side } | null} older
+     * @returns {Blocks}
+     */
+    ofReports(side, older) {
+        const blocks = packReports(side.dependence);
+        if (older) {
+            for (const { name, side: each } of [older, { name: this.name, side }]) {
+                if (each.dependence.axioms.length === 0) throw new NoAnswer(name, "has no axiom to compare");
+            }
+            blocks.set("against", packDifference(older.side, side, older.name));
+        }
+        return blocks;
+    }
+}

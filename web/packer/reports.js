@@ -1,0 +1,412 @@
+// Reads the reports that the program's core writes, the matrix in form 2 and the citations, beside the text they are
+// of. Nothing of them is believed alone: they say the same in two ways, which have to agree, and each label has to be
+// found in the text where it belongs.
+
+import { Byte, Cutter, Row, isSame, textAt } from "./bytes.js";
+
+/** @typedef {import("./text.js").Text} Text */
+
+const ZERO = 0x30;
+const COLON = 0x3a;
+
+/** What an assertion is, by its number in the block `kinds`. */
+export const Kind = { theorem: 0, column: 1, otherAxiom: 2, openColumn: 3, otherOpen: 4 };
+
+/** A report that isn't as it has to be. */
+export class OddReport extends Error {}
+
+/** @param {number} byte */
+function isDigit(byte) {
+    return byte >= ZERO && byte < ZERO + 10;
+}
+
+/** Reads the lines of a report. */
+class Lines {
+    /** @param {Uint8Array} bytes */
+    constructor(bytes) {
+        this.bytes = bytes;
+        this.place = 0;
+    }
+
+    /** Where the next line ends. */
+    get end() {
+        const end = this.bytes.indexOf(Byte.newline, this.place);
+        if (end < 0) throw new OddReport("a report is cut off");
+        return end;
+    }
+
+    /** The next line, as a text. */
+    next() {
+        const { end } = this;
+        const line = textAt(this.bytes, this.place, end);
+        this.place = end + 1;
+        return line;
+    }
+
+    /**
+     * Reads a line that has to be this one.
+     * @param {string} wanted
+     */
+    pass(wanted) {
+        const line = this.next();
+        if (line !== wanted) throw new OddReport(`a report has '${line.slice(0, 80)}' where '${wanted}' has to stand`);
+    }
+
+    /** Reads the end of a line. */
+    passEnd() {
+        if (this.bytes[this.place++] !== Byte.newline) throw new OddReport("a line of a report is too long");
+    }
+
+    /** Reads a number and the colon after it. */
+    count() {
+        let count = 0;
+        const first = this.place;
+        for (; isDigit(this.bytes[this.place]); this.place++) count = 10 * count + this.bytes[this.place] - ZERO;
+        if (this.place === first || this.bytes[this.place++] !== COLON) throw new OddReport("a line lacks a number");
+        return count;
+    }
+
+    /** Reads a label and the colon after it. Returns where it ends. */
+    label() {
+        let end = this.place;
+        while (end < this.bytes.length && this.bytes[end] > Byte.space && this.bytes[end] !== COLON) end++;
+        if (this.bytes[end] !== COLON) throw new OddReport("a line of a report has no label");
+        return end;
+    }
+
+}
+
+/**
+ * What was asked for.
+ * @typedef {object} Request
+ * @property {string | null} only the typecode of the axioms, or null for all
+ * @property {boolean} essential
+ * @property {boolean} open
+ */
+
+/** On which axioms each theorem rests, and what it cites. Assertions are numbers, in file order. */
+export class Dependence {
+    /** @param {Text} text */
+    constructor(text) {
+        this.text = text;
+        /** The assertions of rows and of columns. */
+        this.theorems = new Uint32Array(0);
+        this.axioms = new Uint32Array(0);
+        /** Of each assertion its row and its column, or -1. */
+        this.rowOf = new Int32Array(text.size).fill(-1);
+        this.columnOf = new Int32Array(text.size).fill(-1);
+        /** The rows, `words` numbers of 32 bits each; column c is bit c % 32 of number c / 32. */
+        this.words = 0;
+        this.bits = new Uint32Array(0);
+        /** The assertions that row r cites, in file order, are `cited` from `starts[r]` to `starts[r + 1]`. */
+        this.starts = new Uint32Array(1);
+        this.cited = new Uint32Array(0);
+    }
+
+    /** @param {number} row */
+    citedBy(row) {
+        return this.cited.subarray(this.starts[row], this.starts[row + 1]);
+    }
+
+    /** @param {number} row */
+    row(row) {
+        return this.bits.subarray(row * this.words, (row + 1) * this.words);
+    }
+
+    /** What each assertion is, for the block `kinds`. */
+    kinds() {
+        const kinds = new Uint8Array(this.text.size);
+        for (let number = 0; number < kinds.length; number++) {
+            const isProved = this.text.isProved(number);
+            if (this.rowOf[number] >= 0) kinds[number] = Kind.theorem;
+            else if (this.columnOf[number] >= 0) kinds[number] = isProved ? Kind.openColumn : Kind.column;
+            else kinds[number] = isProved ? Kind.otherOpen : Kind.otherAxiom;
+        }
+        return kinds;
+    }
+
+    /** How many theorems rest on each axiom. */
+    users() {
+        const users = new Uint32Array(this.axioms.length);
+        for (let place = 0; place < this.bits.length; place++) {
+            const first = (place % this.words) * 32;
+            for (let bits = this.bits[place]; bits !== 0; bits &= bits - 1) users[first + lowestOf(bits)]++;
+        }
+        return users;
+    }
+}
+
+/** Reads both reports of a text. */
+class Reader {
+    /**
+     * @param {Text} text
+     * @param {Request} request
+     */
+    constructor(text, request) {
+        this.text = text;
+        this.request = request;
+        this.cutter = new Cutter();
+        this.found = new Dependence(text);
+        this.putIntoRowsAndColumns();
+    }
+
+    /** Axioms, and open theorems where these count as axioms, are columns. */
+    putIntoRowsAndColumns() {
+        const { text, found, request } = this;
+        const theorems = new Row();
+        const axioms = new Row();
+        for (let number = 0; number < text.size; number++) {
+            const isTheorem = text.isProved(number) && !(request.open && this.isOpen(number));
+            if (isTheorem) {
+                found.rowOf[number] = theorems.size;
+                theorems.push(number);
+            } else {
+                found.columnOf[number] = axioms.size;
+                axioms.push(number);
+            }
+        }
+        found.theorems = theorems.taken();
+        found.axioms = axioms.taken();
+    }
+
+    /**
+     * Whether the proof of a theorem is left open: `?` alone, or `( ) ?`.
+     * @param {number} number
+     */
+    isOpen(number) {
+        const { data, proofs, proofEnds } = this.text;
+        const { cutter } = this;
+        const end = proofEnds.items[number];
+        const size = cutter.cut(data, proofs.items[number], end);
+        if (size !== 1 && size !== 3) return false;
+        const words = Array.from({ length: size }, (_, at) => textAt(data, cutter.starts[at], cutter.ends[at]));
+        return words.join(" ") === "?" || words.join(" ") === "( ) ?";
+    }
+
+    /**
+     * The first symbol of an assertion.
+     * @param {number} number
+     */
+    typecode(number) {
+        const { data, assertions } = this.text;
+        this.cutter.cut(data, assertions.formulas.items[number], assertions.formulaEnds.items[number]);
+        return textAt(data, this.cutter.starts[0], this.cutter.ends[0]);
+    }
+
+    /**
+     * Reads the label of a row, which has to be that of the theorem.
+     * @param {Lines} lines
+     * @param {number} row
+     */
+    passLabel(lines, row) {
+        const end = lines.label();
+        const { labels, labelEnds } = this.text.assertions;
+        const number = this.found.theorems[row];
+        if (!isSame(lines.bytes, lines.place, end, this.text.data, labels.items[number], labelEnds.items[number])) {
+            throw new OddReport(`a report has no line of '${this.text.label(number)}' where it belongs`);
+        }
+        lines.place = end + 1;
+    }
+
+    /**
+     * Reads the head of a report with one section, whose numbers have to be those of the text.
+     * @param {Lines} lines
+     * @param {string} section
+     */
+    passHead(lines, section) {
+        const { text, found, request } = this;
+        lines.pass("mmdepend 2");
+        lines.pass(`axioms ${found.axioms.length}`);
+        if (request.open) lines.pass(`open ${found.axioms.filter((axiom) => text.isProved(axiom)).length}`);
+        lines.pass(`theorems ${found.theorems.length}`);
+        lines.pass(section);
+    }
+
+    /**
+     * Reads the matrix.
+     * @param {Uint8Array} report
+     */
+    readMatrix(report) {
+        const { found } = this;
+        const lines = new Lines(report);
+        this.passHead(lines, "matrix");
+        const axioms = found.axioms.length;
+        const theorems = found.theorems.length;
+        found.words = Math.ceil(axioms / 32);
+        found.bits = new Uint32Array(theorems * found.words);
+        const digits = Math.ceil(axioms / 4);
+        for (let row = 0; row < theorems; row++) {
+            this.passLabel(lines, row);
+            readDigits(report, lines.place, digits, found.bits, row * found.words);
+            lines.place += digits;
+            lines.passEnd();
+        }
+        lines.pass("end");
+    }
+
+    /**
+     * Reads the citations.
+     * @param {Uint8Array} report
+     */
+    readCitations(report) {
+        const { found, text } = this;
+        const lines = new Lines(report);
+        this.passHead(lines, "citations");
+        const theorems = found.theorems.length;
+        const starts = new Row();
+        const cited = new Row();
+        const labels = text.byLabel;
+        for (let row = 0; row < theorems; row++) {
+            starts.push(cited.size);
+            this.passLabel(lines, row);
+            const count = lines.count();
+            const { end } = lines;
+            let { place } = lines;
+            let before = -1;
+            while (place < end) {
+                const first = place;
+                while (place < end && report[place] > Byte.space) place++;
+                const number = labels.find(report, first, place);
+                if (number <= before || number >= found.theorems[row]) {
+                    throw new OddReport("a report names what isn't before a theorem, or isn't in order");
+                }
+                cited.push(number);
+                before = number;
+                place++;
+            }
+            if (cited.size - starts.items[row] !== count) throw new OddReport("a report counts citations otherwise");
+            lines.place = end + 1;
+        }
+        lines.pass("end");
+        starts.push(cited.size);
+        found.starts = starts.taken();
+        found.cited = cited.taken();
+    }
+
+    /** Sees that marks and citations agree: a theorem is marked where what it cites is the axiom or is marked. */
+    checkMarks() {
+        const { words, bits, starts, cited, theorems, rowOf, columnOf } = this.found;
+        const row = new Uint32Array(words);
+        for (let number = 0; number < theorems.length; number++) {
+            row.fill(0);
+            for (let place = starts[number]; place < starts[number + 1]; place++) {
+                const column = columnOf[cited[place]];
+                const other = rowOf[cited[place]];
+                if (column >= 0) row[column >>> 5] |= 1 << (column & 31);
+                else if (other >= 0) addMarks(row, bits, other * words);
+            }
+            if (!areMarks(row, bits, number * words)) throw new OddReport("marks and citations don't agree");
+        }
+    }
+}
+
+/**
+ * The same with fewer columns.
+ * @param {Dependence} found
+ * @param {(axiom: number) => boolean} isKept
+ */
+function withColumns(found, isKept) {
+    const axioms = found.axioms.filter(isKept);
+    const made = Object.assign(new Dependence(found.text), found, { axioms, words: Math.ceil(axioms.length / 32) });
+    made.columnOf = new Int32Array(found.text.size).fill(-1);
+    axioms.forEach((axiom, column) => (made.columnOf[axiom] = column));
+    made.bits = new Uint32Array(found.theorems.length * made.words);
+    const there = Array.from(found.axioms, (axiom) => made.columnOf[axiom]);
+    for (let row = 0; row < found.theorems.length; row++) {
+        for (const column of columnsOf(found.row(row))) {
+            const kept = there[column];
+            if (kept >= 0) made.bits[row * made.words + (kept >>> 5)] |= 1 << (kept & 31);
+        }
+    }
+    return made;
+}
+
+/**
+ * The place of the lowest bit that a number has.
+ * @param {number} bits
+ */
+export function lowestOf(bits) {
+    return 31 - Math.clz32(bits & -bits);
+}
+
+/**
+ * The columns whose bits a row has, rising.
+ * @param {Uint32Array} row
+ */
+export function columnsOf(row) {
+    const columns = [];
+    for (let word = 0; word < row.length; word++) {
+        for (let bits = row[word]; bits !== 0; bits &= bits - 1) columns.push(word * 32 + lowestOf(bits));
+    }
+    return columns;
+}
+
+/**
+ * Adds the marks of a row that begins at a place.
+ * @param {Uint32Array} row
+ * @param {Uint32Array} bits
+ * @param {number} start
+ */
+function addMarks(row, bits, start) {
+    for (let word = 0; word < row.length; word++) row[word] |= bits[start + word];
+}
+
+/**
+ * Whether the row that begins at a place has these marks.
+ * @param {Uint32Array} row
+ * @param {Uint32Array} bits
+ * @param {number} start
+ */
+function areMarks(row, bits, start) {
+    for (let word = 0; word < row.length; word++) if (row[word] !== bits[start + word]) return false;
+    return true;
+}
+
+/** Of each byte the four bits of its digit, the first column the lowest; 16 where it's none. */
+const DIGITS = new Uint8Array(256).fill(16);
+for (let digit = 0; digit < 16; digit++) {
+    DIGITS[digit.toString(16).charCodeAt(0)] =
+        ((digit & 8) >> 3) | ((digit & 4) >> 1) | ((digit & 2) << 1) | ((digit & 1) << 3);
+}
+
+/**
+ * Puts the digits of a row into its bits.
+ * @param {Uint8Array} report
+ * @param {number} place
+ * @param {number} digits
+ * @param {Uint32Array} bits
+ * @param {number} start
+ */
+function readDigits(report, place, digits, bits, start) {
+    let all = 0;
+    for (let word = 0; 8 * word < digits; word++) {
+        const first = place + 8 * word;
+        const end = Math.min(first + 8, place + digits);
+        let marks = 0;
+        for (let at = first; at < end; at++) {
+            const four = DIGITS[report[at]];
+            all |= four;
+            marks |= four << (4 * (at - first));
+        }
+        bits[start + word] = marks;
+    }
+    if (all > 15) throw new OddReport("a row of a report has a sign that is no digit");
+}
+
+/**
+ * On which axioms each theorem of a text rests, and what it cites, by the matrix in form 2 and by the citations, both
+ * of all typecodes. Of the columns those of the typecode that is wanted are kept.
+ * @param {Text} text
+ * @param {Request} request
+ * @param {Uint8Array} matrix
+ * @param {Uint8Array} citations
+ * @returns {Dependence}
+ */
+export function readReports(text, request, matrix, citations) {
+    const reader = new Reader(text, request);
+    reader.readMatrix(matrix);
+    reader.readCitations(citations);
+    reader.checkMarks();
+    const { only } = request;
+    return only === null ? reader.found : withColumns(reader.found, (axiom) => reader.typecode(axiom) === only);
+}

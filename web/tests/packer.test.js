@@ -1,0 +1,110 @@
+// Tests of what packs a text into blocks: comments, conditions of distinct variables, numbers, and the one file.
+
+import assert from "node:assert/strict";
+import { test } from "node:test";
+import { Writer, encoded } from "../packer/bytes.js";
+import { Mark, marksOf, putLine } from "../packer/comments.js";
+import { faultOf, refusalOf, explained } from "../packer/faults.js";
+import { pageFile } from "../packer/file.js";
+import { packText } from "../packer/pack.js";
+import { readText } from "../packer/text.js";
+
+const NOTHING = { named: {}, numbers: {}, none: [] };
+const TEXT = `$c |- set wff = $. $v x y z p q $.
+vx $f set x $. vy $f set y $. vz $f set z $. wp $f wff p $. wq $f wff q $.
+\${ $d x y z $. $d p x $. $d q x $. $d q y $. $d q z $.
+  all $p |- x = p $= ( vy vz wq ) A $. some $p |- x = p $= ( vy vz ) A $. $}
+none $a |- x = y $.
+`;
+
+function about(title) {
+    const facts = { title, file: "x.mm", bytes: 1, sha256: null, maker: "x" };
+    return { ...facts, only: null, essential: false, open: false, watched: [] };
+}
+
+/** A block of a text, as lines. */
+function lines(text, name) {
+    const block = packText(readText(encoded(text)), about("t"), NOTHING).get(name);
+    return new TextDecoder().decode(block).split("\n");
+}
+
+/** A comment as one line. */
+function oneLine(comment) {
+    const writer = new Writer();
+    const bytes = encoded(comment);
+    putLine(writer, bytes, 0, bytes.length);
+    return new TextDecoder().decode(writer.taken());
+}
+
+test("comments become lines", () => {
+    assert.equal(oneLine("  One\n  two.\n\n  Three \t four \n"), "One two.\fThree four");
+    const kept = oneLine("a <HTML><PRE>\n x\n\n  y\n</PRE>\n b </HTML>");
+    assert.equal(kept, "a <HTML> <PRE>\v x\v\v  y\v</PRE> b </HTML>");
+    assert.ok(!oneLine("<pre>\nnever closed\n\n").includes("\n"));
+    assert.equal(oneLine("a <pre\n> b\nc"), "a <pre\u240a> b\vc");
+});
+
+test("many tags that aren't closed are passed once", { timeout: 20_000 }, () => {
+    const many = 200_000;
+    assert.equal(oneLine("<pre ".repeat(many)).split("<pre").length - 1, many);
+    assert.ok(oneLine(`<pre>${"<pre> ".repeat(many)}`).startsWith("<pre>"));
+});
+
+test("marks of comments", () => {
+    const marks = (comment) => marksOf(encoded(comment), 0, comment.length);
+    const both = "(New usage\n is discouraged.) (Proof modification is  discouraged.)";
+    assert.equal(marks(both), Mark.comment | Mark.usage | Mark.modification);
+    assert.equal(marks("It is discouraged."), Mark.comment);
+    assert.equal(marks(" \n "), 0);
+});
+
+test("conditions become lines", () => {
+    assert.deepEqual(lines(TEXT, "conditions"), [
+        "x p\ty z q\ty x z q$z x y q$q x y z",
+        "x p\ty z\ty x z$z x y",
+        "",
+    ]);
+    const whole = "$c |- set $. $v x y $. vx $f set x $. vy $f set y $. $d x y $. a $p |- x $= vy $.";
+    assert.deepEqual(lines(whole, "conditions"), ["\ty\t*"]);
+});
+
+test("pairs of variables that must be distinct become few groups, which have each pair", () => {
+    for (const wanted of [["abc"], ["abc", "cd"], ["abcd", "ef"], ["ab", "ac", "bd", "cd"]]) {
+        const pairs = wanted.flatMap((group) => pairsOf([...group]));
+        const text = `$c |- v $. $v a b c d e f $.
+            ${[..."abcdef"].map((name) => `f${name} $f v ${name} $.`).join(" ")}
+            ${pairs.map((pair) => `$d ${pair} $.`).join(" ")} x $a |- a b c d e f $.`;
+        const [line] = lines(text, "conditions");
+        const groups = line.split("$").map((group) => group.split(" "));
+        assert.deepEqual([...new Set(groups.flatMap(pairsOf))].sort(), [...new Set(pairs)].sort());
+        assert.equal(groups.length, wanted.length);
+    }
+});
+
+/** The pairs of a group. */
+function pairsOf(group) {
+    return group.flatMap((one, at) => group.slice(at + 1).map((other) => `${one} ${other}`));
+}
+
+test("numbers", () => {
+    const writer = new Writer();
+    for (const number of [0, 127, 128, 300]) writer.number(number);
+    assert.deepEqual([...writer.taken()], [0, 0x7f, 0x80, 1, 0xac, 2]);
+});
+
+test("what is put into the file is never searched for places, and ends no element", () => {
+    const shell = ["<title>", "title", "</title><main>", "title", "</main>", "data", "<script>1</script>"];
+    const blocks = new Map([["facts", encoded("</script>{{script}}")]]);
+    const page = pageFile(shell, "data<b>&'\"", blocks, (block) => Buffer.from(block).toString("base64"));
+    assert.ok(page.startsWith("<title>data&lt;b&gt;&amp;&#x27;&quot;</title>"));
+    assert.equal(page.split("</script>").length - 1, 2);
+    assert.ok(page.includes(' id="data-facts">\nPC9zY3JpcHQ+e3tzY3JpcHR9fQ==\n</script>'));
+});
+
+test("faults in one line", () => {
+    const text = encoded("$c a $.\nx $a b $.\n");
+    const fault = faultOf(text, refusalOf(encoded("refused 2:6 E18\n")));
+    const tables = { faults: { E18: ["odd", "mend it"] }, unknown: ["unknown", "ask"] };
+    assert.equal(explained("x.mm", fault, tables), "x.mm:2:6: refused E18 in 'x': odd; mend it");
+    assert.equal(explained("x.mm", { ...fault, code: "E99" }, tables), "x.mm:2:6: refused E99 in 'x': unknown; ask");
+});

@@ -1,0 +1,141 @@
+// Verifies a database, and one beside it where it is to be compared, and makes the blocks of the page.
+
+import { sizeOf } from "./contents.js";
+import { Helper } from "./helpers.js";
+
+/** @typedef {import("../packer/making.js").Reports} Reports */
+/** @typedef {import("../packer/reports.js").Request} Request */
+/** @typedef {import("./types.js").Chosen} Chosen */
+/** @typedef {import("./types.js").Contents} Contents */
+/** @typedef {import("./types.js").ReportName} ReportName */
+/** @typedef {import("./types.js").Tables} Tables */
+/** @typedef {import("./types.js").Told} Told */
+
+/**
+ * What the page has for its work.
+ * @typedef {object} Tools
+ * @property {string} address of the workers' script
+ * @property {Uint8Array} module
+ * @property {Tables} tables
+ * @property {boolean} isShared whether workers can read what the browser holds
+ */
+
+/**
+ * Bytes of texts that are packed while proofs are checked. Larger ones are packed after that, since there may not be
+ * memory for both at a time.
+ */
+const MOST_BESIDE = 1 << 24;
+
+/** A run of the program's core over one or two databases. */
+export class Verification {
+    /**
+     * @param {Tools} tools
+     * @param {Request} request
+     * @param {Chosen[]} files that of the page, and then the older release
+     * @param {(text: string, part: number | null) => void} tell is told what is done, and how much of it
+     */
+    constructor(tools, request, files, tell) {
+        this.tools = tools;
+        this.request = request;
+        this.files = files;
+        this.tell = tell;
+        /** The file that is verified now. */
+        this.current = files[0];
+        /** How much memory the module had at most, in bytes. */
+        this.memory = 0;
+        /** @type {Set<Helper>} */
+        this.helpers = new Set();
+    }
+
+    /**
+     * Does it all. Stopped where there is no answer; `current` is the database of which that is said.
+     * @returns {Promise<Map<string, Uint8Array>>}
+     */
+    async run() {
+        const size = this.files.reduce((sum, { file }) => sum + sizeOf(file), 0);
+        const early = size <= MOST_BESIDE ? this.packTexts() : null;
+        /** @type {Reports[]} */
+        const reports = [];
+        for (const each of this.files) reports.push(await this.verify(each));
+        this.current = this.files[0];
+        this.tell("Making the index", null);
+        const { packer, packed } = early ?? this.packTexts();
+        const { blocks } = await packed;
+        const transfer = reports.flatMap(({ matrix, citations }) => [matrix.buffer, citations.buffer]);
+        const more = await packer.ask({ task: "reports", reports }, "packed", transfer);
+        this.end(packer);
+        return new Map([...blocks, ...more.blocks]);
+    }
+
+    /** Begins to pack the texts in a worker. */
+    packTexts() {
+        const { maker, entities } = this.tools.tables;
+        const packer = this.helper(() => {});
+        const task = { task: /** @type {const} */ ("pack"), files: this.files, request: this.request, maker, entities };
+        return { packer, packed: packer.ask(task, "packed") };
+    }
+
+    /**
+     * Verifies a database in a worker, which is ended then, since its memory is needed.
+     * @param {Chosen} chosen
+     * @returns {Promise<Reports>}
+     */
+    async verify(chosen) {
+        this.current = chosen;
+        const { name, file } = chosen;
+        const prover = this.helper((told) => this.hear(name, told));
+        const { module } = this.tools;
+        const told = await prover.ask({ task: "verify", file, module, request: this.request }, "verified");
+        this.end(prover);
+        this.memory = Math.max(this.memory, told.memory);
+        return { matrix: told.matrix, citations: told.citations };
+    }
+
+    /**
+     * @param {string} name
+     * @param {Told} told
+     */
+    hear(name, told) {
+        if (told.stage === "reading") this.tell(`Reading ${name}`, told.part);
+        else this.tell(`Checking every proof of ${name}`, null);
+    }
+
+    /** @param {(told: Told) => void} tell */
+    helper(tell) {
+        const made = new Helper(this.tools.address, tell);
+        this.helpers.add(made);
+        return made;
+    }
+
+    /** @param {Helper} helper */
+    end(helper) {
+        helper.end();
+        this.helpers.delete(helper);
+    }
+
+    /** Ends all that runs. */
+    cancel() {
+        for (const helper of this.helpers) helper.end();
+        this.helpers.clear();
+    }
+}
+
+/**
+ * A report of the program, for a file that was accepted. Stopped where there is no answer.
+ * @param {Tools} tools
+ * @param {Request} request
+ * @param {Contents} file
+ * @param {ReportName} report
+ * @param {1 | 2} form
+ * @returns {Promise<Blob>}
+ */
+export async function reportFor(tools, request, file, report, form) {
+    const helper = new Helper(tools.address, () => {});
+    try {
+        const ask = { task: /** @type {const} */ ("save"), file, module: tools.module, request, report, form };
+        const told = await helper.ask(ask, "saved");
+        return told.report instanceof Blob ? told.report : new Blob([told.report], { type: "text/plain" });
+    } finally {
+        helper.end();
+    }
+}

@@ -1,0 +1,180 @@
+// What works beside the page, each time in a worker of its own: verifies a text, or packs texts and reports into
+// blocks.
+
+import { compile, report } from "../library.js";
+import { sizeOf } from "./contents.js";
+import { faultOf, refusalOf } from "../packer/faults.js";
+import { Making, NoAnswer } from "../packer/making.js";
+
+/** @typedef {import("../packer/making.js").Reports} Reports */
+/** @typedef {import("../packer/reports.js").Request} Request */
+/** @typedef {import("./types.js").Ask} Ask */
+/** @typedef {import("./types.js").Chosen} Chosen */
+/** @typedef {import("./types.js").Contents} Contents */
+/** @typedef {import("./types.js").Told} Told */
+/** @typedef {import("../packer/typesetting.js").Entities} Entities */
+
+/** How many bytes of a file are read at a time. */
+const STEP = 1 << 22;
+/** What the module answers. */
+const Status = { report: 0, refusal: 1, memory: 4 };
+
+/**
+ * The worker's own side.
+ * @type {{ onmessage: (event: { data: Ask }) => void, postMessage: (told: Told, transfer?: Transferable[]) => void }}
+ */
+const here = /** @type {any} */ (globalThis);
+
+/**
+ * A report, as the module is asked for it.
+ * @typedef {Request & { report: import("./types.js").ReportName, form: 1 | 2, withCitations?: boolean }} Wanted
+ */
+
+/** There is no more memory. */
+class NoMemory extends Error {}
+
+/** A file can't be read: it was changed or removed since it was chosen. */
+class Unread extends Error {}
+
+/**
+ * The bytes of a file.
+ * @param {Contents} file
+ */
+async function bytesOf(file) {
+    if (file instanceof Uint8Array) return file;
+    try {
+        return new Uint8Array(await file.arrayBuffer());
+    } catch (error) {
+        if (error instanceof RangeError) throw error;
+        throw new Unread();
+    }
+}
+
+/**
+ * Puts a file into the array that `bytes` gives, part by part, and tells how far it is.
+ * @param {Contents} file
+ * @param {() => Uint8Array} bytes
+ */
+async function fill(file, bytes) {
+    const size = sizeOf(file);
+    for (let place = 0; place < size; place += STEP) {
+        here.postMessage({ stage: "reading", part: place / size });
+        const part = await bytesOf(file.slice(place, place + STEP));
+        bytes().set(part, place);
+    }
+    here.postMessage({ stage: "checking" });
+}
+
+/**
+ * Has the module write reports of a file. What it answers stays in its memory.
+ * @param {Uint8Array} module
+ * @param {Contents} file
+ * @param {Wanted} request
+ */
+async function reportOf(module, file, request) {
+    const compiled = await compile(module);
+    const answer = await report(compiled, sizeOf(file), (bytes) => fill(file, bytes), request);
+    if (answer.status === Status.memory) throw new NoMemory();
+    if (answer.status === Status.report) return answer;
+    if (answer.status !== Status.refusal) throw new Error(`the module answers ${answer.status}`);
+    const refusal = refusalOf(answer.report);
+    here.postMessage({ stage: "refused", fault: faultOf(await bytesOf(file), refusal) });
+    return null;
+}
+
+/**
+ * Verifies a file, and tells what the page needs of it: matrix and citations, of all typecodes, since chains may lead
+ * over other assertions than those of one typecode.
+ * @param {{ file: Contents, module: Uint8Array, request: Request }} asked
+ */
+async function verify({ file, module, request }) {
+    /** @type {Wanted} */
+    const wanted = { ...request, only: null, report: "matrix", form: 2, withCitations: true };
+    const answer = await reportOf(module, file, wanted);
+    if (!answer) return;
+    if (!answer.citations) throw new Error("the module wrote no citations");
+    const matrix = answer.report.slice();
+    const citations = answer.citations.slice();
+    const { memory } = answer;
+    here.postMessage({ stage: "verified", matrix, citations, memory }, [matrix.buffer, citations.buffer]);
+}
+
+/**
+ * Writes a report of a file to be saved.
+ * @param {Extract<Ask, { task: "save" }>} asked
+ */
+async function save({ file, module, request, report: name, form }) {
+    const answer = await reportOf(module, file, { ...request, report: name, form });
+    if (!answer) return;
+    if (file instanceof Blob) {
+        here.postMessage({ stage: "saved", report: new Blob([answer.report], { type: "text/plain" }) });
+    } else {
+        const bytes = answer.report.slice();
+        here.postMessage({ stage: "saved", report: bytes }, [bytes.buffer]);
+    }
+}
+
+/**
+ * The databases that are packed: that of the page, and then the older release.
+ * @type {Making[]}
+ */
+let makings = [];
+
+/**
+ * Packs what stands in the texts of files.
+ * @param {{ files: Chosen[], request: Request, maker: string, entities: Entities }} asked
+ */
+async function packTexts({ files, request, maker, entities }) {
+    makings = [];
+    for (const { name, file } of files) makings.push(new Making(name, await bytesOf(file), request));
+    tellBlocks(await makings[0].ofText({ maker, entities }));
+}
+
+/**
+ * Packs what the reports of these files say.
+ * @param {Reports[]} reports
+ */
+function packTheirReports(reports) {
+    const [side, old] = makings.map((making, at) => making.side(reports[at]));
+    tellBlocks(makings[0].ofReports(side, old ? { name: makings[1].name, side: old } : null));
+}
+
+/** @param {Map<string, Uint8Array>} blocks */
+function tellBlocks(blocks) {
+    here.postMessage({ stage: "packed", blocks }, [...blocks.values()].map((block) => block.buffer));
+}
+
+/**
+ * Looks whether what the browser holds can be read here.
+ * @param {Blob} blob
+ */
+async function look(blob) {
+    await bytesOf(blob);
+    here.postMessage({ stage: "seen" });
+}
+
+/** @param {Ask} asked */
+async function answer(asked) {
+    if (asked.task === "look") await look(asked.blob);
+    else if (asked.task === "verify") await verify(asked);
+    else if (asked.task === "save") await save(asked);
+    else if (asked.task === "pack") await packTexts(asked);
+    else packTheirReports(asked.reports);
+}
+
+/**
+ * Tells why there is no answer. Browsers say by a RangeError that there is no room for an array.
+ * @param {unknown} error
+ */
+function tellError(error) {
+    if (error instanceof NoAnswer) here.postMessage({ stage: "lacking", message: error.message });
+    else if (error instanceof Unread) here.postMessage({ stage: "unread" });
+    else if (error instanceof NoMemory || error instanceof RangeError) here.postMessage({ stage: "memory" });
+    else here.postMessage({ stage: "failed", message: String(error) });
+}
+
+/** One task after the other. */
+let last = Promise.resolve();
+here.onmessage = ({ data }) => {
+    last = last.then(() => answer(data)).catch(tellError);
+};
