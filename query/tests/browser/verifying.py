@@ -433,7 +433,7 @@ def check_refusals(browser: Browser, room: Room) -> None:
     browser.run("document.getElementById('answer').replaceChildren()")
     browser.run("document.getElementById('only').value = 'nothing'")
     browser.choose("#file", [DATABASES / "demo0.mm"])
-    told_within(browser, "a typecode without axioms", "has no axiom of typecode nothing")
+    told_within(browser, "a typecode without axioms", "has no axiom of typecode 'nothing'")
     browser.stays_silent("at refusals")
 
 
