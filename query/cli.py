@@ -13,7 +13,7 @@ from typing import Any, NoReturn
 from query import progress, signals
 from query.commands import Command, command, names, summaries
 from query.context import Context
-from query.errors import NoAnswer, shown, tell
+from query.errors import NoAnswer, nearest, shown, tell
 from query.output import Output, reason, write_all
 
 # Before a word that begins with `-`, so that argparse takes it as a word. No argument has this
@@ -86,14 +86,6 @@ def unmarked(value: Any) -> Any:
     if isinstance(value, list):
         return [unmarked(each) for each in value]
     return value.removeprefix(MARK) if isinstance(value, str) else value
-
-
-def nearest(word: str, known: list[str]) -> str:
-    """Which of the known words is meant, as the end of a sentence; empty where none is near."""
-    import difflib
-
-    near = difflib.get_close_matches(word, known, n=1, cutoff=0.5)
-    return f"; did you mean {near[0]}?" if near else ""
 
 
 def parser_of(chosen: Command) -> Parser:

@@ -1,11 +1,12 @@
 """What a command is given besides its words: where its answer goes, and databases."""
 
+from collections.abc import Iterable, Sequence
 from dataclasses import dataclass, field
 
 from query.database import Database
 from query.errors import tell
 from query.options import Options
-from query.output import Output
+from query.output import Output, Value
 
 
 @dataclass
@@ -24,6 +25,13 @@ class Context:
         its dependence or its graph is asked for. NoAnswer where it can't be read.
         """
         return Database.opened(word, options, self.uses_cache)
+
+    def table(self, columns: Sequence[str], rows: Iterable[Sequence[Value]], empty: str) -> None:
+        """Answers with a table. Where it has no row, standard error says why, by `empty`."""
+        rows = list(rows)
+        if not rows:
+            self.tell(empty)
+        self.out.table(columns, rows)
 
     def tell(self, text: str) -> None:
         """Writes a line to standard error, a remark that changes nothing of the answer."""

@@ -3,13 +3,13 @@
 import hashlib
 import json
 from array import array
-from collections.abc import Sequence
+from collections.abc import Callable, Sequence
 from dataclasses import dataclass, field
 from functools import cached_property
 from typing import TYPE_CHECKING
 
 from query import cache, progress
-from query.errors import NoAnswer, shown
+from query.errors import NoAnswer, nearest, shown
 from query.graph import Graph, Lists
 from query.marks import Marks, columns_of, mask
 from query.options import Options
@@ -41,7 +41,8 @@ class Dependence:
     marks: Marks
     chosen: Sequence[int]  # for each column that of `marks`
     whole_graph: Graph | None
-    lacking: str = ""
+    left_out: Callable[[str], str] = lambda label: ""
+    """Why an axiom isn't among those chosen, as the end of a sentence."""
 
     @cached_property
     def rows(self) -> dict[str, int]:
@@ -101,13 +102,15 @@ class Dependence:
     def row(self, label: str) -> int:
         """The row of a theorem. NoAnswer where there is none of this label."""
         if label not in self.rows:
-            raise NoAnswer(f"{self.name}: has no theorem '{shown(label)}'")
+            meant = nearest(label, self.rows, 0.8)
+            raise NoAnswer(f"{self.name}: has no theorem '{shown(label)}'{meant}")
         return self.rows[label]
 
     def column(self, label: str) -> int:
         """The column of an axiom. NoAnswer where it isn't among those chosen."""
         if label not in self.columns:
-            raise NoAnswer(f"{self.name}: has no axiom{self.which} '{shown(label)}'")
+            why = self.left_out(label) or nearest(label, self.columns, 0.8)
+            raise NoAnswer(f"{self.name}: has no axiom{self.which} '{shown(label)}'{why}")
         return self.columns[label]
 
     @property
@@ -245,8 +248,24 @@ class Database:
         chosen = self.chosen_columns(found)
         axioms = [found.columns[number] for number in chosen]
         return Dependence(
-            self.name, self.which(), axioms, found.theorems, found.marks, chosen, graph
+            self.name,
+            self.which(),
+            axioms,
+            found.theorems,
+            found.marks,
+            chosen,
+            graph,
+            self.left_out,
         )
+
+    def left_out(self, label: str) -> str:
+        """Which option left an axiom out, as the end of a sentence; empty where none did."""
+        if label in self.prepared(self.options.only).columns:
+            begins = self.options.ignore_definitions and label.startswith("df-")
+            return f"; {'--ignore-definitions' if begins else '--axioms'} leaves it out"
+        if self.options.only is not None and label in self.other_axioms():
+            return "; it is one of another typecode, and --all takes every axiom"
+        return ""
 
     def which(self) -> str:
         """Which axioms are asked for, as messages say it after `axiom`."""

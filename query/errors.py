@@ -2,6 +2,10 @@
 status 2."""
 
 import os
+from collections.abc import Iterable
+
+FEW, MANY = 500, 20_000
+"""Of more than `FEW` words not all are compared, and of `MANY` the first ones."""
 
 
 class NoAnswer(Exception):
@@ -21,6 +25,18 @@ def shown(text: str, kept: str = "") -> str:
     return "".join(
         sign if sign.isprintable() or sign in kept else written(ord(sign)) for sign in text
     )
+
+
+def nearest(word: str, known: Iterable[str], cutoff: float = 0.5) -> str:
+    """Which of the known words is meant, as the end of a sentence; empty where none is near. Of
+    many words only those are compared that begin alike."""
+    import difflib
+
+    words = list(known)
+    if len(words) > FEW:
+        words = [each for each in words if each[:1] == word[:1] and abs(len(each) - len(word)) < 4]
+    near = difflib.get_close_matches(word, words[:MANY], n=1, cutoff=cutoff)
+    return f"; did you mean {shown(near[0])}?" if near else ""
 
 
 def written(number: int) -> str:

@@ -9,7 +9,7 @@ from bisect import bisect_right
 from collections.abc import Callable, Iterable
 from functools import cached_property
 
-from query.errors import NoAnswer, shown
+from query.errors import NoAnswer, nearest, shown
 
 
 NOTHING: "array[int]" = array("I")
@@ -92,7 +92,10 @@ class Graph:
             self.index[label] = len(self.labels)
             self.labels.append(label)
         if label not in self.index:
-            raise NoAnswer(f"{self.name}: has neither a theorem nor an axiom '{shown(label)}'")
+            meant = nearest(label, self.index, 0.8)
+            raise NoAnswer(
+                f"{self.name}: has neither a theorem nor an axiom '{shown(label)}'{meant}"
+            )
         return self.index[label]
 
     def theorem(self, label: str) -> int:

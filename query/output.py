@@ -140,11 +140,14 @@ def for_terminal(data: bytes) -> bytes:
 
 
 def write_all(descriptor: int, data: bytes) -> None:
-    """Writes bytes to an open file. NoAnswer, with the reason, where not all of it is written."""
+    """Writes bytes to an open file. NoAnswer, with the reason, where not all of it is written; but
+    who closes a pipe has read enough, as `head` does, and that is no error."""
     view = memoryview(data)
     try:
         while view:
             view = view[os.write(descriptor, view) :]
+    except BrokenPipeError:
+        return
     except OSError as error:
         raise NoAnswer(f"the answer can't be written: {reason(error)}") from error
 
@@ -157,8 +160,6 @@ def reason(error: OSError) -> str:
         return "the disk quota is used up"
     if error.errno == errno.EFBIG:
         return "files may not become so large here"
-    if error.errno == errno.EPIPE:
-        return "nobody reads it"
     if error.errno == errno.EBADF:
         return "standard output is closed"
     return (error.strerror or str(error)).lower()

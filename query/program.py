@@ -135,6 +135,15 @@ def found() -> Program:
     return Program(os.path.abspath(path))
 
 
+def version() -> str:
+    """What the program says of its version. NoAnswer where it can't be run."""
+    path = found().path
+    out, _, status = Running(path, ["--version"], devnull(), None).ended()
+    if status != 0:
+        raise NoAnswer(f"{shown(path)} can't be run")
+    return out.decode("latin-1").strip()
+
+
 def reports(program: Program, source: Source, requests: list[list[str]]) -> list[bytes]:
     """The reports that the program writes over a source for each of these options, all at the same
     time. Refused where it refuses the source, NoAnswer where it has no answer."""

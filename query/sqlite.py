@@ -19,6 +19,9 @@ from query.text import Text
 
 APPLICATION = 0x6D6D7175
 """What the header has as the application, `mmqu`; by it a file that was exported is known."""
+SCHEMA = 1
+"""The number of the schema, in the header as the user's version and in `about`: another one where a
+table or a view loses a column, or a column means something else."""
 
 TABLES = """
 CREATE TABLE about (key TEXT PRIMARY KEY, value TEXT NOT NULL) WITHOUT ROWID;
@@ -66,6 +69,17 @@ CREATE TABLE mark (
     axiom INTEGER NOT NULL REFERENCES statement,
     PRIMARY KEY (theorem, axiom)
 ) WITHOUT ROWID;
+"""
+
+VIEWS = """
+CREATE VIEW citation_label AS
+    SELECT citing.label AS citing, cited.label AS cited FROM citation
+    JOIN statement AS citing ON citing.id = citation.citing
+    JOIN statement AS cited ON cited.id = citation.cited;
+CREATE VIEW mark_label AS
+    SELECT theorem.label AS theorem, axiom.label AS axiom FROM mark
+    JOIN statement AS theorem ON theorem.id = mark.theorem
+    JOIN statement AS axiom ON axiom.id = mark.axiom;
 """
 
 INDICES = """
@@ -218,13 +232,13 @@ def fill(content: Content, path: str) -> list[tuple[str, int]]:
     try:
         connection.executescript(
             "PRAGMA journal_mode = OFF; PRAGMA synchronous = OFF; PRAGMA temp_store = MEMORY;"
-            f"PRAGMA application_id = {APPLICATION};"
+            f"PRAGMA application_id = {APPLICATION}; PRAGMA user_version = {SCHEMA};"
         )
         connection.executescript(TABLES)
         for table, rows in content.tables():
             counts.append((table, insert(connection, table, iter(rows))))
         connection.commit()
-        connection.executescript(INDICES)
+        connection.executescript(INDICES + VIEWS)
         connection.commit()
     finally:
         connection.close()

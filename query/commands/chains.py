@@ -7,6 +7,7 @@ from query.commands import Command
 from query.context import Context
 from query.errors import NoAnswer
 from query.graph import Graph
+from query.output import Value
 from query.options import add_choice_of_citations, add_database, count, options_of
 
 WHY_PAGE = """
@@ -121,14 +122,16 @@ def run_way_out(context: Context, arguments: argparse.Namespace) -> int:
         rows = [["applies", labels[node], labels[end]] for node in found.applies]
         for word, edges in (("first", found.first), ("last", found.last)):
             rows += [[word, labels[node], labels[cited]] for node, cited in edges]
-        context.out.table(["what", "theorem", "cited"], rows)
+        why = f"{graph.name}: {labels[start]} doesn't rest on {labels[end]}"
+        context.table(["what", "theorem", "cited"], rows, why)
         return 0
     ends = cuts.Bottlenecks(graph, end, citations=True).ends
     rows = []
     for node, pair in ends.items():
         if pair:
             rows.append([labels[node], *(labels[each] for edge in pair for each in edge)])
-    context.out.table(["theorem", "first", "first_cited", "last", "last_cited"], rows)
+    why = f"{graph.name}: no theorem rests on {labels[end]} by way of a single citation"
+    context.table(["theorem", "first", "first_cited", "last", "last_cited"], rows, why)
     return 0
 
 
@@ -154,11 +157,17 @@ def run_frees(context: Context, arguments: argparse.Namespace) -> int:
     if arguments.theorems:
         again = {graph.theorem(label) for label in arguments.theorems}
         rows = [[graph.labels[node]] for node in cuts.freed(graph, end, again)]
-        context.out.table(["theorem"], rows)
+        context.table(["theorem"], rows, nothing_rests(graph, end, "of these "))
         return 0
     most = sorted(cuts.freeing(graph, end), key=lambda pair: -pair[0])[: arguments.most]
-    context.out.table(["freed", "theorem"], [[freed, graph.labels[node]] for freed, node in most])
+    found: list[list[Value]] = [[freed, graph.labels[node]] for freed, node in most]
+    context.table(["freed", "theorem"], found, nothing_rests(graph, end))
     return 0
+
+
+def nothing_rests(graph: Graph, end: int, which: str = "") -> str:
+    """Says that no theorem rests on a node."""
+    return f"{graph.name}: none {which}rests on {graph.labels[end]}"
 
 
 COMMANDS = [

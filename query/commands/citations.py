@@ -4,6 +4,7 @@ import argparse
 
 from query.commands import Command
 from query.context import Context
+from query.errors import shown
 from query.options import add_choice_of_citations, add_database, options_of
 
 CITES_PAGE = """
@@ -57,18 +58,27 @@ def run_cites(context: Context, arguments: argparse.Namespace) -> int:
         for cited in graph.cites[node]
         if above is None or cited in above
     ]
-    put_pairs(context, ["theorem", "cited"], rows, 1, len(nodes))
+    names = shown(", ".join(arguments.labels))
+    why = f"{graph.name}: {names}: cites nothing"
+    if arguments.on is not None:
+        why += f" that rests on {shown(arguments.on)}"
+    put_pairs(context, ["theorem", "cited"], rows, 1, len(nodes), why)
     return 0
 
 
 def put_pairs(
-    context: Context, columns: list[str], rows: list[list[str]], wanted: int, labels: int
+    context: Context,
+    columns: list[str],
+    rows: list[list[str]],
+    wanted: int,
+    labels: int,
+    empty: str,
 ) -> None:
     """Answers with pairs, or where one LABEL was given with their wanted half."""
     if labels == 1:
-        context.out.table([columns[wanted]], [[row[wanted]] for row in rows])
+        context.table([columns[wanted]], [[row[wanted]] for row in rows], empty)
     else:
-        context.out.table(columns, rows)
+        context.table(columns, rows, empty)
 
 
 def configure_cited_by(parser: argparse.ArgumentParser) -> None:
@@ -85,7 +95,8 @@ def run_cited_by(context: Context, arguments: argparse.Namespace) -> int:
     rows = [
         [graph.labels[user], graph.labels[node]] for node in nodes for user in graph.users(node)
     ]
-    put_pairs(context, ["theorem", "cited"], rows, 0, len(nodes))
+    why = f"{graph.name}: no theorem cites {shown(' or '.join(arguments.labels))}"
+    put_pairs(context, ["theorem", "cited"], rows, 0, len(nodes), why)
     return 0
 
 
@@ -100,7 +111,7 @@ def run_uncited(context: Context, arguments: argparse.Namespace) -> int:
     graph = context.database(arguments.database, options_of(arguments)).graph()
     cited = set(graph.cites.targets)
     rows = [[graph.labels[node]] for node in range(graph.theorems) if node not in cited]
-    context.out.table(["theorem"], rows)
+    context.table(["theorem"], rows, f"{graph.name}: there is no theorem that nobody cites")
     return 0
 
 

@@ -115,7 +115,7 @@ def run(context: Context, arguments: argparse.Namespace) -> int:
     if not arguments.axiom:
         rows += rows_of(comparison.theorems, "theorem")
     rows += about_axioms(comparison, arguments.axiom)
-    context.out.table(COLUMNS, rows)
+    context.table(COLUMNS, rows, f"{old.name} and {new.name} don't differ in this")
     return 0
 
 

@@ -7,6 +7,7 @@ from dataclasses import replace
 from query.commands import Command
 from query.context import Context
 from query.database import Database, Dependence
+from query.errors import shown
 from query.graph import Graph
 from query.options import add_choice_of_axioms, add_database, options_of
 
@@ -73,13 +74,26 @@ def run_rests(context: Context, arguments: argparse.Namespace) -> int:
         nodes = [graph.node(label) for label in arguments.labels]
         below = graph.below(cited for node in nodes for cited in graph.cites[node])
         found = [graph.labels[node] for node in sorted(below) if graph.is_theorem(node)]
-        context.out.table(["theorem"], [[label] for label in found])
+        names = shown(" ".join(arguments.labels))
+        rows = [[label] for label in found]
+        context.table(["theorem"], rows, f"{database.name}: {names}: rests on no theorem")
     elif arguments.apart:
         put_apart(context, database, arguments.labels)
     else:
         axioms = axioms_of(database, arguments.labels)
-        context.out.table(["axiom"], [[label] for label in axioms])
+        names = shown(" ".join(arguments.labels))
+        why = f"{database.name}: {names}: rests on no axiom{chosen_of(database)}"
+        context.table(["axiom"], [[label] for label in axioms], why)
     return 0
+
+
+def chosen_of(database: Database) -> str:
+    """Which axioms are asked for, as the end of a sentence that says that there are none."""
+    options = database.options
+    which = database.which()
+    if options.axioms or options.ignore_definitions:
+        return f"{which} that the options choose"
+    return f"{which}; --all counts every axiom" if which else ""
 
 
 def axioms_of(database: Database, labels: Sequence[str]) -> list[str]:
@@ -99,7 +113,8 @@ def put_apart(context: Context, database: Database, labels: Sequence[str]) -> No
         database.source, replace(database.options, only=None), database.uses_cache, database.known
     )
     rows = [["logic" if each in logic else "syntax", each] for each in axioms_of(every, labels)]
-    context.out.table(["kind", "axiom"], rows)
+    why = f"{database.name}: {shown(' '.join(labels))}: rests on no axiom"
+    context.table(["kind", "axiom"], rows, why)
 
 
 def rested_on(database: Database, dependence: Dependence, label: str) -> Sequence[int]:
@@ -142,7 +157,12 @@ def run_falls(context: Context, arguments: argparse.Namespace) -> int:
     for label in arguments.without:
         found -= users_of(database, label)
     theorems = database.prepared(database.options.only).theorems
-    context.out.table(["theorem"], [[theorems[row]] for row in sorted(found)])
+    rows = [[theorems[row]] for row in sorted(found)]
+    word = "each" if arguments.all_of else "any"
+    names = shown(", ".join(arguments.labels))
+    which = names if len(sets) == 1 else f"{word} of {names}"
+    without = " that the options leave" if arguments.without else ""
+    context.table(["theorem"], rows, f"{database.name}: no theorem{without} rests on {which}")
     return 0
 
 

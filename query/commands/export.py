@@ -1,6 +1,7 @@
 """`export`: a database as tables, for questions of one's own."""
 
 import argparse
+import hashlib
 
 from query import progress
 from query.changes import text_of
@@ -30,14 +31,18 @@ def configure(parser: argparse.ArgumentParser) -> None:
 
 def run(context: Context, arguments: argparse.Namespace) -> int:
     """Answers."""
-    from query.sqlite import Content, export
+    from query.program import version
+    from query.sqlite import SCHEMA, Content, export
 
     options = options_of(arguments)
     database = context.database(arguments.database, options)
     database.text()
     dependence = database.dependence()
     about = {
+        "program": version(),
+        "schema": str(SCHEMA),
         "database": database.name,
+        "sha256": hashlib.sha256(database.text()).hexdigest(),
         "axioms of typecode": "all" if options.only is None else options.only,
         "axioms that begin with": " ".join(options.axioms),
         "ignore definitions": str(options.ignore_definitions).lower(),

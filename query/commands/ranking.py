@@ -17,9 +17,11 @@ axioms. Equal ones are in file order.
 theorems  how many theorems rest on it (with --theorems, axioms: on how many it rests)
 axiom     the label of the axiom (with --theorems, theorem)
 
-With --below N, in file order the axioms on which fewer than N theorems rest: with --below 1 those
-on which nothing rests. With --against OLD, in file order the axioms on which another number of
-theorems rests than in the database OLD:
+With --below B, in file order the axioms on which fewer than B theorems rest: with --below 1 those
+on which nothing rests. With N too, the N of them on which most rest.
+
+With --against OLD, in file order the axioms on which another number of theorems rests than in the
+database OLD:
 
 was       how many did in OLD; - (null) where it has no such axiom
 theorems  how many do now; - (null) where there is no such axiom any more
@@ -52,9 +54,7 @@ theorem  the label of the theorem
 def configure_top(parser: argparse.ArgumentParser) -> None:
     """The words and options of `top`."""
     add_database(parser)
-    parser.add_argument(
-        "number", metavar="N", nargs="?", type=count, default=10, help="how many (else: 10)"
-    )
+    parser.add_argument("number", metavar="N", nargs="?", type=count, help="how many (else: 10)")
     group = parser.add_mutually_exclusive_group()
     group.add_argument("--theorems", action="store_true", help="rank theorems, not axioms")
     group.add_argument(
@@ -75,7 +75,8 @@ def run_top(context: Context, arguments: argparse.Namespace) -> int:
         if old.is_report != database.is_report:
             raise NoAnswer("a report beside a database; both have to be one or the other")
         rows = differences(old.dependence(), dependence)
-        context.out.table(["was", "theorems", "axiom"], rows)
+        why = f"on each axiom as many theorems rest in {old.name} as in {database.name}"
+        context.table(["was", "theorems", "axiom"], rows, why)
         return 0
     put_ranking(context, arguments, dependence)
     return 0
@@ -101,11 +102,13 @@ def put_ranking(context: Context, arguments: argparse.Namespace, dependence: Dep
     else:
         sizes, labels, columns = dependence.sizes(), dependence.axioms, ["theorems", "axiom"]
     rows: list[list[Value]] = [[size, label] for size, label in zip(sizes, labels)]
-    if arguments.below is None:
-        rows = sorted(rows, key=lambda row: -int(str(row[0])))[: arguments.number]
-    else:
+    why = f"{dependence.name}: has no theorem"
+    if arguments.below is not None:
         rows = [row for row in rows if int(str(row[0])) < arguments.below]
-    context.out.table(columns, rows)
+        why = f"{dependence.name}: on each axiom{dependence.which} {arguments.below} or more rest"
+    if arguments.below is None or arguments.number is not None:
+        rows = sorted(rows, key=lambda row: -int(str(row[0])))[: arguments.number or 10]
+    context.table(columns, rows, why)
 
 
 def configure_within(parser: argparse.ArgumentParser) -> None:
@@ -128,7 +131,7 @@ def run_within(context: Context, arguments: argparse.Namespace) -> int:
         for row, label in enumerate(dependence.theorems)
         if not dependence.bits(row) & ~allowed
     ]
-    context.out.table(["theorem"], rows)
+    context.table(["theorem"], rows, f"{dependence.name}: each theorem rests on other axioms too")
     return 0
 
 
@@ -149,7 +152,8 @@ def run_same(context: Context, arguments: argparse.Namespace) -> int:
         for row, label in enumerate(dependence.theorems)
         if row != wanted and dependence.bits(row) == bits
     ]
-    context.out.table(["theorem"], rows)
+    why = f"{dependence.name}: no other theorem rests on just the axioms of {arguments.theorem}"
+    context.table(["theorem"], rows, why)
     return 0
 
 

@@ -24,11 +24,14 @@ CHAPTERS_PAGE = """
 Lists the headers of a database. A header is a comment whose title stands between lines of ####,
 #*#*, =-=- or -.-., the outermost level first. The first row is of the whole database.
 
-number           that of the header
-theorems         how many theorems stand from it to the next header of its level or of an outer one
-rest on AXIOM    how many of these rest on the axiom
-first on AXIOM   the first of these that does
-title            that of the header
+number    that of the header
+theorems  how many theorems stand from it to the next header of its level or of an outer one
+axiom     which AXIOM; each header has a row for each of them
+rest      how many of these theorems rest on the axiom
+first     the first of these that does
+title     that of the header
+
+Without an AXIOM there are no columns of axioms.
 
   $ mmquery chapters set.mm ax-ac2 ax-reg
 """
@@ -122,13 +125,12 @@ def run_chapters(context: Context, arguments: argparse.Namespace) -> int:
     places += [(each.number, each.first, each.end, each.title) for each in text.headers]
     rows: list[list[Value]] = []
     for number, first, end, title in places:
-        row: list[Value] = [number, counted[0].within(first, end)[0]]
-        for numbers in counted[1:]:
-            row += numbers.within(first, end)
-        rows.append([*row, title])
-    names = [
-        name for label in arguments.axiom for name in (f"rest on {label}", f"first on {label}")
-    ]
+        theorems_below = counted[0].within(first, end)[0]
+        if not columns:
+            rows.append([number, theorems_below, title])
+        for label, numbers in zip(arguments.axiom, counted[1:]):
+            rows.append([number, theorems_below, label, *numbers.within(first, end), title])
+    names = ["axiom", "rest", "first"] if columns else []
     context.out.table(["number", "theorems", *names, "title"], rows)
     return 0
 
@@ -180,12 +182,13 @@ def run_unfinished(context: Context, arguments: argparse.Namespace) -> int:
         rows: list[list[Value]] = []
         for label in found:
             rows.append([len(dependence.users(dependence.column(label))), label])
-        context.out.table(["theorems", "theorem"], rows)
+        context.table(["theorems", "theorem"], rows, f"{database.name}: no theorem is left open")
         return 0
     if arguments.theorem not in found:
         raise NoAnswer(f"{database.name}: has no open theorem '{shown(arguments.theorem)}'")
     users = dependence.users(dependence.column(arguments.theorem))
-    context.out.table(["theorem"], [[dependence.theorems[row]] for row in users])
+    named = [[dependence.theorems[row]] for row in users]
+    context.table(["theorem"], named, f"{database.name}: nothing rests on {arguments.theorem}")
     return 0
 
 
@@ -230,6 +233,8 @@ def run_discouraged(context: Context, arguments: argparse.Namespace) -> int:
     for one in text.assertions:
         if is_proof_discouraged(text, one):
             rows.append(["proof", one.label, None, steps(text, one)])
+    if not rows:
+        context.tell(f"{database.name}: no comment says that something is discouraged")
     if context.out.format != "text":
         context.out.table(["what", "label", "by", "count"], rows)
         return 0
@@ -243,9 +248,10 @@ def run_mathboxes(context: Context, arguments: argparse.Namespace) -> int:
     database = context.database(arguments.database, options_of(arguments))
     graph = database.graph()
     rows = across_mathboxes(graph, text_of(database))
-    context.out.table(
+    context.table(
         ["theorem", "mathbox", "cited", "of"],
         [[user, box, cited, other] for user, cited, box, other in rows],
+        f"{database.name}: nothing cites a statement of another mathbox",
     )
     return 0
 

@@ -70,26 +70,29 @@ class Statuses(World):
         for words in self.all_words():
             came = self.query(*words)
             self.assertIn(came.status, (0, 1), f"{words}: {came.err}")
-            self.assertEqual(came.err, "", f"{words}")
-            self.assertTrue(came.out or words[0] in MAY_BE_SILENT, f"{words}")
+            self.assertRegex(came.err, r"\A(mmquery: [^\n]+\n)?\Z", f"{words}")
+            is_silent = words[0] in MAY_BE_SILENT
+            self.assertTrue(came.out or came.err or is_silent, f"{words}")
 
     def test_outputs_that_take_nothing(self) -> None:
         for words in self.all_words():
-            is_silent = not self.query(*words).out
+            whole = self.query(*words)
+            is_silent = not whole.out
             with open("/dev/full", "wb") as full:
                 came = self.ended(words, full.fileno())
             reader, writer = os.pipe()
             os.close(reader)
             piped = self.ended(words, writer)
             os.close(writer)
+            self.assertIn(piped.status, (0, 1), f"{words}: who reads no more is no error")
+            self.assertEqual(piped.err, whole.err, f"{words}")
             shut = self.query_by_shell('exec "$@" >&-', *words)
             for each, why in (
                 (came, "the disk is full"),
-                (piped, "nobody reads it"),
                 (shut, "standard output is closed"),
             ):
                 if is_silent:
-                    self.assertEqual((each.err, each.out), ("", ""), f"{words}")
+                    self.assertEqual((each.err, each.out), (whole.err, ""), f"{words}")
                 else:
                     self.no_answer(words, each, f"the answer can't be written: {why}")
 
@@ -113,7 +116,9 @@ class Statuses(World):
                 if words[0] == "export" and came.status == 2:
                     self.no_answer(words, came)
                 else:
-                    self.assertEqual((came.out, came.err), (whole.out, ""), f"{words}, {size}")
+                    self.assertEqual(
+                        (came.out, came.err), (whole.out, whole.err), f"{words}, {size}"
+                    )
                     self.assertEqual(came.status, whole.status)
                 kept = list((self.cache / "mmquery").glob("*"))
                 self.assertTrue(size == LIMITS[-1] or not kept, f"{words}, {size}")
@@ -149,7 +154,7 @@ class Statuses(World):
             self.no_answer(words, came)
             self.assertRegex(came.err, "full|no such", f"{words}")
         elif words[0] != "cache":
-            self.assertEqual((came.out, came.err, came.status), (whole.out, "", whole.status))
+            self.assertEqual(came, whole)
 
     def test_refused_databases(self) -> None:
         for name in names():

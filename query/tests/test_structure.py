@@ -61,25 +61,27 @@ class Structure(World):
     def test_chapters(self) -> None:
         names = self.answers("chapters", "--open", "--format", "tsv", "db.mm", "ax-2", "ax-1")[0]
         self.assertEqual(
-            names.split("\t"),
+            names.split("\t"), ["number", "theorems", "axiom", "rest", "first", "title"]
+        )
+        rows = self.rows("chapters", "db.mm", "ax-2", "ax-1")
+        self.assertEqual(
+            rows[::2],
             [
-                "number",
-                "theorems",
-                "rest on ax-2",
-                "first on ax-2",
-                "rest on ax-1",
-                "first on ax-1",
-                "title",
+                ["0", "6", "ax-2", "3", "three", "(the whole database)"],
+                ["0.1", "2", "ax-2", "0", "-", "First"],
+                ["0.1.1", "1", "ax-2", "0", "-", "Deeper | <b>"],
+                ["0.2", "1", "ax-2", "1", "three", "Mathbox for Ann Other"],
+                ["0.3", "3", "ax-2", "2", "four", "Mathbox for Bo"],
             ],
         )
         self.assertEqual(
-            self.rows("chapters", "db.mm", "ax-2", "ax-1"),
+            [[row[0], *row[2:5]] for row in rows[1::2]],
             [
-                ["0", "6", "3", "three", "2", "one", "(the whole database)"],
-                ["0.1", "2", "0", "-", "2", "one", "First"],
-                ["0.1.1", "1", "0", "-", "1", "two", "Deeper | <b>"],
-                ["0.2", "1", "1", "three", "0", "-", "Mathbox for Ann Other"],
-                ["0.3", "3", "2", "four", "0", "-", "Mathbox for Bo"],
+                ["0", "ax-1", "2", "one"],
+                ["0.1", "ax-1", "2", "one"],
+                ["0.1.1", "ax-1", "1", "two"],
+                ["0.2", "ax-1", "0", "-"],
+                ["0.3", "ax-1", "0", "-"],
             ],
         )
         self.assertEqual(self.rows("chapters", "db.mm")[0], ["0", "6", "(the whole database)"])

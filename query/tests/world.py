@@ -111,9 +111,12 @@ class World(unittest.TestCase):
         return self.ran("sh", "-c", line, "sh", str(MMQUERY), *words)
 
     def answers(self, *words: str, **more: str) -> list[str]:
-        """The lines that a command answers, which has to have an answer, with status 0."""
+        """The lines that a command answers, which has to have an answer, with status 0. Where there
+        is none, standard error has a line that says why."""
         came = self.query(*words, given=b"", **more)
-        self.assertEqual((came.status, came.err), (0, ""), f"{words}: {came}")
+        self.assertEqual(came.status, 0, f"{words}: {came}")
+        self.assertRegex(came.err, r"\A(mmquery: [^\n]+\n)?\Z", f"{words}: {came}")
+        self.assertTrue(came.out or came.err, f"{words}: nothing says why it is empty")
         return came.lines()
 
     def refuses(self, *words: str, why: str = "", **more: str) -> str:
