@@ -1,7 +1,7 @@
 // Makes the blocks of pages as the page that verifies makes them, for query/tests/test_mirror.py.
 //
 // Standard input has a line of JSON for each page; for each a line of JSON comes: the blocks by their names in base64,
-// or what was thrown. `text` and the reports are files. Without reports there are only the blocks of the text.
+// or what was thrown. `text` and `report` are files. Without a report there are only the blocks of the text.
 
 import { readFileSync } from "node:fs";
 import { createInterface } from "node:readline";
@@ -16,10 +16,10 @@ function bytesOf(path) {
     return new Uint8Array(readFileSync(path));
 }
 
-/** A database with its reports, if it has some. */
-function opened({ name, text, matrix, citations, request }) {
+/** A database with its report, if it has one. */
+function opened({ name, text, report, request }) {
     const making = new Making(name, bytesOf(text), request);
-    const side = matrix ? making.side({ matrix: bytesOf(matrix), citations: bytesOf(citations) }) : null;
+    const side = report ? making.side(bytesOf(report)) : null;
     return { name, making, side };
 }
 

@@ -131,16 +131,14 @@ class Mirror(World, Room):
         self.addCleanup(patch.stop)
 
     def reports(self, path: Path, options: Options) -> dict[str, Any]:
-        """A database and its reports for the scripts."""
+        """A database and its report for the scripts."""
         common = ["--essential"] * options.essential + ["--open"] * options.open + ["--form=2"]
         found: dict[str, Any] = {"name": path.name, "text": str(path)}
-        for part in ("matrix", "citations"):
-            report = self.room / f"{len(list(self.room.iterdir()))}.{part}"
-            with report.open("wb") as file:
-                line = [programs.found().path, f"--report={part}", *common, str(path)]
-                subprocess.run(line, stdout=file, check=True)
-            found[part] = str(report)
-        return {**found, "request": request_of(options)}
+        report = self.room / f"{len(list(self.room.iterdir()))}.report"
+        with report.open("wb") as file:
+            line = [programs.found().path, "--report=matrix,citations", *common, str(path)]
+            subprocess.run(line, stdout=file, check=True)
+        return {**found, "report": str(report), "request": request_of(options)}
 
     def whole(
         self, path: Path, options: Options, older: Path | None = None
@@ -188,19 +186,18 @@ class Mirror(World, Room):
     def test_damaged_reports(self) -> None:
         asked = self.reports(self.put("small.mm", SMALL), Options(only=None))
         jobs = []
-        for part in ("matrix", "citations"):
-            report = Path(asked[part]).read_bytes()
-            for place, byte in enumerate(report):
-                path = self.room / f"{part}.{place}"
-                other = b"1" if byte != ord("1") else b"0"
-                path.write_bytes(report[:place] + other + report[place + 1 :])
-                jobs.append({**asked, part: str(path), "maker": ""})
-            for size in range(len(report)):
-                path = self.room / f"{part}.{size}.cut"
-                path.write_bytes(report[:size])
-                jobs.append({**asked, part: str(path), "maker": ""})
+        report = Path(asked["report"]).read_bytes()
+        for place, byte in enumerate(report):
+            path = self.room / f"report.{place}"
+            other = b"1" if byte != ord("1") else b"0"
+            path.write_bytes(report[:place] + other + report[place + 1 :])
+            jobs.append({**asked, "report": str(path), "maker": ""})
+        for size in range(len(report)):
+            path = self.room / f"report.{size}.cut"
+            path.write_bytes(report[:size])
+            jobs.append({**asked, "report": str(path), "maker": ""})
         for job, came in zip(jobs, asked_of_page(self.room, jobs)):
-            self.assertIn("error", came, [job["matrix"], job["citations"]])
+            self.assertIn("error", came, job["report"])
 
     @unittest.skipUnless((DATABASES / "set.mm").exists(), "set.mm isn't installed")
     def test_databases(self) -> None:
