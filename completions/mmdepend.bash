@@ -11,7 +11,13 @@ _mmdepend() {
         before=${COMP_WORDS[COMP_CWORD - 2]}
     fi
     case $before in
-        --report) words='all matrix counts usage citations' ;;
+        --report)
+            # The last of the names that commas separate.
+            local named=
+            case $word in *,*) named=${word%,*}, ;; esac
+            mapfile -t COMPREPLY < <(compgen -P "$named" -W 'all matrix counts usage citations' -- "${word##*,}")
+            return
+            ;;
         --form) words='1 2' ;;
         --workers | --pieces) words='1 2 4 8 16 32 64' ;;
         --only)

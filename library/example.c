@@ -1,8 +1,9 @@
 /* Writes the report of a Metamath database to standard output, as the program does:
  *
  *     cc example.c $(pkg-config --cflags --libs mmdepend) -o example
- *     ./example FILE [all|matrix|counts|usage|citations [ROOM [OUT]]]
+ *     ./example FILE [PARTS [ROOM [OUT]]]
  *
+ * PARTS are matrix, counts, usage and citations, with commas between them, or all: the first three.
  * ROOM and OUT are how many bytes of memory are lent at first; where they are too few, more are. The
  * status is that of the program: 0 for a report, 1 for a refusal, 2 to 4 for what failed. */
 #include "mmdepend.h"
@@ -13,7 +14,37 @@
 
 enum { ALIGNMENT = 16, LEAST = 1 << 20 };
 
-static const char *const parts[] = {"all", "matrix", "counts", "usage", "citations"};
+static const struct {
+    const char *name;
+    uint32_t bits;
+} parts[] = {{"all", MMDEPEND_ALL},
+             {"matrix", MMDEPEND_MATRIX},
+             {"counts", MMDEPEND_COUNTS},
+             {"usage", MMDEPEND_USAGE},
+             {"citations", MMDEPEND_CITATIONS}};
+
+/* The bits of a part whose name has this length; 0 if there is none. */
+static uint32_t bits_of(const char *name, size_t length) {
+    for (size_t k = 0; k < sizeof parts / sizeof *parts; k++)
+        if (strlen(parts[k].name) == length && !memcmp(parts[k].name, name, length))
+            return parts[k].bits;
+    return 0;
+}
+
+/* The bits of all parts that are named, with commas between them; 0 if one of them isn't any. */
+static uint32_t sections_of(const char *names) {
+    uint32_t sections = 0;
+    for (;;) {
+        size_t length = strcspn(names, ",");
+        uint32_t bits = bits_of(names, length);
+        if (!bits)
+            return 0;
+        sections |= bits;
+        if (!names[length])
+            return sections;
+        names += length + 1;
+    }
+}
 
 static int fail(int status, const char *message) {
     fprintf(stderr, "example: %s\n", message);
@@ -46,7 +77,7 @@ static size_t up_to_units(size_t bytes) { return (bytes + ALIGNMENT - 1) / ALIGN
 
 /* Asks for the report with so much memory, and writes it. With too little it says so, and how much
  * output there is. */
-static uint32_t try_report(const uint8_t *text, size_t size, uint32_t part, size_t room_size,
+static uint32_t try_report(const uint8_t *text, size_t size, uint32_t sections, size_t room_size,
                            size_t out_size, size_t *written) {
     void *lent = aligned_alloc(ALIGNMENT, room_size);
     uint8_t *out = malloc(out_size);
@@ -54,7 +85,7 @@ static uint32_t try_report(const uint8_t *text, size_t size, uint32_t part, size
     *written = 0;
     if (lent && out) {
         struct mmdepend_room room = {lent, room_size / ALIGNMENT};
-        status = mmdepend_report(&room, text, size, (const uint8_t *)"", 0, false, part,
+        status = mmdepend_report(&room, text, size, (const uint8_t *)"", 0, false, sections,
                                  MMDEPEND_DIGITS, false, false, out, out_size, written);
         if (status <= MMDEPEND_REFUSED && fwrite(out, 1, *written, stdout) != *written)
             exit(fail(3, "writing failed"));
@@ -68,11 +99,9 @@ static uint32_t try_report(const uint8_t *text, size_t size, uint32_t part, size
 
 int main(int count, char **words) {
     if (count < 2)
-        return fail(2, "usage: example FILE [PART [ROOM [OUT]]]");
-    uint32_t part = 0;
-    while (count > 2 && part < 5 && strcmp(words[2], parts[part]))
-        part++;
-    if (part == 5)
+        return fail(2, "usage: example FILE [PARTS [ROOM [OUT]]]");
+    uint32_t sections = sections_of(count > 2 ? words[2] : "all");
+    if (!sections)
         return fail(2, "there is no such part of a report");
     size_t size = 0;
     uint8_t *text = read_file(words[1], &size);
@@ -83,7 +112,7 @@ int main(int count, char **words) {
     uint32_t status;
     size_t written;
     for (;;) {
-        status = try_report(text, size, part, room, out ? out : 1, &written);
+        status = try_report(text, size, sections, room, out ? out : 1, &written);
         if (status == MMDEPEND_NO_MEMORY && room <= SIZE_MAX / 4)
             room = 2 * room + ALIGNMENT;
         else if (status == MMDEPEND_OUT_TOO_SHORT)

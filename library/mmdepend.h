@@ -11,11 +11,11 @@
  *   may point anywhere else. No object that a pointer points into is longer than PTRDIFF_MAX bytes.
  *   A bool is 0 or 1.
  * - `room.at` is a multiple of 16, and the room has at least 16 * `room.units` bytes.
- * - The room, `out`, what the lengths are written to, and the struct mmdepend_room itself don't
+ * - The room, `out`, what `written` points to, and the struct mmdepend_room itself don't
  *   overlap one another, nor the text or the typecode. So the struct doesn't lie within the memory
  *   that it names.
  * - During the call nobody else reads or writes the room, the struct that names it, `out`, or what
- *   the lengths are written to: no other thread, no signal handler, no other process.
+ *   `written` points to: no other thread, no signal handler, no other process.
  * - During the call the text and the typecode don't change. A file that is mapped into memory and
  *   shared (MAP_SHARED) may change when somebody writes to it: copy it first.
  */
@@ -43,17 +43,19 @@ enum mmdepend_status {
     MMDEPEND_REFUSED = 1,       /* the text has a fault; the refusal of the first was written */
     MMDEPEND_NOT_UTF8 = 2,      /* the typecode isn't UTF-8 */
     MMDEPEND_OUT_TOO_SHORT = 3, /* `out` holds the first `out_len` bytes of the output; it has as
-                                   many bytes as the lengths say */
+                                   many bytes as `written` says */
     MMDEPEND_NO_MEMORY = 4,     /* the room is too small */
-    MMDEPEND_NO_SUCH_REQUEST = 5 /* no part or form has this number */
+    MMDEPEND_NO_SUCH_REQUEST = 5 /* no section or an unknown one is named, or no form has the number */
 };
 
-enum mmdepend_part {
-    MMDEPEND_ALL = 0, /* matrix, counts and usage */
+/* The sections of a report, each a bit: MMDEPEND_MATRIX | MMDEPEND_CITATIONS asks for two. They are
+ * written in this order. */
+enum mmdepend_section {
     MMDEPEND_MATRIX = 1,
     MMDEPEND_COUNTS = 2,
-    MMDEPEND_USAGE = 3,
-    MMDEPEND_CITATIONS = 4
+    MMDEPEND_USAGE = 4,
+    MMDEPEND_ALL = 7, /* these three */
+    MMDEPEND_CITATIONS = 8
 };
 
 enum mmdepend_form {
@@ -70,7 +72,8 @@ enum mmdepend_form {
  *     they are refused.
  * only: the typecode of the axioms that are columns, and of the citations that are listed, in UTF-8,
  *     if `has_only`; else all are.
- * part, form: numbers of the enums above.
+ * sections: one or more bits of mmdepend_section.
+ * form: a number of mmdepend_form.
  * essential: whether a theorem cites only what the logical part of its proof applies.
  * with_open: whether a theorem whose proof is `?` counts as an axiom.
  * out: where the output goes, `out_len` bytes; what is behind the output stays as it was.
@@ -80,19 +83,9 @@ enum mmdepend_form {
  * The result is one of mmdepend_status. With _NOT_UTF8 and _NO_SUCH_REQUEST `out` stays as it was;
  * with _NO_MEMORY what is in it is of no meaning. */
 uint32_t mmdepend_report(struct mmdepend_room *room, const uint8_t *text, size_t text_len,
-                         const uint8_t *only, size_t only_len, bool has_only, uint32_t part,
-                         uint32_t form, bool essential, bool with_open, uint8_t *out,
-                         size_t out_len, size_t *written);
-
-/* The same, and behind that output the one of the same request for MMDEPEND_CITATIONS, after one
- * check of the proofs. `report_len` and `citations_len` get the lengths of the two, as `written`
- * does; with MMDEPEND_OUT_TOO_SHORT both together don't fit in `out`. */
-uint32_t mmdepend_report_and_citations(struct mmdepend_room *room, const uint8_t *text,
-                                       size_t text_len, const uint8_t *only, size_t only_len,
-                                       bool has_only, uint32_t part, uint32_t form,
-                                       bool essential, bool with_open, uint8_t *out,
-                                       size_t out_len, size_t *report_len,
-                                       size_t *citations_len);
+                         const uint8_t *only, size_t only_len, bool has_only,
+                         uint32_t sections, uint32_t form, bool essential, bool with_open,
+                         uint8_t *out, size_t out_len, size_t *written);
 
 /* Puts the version's text at the front of `out`, as much of it as `out_len` bytes hold, and returns
  * the length of the whole text in bytes. It isn't ended by a zero byte. */

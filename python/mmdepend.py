@@ -21,11 +21,11 @@ from functools import cache
 from pathlib import Path
 from typing import Literal
 
-__all__ = ["Part", "Refused", "report", "version"]
+__all__ = ["PARTS", "Refused", "report", "version"]
 
-Part = Literal["all", "matrix", "counts", "usage", "citations"]
-
-PARTS: tuple[Part, ...] = ("all", "matrix", "counts", "usage", "citations")
+# The parts of a report by their names, each with its bit. `all` are the first three of the others.
+PARTS = {"all": 7, "matrix": 1, "counts": 2, "usage": 4, "citations": 8}
+USAGE = PARTS["usage"]
 NAMES = ("libmmdepend.so.0", "libmmdepend.so")
 UNIT = 16
 # The room that is lent at first, for a byte of the text, and the least of it.
@@ -115,7 +115,7 @@ def library() -> ctypes.CDLL:
 class Request:
     """What is requested of a report, as the library takes it."""
 
-    part: int
+    sections: int
     form: int
     only: bytes | None
     essential: bool
@@ -138,7 +138,7 @@ def once(text: bytes, request: Request, room: Memory, out: Memory) -> tuple[int,
         request.only or b"",
         len(request.only or b""),
         request.only is not None,
-        request.part,
+        request.sections,
         request.form,
         request.essential,
         request.open_theorems,
@@ -153,7 +153,7 @@ def output(text: bytes, request: Request) -> tuple[int, bytes]:
     """The status and the output, with as much memory as it takes. What isn't used of memory that is
     lent is never really taken from the system, so the first try is generous."""
     room_size = up_to(ROOM_FOR_A_BYTE * len(text) + LEAST)
-    out_size = up_to((5 if request.part == 0 else 2) * len(text) + LEAST)
+    out_size = up_to((5 if request.sections & USAGE else 2) * len(text) + LEAST)
     while True:
         with Memory(room_size) as room, Memory(out_size) as out:
             status, written = once(text, request, room, out)
@@ -165,6 +165,16 @@ def output(text: bytes, request: Request) -> tuple[int, bytes]:
                 return status, out.pages[:written]
 
 
+def sections_of(part: str) -> int:
+    """The bits of the parts that are named, with commas between them."""
+    sections = 0
+    for name in part.split(","):
+        if name not in PARTS:
+            raise ValueError(f"no part of a report is called {name!r}")
+        sections |= PARTS[name]
+    return sections
+
+
 def refused(line: bytes) -> Refused:
     """What a refusal says: `refused LINE:COLUMN CODE`."""
     _, place, code = line.split()
@@ -174,7 +184,7 @@ def refused(line: bytes) -> Refused:
 
 def report(
     text: bytes | bytearray | memoryview | mmap.mmap,
-    part: Part = "all",
+    part: str = "all",
     *,
     only: str | None = None,
     form: Literal[1, 2] = 1,
@@ -183,8 +193,8 @@ def report(
 ) -> bytes:
     """Verifies a database and returns the bytes of its report, as the program writes them.
 
-    `text` is the database. `part` is what is reported: `matrix`, `counts`, `usage`, these three
-    (`all`), or `citations`. `only` is the typecode of the axioms that are columns, such as `|-`; if
+    `text` is the database. `part` is what is reported: `matrix`, `counts`, `usage` and `citations`,
+    one or more of them with commas between them, or `all`: the first three. `only` is the typecode of the axioms that are columns, such as `|-`; if
     it is None, all axioms are. `form` is how the matrix is written: 1 a digit for each column, 2 a
     hexadecimal digit for every four. With `essential` a theorem cites only what the logical part of
     its proof applies, and with `open_theorems` a theorem whose proof is `?` counts as an axiom.
@@ -193,12 +203,11 @@ def report(
     `only` can't be written as UTF-8, MemoryError if memory runs out, and OSError if the shared
     library isn't found.
     """
-    if part not in PARTS:
-        raise ValueError(f"no part of a report is called {part!r}")
+    sections = sections_of(part)
     if form not in (1, 2):
         raise ValueError(f"no form of the matrix has the number {form!r}")
     typecode = None if only is None else only.encode("utf-8")
-    request = Request(PARTS.index(part), form, typecode, essential, open_theorems)
+    request = Request(sections, form, typecode, essential, open_theorems)
     status, written = output(text if isinstance(text, bytes) else bytes(text), request)
     if status == REFUSED:
         raise refused(written)

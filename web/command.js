@@ -29,7 +29,14 @@ const OPTIONS = [
     { name: "workers", value: "N", among: "number", help: "Check the proofs by N threads, 1 to 64 [default: 4]" },
     { name: "pieces", value: "N", among: "number", help: "Read the text in N pieces, 1 to 64 [default: 4]" },
     { name: "only", value: "T", among: "any", help: "Report on the axioms of typecode T alone, such as '|-'" },
-    { name: "report", value: "PART", among: PARTS, help: "Write this part of the report [default: all]" },
+    {
+        name: "report",
+        value: "PART",
+        among: "any",
+        help:
+            "Write these parts of the report, with commas between them: matrix, counts, usage, citations, or all, " +
+            "which is the first three [default: all]",
+    },
     {
         name: "form",
         value: "N",
@@ -146,6 +153,20 @@ function misread(message, usage) {
     return new End("misread", `error: ${message}${usage === undefined ? "" : `\n\n${usage}`}${TRY}`);
 }
 
+/**
+ * Refuses a value that isn't among these.
+ * @param {string} name how the option is shown
+ * @param {string} value
+ * @param {readonly string[]} values
+ */
+function judgeAmong(name, value, values) {
+    if (values.includes(value)) return;
+    if (value === "") throw misread(`a value is required for ${name} but none was supplied\n  ${possible(values)}`);
+    const close = similar(value, values);
+    const tip = close === null ? "" : `\n\n  tip: a similar value exists: '${close}'`;
+    throw misread(`invalid value '${value}' for ${name}\n  ${possible(values)}${tip}`);
+}
+
 class Reader {
     /** @param {string} version */
     constructor(version) {
@@ -197,15 +218,7 @@ class Reader {
      */
     judge(option, value) {
         const name = `'${shown(option)}'`;
-        if (Array.isArray(option.among)) {
-            if (option.among.includes(value)) return;
-            if (value === "") {
-                throw misread(`a value is required for ${name} but none was supplied\n  ${possible(option.among)}`);
-            }
-            const close = similar(value, option.among);
-            const tip = close === null ? "" : `\n\n  tip: a similar value exists: '${close}'`;
-            throw misread(`invalid value '${value}' for ${name}\n  ${possible(option.among)}${tip}`);
-        }
+        if (Array.isArray(option.among)) judgeAmong(name, value, option.among);
         if (option.among !== "number") return;
         const wrong = numberFault(value);
         if (wrong !== null) throw misread(`invalid value '${value}' for ${name}: ${wrong}`);
@@ -337,9 +350,12 @@ class Reader {
     /** @returns {Line} */
     line() {
         const { found } = this;
+        const report = found.get("report") ?? "all";
+        // The program looks at the names of sections last.
+        for (const name of report.split(",")) judgeAmong("'--report <PART>'", name, PARTS);
         /** @type {Request} */
         const request = {
-            report: /** @type {Request["report"]} */ (found.get("report") ?? "all"),
+            report,
             only: found.get("only") ?? null,
             form: found.get("form") === "2" ? 2 : 1,
             essential: found.has("essential"),

@@ -8,8 +8,10 @@
 const OUT_TOO_SHORT = 3;
 const ROOM_TOO_SMALL = 4;
 
-/** The parts of a report, in the order of their numbers. */
-export const PARTS = /** @type {const} */ (["all", "matrix", "counts", "usage", "citations"]);
+/** The sections of a report, each with its bit; `all` are the first three. */
+const BITS = { all: 7, matrix: 1, counts: 2, usage: 4, citations: 8 };
+/** The names of sections, and `all`. */
+export const PARTS = /** @type {(keyof typeof BITS)[]} */ (Object.keys(BITS));
 /**
  * What the program is asked without options.
  * @type {Request}
@@ -19,8 +21,8 @@ const PLAIN = { report: "all", only: null, form: 1, essential: false, open: fals
 const PAGE = 65536;
 const MOST_PAGES = 65536;
 const UNIT = 16;
-/** Of the arguments that the module writes to, four of eight bytes: the room's two, and two lengths. */
-const WRITTEN = 32;
+/** Of the arguments that the module writes to, three of eight bytes: the room's two, and a length. */
+const WRITTEN = 24;
 /** The longest text, and one byte more: the module refuses such a text, and reads nothing behind it. */
 export const READING_LIMIT = 2147483648;
 
@@ -110,7 +112,16 @@ function firstRoom(size) {
  * @param {Request} request
  */
 function firstOutput(size, { report }) {
-    return upTo(size * (report === "all" ? 5 : 2) + PAGE, PAGE);
+    return upTo(size * (bitsOf(report) & BITS.usage ? 5 : 2) + PAGE, PAGE);
+}
+
+/**
+ * The sections of these names, as bits. A name that there isn't is none, and the module answers that.
+ * @param {string} names
+ */
+function bitsOf(names) {
+    const bits = names.split(",").map((name) => (Object.hasOwn(BITS, name) ? BITS[/** @type {keyof typeof BITS} */ (name)] : 0));
+    return bits.includes(0) ? 0 : bits.reduce((all, bit) => all | bit, 0);
 }
 
 class Run {
@@ -143,7 +154,7 @@ class Run {
         await fill(() => memory.bytes(text, size));
     }
 
-    /** The four numbers that the module writes. */
+    /** The three numbers that the module writes. */
     numbers() {
         return new BigUint64Array(this.memory.memory.buffer, this.written, WRITTEN / 8);
     }
@@ -158,30 +169,27 @@ class Run {
         const at = upTo(memory.free, PAGE);
         const out = at + room;
         memory.reach(out + output);
-        this.numbers().set([BigInt(at), BigInt(room / UNIT), 0n, 0n]);
-        const both = request.withCitations ?? false;
+        this.numbers().set([BigInt(at), BigInt(room / UNIT), 0n]);
         const written = /** @type {number} */ (this.written);
-        const name = both ? "mmdepend_report_and_citations" : "mmdepend_report";
         const status = Number(
-            this.exports[name](
+            this.exports.mmdepend_report(
                 BigInt(written),
                 BigInt(/** @type {number} */ (this.text)),
                 BigInt(/** @type {number} */ (this.size)),
                 BigInt(/** @type {number} */ (this.only)),
                 BigInt(/** @type {number} */ (this.onlySize)),
                 request.only === null ? 0 : 1,
-                PARTS.indexOf(request.report),
+                bitsOf(request.report),
                 request.form,
                 request.essential ? 1 : 0,
                 request.open ? 1 : 0,
                 BigInt(out),
                 BigInt(output),
                 BigInt(written + 16),
-                ...(both ? [BigInt(written + 24)] : []),
             ),
         );
-        const [, , report, citations] = Array.from(this.numbers(), Number);
-        return { status, out, report, citations };
+        const [, , report] = Array.from(this.numbers(), Number);
+        return { status, out, report };
     }
 
     /**
@@ -192,14 +200,13 @@ class Run {
     answer(room) {
         let output = firstOutput(/** @type {number} */ (this.size), this.request);
         for (;;) {
-            const { status, out, report, citations } = this.call(room, output);
-            if (status === OUT_TOO_SHORT) output = upTo(report + citations, PAGE);
+            const { status, out, report } = this.call(room, output);
+            if (status === OUT_TOO_SHORT) output = upTo(report, PAGE);
             else if (status === ROOM_TOO_SMALL) room *= 2;
             else {
                 return {
                     status: /** @type {Answer["status"]} */ (status),
                     report: this.memory.bytes(out, report),
-                    citations: this.request.withCitations ? this.memory.bytes(out + report, citations) : null,
                     memory: this.memory.memory.buffer.byteLength,
                 };
             }
@@ -208,7 +215,7 @@ class Run {
 }
 
 /**
- * Verifies a text and writes its report, and with `withCitations` from the same check the report of citations.
+ * Verifies a text and writes its report.
  * @param {WebAssembly.Module} module
  * @param {number} size the text's bytes
  * @param {(bytes: () => Uint8Array) => void | Promise<void>} fill puts the text into the array that `bytes()` gives; to be
@@ -228,7 +235,7 @@ export async function report(module, size, fill, request, limits = {}) {
     } catch (error) {
         if (!(error instanceof Exhausted)) throw error;
         const none = new Uint8Array(0);
-        return { status: 4, report: none, citations: null, memory: run.memory.memory.buffer.byteLength };
+        return { status: 4, report: none, memory: run.memory.memory.buffer.byteLength };
     }
 }
 

@@ -112,23 +112,23 @@ function lacking(word, lack) {
 }
 
 /**
- * Verifies a text. Returns its matrix and its citations, of all typecodes: chains may lead over other assertions than
- * those of one typecode.
+ * Verifies a text. Returns its report with matrix and citations, of all typecodes: chains may lead over other assertions
+ * than those of one typecode.
  * @param {string} word how the command line calls it
  * @param {Uint8Array} data
  * @param {Request} request
  * @param {Tools} tools
  */
-async function reportsOf(word, data, request, { module, tables }) {
-    const wanted = /** @type {const} */ ({ only: null, report: "matrix", form: 2, withCitations: true });
+async function reportOf(word, data, request, { module, tables }) {
+    const wanted = /** @type {const} */ ({ only: null, report: "matrix,citations", form: 2 });
     const answer = await report(module, data.length, (bytes) => bytes().set(data), { ...request, ...wanted });
     if (answer.status === Status.memory) throw outOfMemory();
     if (answer.status === Status.refusal) {
         const fault = faultOf(data, refusalOf(answer.report));
         throw new Ending(1, `mmdepend: ${explained(visible(word), fault, tables)}\n`);
     }
-    if (answer.status !== Status.report || !answer.citations) throw new Error("the module wrote no reports");
-    return { matrix: answer.report, citations: answer.citations };
+    if (answer.status !== Status.report) throw new Error(`the module answers ${answer.status}`);
+    return answer.report;
 }
 
 /** A database that is accepted, on its way into a page. */
@@ -136,13 +136,13 @@ class Database {
     /**
      * @param {string} word how the command line calls it
      * @param {Making} making
-     * @param {import("./packer/making.js").Reports} reports
+     * @param {Uint8Array} report
      */
-    constructor(word, making, reports) {
+    constructor(word, making, report) {
         this.word = word;
         this.making = making;
         try {
-            this.side = making.side(reports);
+            this.side = making.side(report);
         } catch (error) {
             throw error instanceof NoAnswer ? lacking(word, error.lack) : error;
         }
@@ -164,8 +164,8 @@ class Database {
  */
 async function opened(word, name, request, tools) {
     const data = textOf(word);
-    const reports = await reportsOf(word, data, request, tools);
-    return new Database(word, new Making(name, data, request), reports);
+    const report = await reportOf(word, data, request, tools);
+    return new Database(word, new Making(name, data, request), report);
 }
 
 /**

@@ -3,21 +3,19 @@
 /**
  * What is requested of a report, as the program's options of these names have it.
  * @typedef {object} Request
- * @property {"all" | "matrix" | "counts" | "usage" | "citations"} report
+ * @property {string} report names of sections, with commas between them
  * @property {string | null} only the typecode of the axioms, or null for all
  * @property {1 | 2} form
  * @property {boolean} essential
  * @property {boolean} open
- * @property {boolean} [withCitations] whether the report of citations is wanted too
  */
 
 /**
  * What the library answers: a report (0), the refusal of the first fault (1), that the typecode isn't UTF-8 (2), or that
- * memory ran out (4). `report` and `citations` lie in the module's memory.
+ * memory ran out (4). `report` lies in the module's memory.
  * @typedef {object} Answer
  * @property {0 | 1 | 2 | 4} status
  * @property {Uint8Array} report
- * @property {Uint8Array | null} citations
  * @property {number} memory how many bytes of memory the module has at the end
  */
 

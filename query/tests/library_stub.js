@@ -12,10 +12,7 @@ export async function report({ known, answers }, size, fill, request) {
     const text = new Uint8Array(size);
     await fill(() => text);
     const { report: name = "all", form = 1, only = null, essential = false, open = false } = request;
-    const find = (wanted, typecode) => known[JSON.stringify([size, wanted, form, typecode, essential, open])];
-    const found = find(name, only);
-    if (!found) return { status: 4, report: new Uint8Array(0), citations: null, memory: size };
-    const bytesOf = ({ start, end }) => answers.subarray(start, end);
-    const citations = request.withCitations ? bytesOf(find("citations", null)) : null;
-    return { status: found.status, report: bytesOf(found), citations, memory: size };
+    const found = known[JSON.stringify([size, name, form, only, essential, open])];
+    if (!found) return { status: 4, report: new Uint8Array(0), memory: size };
+    return { status: found.status, report: answers.subarray(found.start, found.end), memory: size };
 }

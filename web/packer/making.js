@@ -2,7 +2,7 @@
 
 import { packDifference } from "./against.js";
 import { packReports, packText } from "./pack.js";
-import { readReports } from "./reports.js";
+import { readReport } from "./reports.js";
 import { Side } from "./statements.js";
 import { sumOf } from "./sum.js";
 import { readText } from "./text.js";
@@ -11,11 +11,6 @@ import { visible } from "./visible.js";
 /** @typedef {import("./pack.js").Blocks} Blocks */
 /** @typedef {import("./reports.js").Request} Request */
 /** @typedef {import("./typesetting.js").Entities} Entities */
-
-/**
- * The matrix in form 2 and the citations, both of all typecodes, as the program writes them.
- * @typedef {{ matrix: Uint8Array, citations: Uint8Array }} Reports
- */
 
 /** Something that the page of a database needs and the database lacks; the message is a sentence for the reader. */
 export class NoAnswer extends Error {
@@ -75,11 +70,11 @@ export class Making {
     }
 
     /**
-     * The text beside what the reports say of it.
-     * @param {Reports} reports
+     * The text beside what the report says of it.
+     * @param {Uint8Array} report that of the program with matrix and citations, in form 2 and of all typecodes
      */
-    side({ matrix, citations }) {
-        const dependence = readReports(this.text, this.request, matrix, citations);
+    side(report) {
+        const dependence = readReport(this.text, this.request, report);
         if (dependence.axioms.length === 0 && this.request.only !== null) {
             throw new NoAnswer(this.name, `has no axiom of typecode '${visible(this.request.only)}'`);
         }

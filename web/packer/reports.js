@@ -1,5 +1,5 @@
-// Reads the reports that the program's core writes, the matrix in form 2 and the citations, beside the text they are
-// of. Nothing of them is believed alone: they say the same in two ways, which have to agree, and each label has to be
+// Reads the report that the program's core writes, with the matrix in form 2 and the citations, beside the text it is
+// of. Nothing of it is believed alone: it says the same in two ways, which have to agree, and each label has to be
 // found in the text where it belongs.
 
 import { Byte, Cutter, Row, isSame, textAt } from "./bytes.js";
@@ -136,7 +136,7 @@ export class Dependence {
     }
 }
 
-/** Reads both reports of a text. */
+/** Reads the report of a text. */
 class Reader {
     /**
      * @param {Text} text
@@ -209,27 +209,24 @@ class Reader {
     }
 
     /**
-     * Reads the head of a report with one section, whose numbers have to be those of the text.
+     * Reads the head of a report, whose numbers have to be those of the text.
      * @param {Lines} lines
-     * @param {string} section
      */
-    passHead(lines, section) {
+    passHead(lines) {
         const { text, found, request } = this;
         lines.pass("mmdepend 2");
         lines.pass(`axioms ${found.axioms.length}`);
         if (request.open) lines.pass(`open ${found.axioms.filter((axiom) => text.isProved(axiom)).length}`);
         lines.pass(`theorems ${found.theorems.length}`);
-        lines.pass(section);
     }
 
     /**
      * Reads the matrix.
-     * @param {Uint8Array} report
+     * @param {Lines} lines
      */
-    readMatrix(report) {
+    readMatrix(lines) {
         const { found } = this;
-        const lines = new Lines(report);
-        this.passHead(lines, "matrix");
+        lines.pass("matrix");
         const axioms = found.axioms.length;
         const theorems = found.theorems.length;
         found.words = Math.ceil(axioms / 32);
@@ -237,21 +234,20 @@ class Reader {
         const digits = Math.ceil(axioms / 4);
         for (let row = 0; row < theorems; row++) {
             this.passLabel(lines, row);
-            readDigits(report, lines.place, digits, found.bits, row * found.words);
+            readDigits(lines.bytes, lines.place, digits, found.bits, row * found.words);
             lines.place += digits;
             lines.passEnd();
         }
-        lines.pass("end");
     }
 
     /**
      * Reads the citations.
-     * @param {Uint8Array} report
+     * @param {Lines} lines
      */
-    readCitations(report) {
+    readCitations(lines) {
         const { found, text } = this;
-        const lines = new Lines(report);
-        this.passHead(lines, "citations");
+        const report = lines.bytes;
+        lines.pass("citations");
         const theorems = found.theorems.length;
         const starts = new Row();
         const cited = new Row();
@@ -277,7 +273,6 @@ class Reader {
             if (cited.size - starts.items[row] !== count) throw new OddReport("a report counts citations otherwise");
             lines.place = end + 1;
         }
-        lines.pass("end");
         starts.push(cited.size);
         found.starts = starts.taken();
         found.cited = cited.taken();
@@ -398,14 +393,16 @@ function readDigits(report, place, digits, bits, start) {
  * of all typecodes. Of the columns those of the typecode that is wanted are kept.
  * @param {Text} text
  * @param {Request} request
- * @param {Uint8Array} matrix
- * @param {Uint8Array} citations
+ * @param {Uint8Array} report
  * @returns {Dependence}
  */
-export function readReports(text, request, matrix, citations) {
+export function readReport(text, request, report) {
     const reader = new Reader(text, request);
-    reader.readMatrix(matrix);
-    reader.readCitations(citations);
+    const lines = new Lines(report);
+    reader.passHead(lines);
+    reader.readMatrix(lines);
+    reader.readCitations(lines);
+    lines.pass("end");
     reader.checkMarks();
     const { only } = request;
     return only === null ? reader.found : withColumns(reader.found, (axiom) => reader.typecode(axiom) === only);

@@ -24,7 +24,7 @@
  *     | { task: "verify", file: Contents, module: Uint8Array, request: Request }
  *     | { task: "save", file: Contents, module: Uint8Array, request: Request, report: ReportName, form: 1 | 2 }
  *     | { task: "pack", files: Chosen[], request: Request, maker: string, entities: Entities }
- *     | { task: "reports", reports: import("../packer/making.js").Reports[] }} Ask
+ *     | { task: "reports", reports: Uint8Array[] }} Ask
  */
 
 /** @typedef {"all" | "matrix" | "counts" | "usage" | "citations"} ReportName */
@@ -34,7 +34,7 @@
  * @typedef {{ stage: "reading", part: number }
  *     | { stage: "checking" }
  *     | { stage: "seen" }
- *     | { stage: "verified", matrix: Uint8Array, citations: Uint8Array, memory: number }
+ *     | { stage: "verified", report: Uint8Array, memory: number }
  *     | { stage: "saved", report: Contents }
  *     | { stage: "packed", blocks: Map<string, Uint8Array> }
  *     | { stage: "refused", fault: Fault }

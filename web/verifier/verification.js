@@ -3,7 +3,6 @@
 import { sizeOf } from "./contents.js";
 import { Helper } from "./helpers.js";
 
-/** @typedef {import("../packer/making.js").Reports} Reports */
 /** @typedef {import("../packer/reports.js").Request} Request */
 /** @typedef {import("./types.js").Chosen} Chosen */
 /** @typedef {import("./types.js").Contents} Contents */
@@ -54,14 +53,14 @@ export class Verification {
     async run() {
         const size = this.files.reduce((sum, { file }) => sum + sizeOf(file), 0);
         const early = size <= MOST_BESIDE ? this.packTexts() : null;
-        /** @type {Reports[]} */
+        /** @type {Uint8Array[]} */
         const reports = [];
         for (const each of this.files) reports.push(await this.verify(each));
         this.current = this.files[0];
         this.tell("Making the index", null);
         const { packer, packed } = early ?? this.packTexts();
         const { blocks } = await packed;
-        const transfer = reports.flatMap(({ matrix, citations }) => [matrix.buffer, citations.buffer]);
+        const transfer = reports.map((report) => report.buffer);
         const more = await packer.ask({ task: "reports", reports }, "packed", transfer);
         this.end(packer);
         return new Map([...blocks, ...more.blocks]);
@@ -78,7 +77,7 @@ export class Verification {
     /**
      * Verifies a database in a worker, which is ended then, since its memory is needed.
      * @param {Chosen} chosen
-     * @returns {Promise<Reports>}
+     * @returns {Promise<Uint8Array>}
      */
     async verify(chosen) {
         this.current = chosen;
@@ -88,7 +87,7 @@ export class Verification {
         const told = await prover.ask({ task: "verify", file, module, request: this.request }, "verified");
         this.end(prover);
         this.memory = Math.max(this.memory, told.memory);
-        return { matrix: told.matrix, citations: told.citations };
+        return told.report;
     }
 
     /**

@@ -6,7 +6,6 @@ import { sizeOf } from "./contents.js";
 import { faultOf, refusalOf } from "../packer/faults.js";
 import { Making, NoAnswer } from "../packer/making.js";
 
-/** @typedef {import("../packer/making.js").Reports} Reports */
 /** @typedef {import("../packer/reports.js").Request} Request */
 /** @typedef {import("./types.js").Ask} Ask */
 /** @typedef {import("./types.js").Chosen} Chosen */
@@ -27,7 +26,7 @@ const here = /** @type {any} */ (globalThis);
 
 /**
  * A report, as the module is asked for it.
- * @typedef {Request & { report: import("./types.js").ReportName, form: 1 | 2, withCitations?: boolean }} Wanted
+ * @typedef {Request & { report: string, form: 1 | 2 }} Wanted
  */
 
 /** There is no more memory. */
@@ -66,7 +65,7 @@ async function fill(file, bytes) {
 }
 
 /**
- * Has the module write reports of a file. What it answers stays in its memory.
+ * Has the module write a report of a file. What it answers stays in its memory.
  * @param {Uint8Array} module
  * @param {Contents} file
  * @param {Wanted} request
@@ -89,14 +88,11 @@ async function reportOf(module, file, request) {
  */
 async function verify({ file, module, request }) {
     /** @type {Wanted} */
-    const wanted = { ...request, only: null, report: "matrix", form: 2, withCitations: true };
+    const wanted = { ...request, only: null, report: "matrix,citations", form: 2 };
     const answer = await reportOf(module, file, wanted);
     if (!answer) return;
-    if (!answer.citations) throw new Error("the module wrote no citations");
-    const matrix = answer.report.slice();
-    const citations = answer.citations.slice();
-    const { memory } = answer;
-    here.postMessage({ stage: "verified", matrix, citations, memory }, [matrix.buffer, citations.buffer]);
+    const written = answer.report.slice();
+    here.postMessage({ stage: "verified", report: written, memory: answer.memory }, [written.buffer]);
 }
 
 /**
@@ -132,7 +128,7 @@ async function packTexts({ files, request, maker, entities }) {
 
 /**
  * Packs what the reports of these files say.
- * @param {Reports[]} reports
+ * @param {Uint8Array[]} reports
  */
 function packTheirReports(reports) {
     const [side, old] = makings.map((making, at) => making.side(reports[at]));

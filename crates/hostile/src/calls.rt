@@ -10,7 +10,7 @@ use mm_check::{CheckRefused, Checked, Checker, check};
 use mm_plan::{Cutting, Plan};
 use mm_proof::Steps;
 use mm_run::{RunEnd, run};
-use mm_spec::Choice;
+use mm_spec::Sections;
 use mm_stmt::Database;
 use mm_work::{Judged, Open, check_all};
 use std::alloc::{AllocError, Allocator};
@@ -23,9 +23,9 @@ const BY_ALL_NODES: bool = false;
 
 /// A plan that cuts the text in this way, checks proofs with `workers` workers, and writes these
 /// sections.
-pub(crate) fn plan_of<A: Allocator>(cuts: Cutting<A>, workers: u32, choice: Choice) -> Plan<A> {
+pub(crate) fn plan_of<A: Allocator>(cuts: Cutting<A>, workers: u32, sections: Sections) -> Plan<A> {
     let mut plan = Plan::without_options(cuts, workers);
-    plan.choice = choice;
+    plan.choice = sections;
     plan
 }
 

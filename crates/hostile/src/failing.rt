@@ -5,7 +5,7 @@ use crate::ends::{FailingReader, Stop, StoppingWriter};
 use crate::texts::{FIRST_REPORT, FIRST_TEXT};
 use mm_plan::Cutting;
 use mm_run::RunEnd;
-use mm_spec::Choice;
+use mm_spec::Sections;
 use std::alloc::Global;
 use std::io::ErrorKind;
 use std::sync::Wait;
@@ -44,7 +44,7 @@ fn failed_run_is<R: Threads + Wait + Sync>(
     kind: ErrorKind,
     want: Outcome<'_>,
 ) -> bool {
-    let plan = plan_of(Cutting::Count(PIECES), WORKERS, Choice::All);
+    let plan = plan_of(Cutting::Count(PIECES), WORKERS, Sections::by_default());
     let mut written = Vec::new(alloc);
     let mut from = FailingReader {
         text: FIRST_TEXT,
@@ -92,7 +92,7 @@ fn stopped_run_is<R: Threads + Wait + Sync>(
     stop: Stop,
     want: Outcome<'_>,
 ) -> bool {
-    let plan = plan_of(Cutting::Count(PIECES), WORKERS, Choice::All);
+    let plan = plan_of(Cutting::Count(PIECES), WORKERS, Sections::by_default());
     let mut to = StoppingWriter {
         taken: Vec::new(alloc),
         stops_after,

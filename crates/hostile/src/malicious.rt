@@ -4,7 +4,7 @@ use crate::calls::{ended, plan_of};
 use crate::texts::{BEGINNING, FIRST_REPORT, FIRST_TEXT};
 use mm_plan::Cutting;
 use mm_run::RunEnd;
-use mm_spec::{Choice, Code, Fault};
+use mm_spec::{Code, Fault, Sections};
 use std::alloc::{AllocError, Global};
 use std::fmt::Write;
 use std::sync::Wait;
@@ -23,7 +23,7 @@ fn run_on<R: Threads + Wait + Sync>(
     cuts: Cutting<Global>,
     mut text: &[u8],
 ) -> (Option<RunEnd>, Vec<u8>) {
-    let plan = plan_of(cuts, 2, Choice::All);
+    let plan = plan_of(cuts, 2, Sections::by_default());
     let mut written = Vec::new(alloc);
     let end = ended(rt, alloc, &plan, &mut text, &mut written);
     (end, written)

@@ -13,8 +13,9 @@ use Rattle.mm_spec.specs.Derivation.{Trees, none, more, tree, AreDerivations, pa
 use Rattle.mm_spec.specs.Frame.{symbol_names, frame_at}
 use Rattle.mm_spec.specs.Steps.{label, placed}
 use Rattle.mm_spec.specs.Citation.{context_at, steps_at, IsValid}
-use Rattle.mm_spec.specs.Report.{cells, report, citation_report, line, refusal}
-use Rattle.mm_spec.specs.Request.{Request, without_options}
+use Rattle.mm_spec.specs.Report.{cells, report, line, refusal}
+use Rattle.mm_spec.specs.Request.{Request, without_options, default_sections, no_sections}
+use Rattle.mm_spec.specs.declared.Sections.{Sections}
 use Rattle.mm_spec.specs.declared.Form.{Form}
 use Rattle.mm_spec.specs.declared.Form.TheVariants.{One, Two}
 use Rattle.mm_laws.proofs.ReaderLaw.{lexed, statements}
@@ -177,12 +178,12 @@ refusal_in_line_2 : refusal (axioms_text ++ 10 ∷ codes "ab") (fault 121 NotDis
 unfolding digits
 refusal_in_line_2 = refl
 
--- the request of all sections, with the matrix in this form
-abbrev all_sections : Form → Request
-all_sections form = record without_options { form = form }
+-- the request of these sections, in this form
+abbrev of_sections : Sections → Form → Request
+of_sections sections form = record without_options { sections = sections; form = form }
 
-report_of_wi2 : report (all_sections One) None (codes "wi" ∷ codes "ax-1" ∷ [])
-    (record { label = codes "wi2"; marks = true ∷ false ∷ [] } ∷ [])
+report_of_wi2 : report (of_sections default_sections One) None (codes "wi" ∷ codes "ax-1" ∷ [])
+    (record { label = codes "wi2"; marks = true ∷ false ∷ [] } ∷ []) []
     ≡ flat_map line
     (codes "mmdepend 1" ∷ codes "axioms 2" ∷ codes "theorems 1" ∷ codes "matrix"
     ∷ codes "wi2:10" ∷ codes "counts" ∷ codes "wi2:1" ∷ codes "usage" ∷ codes "wi:1:wi2"
@@ -195,11 +196,16 @@ report_of_wi2 = refl
 hexadecimal_cells : cells Two (true ∷ false ∷ true ∷ true ∷ true ∷ false ∷ []) ≡ codes "b8"
 hexadecimal_cells = refl
 
-report_of_citations : citation_report (all_sections Two) None 3
+-- two sections, the matrix before the citations
+report_with_citations :
+    report (of_sections (record no_sections { matrix = true; citations = true }) Two) None
+    (codes "wi" ∷ [])
+    (record { label = codes "a2"; marks = true ∷ [] }
+    ∷ record { label = codes "b"; marks = false ∷ [] } ∷ [])
     (record { label = codes "a2"; cited = codes "wi" ∷ codes "a1i" ∷ [] }
     ∷ record { label = codes "b"; cited = [] } ∷ [])
     ≡ flat_map line
-    (codes "mmdepend 2" ∷ codes "axioms 3" ∷ codes "theorems 2" ∷ codes "citations"
-    ∷ codes "a2:2:wi a1i" ∷ codes "b:0:" ∷ codes "end" ∷ [])
+    (codes "mmdepend 2" ∷ codes "axioms 1" ∷ codes "theorems 2" ∷ codes "matrix" ∷ codes "a2:8"
+    ∷ codes "b:0" ∷ codes "citations" ∷ codes "a2:2:wi a1i" ∷ codes "b:0:" ∷ codes "end" ∷ [])
 unfolding digits
-report_of_citations = refl
+report_with_citations = refl

@@ -29,7 +29,6 @@ pub mod TheoremLaw
 pub mod TypedLaw
 pub mod SomeReadingLaw
 pub mod SomeFaultLaw
-pub mod RestsLaw
 pub mod SomeOutputLaw
 pub mod WavesLaw
 pub mod SpellingLaw
@@ -39,4 +38,3 @@ pub mod WellSpelledLaw
 pub mod MeaningLaw
 pub mod NumeralsLaw
 pub mod CitationLaw
-pub mod RisingListsLaw

@@ -21,10 +21,8 @@ use Rattle.mm_spec.specs.Valid as proof
 use Rattle.mm_spec.specs.Valid.{Reason, code_of, Fails, StepFails, StepFault, ExpandTo, IsEndCode}
 use Rattle.mm_spec.specs.Citation.{context_at, steps_at, reading_faults_at, IsValid, RestsOn}
 use Rattle.mm_spec.specs.Frame.{formula_at}
-use Rattle.mm_spec.specs.Report.{Row, CitingRow, report, citation_report, refusal}
-use Rattle.mm_spec.specs.declared.Choice.{Choice}
-use Rattle.mm_spec.specs.declared.Choice.TheVariants.{All, Matrix, Counts, Usage, Citations}
-use Rattle.mm_laws.proofs.RisingListsLaw.{equal_if_same_members}
+use Rattle.mm_spec.specs.Report.{Row, CitingRow, report, refusal}
+use Rattle.mm_spec.proofs.RisingListsLaw.{equal_if_same_members}
 use Rattle.mm_spec.specs.Request.{Request}
 use Rattle.mm_spec.specs.declared.Code.{Code}
 use Rattle.mm_spec.specs.Lexed.{LexedText, lexed_of}
@@ -592,40 +590,17 @@ citing_rows_are_unique db request (n ∷ ts) (x ∷ a) (y ∷ b) are_rows_a are_
     ap₂ (λ p q. p ∷ q) (citing_row_is_unique db request n x y are_rows_a.0 are_rows_b.0)
     (citing_rows_are_unique db request ts a b are_rows_a.1 are_rows_b.1)
 
--- the report requested with these rows
-abbrev report_of_rows : List Statement → Option ℕ → Request → List Row → List ℕ
-report_of_rows db opened request rows =
-    report request opened (map (label_at db) (columns db request.only)) rows
-
 -- a database has one report
-report_is_unique : (db : List Statement) (opened : Option ℕ) (request : Request) (choice : Choice)
-    → (a b : List ℕ)
-    → IsReportOf choice db opened request a → IsReportOf choice db opened request b → a ≡ b
-report_is_unique db opened request Citations a b is_report_a is_report_b =
-    is_report_a.2 ∙ ap (citation_report request opened (length (columns db request.only)))
-    (citing_rows_are_unique db request (theorems db) is_report_a.0 is_report_b.0 is_report_a.1
-    is_report_b.1)
-    ∙ sym is_report_b.2
-report_is_unique db opened request All a b is_report_a is_report_b =
-    is_report_a.2 ∙ ap (report_of_rows db opened request)
-    (rows_are_unique db request (theorems db) is_report_a.0 is_report_b.0 is_report_a.1
-    is_report_b.1)
-    ∙ sym is_report_b.2
-report_is_unique db opened request Matrix a b is_report_a is_report_b =
-    is_report_a.2 ∙ ap (report_of_rows db opened request)
-    (rows_are_unique db request (theorems db) is_report_a.0 is_report_b.0 is_report_a.1
-    is_report_b.1)
-    ∙ sym is_report_b.2
-report_is_unique db opened request Counts a b is_report_a is_report_b =
-    is_report_a.2 ∙ ap (report_of_rows db opened request)
-    (rows_are_unique db request (theorems db) is_report_a.0 is_report_b.0 is_report_a.1
-    is_report_b.1)
-    ∙ sym is_report_b.2
-report_is_unique db opened request Usage a b is_report_a is_report_b =
-    is_report_a.2 ∙ ap (report_of_rows db opened request)
-    (rows_are_unique db request (theorems db) is_report_a.0 is_report_b.0 is_report_a.1
-    is_report_b.1)
-    ∙ sym is_report_b.2
+report_is_unique : (db : List Statement) (opened : Option ℕ) (request : Request) (a b : List ℕ)
+    → IsReportOf db opened request a → IsReportOf db opened request b → a ≡ b
+report_is_unique db opened request a b is_report_a is_report_b =
+    is_report_a.bytes_are
+    ∙ ap₂ (report request opened (map (label_at db) (columns db request.only)))
+    (rows_are_unique db request (theorems db) is_report_a.rows is_report_b.rows is_report_a.are_rows
+    is_report_b.are_rows)
+    (citing_rows_are_unique db request (theorems db) is_report_a.citing_rows is_report_b.citing_rows
+    is_report_a.are_citing_rows is_report_b.are_citing_rows)
+    ∙ sym is_report_b.bytes_are
 
 -- there is one output
 pub output_is_unique_for_text : (text : List ℕ) (request : Request) (a b : List ℕ)
@@ -647,6 +622,6 @@ output_is_unique_for_text text request a b (inr is_output_a) (inr is_output_b) =
     (reading_is_unique (length text) (lexed_of text) is_output_a.0 is_output_b.0 None None
     is_output_a.1.0 is_output_b.1.0).0 in
     report_is_unique (counted request.with_open is_output_b.0)
-    (open_theorem_count is_output_b.0 request) request request.choice a b
-    (subst (λ d. IsReportOf request.choice (counted request.with_open d)
-    (open_theorem_count d request) request a) databases_equal is_output_a.2) is_output_b.2
+    (open_theorem_count is_output_b.0 request) request a b
+    (subst (λ d. IsReportOf (counted request.with_open d) (open_theorem_count d request) request a)
+    databases_equal is_output_a.2) is_output_b.2

@@ -89,4 +89,8 @@ reported : IsOutput sound without_options
     (codes "mmdepend 1" ∷ codes "axioms 1" ∷ codes "theorems 0" ∷ codes "matrix" ∷ codes "counts"
     ∷ codes "usage" ∷ codes "ax:0:" ∷ codes "end" ∷ []))
 unfolding digits
-reported = inr (db, (db_read, db_valid), ([], tt, refl))
+reported = inr (
+  db,
+  (db_read, db_valid),
+  record { rows = []; are_rows = tt; citing_rows = []; are_citing_rows = tt; bytes_are = refl },
+)

@@ -4,8 +4,6 @@ use Rattle.mm_spec.specs.Report.{refusal}
 use Rattle.mm_spec.specs.Statement.{Statement}
 use Rattle.mm_spec.specs.Laws.Complete.{AreComplete}
 use Rattle.mm_spec.specs.Request.{Request}
-use Rattle.mm_spec.specs.declared.Choice.{Choice}
-use Rattle.mm_spec.specs.declared.Choice.TheVariants.{All, Matrix, Counts, Usage, Citations}
 use Rattle.mm_spec.specs.Lexed.{LexedText, lexed_of}
 use Rattle.mm_spec.specs.Output.{theorems, AllAreValid, open_theorem_count}
 use Rattle.mm_spec.specs.Output.{IsReportOf, IsOutput}
@@ -16,7 +14,7 @@ use Rattle.mm_spec.specs.Opened.{counted}
 use Rattle.mm_spec.proofs.CompleteLaw.{reads_complete}
 use Rattle.mm_spec.proofs.OpenedLaw.{counted_complete}
 use Rattle.mm_laws.proofs.SomeFaultLaw.{is_sound_or_faulty}
-use Rattle.mm_laws.proofs.RestsLaw.{rests_on_is_decided, rows_of, citing_rows_of}
+use Rattle.mm_spec.proofs.RestsLaw.{rests_on_is_decided, rows_of, citing_rows_of}
 
 -- in a sound text each cell is marked or not
 pub cells_are_decided : (len : ℕ) (x : LexedText) (with_open : Bool) → AreDecided len x with_open
@@ -26,46 +24,18 @@ cells_are_decided len x with_open db has_no_fault by_essential t a =
 
 -- a database without faults has a report
 report_exists : (db : List Statement) (opened : Option ℕ) (request : Request) → AreComplete db
-    → AllAreValid db → (choice : Choice)
-    → (bytes : List ℕ) × IsReportOf choice db opened request bytes
-report_exists db opened request all_complete are_valid Citations =
-    let rows = citing_rows_of db request all_complete are_valid (theorems db) in
-    (_, (rows.0, rows.1, refl))
-report_exists db opened request all_complete are_valid All =
-    let rows = rows_of db request all_complete are_valid (theorems db) in (
+    → AllAreValid db → (bytes : List ℕ) × IsReportOf db opened request bytes
+report_exists db opened request all_complete are_valid =
+    let rows = rows_of db request all_complete are_valid (theorems db) in
+    let citing_rows = citing_rows_of db request all_complete are_valid (theorems db) in (
       _,
-      (
-        rows.0,
-        rows.1,
-        refl,
-      ),
-    )
-report_exists db opened request all_complete are_valid Matrix =
-    let rows = rows_of db request all_complete are_valid (theorems db) in (
-      _,
-      (
-        rows.0,
-        rows.1,
-        refl,
-      ),
-    )
-report_exists db opened request all_complete are_valid Counts =
-    let rows = rows_of db request all_complete are_valid (theorems db) in (
-      _,
-      (
-        rows.0,
-        rows.1,
-        refl,
-      ),
-    )
-report_exists db opened request all_complete are_valid Usage =
-    let rows = rows_of db request all_complete are_valid (theorems db) in (
-      _,
-      (
-        rows.0,
-        rows.1,
-        refl,
-      ),
+      record {
+        rows = rows.0;
+        are_rows = rows.1;
+        citing_rows = citing_rows.0;
+        are_citing_rows = citing_rows.1;
+        bytes_are = refl;
+      },
     )
 
 -- each text has an output
@@ -89,6 +59,5 @@ output_exists_for_text text request =
         (reads_complete (length text) (lexed_of text) has_no_fault.0 None has_no_fault.1.0) in
         let report =
         report_exists (counted request.with_open has_no_fault.0)
-        (open_theorem_count has_no_fault.0 request) request all_complete has_no_fault.1.1
-        request.choice in
+        (open_theorem_count has_no_fault.0 request) request all_complete has_no_fault.1.1 in
         (report.0, inr (has_no_fault.0, has_no_fault.1, report.1))

@@ -12,14 +12,14 @@ use Rattle.mm_spec.specs.Laws.Waves.{IsWave, IsTheorem}
 use Rattle.mm_spec.specs.Laws.Complete.{AreComplete}
 use Rattle.mm_spec.specs.Lexed.{LexedText}
 use Rattle.mm_spec.specs.Output.{AreValid}
-use Rattle.mm_laws.specs.Laws.Cells.{IsDecided}
+use Rattle.mm_spec.specs.Laws.Decided.{IsDecided}
 use Rattle.mm_laws.specs.Laws.OneWave.{HaveWaves}
 use Rattle.mm_spec.proofs.ChainsLaw.{two_waves_are_equal}
 use Rattle.mm_spec.specs.Opened.{counted}
 use Rattle.mm_spec.proofs.CompleteLaw.{reads_complete}
 use Rattle.mm_spec.proofs.OpenedLaw.{counted_complete}
 use Rattle.mm_spec.proofs.CitedLaw.{cited_lt_theorem}
-use Rattle.mm_laws.proofs.RestsLaw.{cites_is_decided}
+use Rattle.mm_spec.proofs.RestsLaw.{cites_is_decided}
 
 module _ (db : List Statement) (by_essential : Bool) (all_complete : AreComplete db)
     (are_valid : AreValid db (length db)) where

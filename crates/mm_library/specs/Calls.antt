@@ -1,16 +1,14 @@
 -- What a call of the library requests by its arguments, and how it ends (this project's own).
-use Rattle.std.specs.Prelude.{◌≡◌, ◌≢◌, ℕ, Bool, ◌==◌, if◌then◌else◌, List, [], ◌∷◌, ◌≤◌, ◌<◌, ◌⊎◌}
-use Rattle.std.specs.Prelude.{drop, length, map, sum, flat_map, Option, None, Some, slice_get, ⊤}
+use Rattle.std.specs.Prelude.{◌≡◌, ◌≢◌, ℕ, Bool, ◌==◌, ◌||◌, ◌/◌, ◌%◌, nat_le, if◌then◌else◌, List}
+use Rattle.std.specs.Prelude.{◌≤◌, ◌<◌, ◌⊎◌, drop, length, Option, None, Some, ⊤}
 use Rattle.std.specs.Prelude.{MatchResult, Result}
-use Rattle.std.specs.List.{AllZip}
 use Rattle.std.specs.Str.{IsUtf8}
 use Rattle.mm_spec.specs.Text.{Bytes}
 use Rattle.mm_spec.specs.Request.{Request}
 use Rattle.mm_spec.specs.Statement.{Statement}
 use Rattle.mm_spec.specs.Lexed.{lexed_of}
 use Rattle.mm_spec.specs.Output.{IsOutput, FirstFault, HasNoFault}
-use Rattle.mm_spec.specs.declared.Choice.{Choice}
-use Rattle.mm_spec.specs.declared.Choice.TheVariants.{All, Matrix, Counts, Usage, Citations}
+use Rattle.mm_spec.specs.declared.Sections.{Sections}
 use Rattle.mm_spec.specs.declared.Form.{Form}
 use Rattle.mm_spec.specs.declared.Form.TheVariants.{One, Two}
 use Rattle.mm_spec.specs.declared.Fault.{Fault}
@@ -32,26 +30,33 @@ status_number NoSuchRequest = 5
 pub record Call : Type 0 where
   -- the typecode, if there is one
   pub only : Option Bytes
-  -- the number of the sections
-  pub choice : ℕ
+  -- the sections as bits
+  pub sections : ℕ
   -- the number of the form
   pub form : ℕ
   pub essential : Bool
   pub with_open : Bool
 
 abbrev pub call_of : Bool → Bytes → ℕ → ℕ → Bool → Bool → Call
-call_of has_only only choice form essential with_open =
+call_of has_only only sections form essential with_open =
     record {
       only = if has_only then Some only else None;
-      choice = choice;
+      sections = sections;
       form = form;
       essential = essential;
       with_open = with_open;
     }
 
--- the sections with a number
-abbrev pub choice_of : ℕ → Option Choice
-choice_of n = slice_get (All ∷ Matrix ∷ Counts ∷ Usage ∷ Citations ∷ []) n
+-- the sections that a number has as bits: 1 the matrix, 2 the counts, 4 the usage, 8 the citations
+abbrev pub sections_of : ℕ → Option Sections
+sections_of n =
+    if n == 0 || nat_le 16 n then None
+    else Some (record {
+      matrix = n % 2 == 1;
+      counts = n / 2 % 2 == 1;
+      usage = n / 4 % 2 == 1;
+      citations = n / 8 % 2 == 1;
+    })
 
 -- the form with a number
 abbrev pub form_of : ℕ → Option Form
@@ -64,7 +69,7 @@ IsText (Some bytes) = IsUtf8 bytes
 
 -- the call asks for this request
 pub record Asks (call : Call) (request : Request) : Type 0 where
-  pub choice_is : choice_of call.choice ≡ Some request.choice
+  pub sections_are : sections_of call.sections ≡ Some request.sections
   pub form_is : form_of call.form ≡ Some request.form
   pub only_is : request.only ≡ call.only
   pub is_text : IsText call.only
@@ -73,9 +78,9 @@ pub record Asks (call : Call) (request : Request) : Type 0 where
 
 -- the call asks for none, and the status says why
 abbrev pub Refuses : Status → Call → Type 0
-Refuses NoSuchRequest call = (choice_of call.choice ≡ None) ⊎ (form_of call.form ≡ None)
+Refuses NoSuchRequest call = (sections_of call.sections ≡ None) ⊎ (form_of call.form ≡ None)
 Refuses TypecodeNotUtf8 call =
-    (choice_of call.choice ≢ None) × (form_of call.form ≢ None) × ¬ IsText call.only
+    (sections_of call.sections ≢ None) × (form_of call.form ≢ None) × ¬ IsText call.only
 Refuses _ call = ⊥
 
 -- the request that a call asks for, or the status that says why it asks for none
@@ -90,52 +95,33 @@ HasVerdict Refused text with_open =
     (f : Fault) × FirstFault (length text) (lexed_of text) with_open f
 HasVerdict _ text with_open = ⊥
 
--- the outputs of a text for these requests, of these lengths, stand one behind the other at the
--- front of `out`, and behind them it is as it was before
-pub record HasOutputs (text : List ℕ) (requests : List Request)
-    (lengths before out : List ℕ) : Type 0 where
-  pub outputs : List (List ℕ)
-  pub are_outputs : AllZip (IsOutput text) requests outputs
-  pub are_lengths : lengths ≡ map length outputs
-  pub is_at_front : IsAtFront (flat_map (λ bytes. bytes) outputs) out
-  pub rest_stays : drop (sum lengths) out ≡ drop (sum lengths) before
+-- the output of a text for a request, of this length, stands at the front of `out`, and behind it
+-- `out` is as it was before
+pub record HasOutput (text : List ℕ) (request : Request) (len : ℕ) (before out : List ℕ) : Type 0
+  where
+    pub output : List ℕ
+    pub is_output : IsOutput text request output
+    pub length_is : len ≡ length output
+    pub is_at_front : IsAtFront output out
+    pub rest_stays : drop len out ≡ drop len before
 
--- how it ends to write these outputs to `out`, which held other bytes before
-abbrev pub WritingEnds : Status → (with_open : Bool) → List Request
-    → (text lengths before out : List ℕ)
+-- how it ends to write the output to `out`, which held other bytes before
+abbrev pub WritingEnds : Status → Request → (text : List ℕ) (len : ℕ) (before out : List ℕ)
     → Type 0
-WritingEnds TypecodeNotUtf8 with_open requests text lengths before out = ⊥
-WritingEnds NoSuchRequest with_open requests text lengths before out = ⊥
-WritingEnds RoomTooSmall with_open requests text lengths before out = sum lengths ≡ 0
-WritingEnds OutTooShort with_open requests text lengths before out =
-    HasOutputs text requests lengths before out × (length out < sum lengths)
-WritingEnds verdict with_open requests text lengths before out =
-    HasVerdict verdict text with_open × HasOutputs text requests lengths before out
-    × (sum lengths ≤ length out)
+WritingEnds TypecodeNotUtf8 request text len before out = ⊥
+WritingEnds NoSuchRequest request text len before out = ⊥
+WritingEnds RoomTooSmall request text len before out = len ≡ 0
+WritingEnds OutTooShort request text len before out =
+    HasOutput text request len before out × (length out < len)
+WritingEnds verdict request text len before out =
+    HasVerdict verdict text request.with_open × HasOutput text request len before out
+    × (len ≤ length out)
 
--- how a call ends that writes the outputs for its request to `out`, which held other bytes before
-abbrev pub CallEnds : Status → Call → (requests_for : Request → List Request)
-    → (text lengths before out : List ℕ)
-    → Type 0
-CallEnds TypecodeNotUtf8 call requests_for text lengths before out =
-    Refuses TypecodeNotUtf8 call × (sum lengths ≡ 0) × (out ≡ before)
-CallEnds NoSuchRequest call requests_for text lengths before out =
-    Refuses NoSuchRequest call × (sum lengths ≡ 0) × (out ≡ before)
-CallEnds status call requests_for text lengths before out =
-    (request : Request) × Asks call request
-    × WritingEnds status request.with_open (requests_for request) text lengths before out
-
--- a request turned into the one for the citations
-abbrev pub citing : Request → Request
-citing request = record request { choice = Citations }
-
--- the requests whose outputs a call writes: the one that it asks for, and if wanted the same for
--- the citations
-abbrev pub requests_of : (with_citations : Bool) → Request → List Request
-requests_of with_citations request =
-    request ∷ (if with_citations then citing request ∷ [] else [])
-
--- the lengths of these outputs
-abbrev pub lengths_of : (with_citations : Bool) → (report_len citations_len : ℕ) → List ℕ
-lengths_of with_citations report_len citations_len =
-    report_len ∷ (if with_citations then citations_len ∷ [] else [])
+-- how a call ends that writes the output for its request to `out`, which held other bytes before
+abbrev pub CallEnds : Status → Call → (text : List ℕ) (len : ℕ) (before out : List ℕ) → Type 0
+CallEnds TypecodeNotUtf8 call text len before out =
+    Refuses TypecodeNotUtf8 call × (len ≡ 0) × (out ≡ before)
+CallEnds NoSuchRequest call text len before out =
+    Refuses NoSuchRequest call × (len ≡ 0) × (out ≡ before)
+CallEnds status call text len before out =
+    (request : Request) × Asks call request × WritingEnds status request text len before out

@@ -4,9 +4,9 @@
 //! length is 0, it may be dangling.
 #![tactic(auto)]
 
-ghost use Rattle.std.specs.Prelude.{◌≡◌, ◌⊎◌, [], ◌∷◌, drop, length, take};
+ghost use Rattle.std.specs.Prelude.{◌≡◌, ◌⊎◌, drop, length, take};
 ghost use Rattle.mm_spec.specs.Ends.{reading_limit};
-ghost use Rattle.mm_library.specs.Calls.{CallEnds, call_of, citing, status_number};
+ghost use Rattle.mm_library.specs.Calls.{CallEnds, call_of, status_number};
 ghost use Rattle.mm_library.specs.Fronts.{IsAtFront};
 ghost use Rattle.mm_library.specs.declared.status.Status.{Status};
 ghost use Rattle.mm_library.specs.declared.status.Status.TheVariants.{RoomTooSmall};
@@ -22,7 +22,7 @@ mod status;
 mod tests;
 
 use crate::front::copy_behind;
-use crate::in_room::outputs_if_asked;
+use crate::in_room::output_if_asked;
 use crate::request::request;
 pub use crate::status::Status;
 pub use mm_room::Room;
@@ -38,8 +38,8 @@ use mm_version::VERSION;
 ///   are refused.
 /// - `only`: the typecode of the axioms that are columns and of the citations that are listed, as
 ///   UTF-8, if `has_only`. Otherwise it isn't read.
-/// - `part`: the sections: 0 matrix, counts and usage, 1 the matrix, 2 the counts, 3 the usage, 4
-///   the citations.
+/// - `sections`: the sections, as bits of which at least one is set: 1 the matrix, 2 the counts, 4
+///   the usage, 8 the citations. They are written in this order.
 /// - `form`: how the matrix is written: 1 a digit for each column, 2 a hexadecimal digit for every
 ///   four.
 /// - `essential`: whether a theorem cites only by the essential nodes of its proof.
@@ -49,8 +49,8 @@ use mm_version::VERSION;
 ///
 /// The result is a status. 0: `out` begins with the report. 1: `out` begins with the refusal. 2:
 /// `only` isn't UTF-8. 3: `out` is too short, and has as much of the output as it holds; a second
-/// call with `written` bytes has room for it. 4: the room is too small. 5: no sections have the
-/// number `part`, or no form has the number `form`. With 2 and 5 `out` stays as it was. With 4
+/// call with `written` bytes has room for it. 4: the room is too small. 5: `sections` has no
+/// bit, or another one, or no form has the number `form`. With 2 and 5 `out` stays as it was. With 4
 /// its bytes are not to be read.
 #[unsafe(no_mangle)]
 pub extern "C" fn mmdepend_report(
@@ -58,7 +58,7 @@ pub extern "C" fn mmdepend_report(
     text: &[u8],
     only: &[u8],
     has_only: bool,
-    part: u32,
+    sections: u32,
     form: u32,
     essential: bool,
     with_open: bool,
@@ -68,53 +68,12 @@ pub extern "C" fn mmdepend_report(
     ensures room_comes_back { (room.new.units ≡ room.old.units)
         ⊎ ((result ≡ status_number RoomTooSmall) × (room.new.units ≡ 0)) }
     ensures call_ends { (status : Status) × (result ≡ status_number status)
-        × CallEnds status (call_of has_only only.now part form essential with_open)
-        (λ request. request ∷ []) (take reading_limit text.now) (written.new ∷ [])
-        out.old out.new }
+        × CallEnds status (call_of has_only only.now sections form essential with_open)
+        (take reading_limit text.now) written.new out.old out.new }
 {
-    let request = request(only, has_only, part, form, essential, with_open);
-    let with_citations = false;
-    let (status, len, _) = outputs_if_asked(room, text, request, with_citations, out);
+    let request = request(only, has_only, sections, form, essential, with_open);
+    let (status, len) = output_if_asked(room, text, request, out);
     *written = len;
-    status.number()
-}
-
-/// Writes what `mmdepend_report` writes, and behind it a second output, for the same request with
-/// the sections 4, the citations. The proofs are checked once. `report_len` and `citations_len` get
-/// the lengths of the two outputs in bytes, with status 0, 1 and 3, and otherwise 0. With status 3
-/// the two together don't fit in `out`; with status 1 both outputs are the refusal.
-#[unsafe(no_mangle)]
-pub extern "C" fn mmdepend_report_and_citations(
-    room: &mut Room,
-    text: &[u8],
-    only: &[u8],
-    has_only: bool,
-    part: u32,
-    form: u32,
-    essential: bool,
-    with_open: bool,
-    out: &mut [u8],
-    report_len: &mut usize,
-    citations_len: &mut usize,
-) -> u32
-    ensures room_comes_back { (room.new.units ≡ room.old.units)
-        ⊎ ((result ≡ status_number RoomTooSmall) × (room.new.units ≡ 0)) }
-    ensures call_ends { (status : Status) × (result ≡ status_number status)
-        × CallEnds status (call_of has_only only.now part form essential with_open)
-        (λ request. request ∷ citing request ∷ []) (take reading_limit text.now)
-        (report_len.new ∷ citations_len.new ∷ []) out.old out.new }
-{
-    let request = request(only, has_only, part, form, essential, with_open);
-    let with_citations = true;
-    let (status, first_len, second_len) = outputs_if_asked(
-        room,
-        text,
-        request,
-        with_citations,
-        out,
-    );
-    *report_len = first_len;
-    *citations_len = second_len;
     status.number()
 }
 

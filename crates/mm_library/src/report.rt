@@ -1,36 +1,22 @@
-//! The outputs of a text, at the front of memory.
+//! The output of a text, at the front of memory.
 
 ghost use Rattle.std.specs.Prelude.{◌≡◌, ◌≤◌, ℕ, List, ◌++◌, IfOk, OnOk, length};
 ghost use Rattle.mm_spec.specs.Ends.{reading_limit};
 ghost use Rattle.mm_spec.specs.Output.{IsOutput};
 ghost use Rattle.mm_run.specs.Counted.{IsJudgedText};
-ghost use Rattle.mm_library.specs.Calls.{HasVerdict, WritingEnds, lengths_of, requests_of};
-ghost use Rattle.mm_library.specs.Calls as calls;
+ghost use Rattle.mm_library.specs.Calls.{HasVerdict, WritingEnds};
 
 use crate::front::Front;
 use crate::status::Status;
 use mm_run::{JudgedText, RunEnd, judge_alone, write_judged};
-use mm_spec::{Choice, Request};
+use mm_spec::Request;
 use std::alloc::Allocator;
-
-/// Turns a request into the one for the citations: only its sections become `Citations`.
-fn citing<'a>(request: &Request<'a>) -> Request<'a>
-    ensures { result ≡ calls.citing request.now }
-{
-    Request {
-        only: request.only,
-        choice: Choice::Citations,
-        form: request.form,
-        essential: request.essential,
-        with_open: request.with_open,
-    }
-}
 
 /// An output wasn't written whole, because there was no memory to write it.
 #[derive(Drop)]
 struct NotWritten;
 
-/// Writes one output of a judged text behind what was written before. Returns the verdict.
+/// Writes the output of a judged text behind what was written before. Returns the verdict.
 fn write_output<'a, A: Allocator + Copy>(
     alloc: A,
     text: &[u8],
@@ -53,55 +39,39 @@ fn write_output<'a, A: Allocator + Copy>(
     }
 }
 
-/// Writes the output of a judged text to the front of `out`, and if `with_citations` is set, behind
-/// it the output for the same request with the sections `Citations`. Returns how that ended, and
-/// the lengths of the two outputs in bytes. The second is 0 if only one was written.
-fn write_outputs<'a, A: Allocator + Copy>(
+/// Writes the output of a judged text to the front of `out`. Returns how that ended, and the length
+/// of the output in bytes.
+fn write_to_front<'a, A: Allocator + Copy>(
     alloc: A,
     text: &[u8],
     request: &Request<'_>,
-    with_citations: bool,
     judged: &JudgedText<'a, A>,
     out: &mut [u8],
-) -> (Status, usize, usize)
+) -> (Status, usize)
     requires is_judged { IsJudgedText text.now request.now.essential request.now.with_open
         judged.now }
-    ensures { WritingEnds result.0 request.now.with_open
-        (requests_of with_citations request.now) text.now
-        (lengths_of with_citations result.1 result.2) out.old out.new }
+    ensures { WritingEnds result.0 request.now text.now result.1 out.old out.new }
 {
     let mut to = Front::new(out);
-    let Ok(verdict) = write_output(alloc, text, request, judged, &mut to) else {
-        return (Status::RoomTooSmall, 0, 0);
-    };
-    let report_len = to.len;
-    if with_citations {
-        return match write_output(alloc, text, &citing(request), judged, &mut to) {
-            Ok(_) => (to.status(verdict), report_len, to.len - report_len),
-            Err(NotWritten) => (Status::RoomTooSmall, 0, 0),
-        };
+    match write_output(alloc, text, request, judged, &mut to) {
+        Ok(verdict) => (to.status(verdict), to.len),
+        Err(NotWritten) => (Status::RoomTooSmall, 0),
     }
-    (to.status(verdict), report_len, 0)
 }
 
-/// Reads a text, checks all its proofs, and writes its output to the front of `out`, and if
-/// `with_citations` is set, behind it the output for the same request with the sections
-/// `Citations`. Returns how that ended, and the lengths of the two outputs in bytes. The second is
-/// 0 if only one was written.
-pub(crate) fn outputs<A: Allocator + Copy>(
+/// Reads a text, checks all its proofs, and writes its output to the front of `out`. Returns how
+/// that ended, and the length of the output in bytes.
+pub(crate) fn output<A: Allocator + Copy>(
     alloc: A,
     text: &[u8],
     request: &Request<'_>,
-    with_citations: bool,
     out: &mut [u8],
-) -> (Status, usize, usize)
+) -> (Status, usize)
     requires length_le_limit { length text.now ≤ reading_limit }
-    ensures { WritingEnds result.0 request.now.with_open
-        (requests_of with_citations request.now) text.now
-        (lengths_of with_citations result.1 result.2) out.old out.new }
+    ensures { WritingEnds result.0 request.now text.now result.1 out.old out.new }
 {
     match judge_alone(alloc, text, request.essential, request.with_open) {
-        Ok(judged) => write_outputs(alloc, text, request, with_citations, &judged, out),
-        Err(_) => (Status::RoomTooSmall, 0, 0),
+        Ok(judged) => write_to_front(alloc, text, request, &judged, out),
+        Err(_) => (Status::RoomTooSmall, 0),
     }
 }

@@ -1,23 +1,24 @@
 //! What a call requests.
 
 ghost use Rattle.std.specs.Prelude.{◌≡◌};
-ghost use Rattle.mm_library.specs.Calls.{IsAnswer, call_of, choice_of, form_of};
+ghost use Rattle.mm_library.specs.Calls.{IsAnswer, call_of, form_of, sections_of};
 
 use crate::status::Status;
-use mm_spec::{Choice, Form, Request};
+use mm_spec::{Form, Request, Sections};
 
-/// The sections of a report, by number.
-fn choice(number: u32) -> Option<Choice>
-    ensures { result ≡ choice_of number }
+/// The sections of a report, by their bits; at least one.
+fn sections(bits: u32) -> Option<Sections>
+    ensures { result ≡ sections_of bits }
 {
-    match number {
-        0 => Some(Choice::All),
-        1 => Some(Choice::Matrix),
-        2 => Some(Choice::Counts),
-        3 => Some(Choice::Usage),
-        4 => Some(Choice::Citations),
-        _ => None,
+    if bits == 0 || 16 <= bits {
+        return None;
     }
+    Some(Sections {
+        matrix: bits % 2 == 1,
+        counts: bits / 2 % 2 == 1,
+        usage: bits / 4 % 2 == 1,
+        citations: bits / 8 % 2 == 1,
+    })
 }
 
 /// The form of a matrix, by number.
@@ -35,15 +36,15 @@ fn form(number: u32) -> Option<Form>
 pub(crate) fn request<'a>(
     only: &'a [u8],
     has_only: bool,
-    choice_number: u32,
+    section_bits: u32,
     form_number: u32,
     essential: bool,
     with_open: bool,
 ) -> Result<Request<'a>, Status>
-    ensures { IsAnswer (call_of has_only only.now choice_number form_number essential with_open)
+    ensures { IsAnswer (call_of has_only only.now section_bits form_number essential with_open)
         result }
 {
-    let (Some(choice), Some(form)) = (choice(choice_number), form(form_number)) else {
+    let (Some(sections), Some(form)) = (sections(section_bits), form(form_number)) else {
         return Err(Status::NoSuchRequest);
     };
     if has_only && std::str::from_utf8(only).is_err() {
@@ -51,7 +52,7 @@ pub(crate) fn request<'a>(
     }
     Ok(Request {
         only: if has_only { Some(only) } else { None },
-        choice,
+        sections,
         form,
         essential,
         with_open,

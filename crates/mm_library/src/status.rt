@@ -16,7 +16,7 @@ pub enum Status {
     OutTooShort,
     /// 4: the room is too small.
     RoomTooSmall,
-    /// 5: no sections or no form has this number.
+    /// 5: the number has no bits of sections or others, or no form has it.
     NoSuchRequest,
 }
 

@@ -1,7 +1,7 @@
 //! Tests of the calls for C: each status, what the lengths are with it, what is in `out` and behind
 //! the output, and that the room comes back.
 
-use crate::{mmdepend_report, mmdepend_report_and_citations, mmdepend_version};
+use crate::{mmdepend_report, mmdepend_version};
 use mm_room::Room;
 use mm_version::VERSION;
 use std::alloc::Global;
@@ -14,7 +14,8 @@ const TEXT: &[u8] =
 const REPORT: &[u8] =
     b"mmdepend 1\naxioms 2\ntheorems 1\nmatrix\nwi2:10\ncounts\nwi2:1\nusage\nwi:1:wi2\nax-1:0:\nend\n";
 
-const CITATIONS: &[u8] = b"mmdepend 1\naxioms 2\ntheorems 1\ncitations\nwi2:1:wi\nend\n";
+const MATRIX_AND_CITATIONS: &[u8] =
+    b"mmdepend 1\naxioms 2\ntheorems 1\nmatrix\nwi2:10\ncitations\nwi2:1:wi\nend\n";
 
 /// The report on axioms of the typecode `|-`, and its part with the counts alone.
 const LOGICAL_COUNTS: &[u8] = b"mmdepend 1\naxioms 1\ntheorems 1\ncounts\nwi2:0\nend\n";
@@ -24,12 +25,16 @@ const FAULTY: &[u8] = b"$c wff \x80 $.\n";
 
 const REFUSAL: &[u8] = b"refused 1:8 E01\n";
 
-/// The numbers of the sections, of the form, and of the statuses, as C has them.
-const ALL: u32 = 0;
+/// The sections as bits, the number of the form, and those of the statuses, as C has them.
+const DEFAULT: u32 = 7;
 
 const COUNTS: u32 = 2;
 
-const NO_PART: u32 = 5;
+const MATRIX_WITH_CITATIONS: u32 = 9;
+
+const NO_SECTION: u32 = 0;
+
+const UNKNOWN_BIT: u32 = 17;
 
 const FORM_1: u32 = 1;
 
@@ -80,7 +85,7 @@ impl Ended {
 
 /// A call for sections of the report on a text in a new room. Its typecode is `only`, if that has a
 /// byte.
-fn called(memory: Global, units: usize, text: &[u8], only: &[u8], choice: u32) -> Option<Ended> {
+fn called(memory: Global, units: usize, text: &[u8], only: &[u8], sections: u32) -> Option<Ended> {
     let mut room = Room::leaked(&memory, units)?;
     let mut out = [BEFORE; OUT];
     let mut written = OUT;
@@ -89,7 +94,7 @@ fn called(memory: Global, units: usize, text: &[u8], only: &[u8], choice: u32) -
         text,
         only,
         !only.is_empty(),
-        choice,
+        sections,
         FORM_1,
         false,
         false,
@@ -109,21 +114,32 @@ fn answers(
     memory: Global,
     text: &[u8],
     only: &[u8],
-    choice: u32,
+    sections: u32,
     status: u32,
     output: &[u8],
 ) -> bool {
-    called(memory, ROOM, text, only, choice).is_some_and(|ended| ended.is(status, output))
+    called(memory, ROOM, text, only, sections).is_some_and(|ended| ended.is(status, output))
 }
 
 #[test]
 fn each_status_comes_with_its_output(rt: HostRuntime) {
     let memory = rt.alloc();
-    assert!(&rt; answers(memory, TEXT, b"", ALL, ACCEPTED, REPORT));
+    assert!(&rt; answers(memory, TEXT, b"", DEFAULT, ACCEPTED, REPORT));
     assert!(&rt; answers(memory, TEXT, b"|-", COUNTS, ACCEPTED, LOGICAL_COUNTS));
-    assert!(&rt; answers(memory, FAULTY, b"", ALL, REFUSED, REFUSAL));
-    assert!(&rt; answers(memory, TEXT, b"\xFF", ALL, NOT_UTF8, b""));
-    assert!(&rt; answers(memory, TEXT, b"", NO_PART, NO_SUCH_REQUEST, b""));
+    assert!(&rt; answers(memory, FAULTY, b"", DEFAULT, REFUSED, REFUSAL));
+    assert!(&rt; answers(memory, TEXT, b"\xFF", DEFAULT, NOT_UTF8, b""));
+    assert!(&rt;
+        answers(
+            memory,
+            TEXT,
+            b"",
+            MATRIX_WITH_CITATIONS,
+            ACCEPTED,
+            MATRIX_AND_CITATIONS,
+        )
+    );
+    assert!(&rt; answers(memory, TEXT, b"", NO_SECTION, NO_SUCH_REQUEST, b""));
+    assert!(&rt; answers(memory, TEXT, b"", UNKNOWN_BIT, NO_SUCH_REQUEST, b""));
 }
 
 /// How many units one room of the next test has more than the one before.
@@ -137,7 +153,7 @@ fn rooms_of_growing_size(rt: HostRuntime) {
     let mut was_too_small = false;
     let mut is_large_enough = false;
     for steps in 0..64usize {
-        let Some(ended) = called(memory, steps * ROOM_STEP, TEXT, b"", ALL) else {
+        let Some(ended) = called(memory, steps * ROOM_STEP, TEXT, b"", DEFAULT) else {
             assert!(&rt; false);
             return;
         };
@@ -170,7 +186,7 @@ fn outputs_of_every_length(rt: HostRuntime) {
             TEXT,
             b"",
             false,
-            ALL,
+            DEFAULT,
             FORM_1,
             false,
             false,
@@ -187,41 +203,6 @@ fn outputs_of_every_length(rt: HostRuntime) {
         assert!(&rt; out[len..].iter().all(|byte| *byte == BEFORE));
         assert!(&rt; room.units() == ROOM);
     }
-}
-
-#[test]
-fn the_citations_stand_behind_the_report(rt: HostRuntime) {
-    let memory = rt.alloc();
-    let Some(mut room) = Room::leaked(&memory, ROOM) else {
-        assert!(&rt; false);
-        return;
-    };
-    let mut out = [BEFORE; OUT];
-    let mut report_len = 0;
-    let mut citations_len = 0;
-    let status = mmdepend_report_and_citations(
-        &mut room,
-        TEXT,
-        b"",
-        false,
-        ALL,
-        FORM_1,
-        false,
-        false,
-        &mut out,
-        &mut report_len,
-        &mut citations_len,
-    );
-    assert!(&rt; status == ACCEPTED);
-    assert!(&rt; report_len == REPORT.len() && citations_len == CITATIONS.len());
-    assert!(&rt; out.starts_with(REPORT));
-    assert!(&rt; out[report_len..].starts_with(CITATIONS));
-    assert!(&rt;
-        out[report_len + citations_len..]
-            .iter()
-            .all(|byte| *byte == BEFORE)
-    );
-    assert!(&rt; room.units() == ROOM);
 }
 
 #[test]

@@ -5,4 +5,5 @@
 -- `refusal_is_line_refusal` says why words were refused. `line` takes each field from its entry and
 -- ends with `line_is_read`: the line is what clap states for the words, and the plan is lawful.
 mod EntryLaw
+mod NamesLaw
 mod LineLaw

@@ -37,17 +37,14 @@ use Rattle.clap.specs.declared.error.kind.ErrorKind.TheVariants.{DisplayHelp, Di
 use Rattle.clap.specs.declared.error.kind.ErrorKind.TheVariants.{OutOfMemory}
 use Rattle.clap.specs.declared.error.kind.ErrorKind.{ErrorKind}
 use Rattle.clap.proofs.WalkLemmas.{first_value-rows, list_any-map, one_text-rows}
-use Rattle.mm_spec.specs.declared.Choice.{Choice}
-use Rattle.mm_spec.specs.declared.Choice.TheVariants.{All, Matrix, Counts, Usage, Citations}
 use Rattle.mm_spec.specs.declared.Form.{Form}
 use Rattle.mm_spec.specs.declared.Form.TheVariants.{One, Two}
 use Rattle.mm_spec.specs.Derivation.{is_member}
-use Rattle.mm_line.specs.Lines.{IsCommand, IsReportRule, IsFormRule, IsFlag, IsHelpOrVersion}
-use Rattle.mm_line.specs.Lines.{IsLineRefusal}
-use Rattle.mm_line.specs.Lines.{command_of, flag_rule, number_rule, only_rule, report_rule}
-use Rattle.mm_line.specs.Lines.{file_rule, form_rule, form_word, form_words, report_word}
-use Rattle.mm_line.specs.Lines.{report_words, AreReadAs}
-use Rattle.mm_line.specs.Found.{Finds, HasForm, HasNumber, HasReport, IsRefusalOf}
+use Rattle.mm_line.specs.Lines.{IsCommand, IsFormRule, IsFlag, IsHelpOrVersion}
+use Rattle.mm_line.specs.Lines.{IsLineRefusal, has_known_names, sections_in}
+use Rattle.mm_line.specs.Lines.{command_of, flag_rule, number_rule, text_rule}
+use Rattle.mm_line.specs.Lines.{file_rule, form_rule, form_word, form_words, AreReadAs}
+use Rattle.mm_line.specs.Found.{Finds, HasForm, HasNumber, IsBadOrMemory, IsRefusalOf}
 use Rattle.mm_line.proofs.EntryLaw.{Defaulted, default_is_read, empty_is_nil, rule_of_argument_is}
 use Rattle.mm_line.proofs.EntryLaw.{simple_leaves_out}
 use Rattle.mm_plan.specs.declared.Cutting.TheVariants.{Count}
@@ -90,33 +87,25 @@ app_with_added_rules (a ∷ args) (r ∷ rules) before after app are_added app_i
     first_and_later.0)
     later_rules_are first_and_later.1
 
-pub added_rules_are_command : (c : Command) (report_option form_option : Rule)
-    → IsReportRule report_option
-    → IsFormRule form_option → app_of c ≡ command_of report_option form_option
-    → IsCommand (app_of c)
-added_rules_are_command c report_option form_option is_report_rule is_form_rule app_is =
+pub added_rules_are_command : (c : Command) (form_option : Rule) → IsFormRule form_option
+    → app_of c ≡ command_of form_option → IsCommand (app_of c)
+added_rules_are_command c form_option is_form_rule app_is =
     record {
-      report_option = report_option;
-      is_report = is_report_rule;
       form_option = form_option;
       is_form = is_form_rule;
       app_is_command = app_is;
     }
 
-command_is_simple_and_free : (report form : Rule) → IsReportRule report → IsFormRule form
-    → is_simple_and_free (command_of report form) ≡ true
+command_is_simple_and_free : (form : Rule) → IsFormRule form
+    → is_simple_and_free (command_of form) ≡ true
 unfolding command_of
-command_is_simple_and_free report form is_report_rule is_form_rule =
-    subst (λ (r : Rule). is_simple_and_free (command_of r form) ≡ true) (sym is_report_rule.2)
-    (subst (λ (r : Rule). is_simple_and_free (command_of (report_rule is_report_rule.0) r) ≡ true)
-    (sym is_form_rule.2) refl)
+command_is_simple_and_free form is_form_rule =
+    subst (λ (r : Rule). is_simple_and_free (command_of r) ≡ true) (sym is_form_rule.2) refl
 
 pub command_app_is_simple_and_free : (app : App) → IsCommand app → is_simple_and_free app ≡ true
 command_app_is_simple_and_free app is_command_app =
     subst (λ (a : App). is_simple_and_free a ≡ true) (sym is_command_app.app_is_command)
-    (command_is_simple_and_free is_command_app.report_option is_command_app.form_option
-    is_command_app.is_report
-    is_command_app.is_form)
+    (command_is_simple_and_free is_command_app.form_option is_command_app.is_form)
 
 help_is_not_memory : (kind : ErrorKind) → IsHelpOrVersion kind → kind ≡ OutOfMemory → ⊥
 help_is_not_memory kind (inl is_asking) is_memory =
@@ -140,7 +129,7 @@ refusal_is_line_refusal app words e (Help text) app_is passes kind is_for =
     among_faults (inl is_memory) = absurd (help_is_not_memory (kind_of e) is_for is_memory)
     among_faults (inr is_among) = is_among
 refusal_is_line_refusal app words e (Bad text) app_is passes kind is_for =
-    (app, app_is, not_taken (takes app words) refl, kind_of e, among_faults kind, is_for.0)
+    inl (app, app_is, not_taken (takes app words) refl, kind_of e, among_faults kind, is_for.0)
   where
     not_taken : (b : Bool) → takes app words ≡ b → b ≡ false
     not_taken true test_is = absurd (is_for.1 (passes test_is))
@@ -178,49 +167,6 @@ first_and_third true true true d all_four = (refl, refl)
 first_and_third false b c d all_four = absurd (true≢false (sym all_four))
 first_and_third true false c d all_four = absurd (true≢false (sym all_four))
 first_and_third true true false d all_four = absurd (true≢false (sym all_four))
-
-known_word_is_choice : (t : Text) → list_any (λ (w : Text). bytes_eq w t) report_words ≡ true
-    → (choice : Choice) × (t ≡ report_word choice)
-known_word_is_choice t is_some_word =
-    word_if_all (or_cases (bytes_eq (codes "all") t) _ is_some_word)
-  where
-    equal_word : (w : Text) → bytes_eq w t ≡ true → t ≡ w
-    equal_word w tested_equal = sym ((bytes_eq-Decides w t).0 tested_equal)
-
-    word_if_citations : (bytes_eq (codes "citations") t ≡ true) ⊎ (false ≡ true)
-        → (choice : Choice) × (t ≡ report_word choice)
-    word_if_citations (inl word_is) = (Citations, equal_word _ word_is)
-    word_if_citations (inr word_is) = absurd (true≢false (sym word_is))
-
-    word_if_usage : (bytes_eq (codes "usage") t ≡ true)
-        ⊎ ((bytes_eq (codes "citations") t || false) ≡ true)
-        → (choice : Choice) × (t ≡ report_word choice)
-    word_if_usage (inl word_is) = (Usage, equal_word _ word_is)
-    word_if_usage (inr word_is) =
-        word_if_citations (or_cases (bytes_eq (codes "citations") t) false word_is)
-
-    word_if_counts : (bytes_eq (codes "counts") t ≡ true)
-        ⊎ ((bytes_eq (codes "usage") t || (bytes_eq (codes "citations") t || false)) ≡ true)
-        → (choice : Choice) × (t ≡ report_word choice)
-    word_if_counts (inl word_is) = (Counts, equal_word _ word_is)
-    word_if_counts (inr word_is) = word_if_usage (or_cases (bytes_eq (codes "usage") t) _ word_is)
-
-    word_if_matrix : (bytes_eq (codes "matrix") t ≡ true)
-        ⊎ ((bytes_eq (codes "counts") t
-        || (bytes_eq (codes "usage") t || (bytes_eq (codes "citations") t || false)))
-        ≡ true)
-        → (choice : Choice) × (t ≡ report_word choice)
-    word_if_matrix (inl word_is) = (Matrix, equal_word _ word_is)
-    word_if_matrix (inr word_is) = word_if_counts (or_cases (bytes_eq (codes "counts") t) _ word_is)
-
-    word_if_all : (bytes_eq (codes "all") t ≡ true)
-        ⊎ ((bytes_eq (codes "matrix") t
-        || (bytes_eq (codes "counts") t
-        || (bytes_eq (codes "usage") t || (bytes_eq (codes "citations") t || false))))
-        ≡ true)
-        → (choice : Choice) × (t ≡ report_word choice)
-    word_if_all (inl word_is) = (All, equal_word _ word_is)
-    word_if_all (inr word_is) = word_if_matrix (or_cases (bytes_eq (codes "matrix") t) _ word_is)
 
 known_word_is_form : (t : Text) → list_any (λ (w : Text). bytes_eq w t) form_words ≡ true
     → (form : Form) × (t ≡ form_word form)
@@ -284,198 +230,170 @@ listed_index_is_only rs d id k only_k_has_id j j_lt_length has_id =
     equal_if_listed (inl is_that_index) = eqb-true j k is_that_index
     equal_if_listed (inr is_that_index) = absurd (true≢false (sym is_that_index))
 
-module _ (names forms : Bor (List (Bor Text))) where
+module _ (forms : Bor (List (Bor Text))) where
   abbrev pub the_rules : List Rule
   the_rules =
-      number_rule (codes "workers") ∷ number_rule (codes "pieces") ∷ only_rule ∷ report_rule names
-      ∷ form_rule forms ∷ flag_rule (codes "essential") ∷ flag_rule (codes "open") ∷ file_rule ∷ []
+      number_rule (codes "workers") ∷ number_rule (codes "pieces") ∷ text_rule (codes "only")
+      ∷ text_rule (codes "report") ∷ form_rule forms ∷ flag_rule (codes "essential") ∷ flag_rule (codes "open") ∷ file_rule ∷ []
 
-  module _ (c : Command) (app_is : app_of c ≡ command_of (report_rule names) (form_rule forms))
-    where
-      rules_are : map rule_of (args_of c) ≡ the_rules
-      unfolding command_of
-      rules_are = ap (λ (a : App). a.top.rules) app_is
+  module _ (c : Command) (app_is : app_of c ≡ command_of (form_rule forms)) where
+    rules_are : map rule_of (args_of c) ≡ the_rules
+    unfolding command_of
+    rules_are = ap (λ (a : App). a.top.rules) app_is
 
-      counts_equal : length (args_of c) ≡ length the_rules
-      counts_equal = sym (length-map (args_of c) rule_of) ∙ ap length rules_are
+    counts_equal : length (args_of c) ≡ length the_rules
+    counts_equal = sym (length-map (args_of c) rule_of) ∙ ap length rules_are
 
-      top_is_plain : (is_empty (out-Command c).groups.items ≡ true)
-          × (not (not (out-Command c).has_globals) ≡ false)
-      unfolding command_of
-      top_is_plain =
-          first_and_third (is_empty (out-Command c).groups.items)
-          (not (out-Command c).allow_external_subcommands) (not (out-Command c).has_globals) _
-          (ap (λ (a : App). a.top.is_plain) app_is)
+    top_is_plain : (is_empty (out-Command c).groups.items ≡ true)
+        × (not (not (out-Command c).has_globals) ≡ false)
+    unfolding command_of
+    top_is_plain =
+        first_and_third (is_empty (out-Command c).groups.items)
+        (not (out-Command c).allow_external_subcommands) (not (out-Command c).has_globals) _
+        (ap (λ (a : App). a.top.is_plain) app_is)
 
-      has_no_globals : (out-Command c).has_globals ≡ false
-      has_no_globals = sym (not-not (out-Command c).has_globals) ∙ top_is_plain.1
+    has_no_globals : (out-Command c).has_globals ≡ false
+    has_no_globals = sym (not-not (out-Command c).has_globals) ∙ top_is_plain.1
 
-      no_groups : groups_of c ≡ []
-      no_groups = empty_is_nil (out-Command c).groups.items top_is_plain.0
+    no_groups : groups_of c ≡ []
+    no_groups = empty_is_nil (out-Command c).groups.items top_is_plain.0
 
-      each_is_simple : (k : ℕ) (d : Arg) → k < length (args_of c)
-          → is_simple_arg (slice_index_or (args_of c) k d) ≡ true
-      each_is_simple =
-          each_argument_is_simple (args_of c) (ap (list_all (λ (r : Rule). r.is_simple)) rules_are)
+    each_is_simple : (k : ℕ) (d : Arg) → k < length (args_of c)
+        → is_simple_arg (slice_index_or (args_of c) k d) ≡ true
+    each_is_simple =
+        each_argument_is_simple (args_of c) (ap (list_all (λ (r : Rule). r.is_simple)) rules_are)
 
-      names_no_group : NamesNoGroup c
-      names_no_group k d k_lt_count =
-          (simple_leaves_out (slice_index_or (args_of c) k d)
-          (each_is_simple k d k_lt_count)).no_groups
+    names_no_group : NamesNoGroup c
+    names_no_group k d k_lt_count =
+        (simple_leaves_out (slice_index_or (args_of c) k d)
+        (each_is_simple k d k_lt_count)).no_groups
 
-      -- an argument with a default, by its rule
-      defaulted : (k : ℕ) (id value : Text) (q : ValueParser) → k < length the_rules
-          → ((a : Arg)
-          → slice_index_or the_rules k (rule_of a) ≡ slice_index_or the_rules k file_rule)
-          → (slice_index_or the_rules k file_rule).id ≡ id
-          → (slice_index_or the_rules k file_rule).action ≡ Some Set
-          → (slice_index_or the_rules k file_rule).range ≡ None
-          → (slice_index_or the_rules k file_rule).defaults ≡ value ∷ []
-          → (slice_index_or the_rules k file_rule).parser ≡ Some q
-          → ((j : ℕ) → j < length the_rules
-          → bytes_eq (slice_index_or the_rules j file_rule).id id ≡ true → j ≡ k)
-          → (id ≡ [] → ⊥) → ((id ≡ codes "help") ⊎ (id ≡ codes "version") → ⊥)
-          → (a : Arg) × Defaulted c k a id q
-          × (a.ignore_case ≡ (slice_index_or the_rules k file_rule).ignore_case)
-      defaulted k id value q k_lt_rules _ id_is action range default parser only_k_has_id
-          id_is_nonempty is_not_automatic =
-          let index_lt_count : k < length (args_of c) =
-          subst (λ (n : ℕ). k < n) (sym counts_equal) k_lt_rules in
-          let argument_there = argument_at_place (args_of c) k index_lt_count in
-          let a = argument_there.0 in
-          let rule_is : rule_of a ≡ slice_index_or the_rules k file_rule =
-          ap rule_of (sym argument_there.1)
-          ∙ rule_of_argument_is (args_of c) the_rules k a file_rule rules_are index_lt_count in
-          let id_of_argument_is : a.id.now ≡ id = ap (λ (r : Rule). r.id) rule_is ∙ id_is in (
-            a,
-            record {
-              index_lt_count = index_lt_count;
-              argument_is = argument_there.1;
-              id_is = id_of_argument_is;
-              simple =
-                  subst (λ (y : Arg). is_simple_arg y ≡ true) argument_there.1
-                  (each_is_simple k a index_lt_count);
-              action = ap (λ (r : Rule). r.action) rule_is ∙ action;
-              range = ap (λ (r : Rule). r.range) rule_is ∙ range;
-              default =
-                  (let one_default : length (items_of a.default_vals)
-                  ≡ 1 = sym (length-map (items_of a.default_vals) (λ s. s.now))
-                  ∙ ap length (ap (λ (r : Rule). r.defaults) rule_is ∙ default) in
-                  omega (arith, one_default));
-              parser = ap (λ (r : Rule). r.parser) rule_is ∙ parser;
-              id_is_unique =
-                  λ j e j_lt_count j_has_id. only_k_has_id j
-                  (subst (λ (n : ℕ). j < n) counts_equal j_lt_count)
-                  (subst (λ (r : Rule). bytes_eq r.id id ≡ true)
-                  (rule_of_argument_is (args_of c) the_rules j e file_rule rules_are j_lt_count)
-                  j_has_id);
-              id_is_nonempty = id_is_nonempty;
-              is_not_automatic =
-                  λ is_automatic. is_not_automatic
-                  (elim is_automatic [
-                    | inl is_help ↦ inl (sym id_of_argument_is ∙ is_help)
-                    | inr is_version ↦ inr (sym id_of_argument_is ∙ is_version)
-                  ]);
-            },
-            ap (λ (r : Rule). r.ignore_case) rule_is,
-          )
+    -- an argument with a default, by its rule
+    defaulted : (k : ℕ) (id value : Text) (q : ValueParser) → k < length the_rules
+        → ((a : Arg)
+        → slice_index_or the_rules k (rule_of a) ≡ slice_index_or the_rules k file_rule)
+        → (slice_index_or the_rules k file_rule).id ≡ id
+        → (slice_index_or the_rules k file_rule).action ≡ Some Set
+        → (slice_index_or the_rules k file_rule).range ≡ None
+        → (slice_index_or the_rules k file_rule).defaults ≡ value ∷ []
+        → (slice_index_or the_rules k file_rule).parser ≡ Some q
+        → ((j : ℕ) → j < length the_rules
+        → bytes_eq (slice_index_or the_rules j file_rule).id id ≡ true → j ≡ k)
+        → (id ≡ [] → ⊥) → ((id ≡ codes "help") ⊎ (id ≡ codes "version") → ⊥)
+        → (a : Arg) × Defaulted c k a id q
+        × (a.ignore_case ≡ (slice_index_or the_rules k file_rule).ignore_case)
+    defaulted k id value q k_lt_rules _ id_is action range default parser only_k_has_id
+        id_is_nonempty is_not_automatic =
+        let index_lt_count : k < length (args_of c) =
+        subst (λ (n : ℕ). k < n) (sym counts_equal) k_lt_rules in
+        let argument_there = argument_at_place (args_of c) k index_lt_count in
+        let a = argument_there.0 in
+        let rule_is : rule_of a ≡ slice_index_or the_rules k file_rule =
+        ap rule_of (sym argument_there.1)
+        ∙ rule_of_argument_is (args_of c) the_rules k a file_rule rules_are index_lt_count in
+        let id_of_argument_is : a.id.now ≡ id = ap (λ (r : Rule). r.id) rule_is ∙ id_is in (
+          a,
+          record {
+            index_lt_count = index_lt_count;
+            argument_is = argument_there.1;
+            id_is = id_of_argument_is;
+            simple =
+                subst (λ (y : Arg). is_simple_arg y ≡ true) argument_there.1
+                (each_is_simple k a index_lt_count);
+            action = ap (λ (r : Rule). r.action) rule_is ∙ action;
+            range = ap (λ (r : Rule). r.range) rule_is ∙ range;
+            default =
+                (let one_default : length (items_of a.default_vals)
+                ≡ 1 = sym (length-map (items_of a.default_vals) (λ s. s.now))
+                ∙ ap length (ap (λ (r : Rule). r.defaults) rule_is ∙ default) in
+                omega (arith, one_default));
+            parser = ap (λ (r : Rule). r.parser) rule_is ∙ parser;
+            id_is_unique =
+                λ j e j_lt_count j_has_id. only_k_has_id j
+                (subst (λ (n : ℕ). j < n) counts_equal j_lt_count)
+                (subst (λ (r : Rule). bytes_eq r.id id ≡ true)
+                (rule_of_argument_is (args_of c) the_rules j e file_rule rules_are j_lt_count)
+                j_has_id);
+            id_is_nonempty = id_is_nonempty;
+            is_not_automatic =
+                λ is_automatic. is_not_automatic
+                (elim is_automatic [
+                  | inl is_help ↦ inl (sym id_of_argument_is ∙ is_help)
+                  | inr is_version ↦ inr (sym id_of_argument_is ∙ is_version)
+                ]);
+          },
+          ap (λ (r : Rule). r.ignore_case) rule_is,
+        )
 
-      module _ (m : ArgMatches) (p : IsParsedFrom c m) where
-        built_has_none : groups_of p.built ≡ []
-        built_has_none = (p.from.same_groups names_no_group).1 ∙ no_groups
+    module _ (m : ArgMatches) (p : IsParsedFrom c m) where
+      built_has_none : groups_of p.built ≡ []
+      built_has_none = (p.from.same_groups names_no_group).1 ∙ no_groups
 
-        workers_read : HasNumber m (codes "workers")
-        workers_read =
-            let argument =
-            defaulted 0 (codes "workers") (codes "4") (Signed (pos 1) (pos 64)) (omega arith)
-            (λ _. refl) refl refl refl refl refl
-            (listed_index_is_only the_rules file_rule (codes "workers") 0 refl)
-            (tested_different_differ _ _ refl)
-            (λ is_automatic_id. elim is_automatic_id [
-              | inl is_help ↦ tested_different_differ _ _ refl is_help
-              | inr is_version ↦ tested_different_differ _ _ refl is_version
-            ]) in
-            let default_read =
-            default_is_read c m p has_no_globals built_has_none 0 argument.0 (codes "workers")
-            (Signed (pos 1) (pos 64)) argument.1 in
-            (default_read.text, default_read.text_is_read, default_read.text_is_accepted)
+      workers_read : HasNumber m (codes "workers")
+      workers_read =
+          let argument =
+          defaulted 0 (codes "workers") (codes "4") (Signed (pos 1) (pos 64)) (omega arith)
+          (λ _. refl) refl refl refl refl refl
+          (listed_index_is_only the_rules file_rule (codes "workers") 0 refl)
+          (tested_different_differ _ _ refl)
+          (λ is_automatic_id. elim is_automatic_id [
+            | inl is_help ↦ tested_different_differ _ _ refl is_help
+            | inr is_version ↦ tested_different_differ _ _ refl is_version
+          ]) in
+          let default_read =
+          default_is_read c m p has_no_globals built_has_none 0 argument.0 (codes "workers")
+          (Signed (pos 1) (pos 64)) argument.1 in
+          (default_read.text, default_read.text_is_read, default_read.text_is_accepted)
 
-        pieces_read : HasNumber m (codes "pieces")
-        pieces_read =
-            let argument =
-            defaulted 1 (codes "pieces") (codes "4") (Signed (pos 1) (pos 64)) (omega arith)
-            (λ _. refl) refl refl refl refl refl
-            (listed_index_is_only the_rules file_rule (codes "pieces") 1 refl)
-            (tested_different_differ _ _ refl)
-            (λ is_automatic_id. elim is_automatic_id [
-              | inl is_help ↦ tested_different_differ _ _ refl is_help
-              | inr is_version ↦ tested_different_differ _ _ refl is_version
-            ]) in
-            let default_read =
-            default_is_read c m p has_no_globals built_has_none 1 argument.0 (codes "pieces")
-            (Signed (pos 1) (pos 64)) argument.1 in
-            (default_read.text, default_read.text_is_read, default_read.text_is_accepted)
+      pieces_read : HasNumber m (codes "pieces")
+      pieces_read =
+          let argument =
+          defaulted 1 (codes "pieces") (codes "4") (Signed (pos 1) (pos 64)) (omega arith)
+          (λ _. refl) refl refl refl refl refl
+          (listed_index_is_only the_rules file_rule (codes "pieces") 1 refl)
+          (tested_different_differ _ _ refl)
+          (λ is_automatic_id. elim is_automatic_id [
+            | inl is_help ↦ tested_different_differ _ _ refl is_help
+            | inr is_version ↦ tested_different_differ _ _ refl is_version
+          ]) in
+          let default_read =
+          default_is_read c m p has_no_globals built_has_none 1 argument.0 (codes "pieces")
+          (Signed (pos 1) (pos 64)) argument.1 in
+          (default_read.text, default_read.text_is_read, default_read.text_is_accepted)
 
-        report_read : map (λ n. n.now) names.now ≡ report_words → HasReport m
-        report_read names_are =
-            let argument =
-            defaulted 3 (codes "report") (codes "all") (Names names) (omega arith)
-            (λ _. refl) refl refl refl refl refl
-            (listed_index_is_only the_rules file_rule (codes "report") 3 refl)
-            (tested_different_differ _ _ refl)
-            (λ is_automatic_id. elim is_automatic_id [
-              | inl is_help ↦ tested_different_differ _ _ refl is_help
-              | inr is_version ↦ tested_different_differ _ _ refl is_version
-            ]) in
-            let default_read =
-            default_is_read c m p has_no_globals built_has_none 3 argument.0 (codes "report")
-            (Names names)
-            argument.1 in
-            let is_accepted : list_any (λ n. bytes_eq n.now default_read.text) names.now ≡ true =
-            rw argument.2 at default_read.text_is_accepted in
-            let word =
-            known_word_is_choice default_read.text
-            (ap (list_any (λ (w : Text). bytes_eq w default_read.text)) (sym names_are)
-            ∙ (sym (list_any-map (λ (w : Text). bytes_eq w default_read.text) (λ n. n.now)
-            names.now)
-            ∙ is_accepted)) in
-            (word.0, default_read.text_is_first ∙ ap Some word.1)
-
-        form_read : map (λ n. n.now) forms.now ≡ form_words → HasForm m
-        form_read names_are =
-            let argument =
-            defaulted 4 (codes "form") (codes "1") (Names forms) (omega arith)
-            (λ _. refl) refl refl refl refl refl
-            (listed_index_is_only the_rules file_rule (codes "form") 4 refl)
-            (tested_different_differ _ _ refl)
-            (λ is_automatic_id. elim is_automatic_id [
-              | inl is_help ↦ tested_different_differ _ _ refl is_help
-              | inr is_version ↦ tested_different_differ _ _ refl is_version
-            ]) in
-            let default_read =
-            default_is_read c m p has_no_globals built_has_none 4 argument.0 (codes "form")
-            (Names forms)
-            argument.1 in
-            let is_accepted : list_any (λ n. bytes_eq n.now default_read.text) forms.now ≡ true =
-            rw argument.2 at default_read.text_is_accepted in
-            let word =
-            known_word_is_form default_read.text
-            (ap (list_any (λ (w : Text). bytes_eq w default_read.text)) (sym names_are)
-            ∙ (sym (list_any-map (λ (w : Text). bytes_eq w default_read.text) (λ n. n.now)
-            forms.now)
-            ∙ is_accepted)) in
-            (word.0, default_read.text_is_first ∙ ap Some word.1)
+      form_read : map (λ n. n.now) forms.now ≡ form_words → HasForm m
+      form_read names_are =
+          let argument =
+          defaulted 4 (codes "form") (codes "1") (Names forms) (omega arith)
+          (λ _. refl) refl refl refl refl refl
+          (listed_index_is_only the_rules file_rule (codes "form") 4 refl)
+          (tested_different_differ _ _ refl)
+          (λ is_automatic_id. elim is_automatic_id [
+            | inl is_help ↦ tested_different_differ _ _ refl is_help
+            | inr is_version ↦ tested_different_differ _ _ refl is_version
+          ]) in
+          let default_read =
+          default_is_read c m p has_no_globals built_has_none 4 argument.0 (codes "form")
+          (Names forms)
+          argument.1 in
+          let is_accepted : list_any (λ n. bytes_eq n.now default_read.text) forms.now ≡ true =
+          rw argument.2 at default_read.text_is_accepted in
+          let word =
+          known_word_is_form default_read.text
+          (ap (list_any (λ (w : Text). bytes_eq w default_read.text)) (sym names_are)
+          ∙ (sym (list_any-map (λ (w : Text). bytes_eq w default_read.text) (λ n. n.now)
+          forms.now)
+          ∙ is_accepted)) in
+          (word.0, default_read.text_is_first ∙ ap Some word.1)
 
 pub parsed_matches_are_found : (c : Command) (m : ArgMatches) (words : List Text)
     → IsCommand (app_of c)
     → IsParsedFrom c m → fault_of (app_of c) words ≡ [] → HasMatchesOf (app_of c) words m
     → Finds words m
 parsed_matches_are_found c m words is_command_app p no_fault has_matches =
-    let names = is_command_app.is_report.0 in
     let forms = is_command_app.is_form.0 in
-    let app_is : app_of c ≡ command_of (report_rule names) (form_rule forms) =
-    is_command_app.app_is_command
-    ∙ ap₂ command_of is_command_app.is_report.2 is_command_app.is_form.2 in
+    let app_is : app_of c ≡ command_of (form_rule forms) =
+    is_command_app.app_is_command ∙ ap command_of is_command_app.is_form.2 in
     record {
       app = app_of c;
       command = is_command_app;
@@ -484,10 +402,9 @@ parsed_matches_are_found c m words is_command_app p no_fault has_matches =
           (has_matches
           (and_parts (is_simple (app_of c)) (is_free_app (built (app_of c)))
           (command_app_is_simple_and_free (app_of c) is_command_app)).0).0;
-      workers = workers_read names forms c app_is m p;
-      pieces = pieces_read names forms c app_is m p;
-      report = report_read names forms c app_is m p is_command_app.is_report.1;
-      form = form_read names forms c app_is m p is_command_app.is_form.1;
+      workers = workers_read forms c app_is m p;
+      pieces = pieces_read forms c app_is m p;
+      form = form_read forms c app_is m p is_command_app.is_form.1;
     }
 
 -- ---- what a line says
@@ -508,15 +425,16 @@ pub line_is_read : (words : List Text) (m : ArgMatches) → Finds words m → (l
     → option_map digits (one_text (found_of m) (codes "workers")) ≡ Some line.plan.workers
     → 1 ≤ line.plan.workers → line.plan.workers ≤ 64
     → only_of line.plan ≡ first_value (found_of m) (codes "only")
-    → first_value (found_of m) (codes "report") ≡ Some (report_word line.plan.choice)
+    → has_known_names (first_value (found_of m) (codes "report")) ≡ true
+    → line.plan.choice ≡ sections_in (first_value (found_of m) (codes "report"))
     → first_value (found_of m) (codes "form") ≡ Some (form_word line.plan.form)
     → IsFlag (one_text (found_of m) (codes "essential")) line.plan.essential
     → IsFlag (one_text (found_of m) (codes "open")) line.plan.with_open
     → option_map string_bytes line.file ≡ first_value (found_of m) (codes "FILE")
     → AreReadAs words line
 line_is_read words m f line n cuts_are pieces_are one_le_pieces pieces_le_64 workers_are
-    one_le_workers workers_le_64 only_is choice_is
-    form_is essential_is with_open_is file_is =
+    one_le_workers workers_le_64 only_is known_names choice_is form_is essential_is with_open_is
+    file_is =
     let rows = matches_of f.app words in
     let first_values_are = first_value_of_rows_is (found_of m) rows f.rows in
     let one_texts_are = one_text_of_rows_is (found_of m) rows f.rows in (
@@ -532,7 +450,10 @@ line_is_read words m f line n cuts_are pieces_are one_le_pieces pieces_le_64 wor
         );
         workers = ap (option_map digits) (sym (one_texts_are (codes "workers"))) ∙ workers_are;
         only = sym (first_values_are (codes "only")) ∙ sym only_is;
-        choice = sym (first_values_are (codes "report")) ∙ choice_is;
+        known_names =
+            subst (λ entry. has_known_names entry ≡ true) (first_values_are (codes "report"))
+            known_names;
+        choice = choice_is ∙ ap sections_in (first_values_are (codes "report"));
         form = sym (first_values_are (codes "form")) ∙ form_is;
         essential =
             subst (λ entry. IsFlag entry line.plan.essential) (one_texts_are (codes "essential"))
@@ -547,4 +468,22 @@ line_is_read words m f line n cuts_are pieces_are one_le_pieces pieces_le_64 wor
           workers_le_64,
         );
       },
+    )
+
+-- what the sections that `--report` requests are refused with, is a refusal of the words
+pub sections_refused : (words : List Text) (m : ArgMatches) → Finds words m → (e : LineRefused)
+    → IsBadOrMemory e
+    → ((text : _) → e ≡ Bad text
+    → has_known_names (first_value (found_of m) (codes "report")) ≡ false)
+    → IsLineRefusal words e
+sections_refused words m f Memory is_bad has_unknown_name = tt
+sections_refused words m f (Help text) is_bad has_unknown_name = absurd is_bad
+sections_refused words m f (Bad text) is_bad has_unknown_name =
+    inr (
+      f.app,
+      f.command,
+      f.no_fault,
+      subst (λ entry. has_known_names entry ≡ false)
+          (first_value_of_rows_is (found_of m) (matches_of f.app words) f.rows (codes "report"))
+          (has_unknown_name text refl),
     )

@@ -1,5 +1,5 @@
 -- What is known of the entries that clap found: their texts passed the tests of the command.
-use Rattle.std.specs.Prelude.{◌≡◌, ◌≢◌, List, [], Some, codes, pos}
+use Rattle.std.specs.Prelude.{◌≡◌, ◌≢◌, List, [], Some, codes, pos, ⊤}
 use Rattle.clap.specs.Lexer.{without_minus}
 use Rattle.clap.specs.Matches.{first_value, found_of, one_text}
 use Rattle.clap.specs.Values.{IsSignedIn}
@@ -9,21 +9,15 @@ use Rattle.clap.specs.Faults.{fault_of}
 use Rattle.clap.specs.declared.parser.matches.ArgMatches.{ArgMatches}
 use Rattle.clap.specs.declared.error.kind.ErrorKind.{ErrorKind}
 use Rattle.clap.specs.declared.error.kind.ErrorKind.TheVariants.{OutOfMemory}
-use Rattle.mm_spec.specs.declared.Choice.{Choice}
 use Rattle.mm_spec.specs.declared.Form.{Form}
 use Rattle.mm_line.specs.declared.command_line.LineRefused.{LineRefused}
 use Rattle.mm_line.specs.declared.command_line.LineRefused.TheVariants.{Help, Bad, Memory}
-use Rattle.mm_line.specs.Lines.{IsCommand, IsHelpOrVersion, report_word, form_word}
+use Rattle.mm_line.specs.Lines.{IsCommand, IsHelpOrVersion, form_word}
 
 -- the entry is read as a number from 1 to 64
 abbrev pub HasNumber : ArgMatches → Text → Type 0
 HasNumber m id =
     (t : Text) × (one_text (found_of m) id ≡ Some (without_minus t)) × IsSignedIn (pos 1) (pos 64) t
-
--- the entry of `--report` is one of its words
-abbrev pub HasReport : ArgMatches → Type 0
-HasReport m =
-    (choice : Choice) × (first_value (found_of m) (codes "report") ≡ Some (report_word choice))
 
 -- the entry of `--form` is one of its words
 abbrev pub HasForm : ArgMatches → Type 0
@@ -37,7 +31,6 @@ pub record Finds (words : List Text) (m : ArgMatches) : Type 0 where
   pub rows : rows_of (found_of m) ≡ matches_of app words
   pub workers : HasNumber m (codes "workers")
   pub pieces : HasNumber m (codes "pieces")
-  pub report : HasReport m
   pub form : HasForm m
 
 -- the refusal that an error of this kind leads to
@@ -45,3 +38,8 @@ abbrev pub IsRefusalOf : ErrorKind → LineRefused → Type 0
 IsRefusalOf kind (Help text) = IsHelpOrVersion kind
 IsRefusalOf kind (Bad text) = (¬ IsHelpOrVersion kind) × (kind ≢ OutOfMemory)
 IsRefusalOf kind Memory = kind ≡ OutOfMemory
+
+-- the words have a fault, or there is no memory
+abbrev pub IsBadOrMemory : LineRefused → Type 0
+IsBadOrMemory (Help text) = ⊥
+IsBadOrMemory _ = ⊤

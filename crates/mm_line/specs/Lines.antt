@@ -1,8 +1,9 @@
 -- The command line: which words the command accepts, and what a line says. Both are as `clap`
 -- states them: `matches_of` is what it finds in the words, and `fault_of` the kinds of error that
 -- the words may have.
-use Rattle.std.specs.Prelude.{◌≡◌, ℕ, Bool, true, false, ◌⊎◌, List, [], ◌∷◌, map, Option, Some}
-use Rattle.std.specs.Prelude.{None, codes, pos, ⊤}
+use Rattle.std.specs.Prelude.{◌≡◌, ◌==◌, ◌||◌, ℕ, Bool, true, false, ◌⊎◌, List, [], ◌∷◌, map}
+use Rattle.std.specs.Prelude.{Option, Some, None, codes, pos, ⊤}
+use Rattle.std.specs.List.{slice_split, list_all}
 use Rattle.std.specs.Option.{option_map}
 use Rattle.std.specs.String.{string_bytes}
 use Rattle.std.specs.Borrow.{Bor}
@@ -16,8 +17,9 @@ use Rattle.clap.specs.declared.builder.action.ArgAction.TheVariants.{Set, SetTru
 use Rattle.clap.specs.declared.builder.value_parser.ValueParser.TheVariants.{Signed, Names}
 use Rattle.clap.specs.declared.error.kind.ErrorKind.{ErrorKind}
 use Rattle.clap.specs.declared.error.kind.ErrorKind.TheVariants.{DisplayHelp, DisplayVersion}
-use Rattle.mm_spec.specs.declared.Choice.{Choice}
-use Rattle.mm_spec.specs.declared.Choice.TheVariants.{All, Matrix, Counts, Usage, Citations}
+use Rattle.mm_spec.specs.Text.{is_in}
+use Rattle.mm_spec.specs.Request.{default_sections}
+use Rattle.mm_spec.specs.declared.Sections.{Sections}
 use Rattle.mm_spec.specs.declared.Form.{Form}
 use Rattle.mm_spec.specs.declared.Form.TheVariants.{One, Two}
 use Rattle.mm_plan.specs.Plans.{IsLawfulPlan, only_of}
@@ -26,21 +28,39 @@ use Rattle.mm_line.specs.declared.command_line.Line.{Line}
 use Rattle.mm_line.specs.declared.command_line.LineRefused.{LineRefused}
 use Rattle.mm_line.specs.declared.command_line.LineRefused.TheVariants.{Help, Bad, Memory}
 
--- the words of `--report`
-abbrev pub report_word : Choice → Text
-report_word All = codes "all"
-report_word Matrix = codes "matrix"
-report_word Counts = codes "counts"
-report_word Usage = codes "usage"
-report_word Citations = codes "citations"
+-- the names that a text has, one after each comma (44)
+abbrev pub names_in : Text → List Text
+names_in text = slice_split (λ b. b == 44) text
+
+-- the names that `--report` takes
+abbrev pub section_names : List Text
+section_names =
+    codes "all" ∷ codes "matrix" ∷ codes "counts" ∷ codes "usage" ∷ codes "citations" ∷ []
+
+-- whether each name of the entry of `--report` is one of these, if there is an entry
+abbrev pub has_known_names : Option Text → Bool
+has_known_names None = true
+has_known_names (Some text) = list_all (λ name. is_in name section_names) (names_in text)
+
+-- the sections with these names; `all` are those that a report has by default
+abbrev pub sections_named : List Text → Sections
+sections_named names = let default = is_in (codes "all") names in
+    record {
+      matrix = default || is_in (codes "matrix") names;
+      counts = default || is_in (codes "counts") names;
+      usage = default || is_in (codes "usage") names;
+      citations = is_in (codes "citations") names;
+    }
+
+-- the sections that the entry of `--report` names, or if there is none, those of a report by default
+abbrev pub sections_in : Option Text → Sections
+sections_in None = default_sections
+sections_in (Some text) = sections_named (names_in text)
 
 -- the words of `--form`
 abbrev pub form_word : Form → Text
 form_word One = codes "1"
 form_word Two = codes "2"
-
-abbrev pub report_words : List Text
-report_words = map report_word (All ∷ Matrix ∷ Counts ∷ Usage ∷ Citations ∷ [])
 
 abbrev pub form_words : List Text
 form_words = map form_word (One ∷ Two ∷ [])
@@ -55,13 +75,9 @@ number_rule id = record (new_rule id) {
   parser = Some (Signed (pos 1) (pos 64));
 }
 
-abbrev pub only_rule : Rule
-only_rule =
-    record (new_rule (codes "only")) {
-      long = Some (codes "only");
-      action = Some Set;
-      value_names = 1;
-    }
+-- an option with any text
+abbrev pub text_rule : Text → Rule
+text_rule id = record (new_rule id) { long = Some id; action = Some Set; value_names = 1 }
 
 -- an option with one of the given words; the second argument is its default
 abbrev pub word_rule : Text → Text → Bor (List (Bor Text)) → Rule
@@ -73,18 +89,10 @@ word_rule id default names = record (new_rule id) {
   parser = Some (Names names);
 }
 
-abbrev pub report_rule : Bor (List (Bor Text)) → Rule
-report_rule names = word_rule (codes "report") (codes "all") names
-
 abbrev pub form_rule : Bor (List (Bor Text)) → Rule
 form_rule names = word_rule (codes "form") (codes "1") names
 
--- the rules of `--report` and `--form`, wherever in memory their words are
-abbrev pub IsReportRule : Rule → Type 0
-IsReportRule rule =
-    (names : Bor (List (Bor Text))) × (map (λ n. n.now) names.now ≡ report_words)
-    × (rule ≡ report_rule names)
-
+-- the rule of `--form`, wherever in memory its words are
 abbrev pub IsFormRule : Rule → Type 0
 IsFormRule rule =
     (names : Bor (List (Bor Text))) × (map (λ n. n.now) names.now ≡ form_words)
@@ -105,8 +113,8 @@ app_with_name =
 
 -- mmdepend [--workers N] [--pieces N] [--only T] [--report PART] [--form N] [--essential] [--open]
 -- [FILE]
-unfoldable pub command_of : Rule → Rule → App
-command_of report_option form_option =
+unfoldable pub command_of : Rule → App
+command_of form_option =
     with_rule
     (with_rule
     (with_rule
@@ -115,16 +123,14 @@ command_of report_option form_option =
     (with_rule
     (with_rule
     (with_rule app_with_name (number_rule (codes "workers"))) (number_rule (codes "pieces")))
-    only_rule) report_option) form_option) (flag_rule (codes "essential")))
+    (text_rule (codes "only"))) (text_rule (codes "report"))) form_option) (flag_rule (codes "essential")))
     (flag_rule (codes "open"))) file_rule
 
--- the command line's description, for some lists of the words of `--report` and `--form`
+-- the command line's description, for some list of the words of `--form`
 pub record IsCommand (app : App) : Type 0 where
-  pub report_option : Rule
-  pub is_report : IsReportRule report_option
   pub form_option : Rule
   pub is_form : IsFormRule form_option
-  pub app_is_command : app ≡ command_of report_option form_option
+  pub app_is_command : app ≡ command_of form_option
 
 -- the number that an entry spells
 abbrev pub number_of : Text → List Row → Option ℕ
@@ -141,7 +147,8 @@ pub record IsLine (rows : List Row) (line : Line) : Type 0 where
   pub pieces : (n : ℕ) × (line.plan.cuts ≡ Count n) × (number_of (codes "pieces") rows ≡ Some n)
   pub workers : number_of (codes "workers") rows ≡ Some line.plan.workers
   pub only : first_of (codes "only") rows ≡ only_of line.plan
-  pub choice : first_of (codes "report") rows ≡ Some (report_word line.plan.choice)
+  pub known_names : has_known_names (first_of (codes "report") rows) ≡ true
+  pub choice : line.plan.choice ≡ sections_in (first_of (codes "report") rows)
   pub form : first_of (codes "form") rows ≡ Some (form_word line.plan.form)
   pub essential : IsFlag (one_of (codes "essential") rows) line.plan.essential
   pub with_open : IsFlag (one_of (codes "open") rows) line.plan.with_open
@@ -163,8 +170,15 @@ AreRefusedFor words P =
 abbrev pub IsHelpOrVersion : ErrorKind → Type 0
 IsHelpOrVersion kind = (kind ≡ DisplayHelp) ⊎ (kind ≡ DisplayVersion)
 
+-- the command accepts the words, but in the entry of `--report` there is another name
+abbrev pub HaveUnknownName : List Text → Type 0
+HaveUnknownName words =
+    (app : App) × IsCommand app × (fault_of app words ≡ [])
+    × (has_known_names (first_of (codes "report") (matches_of app words)) ≡ false)
+
 -- Help or the version is requested, or the words have another fault. Nothing is said of `Memory`.
 abbrev pub IsLineRefusal : List Text → LineRefused → Type 0
 IsLineRefusal words (Help text) = AreRefusedFor words IsHelpOrVersion
-IsLineRefusal words (Bad text) = AreRefusedFor words (λ kind. ¬ IsHelpOrVersion kind)
+IsLineRefusal words (Bad text) =
+    AreRefusedFor words (λ kind. ¬ IsHelpOrVersion kind) ⊎ HaveUnknownName words
 IsLineRefusal words Memory = ⊤

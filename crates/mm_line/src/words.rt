@@ -1,25 +1,28 @@
 //! Reading the words of a command line.
 
 ghost use Rattle.std.specs.Prelude.{◌≡◌, ◌≤◌, IfOk, IfErr, Some, codes, map, option_map};
+ghost use Rattle.std.specs.Prelude.{true, false};
 ghost use Rattle.std.specs.String.{string_bytes};
 ghost use Rattle.std.specs.Str.Parse.{digits_value, without_leading_plus};
 ghost use Rattle.clap.specs.Words.{app_of, first_value, found_of, kind_of, one_text, rule_of};
-ghost use Rattle.mm_line.specs.Found.{Finds, HasForm, HasNumber, HasReport, IsRefusalOf};
-ghost use Rattle.mm_line.specs.Lines.{IsCommand, IsFormRule, IsReportRule, IsLineRefusal};
+ghost use Rattle.mm_line.specs.Found.{Finds, HasForm, HasNumber, IsBadOrMemory, IsRefusalOf};
+ghost use Rattle.mm_line.specs.Lines.{IsCommand, IsFormRule, IsLineRefusal};
 ghost use Rattle.mm_line.specs.Lines.{AreReadAs};
-ghost use Rattle.mm_line.specs.Lines.{file_rule, flag_rule, form_word, number_rule, only_rule};
-ghost use Rattle.mm_line.specs.Lines.{report_word};
+ghost use Rattle.mm_line.specs.Lines.{file_rule, flag_rule, form_word, number_rule, text_rule};
+ghost use Rattle.mm_line.specs.Lines.{has_known_names, sections_in as spec_sections_in};
+ghost use Rattle.mm_line.specs.declared.command_line.LineRefused.TheVariants.{Bad};
 
 use crate::command_line::{Line, LineRefused};
+use crate::sections::{sections_named_in, unknown_name};
 use clap::error::ErrorKind;
 use clap::{Arg, ArgAction, ArgMatches, Command, Error};
 use mm_plan::{Cutting, Plan};
-use mm_spec::{Choice, Form};
+use mm_spec::{Form, Sections};
 use mm_version::VERSION;
 use std::alloc::{AllocError, Global};
 use std::convert::AsStr;
 
-static REPORTS: [&str; 5] = ["all", "matrix", "counts", "usage", "citations"];
+static SECTION_NAMES: [&str; 5] = ["all", "matrix", "counts", "usage", "citations"];
 
 static FORMS: [&str; 2] = ["1", "2"];
 
@@ -45,7 +48,7 @@ fn number_option<'a>(alloc: Global, name: &'a str, help: &'a str) -> Arg<'a>
 
 /// The option that chooses the columns.
 fn only_option<'a>(alloc: Global) -> Arg<'a>
-    ensures { rule_of result ≡ only_rule }
+    ensures { rule_of result ≡ text_rule (codes "only") }
 {
     Arg::new(alloc, "only")
         .long("only")
@@ -56,15 +59,16 @@ fn only_option<'a>(alloc: Global) -> Arg<'a>
 
 /// The option that chooses the sections.
 fn report_option<'a>(alloc: Global) -> Arg<'a>
-    ensures { IsReportRule (rule_of result) }
+    ensures { rule_of result ≡ text_rule (codes "report") }
 {
     Arg::new(alloc, "report")
         .long("report")
         .action(ArgAction::Set)
         .value_name("PART")
-        .value_parser(REPORTS.as_slice())
-        .default_value("all")
-        .help("Write this part of the report")
+        .help(
+            "Write these parts of the report, with commas between them: \
+               matrix, counts, usage, citations, or all, which is the first three [default: all]",
+        )
 }
 
 /// The option that chooses the form of the matrix.
@@ -168,17 +172,53 @@ fn number_in(matches: &ArgMatches<'_>, option: &str) -> u32
     }
 }
 
-/// The sections that `--report` requests.
-fn choice_in(matches: &ArgMatches<'_>) -> Choice
-    requires { HasReport matches.now }
-    ensures { first_value (found_of matches.now) (codes "report") ≡ Some (report_word result) }
+/// The refusal that an error of clap leads to, which isn't help.
+fn bad_words(alloc: Global, error: &Error) -> Result<LineRefused, AllocError>
+    ensures { IfOk result IsBadOrMemory }
 {
-    match matches.get_str("report") {
-        Some("matrix") => Choice::Matrix,
-        Some("counts") => Choice::Counts,
-        Some("usage") => Choice::Usage,
-        Some("citations") => Choice::Citations,
-        _ => Choice::All,
+    if error.kind() == ErrorKind::OutOfMemory {
+        return Ok(LineRefused::Memory);
+    }
+    Ok(LineRefused::Bad(error.to_string(alloc)?))
+}
+
+/// The refusal of clap for words whose `--report` has a value that isn't among the names.
+fn refused_value(alloc: Global, words: &[&str]) -> Result<LineRefused, AllocError>
+    ensures { IfOk result IsBadOrMemory }
+{
+    let option = report_option(alloc).value_parser(SECTION_NAMES.as_slice());
+    match Command::new(alloc, "mmdepend")
+        .arg(option)?
+        .try_get_matches_from(words)
+    {
+        Ok(_) => Ok(LineRefused::Bad(String::new(alloc))),
+        Err(error) => bad_words(alloc, &error),
+    }
+}
+
+/// The refusal for a name that no section has: that of clap, which may have a tip.
+fn unknown_section(alloc: Global, name: &str) -> Result<LineRefused, AllocError>
+    ensures { IfOk result IsBadOrMemory }
+{
+    let word = format!(in alloc; "--report={name}")?;
+    refused_value(alloc, &["mmdepend", word.as_str()])
+}
+
+/// The sections that `--report` requests, or the refusal for a name that no section has.
+fn sections_in(alloc: Global, matches: &ArgMatches<'_>) -> Result<Sections, LineRefused>
+    ensures are_sections { IfOk result (λ sections.
+        (has_known_names (first_value (found_of matches.now) (codes "report")) ≡ true)
+        × (sections ≡ spec_sections_in (first_value (found_of matches.now) (codes "report")))) }
+    ensures is_refused { IfErr result IsBadOrMemory }
+    ensures has_unknown_name { IfErr result (λ refused. (text : _) → refused ≡ Bad text
+        → has_known_names (first_value (found_of matches.now) (codes "report")) ≡ false) }
+{
+    let Some(text) = matches.get_str("report") else {
+        return Ok(Sections::by_default());
+    };
+    match unknown_name(text) {
+        Some(name) => Err(unknown_section(alloc, name)?),
+        None => Ok(sections_named_in(text)),
     }
 }
 
@@ -220,7 +260,7 @@ pub fn line<S: AsStr>(alloc: Global, words: &[S]) -> Result<Line, LineRefused>
         cuts: Cutting::Count(number_in(&matches, "pieces")),
         workers: number_in(&matches, "workers"),
         only: text_in(alloc, &matches, "only")?,
-        choice: choice_in(&matches),
+        choice: sections_in(alloc, &matches)?,
         form: form_in(&matches),
         essential: matches.get_flag("essential"),
         with_open: matches.get_flag("open"),

@@ -30,7 +30,7 @@ module _ {A : Type 0} where
   request_of p =
       record {
         only = only_of p;
-        choice = p.choice;
+        sections = p.choice;
         form = p.form;
         essential = p.essential;
         with_open = p.with_open;

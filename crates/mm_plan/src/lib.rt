@@ -8,7 +8,7 @@ ghost use Rattle.std.specs.Prelude.{◌≡◌, ◌↔◌, IsTrue, length};
 ghost use Rattle.mm_spec.specs.Request.{without_options};
 ghost use Rattle.mm_plan.specs.Plans.{IsLawfulPlan, IsLawfulCutting, AreSortedUpTo, request_of};
 
-use mm_spec::{Choice, Form, PIECE_LIMIT, Request, WORKER_LIMIT};
+use mm_spec::{Form, PIECE_LIMIT, Request, Sections, WORKER_LIMIT};
 use std::alloc::Allocator;
 
 /// Where a text is cut into pieces: into the given number of pieces of about the same length, or at
@@ -27,7 +27,7 @@ pub struct Plan<A: Allocator> {
     pub cuts: Cutting<A>,
     pub workers: u32,
     pub only: Option<String<A>>,
-    pub choice: Choice,
+    pub choice: Sections,
     pub form: Form,
     pub essential: bool,
     pub with_open: bool,
@@ -72,8 +72,8 @@ impl<A: Allocator> Cutting<A> {
 }
 
 impl<A: Allocator> Plan<A> {
-    /// The plan without options: the whole report of a text that is cut in this way, whose proofs
-    /// this many workers check.
+    /// The plan without options: the report with the sections that it has by default, of a text that
+    /// is cut in this way, whose proofs this many workers check.
     pub fn without_options(cuts: Cutting<A>, workers: u32) -> Self
         ensures cuts_are { result.cuts ≡ cuts }
         ensures workers_are { result.workers ≡ workers }
@@ -83,7 +83,7 @@ impl<A: Allocator> Plan<A> {
             cuts,
             workers,
             only: None,
-            choice: Choice::All,
+            choice: Sections::by_default(),
             form: Form::One,
             essential: false,
             with_open: false,
@@ -107,7 +107,7 @@ impl<A: Allocator> Plan<A> {
                 Some(typecode) => Some(typecode.as_bytes()),
                 None => None,
             },
-            choice: self.choice,
+            sections: self.choice,
             form: self.form,
             essential: self.essential,
             with_open: self.with_open,

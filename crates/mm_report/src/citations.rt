@@ -1,13 +1,12 @@
-//! The report of direct citations.
+//! The section of direct citations, and reports that have no section of marks.
 
-ghost use Rattle.std.specs.Prelude.{◌≡◌, ℕ, length, take, flat_map, OnOk, OnErr};
+ghost use Rattle.std.specs.Prelude.{◌≡◌, ℕ, length, take, flat_map, codes, OnOk, OnErr};
 ghost use Rattle.std.specs.Option.{option_copied};
 ghost use Rattle.std.specs.Io.KnownBytes.{Appends};
-ghost use Rattle.mm_spec.specs.Report.{citation_line, separated, list_line};
+ghost use Rattle.mm_spec.specs.Report.{citation_line, separated, list_line, section};
 ghost use Rattle.mm_report.specs.Rows.{AreAssertions, AreCitationsOf, citation_report_of};
 ghost use Rattle.mm_report.specs.Rows.{citing_rows, listed, listed_labels, next_label};
-ghost use Rattle.mm_report.specs.Rows.{text_request};
-ghost use Rattle.mm_spec.specs.declared.Choice.TheVariants as choices;
+ghost use Rattle.mm_report.specs.Rows.{citing_rows_of, unmarked_report_of};
 ghost use Rattle.mm_report.specs.Sent.{Sent};
 
 use crate::labels::{TheoremLabels, label_of};
@@ -17,7 +16,7 @@ use crate::sink::{Sink, WriteFailed};
 use mm_cites::Citations;
 use mm_database::Database;
 use mm_rows::{Columns, has_chosen_typecode};
-use mm_spec::{Choice, Form, Request};
+use mm_spec::{Form, Request, Sections};
 use std::alloc::Allocator;
 use std::io::Write;
 
@@ -114,12 +113,35 @@ fn send_citation_lines<W: Write, D: Allocator, C: Allocator>(
     }
 }
 
-/// Writes the report requested of what each theorem of a database cites in its own proof, in file
-/// order. `chosen` has the columns of the typecode requested, and `citations` are those of this
-/// database. If open theorems count as axioms, the report says how many columns they are. It
-/// allocates no memory. Returns `WriteFailed` if a write failed or accepted no byte of a piece that
-/// wasn't empty; then a prefix of the report has been written.
-pub fn write_requested_citations<'a, W: Write, A: Allocator, C: Allocator, D: Allocator>(
+/// Sends the section of the citations, if it is wanted.
+pub(crate) fn send_citations_section<W: Write, D: Allocator, C: Allocator>(
+    sink: &mut Sink,
+    to: &mut W,
+    request: &Request<'_>,
+    database: &Database<'_, D>,
+    labels: &TheoremLabels<'_, '_, D>,
+    citations: &Citations<C>,
+)
+    requires as_many_labels { length labels.now ≡ length citations.now.theorems }
+    requires are_citations { AreCitationsOf database.now.statements citations.now }
+    ensures { Sent (W.contents to.old) (W.contents to.new) sink.old sink.new
+        (section request.now.sections.citations (codes "citations")
+        (flat_map citation_line
+        (citing_rows database.now.statements request.now.only citations.now labels.now))) }
+{
+    if request.sections.citations {
+        send_line(sink, to, b"citations");
+        send_citation_lines(sink, to, database, request.only, labels, citations);
+    }
+}
+
+/// Writes the report requested of a database if it has no section of marks, for which no rows are
+/// needed: the first lines, the section of the citations if it is requested, and the last line.
+/// `chosen` has the columns of the typecode requested, and `citations` are those of this database.
+/// If open theorems count as axioms, the report says how many columns they are. It allocates no
+/// memory. Returns `WriteFailed` if a write failed or accepted no byte of a piece that wasn't
+/// empty; then a prefix of the report has been written.
+pub fn write_unmarked<'a, W: Write, A: Allocator, C: Allocator, D: Allocator>(
     to: &mut W,
     request: &Request<'_>,
     database: &Database<'a, D>,
@@ -129,11 +151,13 @@ pub fn write_requested_citations<'a, W: Write, A: Allocator, C: Allocator, D: Al
     requires { AreCitationsOf database.now.statements citations.now }
     ensures report_is_written { OnOk result
         (Appends (W.contents to.old) (W.contents to.new)
-        (citation_report_of request.now database.now chosen.now citations.now)) }
+        (unmarked_report_of request.now database.now chosen.now
+        (citing_rows_of request.now database.now citations.now))) }
     ensures prefix_is_written { OnErr result
         ((k : ℕ)
         × Appends (W.contents to.old) (W.contents to.new)
-        (take k (citation_report_of request.now database.now chosen.now citations.now))) }
+        (take k (unmarked_report_of request.now database.now chosen.now
+        (citing_rows_of request.now database.now citations.now)))) }
 {
     let mut sink = Sink::new();
     let labels = TheoremLabels::new(database);
@@ -141,8 +165,7 @@ pub fn write_requested_citations<'a, W: Write, A: Allocator, C: Allocator, D: Al
     let open_theorems = open_theorem_count(database, chosen, request.with_open);
     let theorems = citations.rows() as u64;
     send_head(&mut sink, to, request, axioms, open_theorems, theorems);
-    send_line(&mut sink, to, b"citations");
-    send_citation_lines(&mut sink, to, database, request.only, &labels, citations);
+    send_citations_section(&mut sink, to, request, database, &labels, citations);
     send_line(&mut sink, to, b"end");
     sink.finish(to)
 }
@@ -165,22 +188,24 @@ pub fn write_citations<'a, W: Write, A: Allocator, C: Allocator, D: Allocator>(
     requires { AreCitationsOf database.now.statements citations.now }
     ensures report_is_written { OnOk result
         (Appends (W.contents to.old) (W.contents to.new)
-        (citation_report_of
-        (text_request (option_copied only.entry) with_open form choices.Citations)
-        database.now chosen.now citations.now)) }
+        (citation_report_of (option_copied only.entry) with_open form database.now chosen.now
+        citations.now)) }
     ensures prefix_is_written { OnErr result
         ((k : ℕ)
         × Appends (W.contents to.old) (W.contents to.new)
-        (take k (citation_report_of
-        (text_request (option_copied only.entry) with_open form choices.Citations)
-        database.now chosen.now citations.now))) }
+        (take k (citation_report_of (option_copied only.entry) with_open form database.now
+        chosen.now citations.now))) }
 {
+    let sections = Sections {
+        citations: true,
+        ..Sections::none()
+    };
     let request = Request {
         only,
-        choice: Choice::Citations,
+        sections,
         form,
         with_open,
         ..Request::without_options()
     };
-    write_requested_citations(to, &request, database, chosen, citations)
+    write_unmarked(to, &request, database, chosen, citations)
 }

@@ -1,25 +1,21 @@
--- The report of citations that is written is that of the definitions.
+-- The rows of citations that are written are those of the definitions.
 use Rattle.std.proofs.Common.{◌≡◌, ℕ, ◌<◌, Bool, List, []}
 use Rattle.std.proofs.Common.{length, map, get_or, refl, sym, ap, subst, arith}
-use Rattle.std.specs.Prelude.{Option}
 use Rattle.std.specs.List.{AllZip, list_any}
 use Rattle.std.proofs.lemmas.List.Kept.{IsStrictlyIncreasing-filter}
 use Rattle.std.proofs.lemmas.List.{get_or-map}
 use Rattle.std.proofs.lemmas.List.FromFn.{get_or-map-range_with_len, length-map-range_with_len}
 use Rattle.mm_spec.specs.Statement.{Statement}
 use Rattle.mm_spec.specs.Scope.{statement_at}
-use Rattle.mm_spec.specs.Report.{CitingRow, citation_report}
+use Rattle.mm_spec.specs.Report.{CitingRow}
 use Rattle.mm_spec.specs.Request.{Request}
-use Rattle.mm_spec.specs.declared.Choice.{Choice}
-use Rattle.mm_spec.specs.declared.Choice.TheVariants.{Citations}
-use Rattle.mm_spec.specs.Output.{AreCited, IsCitingRowOf, theorems, columns, has_typecode, label_at}
-use Rattle.mm_spec.specs.Output.{IsReportOf}
+use Rattle.mm_spec.specs.Output.{AreCited, IsCitingRowOf, theorems, has_typecode, label_at}
 use Rattle.mm_spec.proofs.FindsLaw.{member_filter, filter_member}
 use Rattle.mm_spec.proofs.ListLaw.{element_is_member}
 use Rattle.mm_work.specs.Citing.{Citing, theorem_at, list_at}
 use Rattle.mm_work.specs.Judged.{AllHaveCitations}
 use Rattle.mm_report.specs.Rows.{listed, citing_row, citing_rows, AreCitationsOf}
-use Rattle.mm_run.proofs.RowsLaw.{zip_of_related}
+use Rattle.mm_run.proofs.ZipLaw.{zip_of_related}
 
 module _ (db : List Statement) (request : Request) (c : Citing)
     (have_citations : AllHaveCitations db request.essential c) where
@@ -51,7 +47,7 @@ module _ (db : List Statement) (request : Request) (c : Citing)
       is_chosen : ℕ → Bool
       is_chosen a = list_any (has_typecode request.only) (statement_at db a)
 
-  citing_rows_are : AllZip (IsCitingRowOf db request) (theorems db)
+  pub citing_rows_are : AllZip (IsCitingRowOf db request) (theorems db)
       (citing_rows db request.only c (map (label_at db) (theorems db)))
   citing_rows_are =
       let names = map (label_at db) (theorems db) in
@@ -74,20 +70,3 @@ module _ (db : List Statement) (request : Request) (c : Citing)
           refl,
         ),
       ))
-
-  -- from the lists of citations, the report is that of the definitions
-  pub is_citation_report : (opened : Option ℕ) (axioms : List ℕ) → axioms ≡ columns db request.only
-      → request.choice ≡ Citations
-      → IsReportOf request.choice db opened request
-      (citation_report request opened (length axioms)
-      (citing_rows db request.only c (map (label_at db) (theorems db))))
-  is_citation_report opened axioms axioms_is choice_is =
-      subst (λ (o : Choice). IsReportOf o db opened request
-      (citation_report request opened (length axioms)
-      (citing_rows db request.only c (map (label_at db) (theorems db))))) (sym choice_is) (
-        citing_rows db request.only c (map (label_at db) (theorems db)),
-        citing_rows_are,
-        ap
-            (λ (l : List ℕ). citation_report request opened (length l)
-            (citing_rows db request.only c (map (label_at db) (theorems db)))) axioms_is,
-      )

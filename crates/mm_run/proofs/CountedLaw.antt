@@ -31,16 +31,14 @@ pub is_output : (request : Request) (d : Contents) (axioms bytes : List ℕ)
     → IsCounted request.with_open d
     → HasNoFault (length d.text) (lexed_of d.text) request.with_open d.read
     → axioms ≡ columns d.statements request.only
-    → IsReportOf request.choice d.statements
-    (open_theorem_count request.with_open d axioms) request bytes
+    → IsReportOf d.statements (open_theorem_count request.with_open d axioms) request bytes
     → IsOutput d.text request bytes
 is_output request d axioms bytes is_counted has_no_fault axioms_are is_report =
     inr (
       d.read,
       has_no_fault,
-      subst (λ o. IsReportOf request.choice (counted request.with_open d.read) o request bytes)
+      subst (λ o. IsReportOf (counted request.with_open d.read) o request bytes)
           (open_theorems_are d request.with_open request.only axioms is_counted axioms_are)
-          (subst (λ db. IsReportOf request.choice db
-          (open_theorem_count request.with_open d axioms) request bytes) is_counted.statements_are
-          is_report),
+          (subst (λ db. IsReportOf db (open_theorem_count request.with_open d axioms) request bytes)
+          is_counted.statements_are is_report),
     )

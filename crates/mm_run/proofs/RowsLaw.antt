@@ -1,39 +1,33 @@
 -- The report that is written is that of the definitions: a mark stands for a chain of citations.
-use Rattle.std.proofs.Common.{◌≡◌, ℕ, suc, ◌<◌, Bool, false, List, [], ◌∷◌, length, map}
-use Rattle.std.proofs.Common.{get_or, Option, refl, sym, ap, subst, arith, ◌↔◌}
-use Rattle.std.specs.Prelude.{Decides}
+use Rattle.std.proofs.Common.{◌≡◌, ◌∙◌, ℕ, suc, ◌<◌, Bool, true, false, ◌||◌, List, [], ◌∷◌, ◌++◌}
+use Rattle.std.proofs.Common.{length, map, get_or, Option, None, refl, sym, ap, subst, arith, ◌↔◌}
+use Rattle.std.proofs.Common.{true≢false, append-nil}
+use Rattle.std.specs.Prelude.{Decides, codes, flat_map}
 use Rattle.std.specs.List.{AllZip}
-use Rattle.std.proofs.lemmas.List.{get_or-map}
+use Rattle.std.proofs.lemmas.List.{get_or-map, length-map}
 use Rattle.std.proofs.lemmas.List.FromFn.{get_or-map-range_with_len, length-map-range_with_len}
 use Rattle.mm_spec.specs.Statement.{Statement}
 use Rattle.mm_spec.specs.Citation as proof
-use Rattle.mm_spec.specs.Report.{Row, report}
-use Rattle.mm_spec.specs.Request.{Request}
-use Rattle.mm_spec.specs.declared.Choice.{Choice}
-use Rattle.mm_spec.specs.declared.Choice.TheVariants.{All, Matrix, Counts, Usage, Citations}
+use Rattle.mm_spec.specs.Text.{Bytes}
+use Rattle.mm_spec.specs.Report.{Row, CitingRow, report, head, section, citation_line, line}
+use Rattle.mm_spec.specs.Request.{Request, has_marks}
 use Rattle.mm_spec.specs.Output.{IsRowOf, theorems, columns, label_at, IsReportOf}
-use Rattle.mm_spec.specs.Output.{IsOutput}
+use Rattle.mm_spec.specs.Output.{IsOutput, AllAreValid}
+use Rattle.mm_spec.specs.Laws.Complete.{AreComplete}
 use Rattle.mm_database.specs.Database.{Contents}
 use Rattle.mm_spec.proofs.ChainsLaw.{alike_relations_have_alike_chains}
+use Rattle.mm_spec.proofs.CompleteLaw.{reads_complete}
+use Rattle.mm_spec.proofs.OpenedLaw.{counted_complete}
+use Rattle.mm_spec.proofs.RestsLaw.{rows_of as rows_of_theorems}
 use Rattle.mm_work.specs.Citing.{Citing, HasCitation, theorem_at}
 use Rattle.mm_rows.specs.Marks.{Marks, mark, IsMatrix}
 use Rattle.mm_report.specs.Rows.{row_of, rows_of, marks_of, open_theorem_count, report_of}
+use Rattle.mm_report.specs.Rows.{citing_rows, citing_rows_of, unmarked_report_of}
 use Rattle.mm_run.specs.Counted.{IsJudged}
 use Rattle.mm_run.proofs.CountedLaw.{is_output}
+use Rattle.mm_run.proofs.CitationsLaw.{citing_rows_are}
+use Rattle.mm_run.proofs.ZipLaw.{zip_of_related}
 use Rattle.mm_work.specs.Judged.{AllHaveCitations, CitesAsDatabase}
-
--- two lists of one length whose elements are related at each index are related as lists
-pub zip_of_related : {A B : Type 0} (R : A → B → Type 0) (xs : List A) (ys : List B) (d : A) (e : B)
-    → length xs ≡ length ys → ((i : ℕ) → i < length xs → R (get_or xs i d) (get_or ys i e))
-    → AllZip R xs ys
-zip_of_related R [] [] d e lengths_equal each_related = tt
-zip_of_related R [] (y ∷ ys) d e lengths_equal each_related = absurd (omega (arith, lengths_equal))
-zip_of_related R (x ∷ xs) [] d e lengths_equal each_related = absurd (omega (arith, lengths_equal))
-zip_of_related R (x ∷ xs) (y ∷ ys) d e lengths_equal each_related = (
-  each_related 0 (omega arith),
-  zip_of_related R xs ys d e (omega (arith, lengths_equal)) (λ i
-      i_lt_length. each_related (suc i) (omega arith)),
-)
 
 -- a Boolean that decides a statement decides each equivalent one
 decides_through : {P Q : Type 0} (b : Bool) → Decides b P → P ↔ Q → Decides b Q
@@ -103,44 +97,98 @@ module _ (db : List Statement) (request : Request) (c : Citing) (m : Marks)
       (omega arith)))
       (get_or-map (label_at db) (theorems db) i 0 [] i_lt_length, marks_decide i i_lt_length))
 
--- for a choice other than the citations, the report is that of the rows
-is_report_of_rows : (db : List Statement) (opened : Option ℕ) (request : Request) (choice : Choice)
-    → (rows : List Row)
-    → (choice ≡ Citations → ⊥) → AllZip (IsRowOf db request) (theorems db) rows
-    → IsReportOf choice db opened request
-    (report request opened (map (label_at db) (columns db request.only)) rows)
-is_report_of_rows db opened request All rows not_citations are_rows = (rows, are_rows, refl)
-is_report_of_rows db opened request Matrix rows not_citations are_rows = (rows, are_rows, refl)
-is_report_of_rows db opened request Counts rows not_citations are_rows = (rows, are_rows, refl)
-is_report_of_rows db opened request Usage rows not_citations are_rows = (rows, are_rows, refl)
-is_report_of_rows db opened request Citations rows not_citations are_rows = absurd (not_citations
-    refl)
-
 -- from the marks of the chains of citations, the report is that of the definitions
-pub is_report : (request : Request) (db : List Statement) (opened : Option ℕ) (c : Citing)
-    → (axioms : List ℕ) (m : Marks)
-    → AllHaveCitations db request.essential c → axioms ≡ columns db request.only
-    → IsMatrix c axioms m
-    → (request.choice ≡ Citations → ⊥)
-    → IsReportOf request.choice db opened request
-    (report request opened (map (label_at db) axioms) (rows_of m (map (label_at db) (theorems db))))
-is_report request db opened c axioms m have_citations axioms_are is_matrix not_citations =
-    let is_matrix_of_columns = subst (λ (l : List ℕ). IsMatrix c l m) axioms_are is_matrix in
-    let rows = rows_of m (map (label_at db) (theorems db)) in
-    let is_report_of_columns =
-    is_report_of_rows db opened request request.choice rows not_citations
-    (rows_are db request c m have_citations.theorems_are have_citations.cites_as_database
-    is_matrix_of_columns) in
-    subst (λ (l : List ℕ). IsReportOf request.choice db opened request
-    (report request opened (map (label_at db) l) rows)) (sym axioms_are) is_report_of_columns
+is_report : (request : Request) (db : List Statement) (opened : Option ℕ) (c : Citing)
+    → (axioms : List ℕ) (m : Marks) → AllHaveCitations db request.essential c
+    → axioms ≡ columns db request.only → IsMatrix c axioms m
+    → IsReportOf db opened request
+    (report request opened (map (label_at db) axioms) (rows_of m (map (label_at db) (theorems db)))
+    (citing_rows db request.only c (map (label_at db) (theorems db))))
+is_report request db opened c axioms m have_citations axioms_are is_matrix =
+    record {
+      rows = rows_of m (map (label_at db) (theorems db));
+      are_rows =
+          rows_are db request c m have_citations.theorems_are have_citations.cites_as_database
+          (subst (λ (l : List ℕ). IsMatrix c l m) axioms_are is_matrix);
+      citing_rows = citing_rows db request.only c (map (label_at db) (theorems db));
+      are_citing_rows = citing_rows_are db request c have_citations;
+      bytes_are =
+          ap (λ (l : List ℕ). report request opened (map (label_at db) l)
+          (rows_of m (map (label_at db) (theorems db)))
+          (citing_rows db request.only c (map (label_at db) (theorems db)))) axioms_are;
+    }
 
 -- the report of a database's marks is the output of its text
 pub table_is_output : (request : Request) (d : Contents) (c : Citing) (axioms : List ℕ)
-    → (m : Marks) → IsJudged request.essential request.with_open d c → axioms
-    ≡ columns d.statements request.only
-    → IsMatrix c axioms m → (request.choice ≡ Citations → ⊥)
-    → IsOutput d.text request (report_of request d axioms m)
-table_is_output request d c axioms m is_judged axioms_are is_matrix not_citations =
+    → (m : Marks) → IsJudged request.essential request.with_open d c
+    → axioms ≡ columns d.statements request.only → IsMatrix c axioms m
+    → IsOutput d.text request (report_of request d axioms m (citing_rows_of request d c))
+table_is_output request d c axioms m is_judged axioms_are is_matrix =
     is_output request d axioms _ is_judged.is_counted is_judged.has_no_fault axioms_are
     (is_report request d.statements (open_theorem_count request.with_open d axioms) c axioms m
-    is_judged.have_citations axioms_are is_matrix not_citations)
+    is_judged.have_citations axioms_are is_matrix)
+
+-- the rows of the definitions are as many as those of the citations, and without sections of marks
+-- no more is told of them
+unmarked_is_report : (request : Request) (opened : Option ℕ) (axioms : List ℕ)
+    → (names : List Bytes) (rows : List Row) (citing : List CitingRow)
+    → has_marks request.sections ≡ false → length axioms ≡ length names
+    → length citing ≡ length rows
+    → head request.form (length axioms) opened (length citing)
+    ++ section request.sections.citations (codes "citations") (flat_map citation_line citing)
+    ++ line (codes "end")
+    ≡ report request opened names rows citing
+unmarked_is_report request opened axioms names rows citing no_marks axioms_named as_many =
+    let parts = none_of_three request.sections.matrix request.sections.counts
+    request.sections.usage no_marks in
+    let h = head request.form (length names) opened (length rows) in
+    rw (axioms_named, as_many, parts.0, parts.1, parts.2)
+    (ap (λ (x : List ℕ). x
+    ++ section request.sections.citations (codes "citations") (flat_map citation_line citing)
+    ++ line (codes "end"))
+    (sym (append-nil h) ∙ sym (append-nil (h ++ [])) ∙ sym (append-nil (h ++ [] ++ []))))
+  where
+    none_of_three : (a b c : Bool) → (a || (b || c)) ≡ false
+        → (a ≡ false) × (b ≡ false) × (c ≡ false)
+    none_of_three false false false none = (refl, refl, refl)
+    none_of_three true b c none = absurd (true≢false none)
+    none_of_three false true c none = absurd (true≢false none)
+    none_of_three false false true none = absurd (true≢false none)
+
+-- a report without sections of marks is the output of its text
+pub unmarked_is_output : (request : Request) (d : Contents) (c : Citing) (axioms : List ℕ)
+    → IsJudged request.essential request.with_open d c
+    → axioms ≡ columns d.statements request.only → has_marks request.sections ≡ false
+    → IsOutput d.text request (unmarked_report_of request d axioms (citing_rows_of request d c))
+unmarked_is_output request d c axioms is_judged axioms_are no_marks =
+    let db = d.statements in
+    let opened = open_theorem_count request.with_open d axioms in
+    let all_complete : AreComplete db =
+    subst AreComplete (sym is_judged.is_counted.statements_are)
+    (counted_complete request.with_open d.read
+    (reads_complete _ _ d.read None is_judged.has_no_fault.0)) in
+    let are_valid : AllAreValid db =
+    subst AllAreValid (sym is_judged.is_counted.statements_are) is_judged.has_no_fault.1 in
+    let rows = rows_of_theorems db request all_complete are_valid (theorems db) in
+    let citing = citing_rows_of request d c in
+    let are_citing = citing_rows_are db request c is_judged.have_citations in
+    is_output request d axioms _ is_judged.is_counted is_judged.has_no_fault axioms_are
+    (record {
+      rows = rows.0;
+      are_rows = rows.1;
+      citing_rows = citing;
+      are_citing_rows = are_citing;
+      bytes_are =
+          unmarked_is_report request opened axioms (map (label_at db) (columns db request.only))
+          rows.0 citing no_marks
+          (ap length axioms_are ∙ sym (length-map (columns db request.only) (label_at db)))
+          (sym (zip_lengths _ (theorems db) citing are_citing)
+          ∙ zip_lengths _ (theorems db) rows.0 rows.1);
+    })
+  where
+    zip_lengths : {A B : Type 0} (R : A → B → Type 0) (xs : List A) (ys : List B)
+        → AllZip R xs ys → length xs ≡ length ys
+    zip_lengths R [] [] related = refl
+    zip_lengths R [] (y ∷ ys) related = absurd related
+    zip_lengths R (x ∷ xs) [] related = absurd related
+    zip_lengths R (x ∷ xs) (y ∷ ys) related = ap suc (zip_lengths R xs ys related.1)

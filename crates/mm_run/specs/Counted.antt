@@ -7,7 +7,6 @@ use Rattle.mm_spec.specs.Output.{FirstFault, HasNoFault, IsRead}
 use Rattle.mm_work.specs.Citing.{Citing}
 use Rattle.mm_database.specs.Database.{Contents}
 use Rattle.mm_work.specs.Judged.{AllHaveCitations}
-use Rattle.mm_rows.specs.Marks.{Marks, IsMatrix}
 use Rattle.mm_run.specs.declared.judged_text.JudgedText.{JudgedText}
 use Rattle.mm_run.specs.declared.judged_text.JudgedText.TheVariants.{Faulty, Sound}
 
@@ -28,14 +27,6 @@ pub record IsJudged (essential with_open : Bool) (d : Contents) (c : Citing) : T
   pub has_no_fault : HasNoFault (length d.text) (lexed_of d.text) with_open d.read
   pub is_counted : IsCounted with_open d
   pub have_citations : AllHaveCitations d.statements essential c
-
--- the database was judged without a fault, and these marks are those of its theorems, with a column
--- for each of these axioms
-pub record IsMatrixOf (essential with_open : Bool) (d : Contents) (axioms : List ℕ) (m : Marks)
-    : Type 0 where
-  pub citations : Citing
-  pub is_judged : IsJudged essential with_open d citations
-  pub is_matrix : IsMatrix citations axioms m
 
 -- the text has this first fault, or none, and then this database and these citations
 module _ {A : Type 0} where

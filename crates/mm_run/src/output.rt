@@ -1,14 +1,13 @@
 //! What is written for a text: its report or its refusal.
 
 ghost use Rattle.std.specs.Prelude.{◌≡◌, ◌<◌, ◌≤◌, ◌^◌, ℕ, List, IfOk, length, false};
-ghost use Rattle.mm_spec.specs.declared.Choice.TheVariants as choices;
-ghost use Rattle.mm_spec.specs.Report.{has_section};
-ghost use Rattle.mm_spec.specs.Request.{Request};
+ghost use Rattle.mm_spec.specs.Request.{Request, has_marks};
 ghost use Rattle.mm_spec.specs.Lexed.{lexed_of};
 ghost use Rattle.mm_spec.specs.Output.{FirstFault, columns};
 ghost use Rattle.mm_spec.specs.Ends.{Answers, reading_limit};
 ghost use Rattle.mm_work.specs.Judged.{IsJudgement};
-ghost use Rattle.mm_run.specs.Counted.{IsJudged, IsJudgedText, IsMatrixOf, IsReadFrom};
+ghost use Rattle.mm_rows.specs.Marks.{IsMatrix};
+ghost use Rattle.mm_run.specs.Counted.{IsJudged, IsJudgedText, IsReadFrom};
 ghost use Rattle.mm_plan.specs.Plans.{IsLawfulPlan, request_of};
 
 use crate::RunEnd;
@@ -17,10 +16,7 @@ use crate::judged_text::{JudgedText, judged_text};
 use mm_database::Database;
 use mm_lex::lex;
 use mm_plan::Plan;
-use mm_report::{
-    Choice, Request, has_usage, write_refusal, write_requested_citations, write_requested_report,
-    write_rows,
-};
+use mm_report::{Request, write_refusal, write_requested_report, write_rows, write_unmarked};
 use mm_rows::{Columns, MarkedRows, Matrix, marked_rows, matrix};
 use mm_spec::Fault;
 use mm_stmt::read_owned;
@@ -42,75 +38,103 @@ fn refuse<W: Write>(text: &[u8], fault: Fault, to: &mut W) -> RunEnd
     }
 }
 
-/// Writes the report of what each theorem cites, for a database without a fault. It needs no
-/// matrix.
-fn report_citations<'a, A: Allocator + Copy, W: Write>(
-    alloc: A,
+/// Writes the report of a database without a fault, if it has no section of marks. It needs no rows.
+fn report_unmarked<'a, A: Allocator, W: Write>(
     request: &Request<'_>,
     database: &Database<'a, A>,
     citations: &Citations<A>,
+    chosen: &Columns<A>,
     to: &mut W,
 ) -> RunEnd
     requires is_judged { IsJudged request.now.essential request.now.with_open database.now
         citations.now }
-    requires is_citations { request.now.choice ≡ choices.Citations }
+    requires columns_are { chosen.now ≡ columns database.now.statements request.now.only }
+    requires no_marks { has_marks request.now.sections ≡ false }
     ensures { Answers result database.now.text request.now (W.contents to.old)
         (W.contents to.new) }
 {
-    let Ok(chosen) = Columns::new(alloc, database, request.only) else {
-        return RunEnd::NoMemory;
-    };
-    match write_requested_citations(to, request, database, &chosen, citations) {
+    match write_unmarked(to, request, database, chosen, citations) {
         Ok(()) => RunEnd::Accepted,
         Err(_) => RunEnd::WriteFailed,
     }
 }
 
-/// Writes the report of what each theorem rests on, with the usage, which needs the columns.
+/// Writes the report of a database without a fault, if it has the usage, which needs the columns.
 fn report_usage<'a, A: Allocator, W: Write>(
     request: &Request<'_>,
     database: &Database<'a, A>,
+    citations: &Citations<A>,
     chosen: &Columns<A>,
     matrix: &Matrix<A>,
     to: &mut W,
 ) -> RunEnd
+    requires is_judged { IsJudged request.now.essential request.now.with_open database.now
+        citations.now }
     requires columns_are { chosen.now ≡ columns database.now.statements request.now.only }
-    requires is_matrix { IsMatrixOf request.now.essential request.now.with_open database.now
-        chosen.now matrix.now }
-    requires is_no_citations { request.now.choice ≡ choices.Citations → ⊥ }
+    requires is_matrix { IsMatrix citations.now chosen.now matrix.now }
     ensures { Answers result database.now.text request.now (W.contents to.old)
         (W.contents to.new) }
 {
-    match write_requested_report(to, request, database, chosen, matrix) {
+    match write_requested_report(to, request, database, chosen, matrix, citations) {
         Ok(()) => RunEnd::Accepted,
         Err(_) => RunEnd::WriteFailed,
     }
 }
 
-/// Writes the report of what each theorem rests on, without the usage, from the rows alone.
+/// Writes the report of a database without a fault, if it hasn't the usage, from the rows alone.
 fn report_rows<'a, A: Allocator, W: Write>(
     request: &Request<'_>,
     database: &Database<'a, A>,
+    citations: &Citations<A>,
     chosen: &Columns<A>,
     marked: &MarkedRows<A>,
     to: &mut W,
 ) -> RunEnd
+    requires is_judged { IsJudged request.now.essential request.now.with_open database.now
+        citations.now }
     requires columns_are { chosen.now ≡ columns database.now.statements request.now.only }
-    requires is_matrix { IsMatrixOf request.now.essential request.now.with_open database.now
-        chosen.now marked.now }
-    requires is_no_citations { request.now.choice ≡ choices.Citations → ⊥ }
-    requires no_usage { has_section request.now.choice choices.Usage ≡ false }
+    requires is_matrix { IsMatrix citations.now chosen.now marked.now }
+    requires no_usage { request.now.sections.usage ≡ false }
     ensures { Answers result database.now.text request.now (W.contents to.old)
         (W.contents to.new) }
 {
-    match write_rows(to, request, database, chosen, marked) {
+    match write_rows(to, request, database, chosen, marked, citations) {
         Ok(()) => RunEnd::Accepted,
         Err(_) => RunEnd::WriteFailed,
     }
 }
 
-/// Writes the report of what each theorem rests on, for a database without a fault.
-fn report_dependence<'a, A: Allocator + Copy, W: Write>(
+/// Writes the report of a database without a fault, if it has a section of marks.
+fn report_marked<'a, A: Allocator + Copy, W: Write>(
+    alloc: A,
+    request: &Request<'_>,
+    database: &Database<'a, A>,
+    citations: &Citations<A>,
+    chosen: &Columns<A>,
+    to: &mut W,
+) -> RunEnd
+    requires is_judged { IsJudged request.now.essential request.now.with_open database.now
+        citations.now }
+    requires columns_are { chosen.now ≡ columns database.now.statements request.now.only }
+    ensures { Answers result database.now.text request.now (W.contents to.old)
+        (W.contents to.new) }
+{
+    if request.sections.usage {
+        // The rows are made on the calling thread, and so no runtime is lent.
+        match matrix(&(), alloc, citations, chosen) {
+            Ok(matrix) => report_usage(request, database, citations, chosen, &matrix, to),
+            Err(_) => RunEnd::NoMemory,
+        }
+    } else {
+        match marked_rows(alloc, citations, chosen) {
+            Ok(marked) => report_rows(request, database, citations, chosen, &marked, to),
+            Err(_) => RunEnd::NoMemory,
+        }
+    }
+}
+
+/// Writes the report of a database without a fault.
+fn report<'a, A: Allocator + Copy, W: Write>(
     alloc: A,
     request: &Request<'_>,
     database: &Database<'a, A>,
@@ -119,24 +143,16 @@ fn report_dependence<'a, A: Allocator + Copy, W: Write>(
 ) -> RunEnd
     requires is_judged { IsJudged request.now.essential request.now.with_open database.now
         citations.now }
-    requires is_no_citations { request.now.choice ≡ choices.Citations → ⊥ }
     ensures { Answers result database.now.text request.now (W.contents to.old)
         (W.contents to.new) }
 {
     let Ok(chosen) = Columns::new(alloc, database, request.only) else {
         return RunEnd::NoMemory;
     };
-    if has_usage(request.choice) {
-        // The rows are made on the calling thread, and so no runtime is lent.
-        match matrix(&(), alloc, citations, &chosen) {
-            Ok(matrix) => report_usage(request, database, &chosen, &matrix, to),
-            Err(_) => RunEnd::NoMemory,
-        }
+    if request.sections.has_marks() {
+        report_marked(alloc, request, database, citations, &chosen, to)
     } else {
-        match marked_rows(alloc, citations, &chosen) {
-            Ok(marked) => report_rows(request, database, &chosen, &marked, to),
-            Err(_) => RunEnd::NoMemory,
-        }
+        report_unmarked(request, database, citations, &chosen, to)
     }
 }
 
@@ -157,11 +173,7 @@ pub fn write_judged<'a, A: Allocator + Copy, W: Write>(
     match judged {
         JudgedText::Faulty(fault) => refuse(text, *fault, to),
         JudgedText::Sound(database, citations) => {
-            if request.choice == Choice::Citations {
-                report_citations(alloc, request, database, citations, to)
-            } else {
-                report_dependence(alloc, request, database, citations, to)
-            }
+            report(alloc, request, database, citations, to)
         }
     }
 }

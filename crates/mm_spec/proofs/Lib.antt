@@ -20,7 +20,9 @@ pub mod MemberLaw
 pub mod NodesLaw
 pub mod OpenedLaw
 pub mod ReadingsLaw
+pub mod RestsLaw
 pub mod RisingLaw
+pub mod RisingListsLaw
 pub mod LongestLaw
 pub mod ShapeLaw
 pub mod StepsLaw

@@ -7,3 +7,4 @@ pub mod Complete
 pub mod Stack
 pub mod Chains
 pub mod Waves
+pub mod Decided

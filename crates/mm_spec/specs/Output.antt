@@ -15,12 +15,10 @@ use Rattle.mm_spec.specs.Frame.{formula_at}
 use Rattle.mm_spec.specs.Valid as proof
 use Rattle.mm_spec.specs.Citation.{context_at, steps_at, reading_faults_at, is_theorem, IsValid}
 use Rattle.mm_spec.specs.Citation.{Cites, RestsOn}
-use Rattle.mm_spec.specs.Report.{Row, CitingRow, report, citation_report, refusal}
+use Rattle.mm_spec.specs.Report.{Row, CitingRow, report, refusal}
 use Rattle.mm_spec.specs.Request.{Request}
 use Rattle.mm_spec.specs.Derivation.{is_member}
 use Rattle.std.specs.List.Sorted.{IsStrictlyIncreasing}
-use Rattle.mm_spec.specs.declared.Choice.{Choice}
-use Rattle.mm_spec.specs.declared.Choice.TheVariants.{Citations}
 
 -- the lexical fault, or if there is none, the fault at the end of the text
 abbrev pub LexicalOrEndFault : ℕ → List Token → Option Fault → Fault → Type 0
@@ -150,17 +148,17 @@ open_theorem_count db request =
     (columns (counted true db) request.only))
     else None
 
--- the report on a database: on what its theorems cite, or on what they rest on; `open_theorems`
--- says how many columns are open theorems, if these count as axioms
-abbrev pub IsReportOf : Choice → List Statement → (open_theorems : Option ℕ) → Request → List ℕ
-    → Type 0
-IsReportOf Citations db open_theorems request bytes =
-    (rows : List CitingRow) × AllZip (IsCitingRowOf db request) (theorems db) rows
-    × (bytes ≡ citation_report request open_theorems (length (columns db request.only)) rows)
-IsReportOf choice db open_theorems request bytes =
-    (rows : List Row) × AllZip (IsRowOf db request) (theorems db) rows
-    × (bytes
-    ≡ report request open_theorems (map (label_at db) (columns db request.only)) rows)
+-- The report on a database: the theorems have these rows, by what they rest on and by what they
+-- cite, and these are its bytes. `open_theorems` says how many columns are open theorems, if these
+-- count as axioms.
+pub record IsReportOf (db : List Statement) (open_theorems : Option ℕ) (request : Request)
+    (bytes : List ℕ) : Type 0 where
+  pub rows : List Row
+  pub are_rows : AllZip (IsRowOf db request) (theorems db) rows
+  pub citing_rows : List CitingRow
+  pub are_citing_rows : AllZip (IsCitingRowOf db request) (theorems db) citing_rows
+  pub bytes_are : bytes
+      ≡ report request open_theorems (map (label_at db) (columns db request.only)) rows citing_rows
 
 -- the output of a text: the refusal for its first fault, or if it has none, the report requested
 abbrev pub IsOutput : List ℕ → Request → List ℕ → Type 0
@@ -168,5 +166,4 @@ IsOutput text request bytes =
     ((f : Fault) × FirstFault (length text) (lexed_of text) request.with_open f
     × (bytes ≡ refusal text f))
     ⊎ ((db : List Statement) × HasNoFault (length text) (lexed_of text) request.with_open db
-    × IsReportOf request.choice (counted request.with_open db)
-    (open_theorem_count db request) request bytes)
+    × IsReportOf (counted request.with_open db) (open_theorem_count db request) request bytes)

@@ -10,8 +10,6 @@ use Rattle.mm_spec.specs.Codes.{code_number}
 use Rattle.mm_spec.specs.Request.{Request}
 use Rattle.mm_spec.specs.declared.Form.{Form}
 use Rattle.mm_spec.specs.declared.Form.TheVariants.{One, Two}
-use Rattle.mm_spec.specs.declared.Choice.{Choice}
-use Rattle.mm_spec.specs.declared.Choice.TheVariants.{All, Matrix, Counts, Usage}
 
 -- the row of a theorem: its label, and for each column whether it is marked
 pub record Row : Type 0 where
@@ -93,14 +91,6 @@ usage_line rows column label = list_line label (map (λ r. r.label) (users colum
 abbrev pub citation_line : CitingRow → List ℕ
 citation_line r = list_line r.label r.cited
 
--- whether the choice has this section
-abbrev pub has_section : Choice → Choice → Bool
-has_section All _ = true
-has_section Matrix Matrix = true
-has_section Counts Counts = true
-has_section Usage Usage = true
-has_section _ _ = false
-
 -- a section: the line with its name and its lines, or nothing if the report doesn't have it
 abbrev pub section : Bool → List ℕ → List ℕ → List ℕ
 section true name lines = line name ++ lines
@@ -128,21 +118,15 @@ head form axioms open_theorems theorems =
     head_line (codes "mmdepend") (version form) ++ head_line (codes "axioms") axioms
     ++ open_line open_theorems ++ head_line (codes "theorems") theorems
 
--- the report requested, with these labels of columns and these rows
-abbrev pub report : Request → Option ℕ → List Bytes → List Row → List ℕ
-report request open_theorems columns rows =
+-- the report requested, with these labels of columns, these rows, and these rows of citations
+abbrev pub report : Request → Option ℕ → List Bytes → List Row → List CitingRow → List ℕ
+report request open_theorems columns rows citing_rows =
     head request.form (length columns) open_theorems (length rows)
-    ++ section (has_section request.choice Matrix) (codes "matrix")
-    (flat_map (matrix_line request.form) rows)
-    ++ section (has_section request.choice Counts) (codes "counts") (flat_map count_line rows)
-    ++ section (has_section request.choice Usage) (codes "usage") (usage_lines rows 0 columns)
+    ++ section request.sections.matrix (codes "matrix") (flat_map (matrix_line request.form) rows)
+    ++ section request.sections.counts (codes "counts") (flat_map count_line rows)
+    ++ section request.sections.usage (codes "usage") (usage_lines rows 0 columns)
+    ++ section request.sections.citations (codes "citations") (flat_map citation_line citing_rows)
     ++ line (codes "end")
-
--- the report of citations; `axioms` is the number of columns
-abbrev pub citation_report : Request → Option ℕ → ℕ → List CitingRow → List ℕ
-citation_report request open_theorems axioms rows =
-    head request.form axioms open_theorems (length rows)
-    ++ section true (codes "citations") (flat_map citation_line rows) ++ line (codes "end")
 
 -- how many bytes there are after the last line feed, with n before these bytes
 abbrev pub bytes_after_line_feed_from : ℕ → List ℕ → ℕ

@@ -2,14 +2,14 @@
 //! appendix "Compressed Proofs"). The folder `specs/` defines words, tokens, statements, proofs,
 //! faults, citations, reports and the end of a run; nearly every other crate depends on it. The
 //! types that go with the definitions are declared here. There is no code except the numbers of
-//! codes, the bytes of a word and the request without options. What a reader has to believe of this
-//! crate are these types and the folder `specs/` without `specs/Laws`, which has definitions on
-//! which no output depends: laws, proofs and contracts of other crates use them. The laws that the
-//! definitions obey are in the crate `mm_laws`.
+//! codes, the bytes of a word, some sets of sections and the request without options. What a reader
+//! has to believe of this crate are these types and the folder `specs/` without `specs/Laws`, which
+//! has definitions on which no output depends: laws, proofs and contracts of other crates use them.
+//! The laws that the definitions obey are in the crate `mm_laws`.
 #![tactic(auto)]
 
 ghost use Rattle.std.specs.Prelude.{◌≡◌};
-ghost use Rattle.mm_spec.specs.Request.{without_options};
+ghost use Rattle.mm_spec.specs.Request.{without_options, no_sections, default_sections, has_marks};
 
 mod bytes;
 mod codes;
@@ -55,23 +55,53 @@ pub enum Role {
     Faulty,
 }
 
-/// Which of the sections matrix, counts, usage and citations a report has. Every report also has
-/// its first lines and its last line.
+/// Which sections a report has. Every report also has its first lines and its last line.
 #[derive(Clone, Copy, Debug, PartialEq, Eq)]
-pub enum Choice {
-    /// Matrix, counts and usage, in this order.
-    All,
+pub struct Sections {
     /// A row for each theorem: its label, and digits that say for each column whether the theorem
     /// rests on that axiom (`Form`).
-    Matrix,
+    pub matrix: bool,
     /// A line for each theorem: its label, and the number of columns on whose axioms it rests.
-    Counts,
+    pub counts: bool,
     /// A line for each column: its label, the number of theorems that rest on that axiom, and their
     /// labels.
-    Usage,
+    pub usage: bool,
     /// A line for each theorem: its label, the number of assertions that its own proof cites, and
     /// their labels.
-    Citations,
+    pub citations: bool,
+}
+
+impl Sections {
+    /// No section.
+    pub fn none() -> Self
+        ensures { result ≡ no_sections }
+    {
+        Sections {
+            matrix: false,
+            counts: false,
+            usage: false,
+            citations: false,
+        }
+    }
+
+    /// Matrix, counts and usage: the sections that a report has where none is chosen.
+    pub fn by_default() -> Self
+        ensures { result ≡ default_sections }
+    {
+        Sections {
+            matrix: true,
+            counts: true,
+            usage: true,
+            citations: false,
+        }
+    }
+
+    /// Whether there is a section of what theorems rest on: matrix, counts or usage.
+    pub fn has_marks(self) -> bool
+        ensures { result ≡ has_marks self }
+    {
+        self.matrix || self.counts || self.usage
+    }
 }
 
 /// How the matrix of a report is written.
@@ -89,8 +119,7 @@ pub struct Request<'a> {
     /// The typecode of the axioms that are columns and of the citations that are listed, if one is
     /// chosen.
     pub only: Option<&'a [u8]>,
-    /// The sections.
-    pub choice: Choice,
+    pub sections: Sections,
     /// How the matrix is written.
     pub form: Form,
     /// Whether a theorem cites only by the essential nodes of its proof.
@@ -100,14 +129,14 @@ pub struct Request<'a> {
 }
 
 impl<'a> Request<'a> {
-    /// What is requested where no option is given: all sections in the first form, on all axioms,
-    /// by all nodes.
+    /// What is requested where no option is given: matrix, counts and usage in the first form, on
+    /// all axioms, by all nodes.
     pub fn without_options() -> Self
         ensures { result ≡ without_options }
     {
         Request {
             only: None,
-            choice: Choice::All,
+            sections: Sections::by_default(),
             form: Form::One,
             essential: false,
             with_open: false,
@@ -123,7 +152,7 @@ impl<'a> Model for Request<'a> {
 
     ghost view = { λ r. record {
       only = option_copied r.only;
-      choice = r.choice;
+      sections = r.sections;
       form = r.form;
       essential = r.essential;
       with_open = r.with_open;

@@ -3,12 +3,12 @@
 use crate::flags::{BY_ALL_NODES, BY_ESSENTIAL_NODES, WITH_OPEN, WITHOUT_OPEN};
 use mm_line::{Line, LineRefused, line};
 use mm_plan::Cutting;
-use mm_spec::{Choice, Form};
+use mm_spec::{Form, Sections};
 use std::alloc::Global;
 
 /// What `--help` prints.
 const HELP: &str =
-    "Verifies a Metamath database and reports on which axioms each theorem rests\n\nUsage: mmdepend [OPTIONS] [FILE]\n\nArguments:\n  [FILE]  The database; without it, or where it is -, the standard input is read\n\nOptions:\n      --workers <N>    Check the proofs by N threads, 1 to 64 [default: 4]\n      --pieces <N>     Read the text in N pieces, 1 to 64 [default: 4]\n      --only <T>       Report on the axioms of typecode T alone, such as '|-'\n      --report <PART>  Write this part of the report [default: all] [possible values: all, matrix, counts, usage, citations]\n      --form <N>       Write the matrix as a digit for each column, or for each four [default: 1] [possible values: 1, 2]\n      --essential      Count what the logical part of a proof cites, and not what builds its formulas\n      --open           Count a theorem whose proof is ? as an axiom\n  -h, --help           Print help\n  -V, --version        Print version\n\nThe standard output gets the report, or one line with the first fault and its place.\nStatus: 0 accepted, 1 refused, 2 invalid command line, 3 reading or writing failed,\n4 out of memory. For 2 to 4 the standard error says why.\nThe codes of faults (E00 to E45) are explained in docs/FAULTS.md.\n";
+    "Verifies a Metamath database and reports on which axioms each theorem rests\n\nUsage: mmdepend [OPTIONS] [FILE]\n\nArguments:\n  [FILE]  The database; without it, or where it is -, the standard input is read\n\nOptions:\n      --workers <N>    Check the proofs by N threads, 1 to 64 [default: 4]\n      --pieces <N>     Read the text in N pieces, 1 to 64 [default: 4]\n      --only <T>       Report on the axioms of typecode T alone, such as '|-'\n      --report <PART>  Write these parts of the report, with commas between them: matrix, counts, usage, citations, or all, which is the first three [default: all]\n      --form <N>       Write the matrix as a digit for each column, or for each four [default: 1] [possible values: 1, 2]\n      --essential      Count what the logical part of a proof cites, and not what builds its formulas\n      --open           Count a theorem whose proof is ? as an axiom\n  -h, --help           Print help\n  -V, --version        Print version\n\nThe standard output gets the report, or one line with the first fault and its place.\nStatus: 0 accepted, 1 refused, 2 invalid command line, 3 reading or writing failed,\n4 out of memory. For 2 to 4 the standard error says why.\nThe codes of faults (E00 to E45) are explained in docs/FAULTS.md.\n";
 
 /// The number of pieces and of workers of a line that names none.
 const DEFAULT: u32 = 4;
@@ -37,14 +37,14 @@ fn is_line_of(
     pieces: u32,
     workers: u32,
     only: Option<&str>,
-    choice: Choice,
+    sections: Sections,
     file: Option<&str>,
 ) -> bool {
     match line(alloc, words) {
         Ok(line) => {
             counts(&line) == Some((pieces, workers))
                 && line.plan.only.as_deref() == only
-                && line.plan.choice == choice
+                && line.plan.choice == sections
                 && line.file.as_deref() == file
         }
         Err(_) => false,
@@ -61,7 +61,7 @@ fn defaults_stand_for_what_is_left_out(rt: HostRuntime) {
             DEFAULT,
             DEFAULT,
             None,
-            Choice::All,
+            Sections::by_default(),
             None
         )
     );
@@ -72,7 +72,7 @@ fn defaults_stand_for_what_is_left_out(rt: HostRuntime) {
             DEFAULT,
             DEFAULT,
             None,
-            Choice::All,
+            Sections::by_default(),
             Some("set.mm")
         )
     );
@@ -99,29 +99,13 @@ fn options_stand_before_and_after_the_file(rt: HostRuntime) {
             1,
             64,
             Some("|-"),
-            Choice::Usage,
+            Sections {
+                usage: true,
+                ..Sections::none()
+            },
             Some("set.mm")
         )
     );
-    for (word, choice) in [
-        ("all", Choice::All),
-        ("matrix", Choice::Matrix),
-        ("counts", Choice::Counts),
-        ("usage", Choice::Usage),
-        ("citations", Choice::Citations),
-    ] {
-        assert!(&rt;
-            is_line_of(
-                alloc,
-                &["mmdepend", "--report", word],
-                DEFAULT,
-                DEFAULT,
-                None,
-                choice,
-                None
-            )
-        );
-    }
     let after = ["mmdepend", "--", "--help"];
     assert!(&rt;
         is_line_of(
@@ -130,10 +114,49 @@ fn options_stand_before_and_after_the_file(rt: HostRuntime) {
             DEFAULT,
             DEFAULT,
             None,
-            Choice::All,
+            Sections::by_default(),
             Some("--help")
         )
     );
+}
+
+/// What `--report` is given, and whether this asks for the matrix, the counts, the usage and the
+/// citations.
+const REPORTS: [(&str, bool, bool, bool, bool); 10] = [
+    ("all", true, true, true, false),
+    ("matrix", true, false, false, false),
+    ("counts", false, true, false, false),
+    ("usage", false, false, true, false),
+    ("citations", false, false, false, true),
+    ("citations,matrix", true, false, false, true),
+    ("counts,counts", false, true, false, false),
+    ("citations,all", true, true, true, true),
+    ("usage,all,usage", true, true, true, false),
+    ("citations,usage,counts,matrix", true, true, true, true),
+];
+
+#[test]
+fn each_part_that_is_named_is_written(rt: HostRuntime) {
+    let alloc = rt.alloc();
+    for (word, matrix, counts, usage, citations) in REPORTS {
+        let sections = Sections {
+            matrix,
+            counts,
+            usage,
+            citations,
+        };
+        assert!(&rt;
+            is_line_of(
+                alloc,
+                &["mmdepend", "--report", word],
+                DEFAULT,
+                DEFAULT,
+                None,
+                sections,
+                None
+            )
+        );
+    }
 }
 
 /// Words, and the form, the nodes and the open theorems that they ask for.
@@ -190,7 +213,7 @@ fn the_version_is_told(rt: HostRuntime) {
 }
 
 /// Words that are refused, and the texts that tell why.
-const FAULTS: [(&[&str], &str); 9] = [
+const FAULTS: [(&[&str], &str); 11] = [
     (
         &["mmdepend", "--workers", "0"],
         "error: invalid value '0' for '--workers <N>': 0 is not in 1..=64\n\nFor more information, try '--help'.\n",
@@ -210,6 +233,14 @@ const FAULTS: [(&[&str], &str); 9] = [
     (
         &["mmdepend", "--report", "none"],
         "error: invalid value 'none' for '--report <PART>'\n  [possible values: all, matrix, counts, usage, citations]\n\nFor more information, try '--help'.\n",
+    ),
+    (
+        &["mmdepend", "--report", "matrix,none,usage"],
+        "error: invalid value 'none' for '--report <PART>'\n  [possible values: all, matrix, counts, usage, citations]\n\nFor more information, try '--help'.\n",
+    ),
+    (
+        &["mmdepend", "--report", "matrix,"],
+        "error: invalid value '' for '--report <PART>'\n  [possible values: all, matrix, counts, usage, citations]\n\nFor more information, try '--help'.\n",
     ),
     (
         &["mmdepend", "a.mm", "b.mm"],

@@ -137,8 +137,7 @@ class Answers:
 
     def add(self, path: Path, options: Options, names: Iterable[str] = ()) -> None:
         """Reports of a database; what the page itself asks for is always there."""
-        for name in ("matrix", "citations"):
-            self.put(path, name, 2, Options(None, options.essential, options.open))
+        self.put(path, "matrix,citations", 2, Options(None, options.essential, options.open))
         for name in names:
             for form in (1, 2):
                 self.put(path, name, form, options)

@@ -10,7 +10,7 @@ use crate::heap::Refusing;
 use crate::texts::{CITED_TWICE, CITED_TWICE_REPORT, FIRST_TEXT};
 use mm_lex::lex_alone;
 use mm_run::{JudgedText, RunEnd, judge_alone, write_judged};
-use mm_spec::{Choice, Request, TEXT_LIMIT};
+use mm_spec::{Request, Sections, TEXT_LIMIT};
 use mm_stmt::Database;
 use mm_work::check_alone;
 use std::alloc::{AllocError, Allocator, Global};
@@ -105,6 +105,10 @@ const MATRIX: &[u8] = b"mmdepend 1\naxioms 3\ntheorems 2\nmatrix\na1i:111\na2:11
 const CITATIONS: &[u8] =
     b"mmdepend 1\naxioms 3\ntheorems 2\ncitations\na1i:3:wi ax-1 ax-mp\na2:2:wi a1i\nend\n";
 
+/// The usage, and what the two theorems cite.
+const USAGE_AND_CITATIONS: &[u8] =
+    b"mmdepend 1\naxioms 3\ntheorems 2\nusage\nwi:2:a1i a2\nax-1:2:a1i a2\nax-mp:2:a1i a2\ncitations\na1i:3:wi ax-1 ax-mp\na2:2:wi a1i\nend\n";
+
 /// Whether exactly this output is written for the sections of a judged text. `None` if there is no
 /// memory and nothing was written.
 fn is_written<'a, A: Allocator + Copy>(
@@ -112,13 +116,13 @@ fn is_written<'a, A: Allocator + Copy>(
     memory: Global,
     text: &[u8],
     judged: &JudgedText<'a, A>,
-    choice: Choice,
+    sections: Sections,
     output: &[u8],
 ) -> Option<bool>
     requires { IsJudgedText text.now false false judged.now }
 {
     let mut request = Request::without_options();
-    request.choice = choice;
+    request.sections = sections;
     let mut written = Vec::new(memory);
     match write_judged(alloc, text, &request, judged, &mut written) {
         RunEnd::Accepted => Some(written.as_slice() == output),
@@ -134,16 +138,16 @@ fn written_in_turn<'h, R: Abort>(
     memory: Global,
     text: &[u8],
     judged: &JudgedText<'_, &'h Refusing<Global>>,
-    choice: Choice,
+    sections: Sections,
     output: &[u8],
 ) -> bool
     requires { IsJudgedText text.now false false judged.now }
 {
     for growth in 1..MOST_GROWTHS {
         heap.refuse(growth);
-        let is_right = is_written(heap, memory, text, judged, choice, output);
+        let is_right = is_written(heap, memory, text, judged, sections, output);
         let refused = was_refused(rt, heap, is_right);
-        let is_right_again = is_written(heap, memory, text, judged, choice, output);
+        let is_right_again = is_written(heap, memory, text, judged, sections, output);
         assert!(rt; is_right_again == Some(true));
         if !refused {
             return growth > 1;
@@ -162,11 +166,31 @@ fn outputs_of_a_judged_text_written_without_memory(rt: HostRuntime) {
         return;
     };
     let rows = [
-        (Choice::All, CITED_TWICE_REPORT),
-        (Choice::Matrix, MATRIX),
-        (Choice::Citations, CITATIONS),
+        (Sections::by_default(), CITED_TWICE_REPORT),
+        (
+            Sections {
+                matrix: true,
+                ..Sections::none()
+            },
+            MATRIX,
+        ),
+        (
+            Sections {
+                citations: true,
+                ..Sections::none()
+            },
+            CITATIONS,
+        ),
+        (
+            Sections {
+                usage: true,
+                citations: true,
+                ..Sections::none()
+            },
+            USAGE_AND_CITATIONS,
+        ),
     ];
-    for (choice, output) in rows {
-        assert!(&rt; written_in_turn(&rt, &heap, memory, text, &judged, choice, output));
+    for (sections, output) in rows {
+        assert!(&rt; written_in_turn(&rt, &heap, memory, text, &judged, sections, output));
     }
 }

@@ -11,7 +11,7 @@ use crate::texts::{
 };
 use mm_plan::Cutting;
 use mm_run::RunEnd;
-use mm_spec::Choice;
+use mm_spec::Sections;
 use std::alloc::{AllocError, Global};
 use std::process::Abort;
 use std::sync::Wait;
@@ -32,7 +32,7 @@ fn writes_without_growth<R: Threads + Wait + Sync>(
     mut text: &[u8],
     output: &[u8],
 ) -> Option<bool> {
-    let plan = plan_of(Cutting::Count(PIECES), WORKERS, Choice::All);
+    let plan = plan_of(Cutting::Count(PIECES), WORKERS, Sections::by_default());
     let mut to = GrowthWatching::new(alloc, heap);
     let end = ended(rt, heap, &plan, &mut text, &mut to);
     if end == Some(RunEnd::NoMemory) && to.calls == 0 {
@@ -127,7 +127,7 @@ fn many_theorems(alloc: Global, count: u32) -> Result<Vec<u8>, AllocError> {
 
 /// What a run writes for the text.
 fn output_of<R: Threads + Wait + Sync>(rt: &R, alloc: Global, mut text: &[u8]) -> Vec<u8> {
-    let plan = plan_of(Cutting::Count(1), 1, Choice::All);
+    let plan = plan_of(Cutting::Count(1), 1, Sections::by_default());
     let mut written = Vec::new(alloc);
     let _ = ended(rt, alloc, &plan, &mut text, &mut written);
     written

@@ -16,7 +16,7 @@ use changes::change_some;
 use database::random_database;
 use mm_plan::Cutting;
 use mm_run::RunEnd;
-use mm_spec::Choice;
+use mm_spec::Sections;
 use std::alloc::Global;
 use std::process::Abort;
 use std::sync::Wait;
@@ -59,12 +59,12 @@ fn run_randomly<R: Threads + Wait + Sync>(
     rt: &R,
     alloc: Global,
     mut text: &[u8],
-    choice: Choice,
+    sections: Sections,
     chance: &mut Chance,
 ) -> (Option<RunEnd>, Vec<u8>) {
     let cuts = random_cuts(alloc, text.len(), chance);
     let workers = WORKERS_OR_PIECES[chance.below(WORKERS_OR_PIECES.len())];
-    let plan = plan_of(cuts, workers, choice);
+    let plan = plan_of(cuts, workers, sections);
     let mut written = Vec::new(alloc);
     let end = ended(rt, alloc, &plan, &mut text, &mut written);
     (end, written)
@@ -76,7 +76,7 @@ fn run_plainly<R: Threads + Wait + Sync>(
     alloc: Global,
     mut text: &[u8],
 ) -> (Option<RunEnd>, Vec<u8>) {
-    let plan = plan_of(Cutting::Count(1), 1, Choice::All);
+    let plan = plan_of(Cutting::Count(1), 1, Sections::by_default());
     let mut written = Vec::new(alloc);
     let end = ended(rt, alloc, &plan, &mut text, &mut written);
     (end, written)
@@ -126,9 +126,36 @@ fn assert_sections<R: Abort + Threads + Wait + Sync>(
     report: &[u8],
     chance: &mut Chance,
 ) {
-    let (_, matrix_report) = run_randomly(rt, alloc, text, Choice::Matrix, chance);
-    let (_, counts_report) = run_randomly(rt, alloc, text, Choice::Counts, chance);
-    let (_, usage_report) = run_randomly(rt, alloc, text, Choice::Usage, chance);
+    let (_, matrix_report) = run_randomly(
+        rt,
+        alloc,
+        text,
+        Sections {
+            matrix: true,
+            ..Sections::none()
+        },
+        chance,
+    );
+    let (_, counts_report) = run_randomly(
+        rt,
+        alloc,
+        text,
+        Sections {
+            counts: true,
+            ..Sections::none()
+        },
+        chance,
+    );
+    let (_, usage_report) = run_randomly(
+        rt,
+        alloc,
+        text,
+        Sections {
+            usage: true,
+            ..Sections::none()
+        },
+        chance,
+    );
     let sections = [
         section_of(&matrix_report),
         section_of(&counts_report),
@@ -148,12 +175,21 @@ fn end_of_all_runs<R: Abort + Threads + Wait + Sync>(
     chance: &mut Chance,
 ) -> Option<RunEnd> {
     let (end, written) = run_plainly(rt, alloc, text);
-    let (other_end, other_written) = run_randomly(rt, alloc, text, Choice::All, chance);
+    let (other_end, other_written) = run_randomly(rt, alloc, text, Sections::by_default(), chance);
     assert!(rt; other_end == end && other_written.as_slice() == written.as_slice());
     if end == Some(RunEnd::Accepted) {
         assert_sections(rt, alloc, text, &written, chance);
     } else {
-        let (_, refusal) = run_randomly(rt, alloc, text, Choice::Counts, chance);
+        let (_, refusal) = run_randomly(
+            rt,
+            alloc,
+            text,
+            Sections {
+                counts: true,
+                ..Sections::none()
+            },
+            chance,
+        );
         assert!(rt; refusal.as_slice() == written.as_slice());
     }
     end

@@ -1,14 +1,11 @@
 -- Whether a theorem rests on a statement is decided. (This project's own.)
-use Rattle.std.specs.Prelude.{ℕ, Bool, List, Decides}
+use Rattle.std.specs.Prelude.{ℕ, Bool, List}
 use Rattle.mm_spec.specs.Statement.{Statement}
 use Rattle.mm_spec.specs.Opened.{counted}
 use Rattle.mm_spec.specs.Citation.{RestsOn}
 use Rattle.mm_spec.specs.Lexed.{LexedText}
 use Rattle.mm_spec.specs.Output.{HasNoFault}
-
--- one of the two truth values says whether P holds
-abbrev pub IsDecided : Type 0 → Type 0
-IsDecided P = (mark : Bool) × Decides mark P
+use Rattle.mm_spec.specs.Laws.Decided.{IsDecided}
 
 -- if there is no fault, each cell is marked or not
 abbrev pub AreDecided : ℕ → LexedText → (with_open : Bool) → Type 0

@@ -198,7 +198,7 @@ const LOGICAL_CITATIONS: &[&str] = &["mmdepend", "--report", "citations", "--onl
 const ESSENTIAL_CITATIONS: &[&str] = &["mmdepend", "--report", "citations", "--essential"];
 
 /// Runs that report direct citations.
-const CITATIONS_CASES: [Case<'static>; 6] = [
+const CITATIONS_CASES: [Case<'static>; 8] = [
     Case {
         words: CITATIONS,
         parts: TWO_THEOREMS,
@@ -228,6 +228,16 @@ const CITATIONS_CASES: [Case<'static>; 6] = [
         words: &["mmdepend", "--report", "citations", "--form", "2"],
         parts: &[FIRST_TEXT],
         output: b"mmdepend 2\naxioms 2\ntheorems 1\ncitations\nwi2:1:wi\nend\n",
+    },
+    Case {
+        words: &["mmdepend", "--report", "citations,matrix", "--form", "2"],
+        parts: TWO_THEOREMS,
+        output: b"mmdepend 2\naxioms 3\ntheorems 2\nmatrix\na1i:e\na2:e\ncitations\na1i:3:wi ax-1 ax-mp\na2:2:wi a1i\nend\n",
+    },
+    Case {
+        words: &["mmdepend", "--report", "citations,usage,usage", "--only", "|-"],
+        parts: TWO_THEOREMS,
+        output: b"mmdepend 1\naxioms 2\ntheorems 2\nusage\nax-1:2:a1i a2\nax-mp:2:a1i a2\ncitations\na1i:2:ax-1 ax-mp\na2:1:a1i\nend\n",
     },
 ];
 

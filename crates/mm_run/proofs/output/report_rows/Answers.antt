@@ -1,17 +1,23 @@
-use Rattle.mm_report.specs.Rows.{report_of}
+use Rattle.mm_report.specs.Rows.{report_of, citing_rows_of}
 use Rattle.mm_run.proofs.RowsLaw.{table_is_output}
+use Rattle.mm_run.proofs.CitationsLaw.{are_citations_of}
 use Rattle.mm_run.proofs.output.report_rows.Goals as goal
+
+pub write_rows-requires-clause-are_citations : goal.write_rows-requires-clause-are_citations
+write_rows-requires-clause-are_citations g c =
+    are_citations_of c.args.database.now.statements c.args.request.now c.args.citations.now
+    c.requires.is_judged.have_citations
 
 pub returns-in-Ok : goal.returns-in-Ok
 returns-in-Ok g c =
     let d = c.args.database.now in
-    let request = c.args.request.now in (
-      (d.read, c.requires.is_matrix.is_judged.has_no_fault),
+    let request = c.args.request.now in
+    let citing = c.args.citations.now in (
+      (d.read, c.requires.is_judged.has_no_fault),
       (
-        report_of request d c.args.chosen.now c.args.marked.now,
-        table_is_output request d c.requires.is_matrix.citations c.args.chosen.now c.args.marked.now
-            c.requires.is_matrix.is_judged
-            c.requires.columns_are c.requires.is_matrix.is_matrix c.requires.is_no_citations,
+        report_of request d c.args.chosen.now c.args.marked.now (citing_rows_of request d citing),
+        table_is_output request d citing c.args.chosen.now c.args.marked.now
+          c.requires.is_judged c.requires.columns_are c.requires.is_matrix,
         c.in-Ok.ensures.report_is_written,
       ),
     )
@@ -20,11 +26,11 @@ pub returns-in-Err : goal.returns-in-Err
 returns-in-Err g c =
     let d = c.args.database.now in
     let request = c.args.request.now in
+    let citing = c.args.citations.now in
     let is_prefix = c.in-Err.ensures.prefix_is_written in (
-      report_of request d c.args.chosen.now c.args.marked.now,
+      report_of request d c.args.chosen.now c.args.marked.now (citing_rows_of request d citing),
       is_prefix.0,
-      table_is_output request d c.requires.is_matrix.citations c.args.chosen.now
-          c.args.marked.now c.requires.is_matrix.is_judged
-          c.requires.columns_are c.requires.is_matrix.is_matrix c.requires.is_no_citations,
+      table_is_output request d citing c.args.chosen.now c.args.marked.now
+          c.requires.is_judged c.requires.columns_are c.requires.is_matrix,
       is_prefix.1,
     )

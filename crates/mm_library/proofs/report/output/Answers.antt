@@ -1,10 +1,10 @@
 use Rattle.std.proofs.Common.{subst}
 use Rattle.mm_spec.specs.Request.{Request}
 use Rattle.mm_run.specs.Counted.{IsJudgedText}
-use Rattle.mm_library.proofs.report.outputs.Goals as goal
+use Rattle.mm_library.proofs.report.output.Goals as goal
 
-pub write_outputs-requires : goal.write_outputs-requires
-write_outputs-requires g c =
+pub write_to_front-requires : goal.write_to_front-requires
+write_to_front-requires g c =
     record {
       is_judged =
           subst

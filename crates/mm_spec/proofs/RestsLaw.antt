@@ -17,8 +17,8 @@ use Rattle.mm_spec.specs.Output.{is_theorem_at, AreValid, columns, has_typecode,
 use Rattle.mm_spec.specs.Output.{IsCitingRowOf}
 use Rattle.mm_spec.specs.Text.{Bytes}
 use Rattle.std.specs.List.Sorted.{IsStrictlyIncreasing}
-use Rattle.mm_laws.proofs.RisingListsLaw.{list_of}
-use Rattle.mm_laws.specs.Laws.Cells.{IsDecided}
+use Rattle.mm_spec.proofs.RisingListsLaw.{list_of}
+use Rattle.mm_spec.specs.Laws.Decided.{IsDecided}
 use Rattle.mm_spec.proofs.ChainsLaw.{rests_by_one_step}
 use Rattle.mm_spec.proofs.FindsLaw.{passing_statement, got_lt_length}
 use Rattle.mm_spec.proofs.CitedLaw.{cited_lt_theorem, proved_is_theorem, two_proofs_are_equal}

@@ -7,7 +7,7 @@ use Rattle.std.specs.Prelude.{Decides}
 use Rattle.std.specs.List.Sorted.{IsStrictlyIncreasing}
 use Rattle.std.proofs.lemmas.Bool.{or_cases, or_left, or_right}
 use Rattle.mm_spec.specs.Derivation.{is_member}
-use Rattle.mm_laws.specs.Laws.Cells.{IsDecided}
+use Rattle.mm_spec.specs.Laws.Decided.{IsDecided}
 
 rising_tail : (x : ℕ) (xs : List ℕ) → IsStrictlyIncreasing (x ∷ xs) → IsStrictlyIncreasing xs
 rising_tail x xs rises =

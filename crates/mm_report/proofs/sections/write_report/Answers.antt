@@ -1,0 +1,59 @@
+use Rattle.std.proofs.Common.{◌≡◌, ◌∙◌, ◌++◌, List, ℕ, [], Bool, false, None, ap, map, refl, sym, rules}
+use Rattle.std.proofs.Common.{append-nil}
+use Rattle.std.specs.Prelude.{codes}
+use Rattle.mm_spec.specs.Text.{Bytes}
+use Rattle.mm_spec.specs.Output.{label_at}
+use Rattle.mm_spec.specs.Report.{report, section, line}
+use Rattle.mm_spec.specs.Request.{Request}
+use Rattle.mm_spec.specs.declared.Sections.{Sections}
+use Rattle.mm_report.specs.Rows.{rows_of, marked_part, open_theorem_count, sections_of}
+use Rattle.mm_report.specs.Rows.{text_request}
+use Rattle.mm_report.specs.Sent.{Sent}
+use Rattle.mm_report.specs.declared.choices.Choice.{Choice}
+use Rattle.mm_report.specs.declared.choices.Choice.TheVariants.{All, Matrix, Counts, Usage}
+use Rattle.mm_report.specs.declared.choices.Choice.TheVariants.{Citations}
+use Rattle.mm_report.proofs.SentLaw.{sent_both, sent_equal_text, written_if_finished}
+use Rattle.mm_report.proofs.SentLaw.{prefix_written_if_failed}
+use Rattle.mm_report.proofs.TextLaw.{labels_as_many_as_rows}
+use Rattle.mm_report.proofs.sections.write_report.Goals as goal
+
+no_citations : (choice : Choice) → (sections_of choice).citations ≡ false
+no_citations All = refl
+no_citations Matrix = refl
+no_citations Counts = refl
+no_citations Usage = refl
+no_citations Citations = refl
+
+pub send_marked-requires-clause-as_many_labels : goal.send_marked-requires-clause-as_many_labels
+send_marked-requires-clause-as_many_labels g c =
+    labels_as_many_as_rows c.args.database.now.statements c.args.matrix.now c.new-labels.result
+    c.new-labels.ensures c.requires.as_many_rows
+
+pub returns : goal.returns
+returns g c =
+    let d = c.args.database.now in
+    let db = d.statements in
+    let request = text_request None c.args.with_open c.args.form (sections_of c.args.choice) in
+    let columns = c.args.chosen.now in
+    let opened = open_theorem_count request.with_open d columns in
+    let names = map (label_at db) columns in
+    let m = c.args.matrix.now in
+    let marked = marked_part request opened names (rows_of m c.new-labels.result) in
+    let nothing : section request.sections.citations (codes "citations") [] ≡ [] =
+    ap (λ (b : Bool). section b (codes "citations") []) (no_citations c.args.choice) in
+    let marked_sent : Sent (g.W.Write.contents c.args.to.now) (g.W.Write.contents c.send_marked.new.to)
+    c.new-sink.result c.send_marked.new.sink marked = search rules in
+    let report_sent =
+    sent_equal_text _
+    (ap (λ (x : List ℕ). x ++ line (codes "end"))
+    (sym (append-nil marked) ∙ ap (λ (x : List ℕ). marked ++ x) (sym nothing))
+    ∙ ap (λ (ls : List Bytes). report request opened names (rows_of m ls) [])
+    c.new-labels.ensures)
+    (sent_both marked_sent c.send_line.ensures) in
+    record {
+      report_is_written =
+          written_if_finished c.finish.result c.new-sink.ensures report_sent c.finish.ensures.sent
+          c.finish.ensures.all_is_written;
+      prefix_is_written = prefix_written_if_failed c.finish.result c.new-sink.ensures report_sent
+          c.finish.ensures.sent;
+    }
