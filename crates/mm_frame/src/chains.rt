@@ -10,6 +10,7 @@ ghost use Rattle.mm_frame.specs.Chains.{AddsInFront, AreChains, AreLinked, IsCha
 ghost use Rattle.mm_database.specs.DisjointIndex.{has_symbol};
 ghost use Rattle.mm_database.specs.Pairs.{has_pair, AreRising};
 
+use mm_database::disjoint_index::is_narrow;
 use mm_database::statements::Statements;
 use mm_outline::symbol::Sym;
 use std::alloc::{AllocError, Allocator};
@@ -88,6 +89,7 @@ fn add_links<A: Allocator>(
 fn chains_of<A: Allocator + Copy>(
     alloc: A,
     statements: &Statements<A>,
+    narrow: bool,
 ) -> Result<Chains<A>, AllocError>
     ensures head_count_is { IfOk result
         (λ c. length c.heads.items ≡ length (symbol_names statements.now.list)) }
@@ -105,7 +107,9 @@ fn chains_of<A: Allocator + Copy>(
     let mut statement = statements.len();
     while statement > 0 {
         statement -= 1;
-        if statements.is_disjoint(statement) {
+        if statements.is_disjoint(statement)
+            && is_narrow(statements.formula(statement)) == narrow
+        {
             add_links(statements.formula(statement), statement, &mut chains)?;
         }
     }
@@ -137,12 +141,13 @@ fn add_chain<A: Allocator>(
 pub(crate) fn pairs_by_symbol<A: Allocator + Copy>(
     alloc: A,
     statements: &Statements<A>,
+    narrow: bool,
 ) -> Result<Vec<(u32, u32), A>, AllocError>
     ensures rising { IfOk result (λ v. AreRising v.items) }
     ensures members_are { IfOk result (λ v. (x j : ℕ) → has_pair v.items x j
         ≡ has_symbol statements.now.list x j) }
 {
-    let chains = chains_of(alloc, statements)?;
+    let chains = chains_of(alloc, statements, narrow)?;
     let mut by_symbol = Vec::with_capacity(alloc, chains.links.len())?;
     for symbol in 0..statements.symbol_count() {
         add_chain(&chains, symbol, &mut by_symbol)?;

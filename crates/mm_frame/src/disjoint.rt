@@ -11,7 +11,7 @@ ghost use Rattle.mm_database.specs.Pairs.{has_pair, AreRising};
 
 use crate::disjoint_index::sort_and_dedup_pairs;
 use crate::sources::FrameSources;
-use mm_database::disjoint_index::{DisjointIndex, add_active};
+use mm_database::disjoint_index::{DisjointIndex, add_active, is_paired};
 use mm_outline::blocks::Blocks;
 use mm_outline::symbol::Sym;
 use std::alloc::{AllocError, Allocator};
@@ -81,7 +81,7 @@ fn add_all_active<A: Allocator>(
 }
 
 /// Returns the pairs of numbers as pairs of symbols.
-fn symbol_pairs<A: Allocator + Copy>(
+pub(crate) fn symbol_pairs<A: Allocator + Copy>(
     alloc: A,
     pairs: &[(u32, u32)],
 ) -> Result<Vec<(Sym, Sym), A>, AllocError>
@@ -95,26 +95,79 @@ fn symbol_pairs<A: Allocator + Copy>(
     Ok(symbols)
 }
 
-/// Returns the mandatory pairs of an assertion, by its mandatory variables. The cost is one step
-/// for each active `$d` of each of these variables, and one for each pair in each of these `$d`.
-/// `variables_by_statement` and `pairs_by_statement` are filled with these; what they had before is
-/// removed.
-pub(crate) fn mandatory_pairs<A: Allocator + Copy>(
-    alloc: A,
+/// Appends the pairs of a variable and the later ones with which its row has an active `$d`, each
+/// found in the row.
+fn add_found<A: Allocator>(
+    blocks: &Blocks<A>,
+    row: &[(u32, u32)],
+    low: u32,
+    variables: &[Sym],
+    at: u32,
+    pairs: &mut Vec<(u32, u32), A>,
+) -> Result<(), AllocError> {
+    for variable in variables {
+        let high = variable.number();
+        if low < high && is_paired(blocks, row, high, at) {
+            pairs.push((low, high))?;
+        }
+    }
+    Ok(())
+}
+
+/// The same, by a walk over the row. Variables have the stamp `at + 1`.
+fn add_walked<A: Allocator>(
+    blocks: &Blocks<A>,
+    row: &[(u32, u32)],
+    low: u32,
+    marks: &[u32],
+    at: u32,
+    pairs: &mut Vec<(u32, u32), A>,
+) -> Result<(), AllocError> {
+    for (high, statement) in row {
+        if low < *high
+            && marks[*high as usize] == at + 1
+            && *statement < at
+            && blocks.is_open_at(*statement, at)
+        {
+            pairs.push((low, *high))?;
+        }
+    }
+    Ok(())
+}
+
+/// Appends the pairs of variables that an active narrow `$d` has.
+fn add_narrow<A: Allocator>(
+    blocks: &Blocks<A>,
+    disjoint_index: &DisjointIndex<A>,
+    variables: &[Sym],
+    marks: &[u32],
+    at: u32,
+    pairs: &mut Vec<(u32, u32), A>,
+) -> Result<(), AllocError> {
+    for variable in variables {
+        let row = disjoint_index.row(*variable);
+        let low = variable.number();
+        if row.len() <= variables.len() {
+            add_walked(blocks, row, low, marks, at, pairs)?;
+        } else {
+            add_found(blocks, row, low, variables, at, pairs)?;
+        }
+    }
+    Ok(())
+}
+
+/// Lists the mandatory pairs of an assertion, by its mandatory variables, in `pairs`. The cost is a
+/// look-up for each two of these variables or less, and one step for each active wide `$d` of each
+/// of them, and one for each pair in each of these `$d`. What `variables_by_statement` and `pairs`
+/// had before is removed.
+pub(crate) fn list_pairs<A: Allocator>(
     sources: &FrameSources<A>,
     variables: &[Sym],
+    marks: &[u32],
     assertion: u32,
     variables_by_statement: &mut Vec<(u32, u32), A>,
-    pairs_by_statement: &mut Vec<(u32, u32), A>,
-) -> Result<Vec<(Sym, Sym), A>, AllocError>
-    requires are_sources { AreSources sources.now }
-    requires assertion_lt_length { assertion < length sources.now.statements.now.list }
-    requires are_mandatory { (x : ℕ)
-        → is_member variables.now x
-        ≡ is_member (mandatory_variables sources.now.statements.now.list assertion) x }
-    ensures { IfOk result
-        (λ v. map (λ p. pair p.0 p.1) v.items
-        ≡ mandatory_pairs sources.now.statements.now.list assertion) }
+    pairs: &mut Vec<(u32, u32), A>,
+) -> Result<(), AllocError>
 {
     variables_by_statement.clear();
     add_all_active(
@@ -125,8 +178,9 @@ pub(crate) fn mandatory_pairs<A: Allocator + Copy>(
         variables_by_statement,
     )?;
     sort_and_dedup_pairs(variables_by_statement);
-    pairs_by_statement.clear();
-    add_together(variables_by_statement, pairs_by_statement)?;
-    sort_and_dedup_pairs(pairs_by_statement);
-    symbol_pairs(alloc, pairs_by_statement)
+    pairs.clear();
+    add_narrow(sources.statements.blocks(), sources.disjoint_index, variables, marks, assertion, pairs)?;
+    add_together(variables_by_statement, pairs)?;
+    sort_and_dedup_pairs(pairs);
+    Ok(())
 }

@@ -10,6 +10,7 @@ ghost use Rattle.mm_database.specs.Starts.{AreStarts};
 use crate::chains::pairs_by_symbol;
 use mm_database::disjoint_index::DisjointIndex;
 use mm_database::statements::Statements;
+use mm_lists::Lists;
 use mm_outline::blocks::Blocks;
 use mm_outline::symbol::Sym;
 use std::alloc::{AllocError, Allocator};
@@ -75,6 +76,81 @@ fn starts_of<A: Allocator + Copy>(
     Ok(starts)
 }
 
+/// Appends the pair to its row, unless the last pair of the row covers it.
+fn add_to_row<A: Allocator>(
+    blocks: &Blocks<A>,
+    row: &mut Vec<(u32, u32), A>,
+    pair: (u32, u32),
+) -> Result<(), AllocError> {
+    let count = row.len();
+    if count == 0 || !is_covered(blocks, pair, row[count - 1]) {
+        row.push(pair)?;
+    }
+    Ok(())
+}
+
+/// Appends the pair to the row of the symbol.
+fn add_to_row_of<A: Allocator + Copy>(
+    alloc: A,
+    blocks: &Blocks<A>,
+    rows: &mut Vec<Vec<(u32, u32), A>, A>,
+    symbol: Sym,
+    pair: (u32, u32),
+) -> Result<(), AllocError> {
+    let index = symbol.number() as usize;
+    while rows.len() <= index {
+        rows.push(Vec::new(alloc))?;
+    }
+    add_to_row(blocks, &mut rows[index], pair)
+}
+
+/// Appends the pair to the row of each of the symbols that is before its own.
+fn add_to_lower_rows<A: Allocator + Copy>(
+    alloc: A,
+    blocks: &Blocks<A>,
+    rows: &mut Vec<Vec<(u32, u32), A>, A>,
+    symbols: &[Sym],
+    pair: (u32, u32),
+) -> Result<(), AllocError> {
+    for symbol in symbols {
+        if symbol.number() < pair.0 {
+            add_to_row_of(alloc, blocks, rows, *symbol, pair)?;
+        }
+    }
+    Ok(())
+}
+
+/// Returns the rows.
+fn rows_of<A: Allocator + Copy>(
+    alloc: A,
+    statements: &Statements<A>,
+) -> Result<Vec<Vec<(u32, u32), A>, A>, AllocError> {
+    let by_symbol = pairs_by_symbol(alloc, statements, true)?;
+    let mut rows = Vec::new(alloc);
+    for pair in &by_symbol {
+        add_to_lower_rows(
+            alloc,
+            statements.blocks(),
+            &mut rows,
+            statements.formula(pair.1),
+            *pair,
+        )?;
+    }
+    Ok(rows)
+}
+
+/// Returns the lists.
+fn listed<A: Allocator + Copy>(
+    alloc: A,
+    rows: &[Vec<(u32, u32), A>],
+) -> Result<Lists<(u32, u32), A>, AllocError> {
+    let mut lists = Lists::new(alloc);
+    for row in rows {
+        lists.push(row)?;
+    }
+    Ok(lists)
+}
+
 /// Returns the index of the `$d` statements by their variables.
 pub(crate) fn disjoint_index_of<A: Allocator + Copy>(
     alloc: A,
@@ -83,8 +159,10 @@ pub(crate) fn disjoint_index_of<A: Allocator + Copy>(
     ensures { IfOk result
         (λ m. IsDisjointIndex statements.now.list statements.now.blocks m) }
 {
-    let by_symbol = pairs_by_symbol(alloc, statements)?;
+    let rows = rows_of(alloc, statements)?;
+    let narrow = listed(alloc, &rows)?;
+    let by_symbol = pairs_by_symbol(alloc, statements, false)?;
     let skips = skips_of(alloc, statements.blocks(), &by_symbol)?;
     let starts = starts_of(alloc, &by_symbol)?;
-    Ok(DisjointIndex::new(by_symbol, skips, starts))
+    Ok(DisjointIndex::new(by_symbol, skips, starts, narrow))
 }

@@ -9,12 +9,15 @@ ghost use Rattle.mm_frame.specs.Sources.{AreSources};
 ghost use Rattle.mm_database.specs.ParsedStatements.{IsSound};
 ghost use Rattle.mm_frame.specs.Hypotheses.{AreReady, AreLastFloats, IsFresh};
 
-use crate::disjoint::mandatory_pairs;
-use crate::hypotheses::list_hypotheses;
+use crate::active::active_essentials;
+use crate::disjoint::{list_pairs, symbol_pairs};
+use crate::hypotheses::{list_essential_variables, list_further_variables};
+use crate::hypotheses::{list_hypotheses, list_mandatory_variables};
 use crate::sources::FrameSources;
 use mm_database::frames::{Frame, Frames};
 use mm_database::statements::Statements;
 use mm_outline::blocks::NEVER;
+use mm_outline::parts::Kind;
 use mm_outline::symbol::Sym;
 use std::alloc::{AllocError, Allocator};
 
@@ -44,8 +47,17 @@ fn set_last_float<A: Allocator>(
 
 /// Lists that are kept from one assertion to the next, so that their memory is reused.
 struct Scratch<A: Allocator> {
-    /// For each symbol 1 more than the last assertion for which it is a mandatory variable, or 0.
+    /// For each symbol the stamp of the last active `$e` that had it as a variable, or 0.
     stamps: Vec<u32, A>,
+    stamp: u32,
+    previous: u32,
+    same_scope: bool,
+    essentials: Vec<u32, A>,
+    essential_variables: Vec<Sym, A>,
+    further: Vec<u32, A>,
+    previous_further: Vec<u32, A>,
+    /// For each symbol 1 more than the last assertion for which it is a mandatory variable, or 0.
+    marks: Vec<u32, A>,
     /// The mandatory variables.
     variables: Vec<Sym, A>,
     /// The mandatory hypotheses.
@@ -61,6 +73,14 @@ impl<A: Allocator> Drop for Scratch<A> {
     fn drop(self) {
         let Self {
             stamps: _,
+            stamp: _,
+            previous: _,
+            same_scope: _,
+            essentials: _,
+            essential_variables: _,
+            further: _,
+            previous_further: _,
+            marks: _,
             variables: _,
             hypotheses: _,
             variables_by_statement: _,
@@ -75,8 +95,17 @@ impl<A: Allocator + Copy> Scratch<A> {
         ensures { IfOk result (λ s. (at : ℕ) → IsFresh symbol_count at s.stamps.items) }
     {
         let stamps = filled(alloc, 0, symbol_count)?;
+        let marks = filled(alloc, 0, symbol_count)?;
         Ok(Scratch {
             stamps,
+            stamp: 0,
+            previous: NEVER,
+            same_scope: false,
+            essentials: Vec::new(alloc),
+            essential_variables: Vec::new(alloc),
+            further: Vec::new(alloc),
+            previous_further: Vec::new(alloc),
+            marks,
             variables: Vec::new(alloc),
             hypotheses: Vec::new(alloc),
             variables_by_statement: Vec::new(alloc),
@@ -111,45 +140,121 @@ fn copied<A: Allocator + Copy>(alloc: A, numbers: &[u32]) -> Result<Vec<u32, A>,
     Ok(list)
 }
 
-/// Returns the frame of an assertion.
-fn frame_of<A: Allocator + Copy>(
+fn list_scope<A: Allocator>(
+    sources: &FrameSources<A>,
+    statement: u32,
+    scratch: &mut Scratch<A>,
+) -> Result<(), AllocError> {
+    active_essentials(
+        sources.statements,
+        sources.essentials,
+        statement,
+        &mut scratch.essentials,
+    )?;
+    list_essential_variables(
+        sources.statements,
+        &scratch.essentials,
+        statement,
+        &mut scratch.stamps,
+        &mut scratch.essential_variables,
+    )?;
+    scratch.stamp = statement + 1;
+    Ok(())
+}
+
+fn list_frame<A: Allocator>(
+    sources: &FrameSources<A>,
+    last_floats: &[u32],
+    statement: u32,
+    scratch: &mut Scratch<A>,
+) -> Result<(), AllocError> {
+    list_mandatory_variables(
+        sources.statements,
+        &scratch.essential_variables,
+        statement,
+        &mut scratch.marks,
+        &mut scratch.variables,
+    )?;
+    list_hypotheses(
+        sources.statements,
+        last_floats,
+        statement,
+        &scratch.essentials,
+        &scratch.variables,
+        &mut scratch.hypotheses,
+    )?;
+    list_pairs(
+        sources,
+        &scratch.variables,
+        &scratch.marks,
+        statement,
+        &mut scratch.variables_by_statement,
+        &mut scratch.pairs_by_statement,
+    )
+}
+
+fn are_pairs(symbols: &[(Sym, Sym)], pairs: &[(u32, u32)]) -> bool {
+    if symbols.len() != pairs.len() {
+        return false;
+    }
+    for index in 0..pairs.len() {
+        if symbols[index].0.number() != pairs[index].0 || symbols[index].1.number() != pairs[index].1 {
+            return false;
+        }
+    }
+    true
+}
+
+fn is_frame<A: Allocator>(frame: &Frame<A>, hypotheses: &[u32], pairs: &[(u32, u32)]) -> bool {
+    frame.hyps.as_slice() == hypotheses && are_pairs(&frame.pairs, pairs)
+}
+
+fn add_listed<A: Allocator + Copy>(
+    alloc: A,
+    from: u32,
+    scratch: &Scratch<A>,
+    frames: &mut Frames<A>,
+) -> Result<(), AllocError> {
+    if scratch.previous != NEVER
+        && is_frame(frames.of(scratch.previous - from), &scratch.hypotheses, &scratch.pairs_by_statement)
+    {
+        return frames.add_shared(scratch.previous - from);
+    }
+    let hyps = copied(alloc, &scratch.hypotheses)?;
+    let pairs = symbol_pairs(alloc, &scratch.pairs_by_statement)?;
+    frames.add(Frame { hyps, pairs })
+}
+
+/// Adds an assertion with its frame
+fn add_assertion<A: Allocator + Copy>(
     alloc: A,
     sources: &FrameSources<A>,
     last_floats: &[u32],
-    assertion: u32,
+    from: u32,
+    statement: u32,
     scratch: &mut Scratch<A>,
-) -> Result<Frame<A>, AllocError>
-    requires are_sources { AreSources sources.now }
-    requires assertion_lt_length { assertion < length sources.now.statements.now.list }
-    requires are_ready { AreReady sources.now.statements.now.list assertion last_floats.now
-        scratch.old.stamps.items }
-    ensures are_fresh { OnOk result
-        (IsFresh (length (symbol_names sources.now.statements.now.list)) (assertion + 1)
-        scratch.new.stamps.items) }
-    ensures frame_is { IfOk result
-        (λ f. mandatory_in f ≡ mandatory_at sources.now.statements.now.list assertion) }
-{
-    list_hypotheses(
-        sources,
-        last_floats,
-        assertion,
-        &mut scratch.stamps,
-        &mut scratch.variables,
-        &mut scratch.hypotheses,
+    frames: &mut Frames<A>,
+) -> Result<(), AllocError> {
+    if !scratch.same_scope {
+        list_scope(sources, statement, scratch)?;
+    }
+    list_further_variables(
+        sources.statements,
+        sources.statements.formula(statement),
+        scratch.stamp,
+        &scratch.stamps,
+        &mut scratch.further,
     )?;
-    let hypotheses = copied(alloc, &scratch.hypotheses)?;
-    let pairs = mandatory_pairs(
-        alloc,
-        sources,
-        &scratch.variables,
-        assertion,
-        &mut scratch.variables_by_statement,
-        &mut scratch.pairs_by_statement,
-    )?;
-    Ok(Frame {
-        hyps: hypotheses,
-        pairs,
-    })
+    if scratch.same_scope && scratch.further.as_slice() == scratch.previous_further.as_slice() {
+        return frames.add_shared(scratch.previous - from);
+    }
+    list_frame(sources, last_floats, statement, scratch)?;
+    add_listed(alloc, from, scratch, frames)?;
+    scratch.previous_further.clear();
+    scratch.previous_further.extend_from_slice(&scratch.further)?;
+    scratch.previous = statement;
+    scratch.same_scope = true;
+    Ok(())
 }
 
 /// Adds a statement, with its frame if it is an assertion.
@@ -157,27 +262,26 @@ fn add_frame<A: Allocator + Copy>(
     alloc: A,
     sources: &FrameSources<A>,
     last_floats: &[u32],
+    from: u32,
     statement: u32,
     scratch: &mut Scratch<A>,
     frames: &mut Frames<A>,
 ) -> Result<(), AllocError>
-    requires are_sources { AreSources sources.now }
-    requires statement_lt_length { statement < length sources.now.statements.now.list }
-    requires are_ready { AreReady sources.now.statements.now.list statement last_floats.now
-        scratch.old.stamps.items }
-    requires few_frames { length frames.old < 2 ^ 31 }
-    ensures are_fresh { OnOk result
-        (IsFresh (length (symbol_names sources.now.statements.now.list)) (statement + 1)
-        scratch.new.stamps.items) }
-    ensures frame_is_added { OnOk result
-        (frames.new
-        ≡ frames.old ++ frame_or_none sources.now.statements.now.list statement ∷ []) }
 {
     if sources.statements.is_assertion(statement) {
-        let frame = frame_of(alloc, sources, last_floats, statement, scratch)?;
-        frames.add(frame)
+        add_assertion(alloc, sources, last_floats, from, statement, scratch, frames)
     } else {
+        if changes_scope(sources.statements.kind(statement)) {
+            scratch.same_scope = false;
+        }
         frames.add_none()
+    }
+}
+
+fn changes_scope(kind: Kind) -> bool {
+    match kind {
+        Kind::Constants | Kind::Variables | Kind::Axiom | Kind::Theorem => false,
+        _ => true,
     }
 }
 
@@ -188,11 +292,6 @@ pub(crate) fn frames_between<A: Allocator + Copy>(
     from: u32,
     to: u32,
 ) -> Result<Frames<A>, AllocError>
-    requires are_sources { AreSources sources.now }
-    requires from_le_to { from ≤ to }
-    requires to_le_length { to ≤ length sources.now.statements.now.list }
-    ensures { IfOk result
-        (λ v. v ≡ frames_between sources.now.statements.now.list from to) }
 {
     let statements = sources.statements;
     let mut last_floats = last_floats_before(alloc, statements, from)?;
@@ -203,6 +302,7 @@ pub(crate) fn frames_between<A: Allocator + Copy>(
             alloc,
             sources,
             &last_floats,
+            from,
             statement,
             &mut scratch,
             &mut frames,
