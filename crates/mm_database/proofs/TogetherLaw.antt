@@ -12,7 +12,8 @@ use Rattle.mm_spec.proofs.BoolLaw.{same_tests}
 use Rattle.mm_spec.proofs.MemberLaw.{active_member, disjoint_local, passing_has_witness}
 use Rattle.mm_spec.proofs.MemberLaw.{witness_makes_any}
 use Rattle.mm_outline.specs.Blocks.{BlockLists, IsBlocks, end_of}
-use Rattle.mm_database.specs.DisjointIndex.{has_symbol, has_symbol_by_width, has_narrow_pair}
+use Rattle.mm_database.specs.DisjointIndex.{is_disjoint_by_width, has_symbol_by_width}
+use Rattle.mm_database.specs.DisjointIndex.{has_narrow_pair}
 use Rattle.mm_database.specs.DisjointIndex.{is_narrow, is_active_local, is_active_in_row}
 use Rattle.mm_database.specs.DisjointIndex.{is_active_pair, IsRowOf, row_of}
 use Rattle.mm_database.proofs.RowsLaw.{active_from_test, test_from_active}
@@ -104,12 +105,13 @@ module _ (db : List Statement) (b : BlockLists) (are_blocks : IsBlocks db b) (k 
         ((rows_are x).pairs_pass y j found.is_there) in
         let both = and_parts (has_symbol_by_width db true y j) (is_member (formula_at db j) x)
         parts.1 in
-        let has_y = (and_parts (has_symbol db y j) (is_narrow (formula_at db j)) both.0).0 in
-        let y_parts = and_parts (list_any is_disjoint_statement (statement_at db j))
-        (is_member (formula_at db j) y) has_y in
+        let y_parts = and_parts (is_disjoint_by_width db true j) (is_member (formula_at db j) y)
+        both.0 in
         record {
           statement = j;
-          is_disjoint = y_parts.0;
+          is_disjoint =
+              (and_parts (list_any is_disjoint_statement (statement_at db j))
+              (is_narrow (formula_at db j)) y_parts.0).0;
           has_x = both.1;
           has_y = y_parts.1;
           is_active = found.is_active;
@@ -124,7 +126,7 @@ module _ (db : List Statement) (b : BlockLists) (are_blocks : IsBlocks db b) (k 
         let covered = (rows_are x).passing_are_covered y j
         (ap₂ (λ p q. p && q) (lt-ltb x y x_lt_y)
         (ap₂ (λ p q. p && q)
-        (ap₂ (λ p q. p && q) (ap₂ (λ p q. p && q) both.is_disjoint both.has_y) is_narrow_here)
+        (ap₂ (λ p q. p && q) (ap₂ (λ p q. p && q) both.is_disjoint is_narrow_here) both.has_y)
         both.has_x)) in
         let parts = and_parts (nat_lt j k) (nat_le k (end_of b j)) both.is_active in
         let j_lt_k = ltb-true j k parts.0 in
@@ -184,10 +186,12 @@ module _ (db : List Statement) (b : BlockLists) (are_blocks : IsBlocks db b) (k 
               → (list_any is_disjoint_statement (statement_at db j) ≡ true)
               × (is_member (formula_at db j) z ≡ true)
           wide_parts z j is_there =
-              and_parts (list_any is_disjoint_statement (statement_at db j))
-              (is_member (formula_at db j) z)
-              (and_parts (has_symbol db z j) (not (is_narrow (formula_at db j)))
-              (sym (pairs_are_members z j) ∙ is_there)).0
+              let parts = and_parts (is_disjoint_by_width db false j)
+              (is_member (formula_at db j) z) (sym (pairs_are_members z j) ∙ is_there) in (
+                (and_parts (list_any is_disjoint_statement (statement_at db j))
+                    (not (is_narrow (formula_at db j))) parts.0).0,
+                parts.1,
+              )
 
           left_to_right : (c : Bool) → is_active_pair b rows x y k ≡ c
               → r ≡ true → are_together_at db k x y ≡ true
@@ -216,8 +220,8 @@ module _ (db : List Statement) (b : BlockLists) (are_blocks : IsBlocks db b) (k 
                   → is_member (formula_at db j) z ≡ true → has_pair ps z j ≡ true
               has_wide z is_wide has_z =
                   pairs_are_members z j
-                  ∙ ap₂ (λ p q. p && q) (ap₂ (λ p q. p && q) both.is_disjoint has_z)
-                  (ap not is_wide)
+                  ∙ ap₂ (λ p q. p && q) (ap₂ (λ p q. p && q) both.is_disjoint (ap not is_wide))
+                  has_z
 
               by_width : (c : Bool) → is_narrow (formula_at db j) ≡ c → r ≡ true
               by_width true is_narrow_here =

@@ -9,20 +9,20 @@ use Rattle.mm_spec.specs.Frame.{is_disjoint_statement, formula_at}
 use Rattle.mm_outline.specs.Blocks.{BlockLists, end_of}
 use Rattle.mm_database.specs.Pairs.{has_pair, AreRising}
 
--- statement j is a `$d` that has the symbol
-abbrev pub has_symbol : List Statement → ℕ → ℕ → Bool
-has_symbol db x j =
-    list_any is_disjoint_statement (statement_at db j) && is_member (formula_at db j) x
-
 -- whether a `$d` of these symbols is narrow: it has at most 16
 abbrev pub is_narrow : List ℕ → Bool
 is_narrow symbols = nat_le (length symbols) 16
 
--- statement j is a `$d` that has the symbol, and it is narrow, or wide
+-- statement j is a narrow `$d`, or a wide one
+abbrev pub is_disjoint_by_width : List Statement → (narrow : Bool) → ℕ → Bool
+is_disjoint_by_width db narrow j =
+    list_any is_disjoint_statement (statement_at db j)
+    && (if narrow then is_narrow (formula_at db j) else not (is_narrow (formula_at db j)))
+
+-- the same, and it has the symbol
 abbrev pub has_symbol_by_width : List Statement → (narrow : Bool) → ℕ → ℕ → Bool
 has_symbol_by_width db narrow x j =
-    has_symbol db x j
-    && (if narrow then is_narrow (formula_at db j) else not (is_narrow (formula_at db j)))
+    is_disjoint_by_width db narrow j && is_member (formula_at db j) x
 
 -- statement j is a narrow `$d` that has x and the higher symbol y
 abbrev pub has_narrow_pair : List Statement → ℕ → ℕ → ℕ → Bool

@@ -1,33 +1,31 @@
 //! The frames of the assertions in a stretch of statements.
 
-ghost use Rattle.std.specs.Prelude.{◌≡◌, ◌<◌, ◌≤◌, ◌+◌, ◌^◌, ◌++◌, ◌∷◌, [], ℕ, IfOk, OnOk};
-ghost use Rattle.std.specs.Prelude.{length, slice_index};
+ghost use Rattle.std.specs.Prelude.{◌≡◌, ◌≢◌, ◌<◌, ◌≤◌, ◌+◌, ◌^◌, ◌++◌, ◌∷◌, [], ℕ, List, IfOk};
+ghost use Rattle.std.specs.Prelude.{OnOk, IsSome, Some, None, length, slice_index, get_or, map};
+ghost use Rattle.std.specs.Prelude.{true};
+ghost use Rattle.std.specs.List.{list_any};
+ghost use Rattle.mm_spec.specs.Statement.{Statement};
+ghost use Rattle.mm_spec.specs.Scope.{statement_at};
+ghost use Rattle.mm_spec.specs.Derivation.{is_member, pair};
+ghost use Rattle.mm_spec.specs.Citation.{is_assertion};
 ghost use Rattle.mm_spec.specs.Frame.{symbol_names};
-ghost use Rattle.mm_database.specs.Frames.{frame_or_none, frames_between, mandatory_at};
-ghost use Rattle.mm_database.specs.Frames.{mandatory_in};
-ghost use Rattle.mm_frame.specs.Sources.{AreSources};
+ghost use Rattle.mm_outline.specs.Blocks.{never};
+ghost use Rattle.mm_database.specs.Frames.{frame_or_none, frames_between, mandatory};
+ghost use Rattle.mm_database.specs.Frames.{mandatory_at};
 ghost use Rattle.mm_database.specs.ParsedStatements.{IsSound};
-ghost use Rattle.mm_frame.specs.Hypotheses.{AreReady, AreLastFloats, IsFresh};
+ghost use Rattle.mm_frame.specs.Sources.{AreSources};
+ghost use Rattle.mm_frame.specs.Hypotheses.{AreLastFloats, IsFresh};
+ghost use Rattle.mm_frame.specs.Scope.{AreEssentialLists, IsReady, is_further, index_from};
 
-use crate::active::active_essentials;
 use crate::disjoint::{list_pairs, symbol_pairs};
-use crate::hypotheses::{list_essential_variables, list_further_variables};
-use crate::hypotheses::{list_hypotheses, list_mandatory_variables};
+use crate::hypotheses::{list_further_variables, list_hypotheses, list_mandatory_variables};
+use crate::scope::{EssentialLists, filled, keeps_scope, list_scope};
 use crate::sources::FrameSources;
 use mm_database::frames::{Frame, Frames};
 use mm_database::statements::Statements;
 use mm_outline::blocks::NEVER;
-use mm_outline::parts::Kind;
 use mm_outline::symbol::Sym;
 use std::alloc::{AllocError, Allocator};
-
-/// Returns a list that has `value` the given number of times.
-fn filled<A: Allocator + Copy>(alloc: A, value: u32, count: u32) -> Result<Vec<u32, A>, AllocError>
-    ensures length_is { IfOk result (λ v. length v.items ≡ count) }
-    ensures each_is_value { IfOk result (λ v. (i : ℕ) → i < count → slice_index v.items i ≡ value) }
-{
-    vec![in alloc; value; count as usize]
-}
 
 /// Makes the statement the last `$f` of its variable, if it is a `$f`.
 fn set_last_float<A: Allocator>(
@@ -45,71 +43,94 @@ fn set_last_float<A: Allocator>(
     }
 }
 
-/// Lists that are kept from one assertion to the next, so that their memory is reused.
-struct Scratch<A: Allocator> {
-    /// For each symbol the stamp of the last active `$e` that had it as a variable, or 0.
-    stamps: Vec<u32, A>,
-    stamp: u32,
-    previous: u32,
-    same_scope: bool,
-    essentials: Vec<u32, A>,
-    essential_variables: Vec<Sym, A>,
-    further: Vec<u32, A>,
-    previous_further: Vec<u32, A>,
+/// What an assertion's frame is made of, in lists whose memory is used again for the next one.
+struct FrameLists<A: Allocator> {
     /// For each symbol 1 more than the last assertion for which it is a mandatory variable, or 0.
     marks: Vec<u32, A>,
     /// The mandatory variables.
     variables: Vec<Sym, A>,
     /// The mandatory hypotheses.
     hypotheses: Vec<u32, A>,
-    /// The active `$d` of the mandatory variables, each paired with those of them that it has.
+    /// The active wide `$d` of the mandatory variables, each paired with those of them that it has.
     variables_by_statement: Vec<(u32, u32), A>,
-    /// The pairs of mandatory variables that are together in one of these `$d`.
-    pairs_by_statement: Vec<(u32, u32), A>,
+    /// The pairs of mandatory variables that are in one active `$d`.
+    pairs: Vec<(u32, u32), A>,
+}
+
+/// Dropped in one call: docs/PROOFS.md, "What a check costs".
+impl<A: Allocator> Drop for FrameLists<A> {
+    fn drop(self) {
+        let Self {
+            marks: _,
+            variables: _,
+            hypotheses: _,
+            variables_by_statement: _,
+            pairs: _,
+        } = self;
+    }
+}
+
+/// What is kept from one assertion to the next.
+struct Scratch<A: Allocator> {
+    /// The last assertion before, or `NEVER`.
+    previous: u32,
+    /// Whether since then no `$d`, `$e` or `$f` and no block has begun or ended.
+    is_same_scope: bool,
+    /// Its active `$e`.
+    scope: EssentialLists<A>,
+    /// The variables of its formula that aren't in these `$e`, in ascending order.
+    previous_further: Vec<u32, A>,
+    /// Those of the assertion that is at hand.
+    further: Vec<u32, A>,
+    lists: FrameLists<A>,
 }
 
 /// Dropped in one call: docs/PROOFS.md, "What a check costs".
 impl<A: Allocator> Drop for Scratch<A> {
     fn drop(self) {
         let Self {
-            stamps: _,
-            stamp: _,
             previous: _,
-            same_scope: _,
-            essentials: _,
-            essential_variables: _,
-            further: _,
+            is_same_scope: _,
+            scope: _,
             previous_further: _,
-            marks: _,
-            variables: _,
-            hypotheses: _,
-            variables_by_statement: _,
-            pairs_by_statement: _,
+            further: _,
+            lists: _,
         } = self;
     }
 }
 
-impl<A: Allocator + Copy> Scratch<A> {
+impl<A: Allocator + Copy> FrameLists<A> {
     /// Returns the lists before the first assertion.
-    fn new(alloc: A, symbol_count: u32) -> Result<Scratch<A>, AllocError>
-        ensures { IfOk result (λ s. (at : ℕ) → IsFresh symbol_count at s.stamps.items) }
+    fn new(alloc: A, symbol_count: u32) -> Result<FrameLists<A>, AllocError>
+        ensures { IfOk result (λ s. (at : ℕ) → IsFresh symbol_count at s.marks.items) }
     {
-        let stamps = filled(alloc, 0, symbol_count)?;
         let marks = filled(alloc, 0, symbol_count)?;
-        Ok(Scratch {
-            stamps,
-            stamp: 0,
-            previous: NEVER,
-            same_scope: false,
-            essentials: Vec::new(alloc),
-            essential_variables: Vec::new(alloc),
-            further: Vec::new(alloc),
-            previous_further: Vec::new(alloc),
+        Ok(FrameLists {
             marks,
             variables: Vec::new(alloc),
             hypotheses: Vec::new(alloc),
             variables_by_statement: Vec::new(alloc),
-            pairs_by_statement: Vec::new(alloc),
+            pairs: Vec::new(alloc),
+        })
+    }
+}
+
+impl<A: Allocator + Copy> Scratch<A> {
+    /// Returns what there is before the first assertion of a stretch.
+    fn new(alloc: A, symbol_count: u32) -> Result<Scratch<A>, AllocError>
+        ensures { IfOk result
+            (λ s. (db : List Statement) (from : ℕ) → length (symbol_names db) ≡ symbol_count
+            → IsReady db from from s) }
+    {
+        let scope = EssentialLists::new(alloc, symbol_count)?;
+        let lists = FrameLists::new(alloc, symbol_count)?;
+        Ok(Scratch {
+            previous: NEVER,
+            is_same_scope: false,
+            scope,
+            previous_further: Vec::new(alloc),
+            further: Vec::new(alloc),
+            lists,
         })
     }
 }
@@ -140,121 +161,223 @@ fn copied<A: Allocator + Copy>(alloc: A, numbers: &[u32]) -> Result<Vec<u32, A>,
     Ok(list)
 }
 
-fn list_scope<A: Allocator>(
-    sources: &FrameSources<A>,
-    statement: u32,
-    scratch: &mut Scratch<A>,
-) -> Result<(), AllocError> {
-    active_essentials(
-        sources.statements,
-        sources.essentials,
-        statement,
-        &mut scratch.essentials,
-    )?;
-    list_essential_variables(
-        sources.statements,
-        &scratch.essentials,
-        statement,
-        &mut scratch.stamps,
-        &mut scratch.essential_variables,
-    )?;
-    scratch.stamp = statement + 1;
-    Ok(())
-}
-
+/// Lists what is mandatory for an assertion, by its active `$e`. Replaces what the lists have.
 fn list_frame<A: Allocator>(
     sources: &FrameSources<A>,
     last_floats: &[u32],
-    statement: u32,
-    scratch: &mut Scratch<A>,
-) -> Result<(), AllocError> {
+    assertion: u32,
+    scope: &EssentialLists<A>,
+    lists: &mut FrameLists<A>,
+) -> Result<(), AllocError>
+    requires are_sources { AreSources sources.now }
+    requires assertion_lt_length { assertion < length sources.now.statements.now.list }
+    requires are_last_floats { AreLastFloats sources.now.statements.now.list assertion
+        last_floats.now }
+    requires are_fresh { IsFresh
+        (length (symbol_names sources.now.statements.now.list)) assertion lists.old.marks.items }
+    requires are_essential { AreEssentialLists sources.now.statements.now.list assertion scope.now }
+    ensures are_fresh { OnOk result
+        (IsFresh (length (symbol_names sources.now.statements.now.list)) (assertion + 1)
+        lists.new.marks.items) }
+    ensures are_mandatory { OnOk result
+        (mandatory lists.new.hypotheses.items (map (λ p. pair p.0 p.1) lists.new.pairs.items)
+        ≡ mandatory_at sources.now.statements.now.list assertion) }
+{
     list_mandatory_variables(
         sources.statements,
-        &scratch.essential_variables,
-        statement,
-        &mut scratch.marks,
-        &mut scratch.variables,
+        &scope.variables,
+        assertion,
+        &mut lists.marks,
+        &mut lists.variables,
     )?;
     list_hypotheses(
         sources.statements,
         last_floats,
-        statement,
-        &scratch.essentials,
-        &scratch.variables,
-        &mut scratch.hypotheses,
+        assertion,
+        &scope.essentials,
+        &lists.variables,
+        &mut lists.hypotheses,
     )?;
     list_pairs(
         sources,
-        &scratch.variables,
-        &scratch.marks,
-        statement,
-        &mut scratch.variables_by_statement,
-        &mut scratch.pairs_by_statement,
+        &lists.variables,
+        &lists.marks,
+        assertion,
+        &mut lists.variables_by_statement,
+        &mut lists.pairs,
     )
 }
 
-fn are_pairs(symbols: &[(Sym, Sym)], pairs: &[(u32, u32)]) -> bool {
+/// Whether these are the pairs of the symbols.
+fn are_pairs(symbols: &[(Sym, Sym)], pairs: &[(u32, u32)]) -> bool
+    ensures { result ≡ true
+        → map (λ p. pair p.0 p.1) symbols.now ≡ map (λ p. pair p.0 p.1) pairs.now }
+{
     if symbols.len() != pairs.len() {
         return false;
     }
     for index in 0..pairs.len() {
-        if symbols[index].0.number() != pairs[index].0 || symbols[index].1.number() != pairs[index].1 {
+        let (low, high) = symbols[index];
+        if low.number() != pairs[index].0 || high.number() != pairs[index].1 {
             return false;
         }
     }
     true
 }
 
-fn is_frame<A: Allocator>(frame: &Frame<A>, hypotheses: &[u32], pairs: &[(u32, u32)]) -> bool {
-    frame.hyps.as_slice() == hypotheses && are_pairs(&frame.pairs, pairs)
+/// Whether the numbers are the same.
+fn are_same(first: &[u32], second: &[u32]) -> bool
+    ensures { result ≡ true → first.now ≡ second.now }
+{
+    first == second
 }
 
+/// Adds an assertion with what was listed for it. If the assertion before it has the same, they
+/// share one frame. `previous` is the index of the assertion before, among the statements that have
+/// been added, or `NEVER`.
 fn add_listed<A: Allocator + Copy>(
     alloc: A,
-    from: u32,
-    scratch: &Scratch<A>,
+    previous: u32,
+    lists: &FrameLists<A>,
     frames: &mut Frames<A>,
-) -> Result<(), AllocError> {
-    if scratch.previous != NEVER
-        && is_frame(frames.of(scratch.previous - from), &scratch.hypotheses, &scratch.pairs_by_statement)
-    {
-        return frames.add_shared(scratch.previous - from);
+) -> Result<(), AllocError>
+    requires few_frames { length frames.old < 2 ^ 31 }
+    requires has_frame { previous ≢ never → IsSome (get_or frames.old previous None) }
+    ensures { OnOk result
+        (frames.new
+        ≡ frames.old
+        ++ Some (mandatory lists.now.hypotheses.items
+        (map (λ p. pair p.0 p.1) lists.now.pairs.items)) ∷ []) }
+{
+    if previous != NEVER {
+        let frame = frames.of(previous);
+        if are_same(&frame.hyps, &lists.hypotheses) && are_pairs(&frame.pairs, &lists.pairs) {
+            return frames.add_shared(previous);
+        }
     }
-    let hyps = copied(alloc, &scratch.hypotheses)?;
-    let pairs = symbol_pairs(alloc, &scratch.pairs_by_statement)?;
+    let hyps = copied(alloc, &lists.hypotheses)?;
+    let pairs = symbol_pairs(alloc, &lists.pairs)?;
     frames.add(Frame { hyps, pairs })
 }
 
-/// Adds an assertion with its frame
+/// Returns the index of a statement among those from `from` on, or `NEVER` if it is that.
+fn index_from(from: u32, statement: u32) -> u32
+    requires { statement ≢ never → from ≤ statement }
+    ensures { result ≡ index_from from statement }
+{
+    if statement == NEVER {
+        NEVER
+    } else {
+        statement - from
+    }
+}
+
+/// Lists the active `$e` of an assertion, unless the lists are those of the same scope, and its
+/// further variables.
+fn list_further<A: Allocator>(
+    sources: &FrameSources<A>,
+    assertion: u32,
+    is_same_scope: bool,
+    scope: &mut EssentialLists<A>,
+    further: &mut Vec<u32, A>,
+) -> Result<(), AllocError>
+    requires are_sources { AreSources sources.now }
+    requires assertion_lt_length { assertion < length sources.now.statements.now.list }
+    requires are_fresh { IsFresh
+        (length (symbol_names sources.now.statements.now.list)) assertion scope.old.stamps.items }
+    requires same_are_essential { is_same_scope ≡ true
+        → AreEssentialLists sources.now.statements.now.list assertion scope.old }
+    ensures are_essential { OnOk result
+        (AreEssentialLists sources.now.statements.now.list assertion scope.new) }
+    ensures same_stay { OnOk result (is_same_scope ≡ true → scope.new ≡ scope.old) }
+    ensures are_further { OnOk result
+        ((x : ℕ)
+        → is_member further.new.items x
+        ≡ is_further sources.now.statements.now.list assertion scope.new.variables.items x) }
+{
+    if !is_same_scope {
+        list_scope(sources, assertion, scope)?;
+    }
+    list_further_variables(
+        sources.statements,
+        sources.statements.formula(assertion),
+        scope.stamp,
+        &scope.stamps,
+        further,
+    )
+}
+
+/// Adds an assertion with its frame. If it is in the same scope as the assertion before it and has
+/// the same further variables, it has the same frame, which isn't made again.
 fn add_assertion<A: Allocator + Copy>(
     alloc: A,
     sources: &FrameSources<A>,
     last_floats: &[u32],
     from: u32,
+    assertion: u32,
+    scratch: &mut Scratch<A>,
+    frames: &mut Frames<A>,
+) -> Result<(), AllocError>
+    requires are_sources { AreSources sources.now }
+    requires assertion_lt_length { assertion < length sources.now.statements.now.list }
+    requires from_le_assertion { from ≤ assertion }
+    requires is_assertion { list_any is_assertion
+        (statement_at sources.now.statements.now.list assertion) ≡ true }
+    requires are_last_floats { AreLastFloats sources.now.statements.now.list assertion
+        last_floats.now }
+    requires is_ready { IsReady sources.now.statements.now.list from assertion scratch.old }
+    requires are_frames { frames.old
+        ≡ frames_between sources.now.statements.now.list from assertion }
+    requires few_frames { length frames.old < 2 ^ 31 }
+    ensures is_ready { OnOk result
+        (IsReady sources.now.statements.now.list from (assertion + 1) scratch.new) }
+    ensures frame_is_added { OnOk result
+        (frames.new
+        ≡ frames.old ++ Some (mandatory_at sources.now.statements.now.list assertion) ∷ []) }
+{
+    list_further(
+        sources,
+        assertion,
+        scratch.is_same_scope,
+        &mut scratch.scope,
+        &mut scratch.further,
+    )?;
+    let previous = index_from(from, scratch.previous);
+    if scratch.is_same_scope && are_same(&scratch.further, &scratch.previous_further) {
+        scratch.previous = assertion;
+        return frames.add_shared(previous);
+    }
+    list_frame(
+        sources,
+        last_floats,
+        assertion,
+        &scratch.scope,
+        &mut scratch.lists,
+    )?;
+    add_listed(alloc, previous, &scratch.lists, frames)?;
+    std::mem::swap(&mut scratch.further, &mut scratch.previous_further);
+    scratch.previous = assertion;
+    scratch.is_same_scope = true;
+    Ok(())
+}
+
+/// Adds a statement that is no assertion.
+fn add_other<A: Allocator>(
+    statements: &Statements<A>,
+    from: u32,
     statement: u32,
     scratch: &mut Scratch<A>,
     frames: &mut Frames<A>,
-) -> Result<(), AllocError> {
-    if !scratch.same_scope {
-        list_scope(sources, statement, scratch)?;
+) -> Result<(), AllocError>
+    requires statement_lt_length { statement < length statements.now.list }
+    requires is_ready { IsReady statements.now.list from statement scratch.old }
+    ensures is_ready { OnOk result (IsReady statements.now.list from (statement + 1) scratch.new) }
+    ensures none_is_added { OnOk result (frames.new ≡ frames.old ++ None ∷ []) }
+{
+    if !keeps_scope(statements.kind(statement)) {
+        scratch.is_same_scope = false;
     }
-    list_further_variables(
-        sources.statements,
-        sources.statements.formula(statement),
-        scratch.stamp,
-        &scratch.stamps,
-        &mut scratch.further,
-    )?;
-    if scratch.same_scope && scratch.further.as_slice() == scratch.previous_further.as_slice() {
-        return frames.add_shared(scratch.previous - from);
-    }
-    list_frame(sources, last_floats, statement, scratch)?;
-    add_listed(alloc, from, scratch, frames)?;
-    scratch.previous_further.clear();
-    scratch.previous_further.extend_from_slice(&scratch.further)?;
-    scratch.previous = statement;
-    scratch.same_scope = true;
-    Ok(())
+    frames.add_none()
 }
 
 /// Adds a statement, with its frame if it is an assertion.
@@ -267,21 +390,33 @@ fn add_frame<A: Allocator + Copy>(
     scratch: &mut Scratch<A>,
     frames: &mut Frames<A>,
 ) -> Result<(), AllocError>
+    requires are_sources { AreSources sources.now }
+    requires statement_lt_length { statement < length sources.now.statements.now.list }
+    requires from_le_statement { from ≤ statement }
+    requires are_last_floats { AreLastFloats sources.now.statements.now.list statement
+        last_floats.now }
+    requires is_ready { IsReady sources.now.statements.now.list from statement scratch.old }
+    requires are_frames { frames.old
+        ≡ frames_between sources.now.statements.now.list from statement }
+    requires few_frames { length frames.old < 2 ^ 31 }
+    ensures is_ready { OnOk result
+        (IsReady sources.now.statements.now.list from (statement + 1) scratch.new) }
+    ensures frame_is_added { OnOk result
+        (frames.new
+        ≡ frames.old ++ frame_or_none sources.now.statements.now.list statement ∷ []) }
 {
     if sources.statements.is_assertion(statement) {
-        add_assertion(alloc, sources, last_floats, from, statement, scratch, frames)
+        add_assertion(
+            alloc,
+            sources,
+            last_floats,
+            from,
+            statement,
+            scratch,
+            frames,
+        )
     } else {
-        if changes_scope(sources.statements.kind(statement)) {
-            scratch.same_scope = false;
-        }
-        frames.add_none()
-    }
-}
-
-fn changes_scope(kind: Kind) -> bool {
-    match kind {
-        Kind::Constants | Kind::Variables | Kind::Axiom | Kind::Theorem => false,
-        _ => true,
+        add_other(sources.statements, from, statement, scratch, frames)
     }
 }
 
@@ -292,6 +427,11 @@ pub(crate) fn frames_between<A: Allocator + Copy>(
     from: u32,
     to: u32,
 ) -> Result<Frames<A>, AllocError>
+    requires are_sources { AreSources sources.now }
+    requires from_le_to { from ≤ to }
+    requires to_le_length { to ≤ length sources.now.statements.now.list }
+    ensures { IfOk result
+        (λ v. v ≡ frames_between sources.now.statements.now.list from to) }
 {
     let statements = sources.statements;
     let mut last_floats = last_floats_before(alloc, statements, from)?;

@@ -1,18 +1,16 @@
 //! The mandatory variables and hypotheses of assertions.
 
 ghost use Rattle.std.specs.Prelude.{◌≡◌, ◌<◌, ◌≤◌, ◌+◌, ◌^◌, ◌&&◌, ◌||◌, ℕ, All, OnOk, length};
-ghost use Rattle.std.specs.Prelude.{nat_eq};
+ghost use Rattle.std.specs.Prelude.{nat_eq, not, slice_index};
 ghost use Rattle.std.specs.List.{list_any};
 ghost use Rattle.std.specs.List.Sorted.{IsStrictlyIncreasing};
 ghost use Rattle.mm_spec.specs.Derivation.{is_member};
 ghost use Rattle.mm_spec.specs.Frame.{symbol_names, is_variable_number, is_essential, active_of};
-ghost use Rattle.mm_spec.specs.Frame.{mandatory_variables, mandatory_hypotheses};
-ghost use Rattle.mm_frame.specs.Sources.{AreSources};
-ghost use Rattle.mm_frame.specs.Hypotheses.{AreReady, AreStamps, AreLastFloats, IsFresh};
+ghost use Rattle.mm_spec.specs.Frame.{mandatory_variables, mandatory_hypotheses, formula_at};
+ghost use Rattle.mm_database.specs.ParsedStatements.{IsSound};
+ghost use Rattle.mm_frame.specs.Hypotheses.{AreStamps, AreLastFloats, IsFresh};
 ghost use Rattle.mm_frame.specs.Hypotheses.{is_float_of};
 
-use crate::active::active_essentials;
-use crate::sources::FrameSources;
 use mm_database::statements::Statements;
 use mm_outline::blocks::NEVER;
 use mm_outline::symbol::Sym;
@@ -84,6 +82,21 @@ pub(crate) fn list_essential_variables<A: Allocator>(
     stamps: &mut Vec<u32, A>,
     variables: &mut Vec<Sym, A>,
 ) -> Result<(), AllocError>
+    requires few_statements { length statements.now.list < 2 ^ 31 }
+    requires assertion_lt_length { assertion < length statements.now.list }
+    requires are_active { (i : ℕ)
+        → is_member essentials.now i
+        ≡ is_member (active_of is_essential statements.now.list assertion) i }
+    requires are_fresh { IsFresh
+        (length (symbol_names statements.now.list)) assertion stamps.old.items }
+    ensures are_stamps { OnOk result
+        (AreStamps (length (symbol_names statements.now.list))
+        (assertion + 1) stamps.new.items variables.new.items) }
+    ensures variables_are { OnOk result
+        ((x : ℕ)
+        → is_member variables.new.items x
+        ≡ (is_variable_number statements.now.list x
+        && list_any (λ j. is_member (formula_at statements.now.list j) x) essentials.now)) }
 {
     variables.clear();
     for essential in essentials {
@@ -98,6 +111,22 @@ pub(crate) fn list_essential_variables<A: Allocator>(
     Ok(())
 }
 
+/// Whether a symbol is a variable that doesn't have the stamp.
+fn is_further<A: Allocator>(
+    statements: &Statements<A>,
+    symbol: Sym,
+    stamp: u32,
+    stamps: &[u32],
+) -> bool
+    requires count { length stamps.now ≡ length (symbol_names statements.now.list) }
+    requires symbol_lt_count { symbol < length (symbol_names statements.now.list) }
+    ensures { result
+        ≡ (is_variable_number statements.now.list symbol
+        && not (nat_eq (slice_index stamps.now symbol) stamp)) }
+{
+    statements.is_variable(symbol) && stamps[symbol.number() as usize] != stamp
+}
+
 /// Lists the variables of a formula that don't have the stamp, in ascending order. Replaces what
 /// `further` has.
 pub(crate) fn list_further_variables<A: Allocator>(
@@ -107,10 +136,19 @@ pub(crate) fn list_further_variables<A: Allocator>(
     stamps: &[u32],
     further: &mut Vec<u32, A>,
 ) -> Result<(), AllocError>
+    requires count { length stamps.now ≡ length (symbol_names statements.now.list) }
+    requires symbols_lt_count { All
+        (λ s. s < length (symbol_names statements.now.list)) symbols.now }
+    ensures { OnOk result
+        ((x : ℕ)
+        → is_member further.new.items x
+        ≡ (is_member symbols.now x
+        && (is_variable_number statements.now.list x
+        && not (nat_eq (slice_index stamps.now x) stamp)))) }
 {
     further.clear();
     for symbol in symbols {
-        if statements.is_variable(*symbol) && stamps[symbol.number() as usize] != stamp {
+        if is_further(statements, *symbol, stamp, stamps) {
             further.push(symbol.number())?;
         }
     }
@@ -127,6 +165,22 @@ pub(crate) fn list_mandatory_variables<A: Allocator>(
     marks: &mut Vec<u32, A>,
     variables: &mut Vec<Sym, A>,
 ) -> Result<(), AllocError>
+    requires few_statements { length statements.now.list < 2 ^ 31 }
+    requires assertion_lt_length { assertion < length statements.now.list }
+    requires are_variables { (x : ℕ)
+        → is_member essential_variables.now x
+        ≡ (is_variable_number statements.now.list x
+        && list_any (λ j. is_member (formula_at statements.now.list j) x)
+        (active_of is_essential statements.now.list assertion)) }
+    requires are_fresh { IsFresh
+        (length (symbol_names statements.now.list)) assertion marks.old.items }
+    ensures are_stamps { OnOk result
+        (AreStamps (length (symbol_names statements.now.list))
+        (assertion + 1) marks.new.items variables.new.items) }
+    ensures are_mandatory { OnOk result
+        ((x : ℕ)
+        → is_member variables.new.items x
+        ≡ is_member (mandatory_variables statements.now.list assertion) x) }
 {
     variables.clear();
     let formula = statements.formula(assertion);
@@ -187,6 +241,17 @@ pub(crate) fn list_hypotheses<A: Allocator>(
     variables: &[Sym],
     hypotheses: &mut Vec<u32, A>,
 ) -> Result<(), AllocError>
+    requires is_sound { IsSound statements.now.list }
+    requires assertion_lt_length { assertion < length statements.now.list }
+    requires are_last_floats { AreLastFloats statements.now.list assertion last_floats.now }
+    requires are_active { (i : ℕ)
+        → is_member essentials.now i
+        ≡ is_member (active_of is_essential statements.now.list assertion) i }
+    requires are_mandatory { (x : ℕ)
+        → is_member variables.now x
+        ≡ is_member (mandatory_variables statements.now.list assertion) x }
+    ensures { OnOk result
+        (hypotheses.new.items ≡ mandatory_hypotheses statements.now.list assertion) }
 {
     hypotheses.clear();
     hypotheses.extend_from_slice(essentials)?;
