@@ -2,6 +2,7 @@
 use Rattle.std.proofs.Common.{◌≡◌, ◌≢◌, ℕ, zero, suc, ◌+◌, ◌-◌, ◌<◌, ◌≤◌, Bool, true, false, ◌&&◌}
 use Rattle.std.proofs.Common.{◌||◌, List, [], ◌∷◌, ◌++◌, length, get_or, nat_eq, nat_lt, nat_le}
 use Rattle.std.proofs.Common.{refl, sym, ap, ap₂, ◌∙◌, arith, true≢false, ◌⊎◌, inl, inr}
+use Rattle.std.proofs.Common.{not, if◌then◌else◌}
 use Rattle.std.proofs.lemmas.Bool.{cases_lt, cases_eq, cases_order, lt-ltb, ltb-true, eq-eqb}
 use Rattle.std.proofs.lemmas.Bool.{eqb-true, and_parts, false_from_ne_true}
 use Rattle.std.proofs.lemmas.List.Folds.{list_any-append}
@@ -14,7 +15,8 @@ use Rattle.mm_spec.specs.Frame.{is_disjoint_statement, formula_at}
 use Rattle.mm_spec.proofs.BoolLaw.{same_tests}
 use Rattle.mm_outline.specs.Blocks.{BlockLists, IsBlocks, end_of}
 use Rattle.mm_database.specs.Pairs.{has_pair, IsBefore, is_pair_before, AreRising}
-use Rattle.mm_database.specs.DisjointIndex.{has_symbol, is_active_local, HaveBlocks}
+use Rattle.mm_database.specs.DisjointIndex.{is_disjoint_by_width, has_symbol_by_width}
+use Rattle.mm_database.specs.DisjointIndex.{is_narrow, is_active_local, HaveBlocks}
 use Rattle.mm_outline.proofs.StatementsLaw.{passing_lt_length}
 
 -- ---- pairs by their indices
@@ -99,21 +101,30 @@ is_pair_before_if p x y (inr (p0_is_x, lower)) =
 
 -- ---- the blocks of the pairs
 
--- the statements that have symbols have blocks
-pub have_blocks : (db : List Statement) (b : BlockLists) → IsBlocks db b → (ps : List (ℕ × ℕ))
-    → ((x j : ℕ) → has_pair ps x j ≡ has_symbol db x j) → HaveBlocks b ps
-have_blocks db b blocks ps pairs_are_members p p_lt_length =
-    let j = (get_or ps p (0, 0)).1 in
-    let x = (get_or ps p (0, 0)).0 in
-    let has_symbol_x_j = sym (pairs_are_members x j) ∙ has_pair_at_index ps p (0, 0) p_lt_length in
+-- a `$d` has a block
+pub disjoint_has_block : (db : List Statement) (b : BlockLists) → IsBlocks db b
+    → (narrow : Bool) (x j : ℕ) → has_symbol_by_width db narrow x j ≡ true
+    → (j < length b.block_of) × (get_or b.block_of j 0 < length b.ends)
+disjoint_has_block db b blocks narrow x j j_has_x =
     let j_is_there =
     passing_lt_length is_disjoint_statement db j
     (and_parts (list_any is_disjoint_statement (statement_at db j))
-    (is_member (formula_at db j) x) has_symbol_x_j).0 in (
+    (if narrow then is_narrow (formula_at db j) else not (is_narrow (formula_at db j)))
+    (and_parts (is_disjoint_by_width db narrow j) (is_member (formula_at db j) x) j_has_x).0).0 in (
       let block_count = blocks.count in
           omega (arith, block_count, j_is_there),
       blocks.blocks_have_ends j j_is_there,
     )
+
+-- the statements that have symbols have blocks
+pub have_blocks : (db : List Statement) (b : BlockLists) → IsBlocks db b → (narrow : Bool)
+    → (ps : List (ℕ × ℕ))
+    → ((x j : ℕ) → has_pair ps x j ≡ has_symbol_by_width db narrow x j) → HaveBlocks b ps
+have_blocks db b blocks narrow ps pairs_are_members p p_lt_length =
+    let j = (get_or ps p (0, 0)).1 in
+    let x = (get_or ps p (0, 0)).0 in
+    disjoint_has_block db b blocks narrow x j
+    (sym (pairs_are_members x j) ∙ has_pair_at_index ps p (0, 0) p_lt_length)
 
 -- ---- the pairs before that of a symbol and a statement
 

@@ -2,10 +2,11 @@
 use Rattle.std.proofs.Common.{◌≡◌, ℕ, zero, suc, ◌<◌, ◌≤◌, ◌+◌, ◌-◌, ◌^◌, ◌⊎◌, inl, inr, List, []}
 use Rattle.std.proofs.Common.{◌∷◌, ◌++◌, length, map, take, nat_eq, get_or, slice_index, Option, Some, None}
 use Rattle.std.proofs.Common.{refl, sym, ap, ap₂, ◌∙◌, arith, Bool, true, false, true≢false, IsSome}
-use Rattle.std.proofs.Common.{is_some, slice_get, if◌then◌else◌}
+use Rattle.std.proofs.Common.{is_some, slice_get, if◌then◌else◌, subst}
 use Rattle.std.proofs.lemmas.Bool.{cases_lt, eq-eqb, ne_eqb}
 use Rattle.std.proofs.lemmas.List.{map_push, length_push, length-map, get_or_push, map-append}
 use Rattle.std.proofs.lemmas.List.{get_or_append_left, get_or-map, get_or_past, length-append}
+use Rattle.std.proofs.lemmas.List.{get_or_default}
 use Rattle.std.proofs.lemmas.List.{get_or-append_right, append_assoc, take_more, take_all}
 use Rattle.std.proofs.lemmas.List.FromFn.{get_or-map-range_with_len}
 use Rattle.std.proofs.lemmas.Option.{slice_get-get_or, slice_get_past}
@@ -95,6 +96,34 @@ module _ {A : Type 0} (fs : List (Frame A)) where
           let frame_is_none =
           get_or_past (frames_at fs ps) k None (omega (arith, k_order, indices_count)) in
           absurd (true≢false (sym k_has_frame ∙ ap is_some frame_is_none))
+
+  -- the indices with that of an earlier frame more
+  pub indices_with_shared : (ps : List ℕ) (k p : ℕ) → AreFrameIndices (length fs) ps
+      → IsSome (get_or (frames_at fs ps) k None) → p ≡ get_or ps k p
+      → AreFrameIndices (length fs) (ps ++ p ∷ [])
+  indices_with_shared ps k p are_indices k_has_frame p_is_index = record {
+    count_le_length =
+        let count_le_length = are_indices.count_le_length in
+        let pushed_length = length_push ps p in omega (arith, count_le_length, pushed_length);
+    count_le_never = are_indices.count_le_never;
+    index_known_or_never = λ i i_lt_length. known_or_never i i_lt_length (cases_lt i (length ps));
+  }
+    where
+      index_is : p ≡ get_or ps k 0
+      index_is = p_is_index ∙ get_or_default ps k p 0 (frame_index_lt_length ps k k_has_frame)
+
+      known_or_never : (i : ℕ) → i < length (ps ++ p ∷ []) → (i < length ps) ⊎ (length ps ≤ i)
+          → (slice_index (ps ++ p ∷ []) i < length fs) ⊎ (slice_index (ps ++ p ∷ []) i ≡ never)
+      known_or_never i i_lt_pushed (inl i_lt_length) =
+          subst (λ q. (q < length fs) ⊎ (q ≡ never))
+          (sym (get_or_append_left ps (p ∷ []) 0 i i_lt_length))
+          (are_indices.index_known_or_never i i_lt_length)
+      known_or_never i i_lt_pushed (inr length_le_i) =
+          let pushed_length = length_push ps p in
+          subst (λ q. (q < length fs) ⊎ (q ≡ never))
+          (sym (get_or_push ps p 0 i (omega (arith, i_lt_pushed, length_le_i, pushed_length))
+          ∙ index_is))
+          (are_indices.index_known_or_never k (frame_index_lt_length ps k k_has_frame))
 
   -- if statement k has a frame, its index is that of one of the frames
   pub frame_at_index : (ps : List ℕ) (k p : ℕ) → IsSome (get_or (frames_at fs ps) k None)

@@ -19,6 +19,7 @@ pub mod NamesLaw
 pub mod NameMapLaw
 pub mod DisjointIndexLaw
 pub mod StartsLaw
+pub mod RowsLaw
 pub mod TogetherLaw
 pub mod FrameIndicesLaw
 pub mod KindsLaw

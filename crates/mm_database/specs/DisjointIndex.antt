@@ -1,5 +1,6 @@
--- Which `$d` statements have a symbol, and which of those are active at a statement.
-use Rattle.std.specs.Prelude.{◌≡◌, ℕ, ◌<◌, ◌≤◌, Bool, ◌&&◌, List, length, get_or, nat_lt, nat_le}
+-- Which `$d` statements have a symbol or two, and which of those are active at a statement.
+use Rattle.std.specs.Prelude.{◌≡◌, ℕ, ◌<◌, ◌≤◌, Bool, true, false, ◌&&◌, not, List, [], length}
+use Rattle.std.specs.Prelude.{get_or, nat_eq, nat_lt, nat_le, slice_index_or, if◌then◌else◌}
 use Rattle.std.specs.List.{list_any}
 use Rattle.mm_spec.specs.Statement.{Statement}
 use Rattle.mm_spec.specs.Scope.{statement_at}
@@ -8,10 +9,25 @@ use Rattle.mm_spec.specs.Frame.{is_disjoint_statement, formula_at}
 use Rattle.mm_outline.specs.Blocks.{BlockLists, end_of}
 use Rattle.mm_database.specs.Pairs.{has_pair, AreRising}
 
--- statement j is a `$d` that has the symbol
-abbrev pub has_symbol : List Statement → ℕ → ℕ → Bool
-has_symbol db x j =
-    list_any is_disjoint_statement (statement_at db j) && is_member (formula_at db j) x
+-- whether a `$d` of these symbols is narrow: it has at most 16
+abbrev pub is_narrow : List ℕ → Bool
+is_narrow symbols = nat_le (length symbols) 16
+
+-- statement j is a narrow `$d`, or a wide one
+abbrev pub is_disjoint_by_width : List Statement → (narrow : Bool) → ℕ → Bool
+is_disjoint_by_width db narrow j =
+    list_any is_disjoint_statement (statement_at db j)
+    && (if narrow then is_narrow (formula_at db j) else not (is_narrow (formula_at db j)))
+
+-- the same, and it has the symbol
+abbrev pub has_symbol_by_width : List Statement → (narrow : Bool) → ℕ → ℕ → Bool
+has_symbol_by_width db narrow x j =
+    is_disjoint_by_width db narrow j && is_member (formula_at db j) x
+
+-- statement j is a narrow `$d` that has x and the higher symbol y
+abbrev pub has_narrow_pair : List Statement → ℕ → ℕ → ℕ → Bool
+has_narrow_pair db x y j =
+    nat_lt x y && (has_symbol_by_width db true y j && is_member (formula_at db j) x)
 
 -- statement j is before k, and its block is open there
 abbrev pub is_active_local : BlockLists → ℕ → ℕ → Bool
@@ -39,22 +55,63 @@ pub record AreSkips (blocks : BlockLists) (ps : List (ℕ × ℕ)) (skips : List
   pub within : (q : ℕ) → q < length ps → get_or skips q 0 ≤ q
   pub covers : (q : ℕ) → q < length ps → Covers blocks ps (get_or skips q 0) q
 
--- pairs of a symbol and a `$d` that has it, and for each of them an index to skip to
+-- The row of a symbol has higher symbols, each paired with a `$d` that has both. The pairs are in
+-- order, and their statements have a block. Of two pairs of one symbol the later one has a block
+-- that ends later. So the last pair before a statement is active there if any earlier one is.
+pub record IsRow (blocks : BlockLists) (row : List (ℕ × ℕ)) : Type 0 where
+  pub rising : AreRising row
+  pub known : HaveBlocks blocks row
+  pub ends_rise : (y i j : ℕ) → has_pair row y i ≡ true → has_pair row y j ≡ true → i < j
+      → end_of blocks i < end_of blocks j
+
+-- the row has symbol y with statement i, which is no later than j, in a block that ends no earlier
+pub record IsCoveredIn (blocks : BlockLists) (row : List (ℕ × ℕ)) (y j : ℕ) : Type 0 where
+  pub covering : ℕ
+  pub is_there : has_pair row y covering ≡ true
+  pub covering_le : covering ≤ j
+  pub ends_no_earlier : end_of blocks j ≤ end_of blocks covering
+
+-- each pair of the row passes the test, and each pair that passes is covered by one of the row
+pub record IsRowOf (blocks : BlockLists) (passes : ℕ → ℕ → Bool) (row : List (ℕ × ℕ)) : Type 0
+  where
+    pub pairs_pass : (y j : ℕ) → has_pair row y j ≡ true → passes y j ≡ true
+    pub passing_are_covered : (y j : ℕ) → passes y j ≡ true → IsCoveredIn blocks row y j
+
+-- whether the row has symbol y with a `$d` that is active at k
+abbrev pub is_active_in_row : BlockLists → List (ℕ × ℕ) → ℕ → ℕ → Bool
+is_active_in_row blocks row y k = list_any (λ p. nat_eq y p.0 && is_active_local blocks p.1 k) row
+
+-- Pairs of a symbol and a wide `$d` that has it, and for each of them an index to skip to. For each
+-- symbol a row of its narrow `$d`.
 pub record PairLists : Type 0 where
   pub by_symbol : List (ℕ × ℕ)
   pub skips : List ℕ
+  pub rows : List (List (ℕ × ℕ))
 
-abbrev pub pair_lists : List (ℕ × ℕ) → List ℕ → PairLists
-pair_lists by_symbol skips = record { by_symbol = by_symbol; skips = skips }
+abbrev pub pair_lists : List (ℕ × ℕ) → List ℕ → List (List (ℕ × ℕ)) → PairLists
+pair_lists by_symbol skips rows =
+    record { by_symbol = by_symbol; skips = skips; rows = rows }
 
--- the pairs are in order, their statements have a block, and the skips are theirs
+-- the row of a symbol, which is empty if there are fewer
+abbrev pub row_of : List (List (ℕ × ℕ)) → ℕ → List (ℕ × ℕ)
+row_of rows x = slice_index_or rows x []
+
+-- whether the row of the lower of two symbols has the higher one with a `$d` that is active at k
+abbrev pub is_active_pair : BlockLists → List (List (ℕ × ℕ)) → ℕ → ℕ → ℕ → Bool
+is_active_pair blocks rows x y k =
+    if nat_lt x y then is_active_in_row blocks (row_of rows x) y k
+    else is_active_in_row blocks (row_of rows y) x k
+
+-- the pairs are in order, their statements have a block, the skips are theirs, and so are the rows
 pub record IsOrdered (blocks : BlockLists) (index : PairLists) : Type 0 where
   pub rising : AreRising index.by_symbol
   pub known : HaveBlocks blocks index.by_symbol
   pub skips_are : AreSkips blocks index.by_symbol index.skips
+  pub are_rows : (x : ℕ) → IsRow blocks (row_of index.rows x)
 
--- each symbol with each `$d` that has it
+-- each symbol with each wide `$d` that has it, and for each the row of its narrow `$d`
 pub record IsDisjointIndex (db : List Statement) (blocks : BlockLists) (index : PairLists) : Type 0
   where
-    pub members_are : (x j : ℕ) → has_pair index.by_symbol x j ≡ has_symbol db x j
+    pub members_are : (x j : ℕ) → has_pair index.by_symbol x j ≡ has_symbol_by_width db false x j
+    pub rows_are : (x : ℕ) → IsRowOf blocks (has_narrow_pair db x) (row_of index.rows x)
     pub ordered : IsOrdered blocks index

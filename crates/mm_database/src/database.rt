@@ -20,7 +20,7 @@ ghost use Rattle.mm_outline.specs.Parts.{as_tokens, AreWithin};
 ghost use Rattle.mm_database.specs.Database.{kind_of, end_at, typecode_of, contents_of, IsDatabase};
 ghost use Rattle.mm_database.specs.Kinds.{is_axiom_kind, is_theorem_kind};
 
-use crate::disjoint_index::are_together;
+use crate::disjoint_index::are_in_one;
 use crate::frames::Frame;
 use crate::near::are_together_near;
 use crate::reading::Reading;
@@ -249,7 +249,7 @@ impl<'a, A: Allocator> Database<'a, A> {
     {
         x.number() != y.number()
             && (are_together_near(self, statement, x, y)
-                || are_together(
+                || are_in_one(
                     self.reading.statements.blocks(),
                     &self.tables.frame_tables.disjoint_index,
                     x,

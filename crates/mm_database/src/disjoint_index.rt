@@ -1,21 +1,36 @@
-//! The `$d` statements by their variables. The cost of a lookup depends on the `$d` of the
-//! variables that it names, and not on all that are active.
+//! The `$d` statements by their variables. Two variables are looked up by one binary search among
+//! the narrow `$d` of the lower of them. Of wide `$d`, which have too many pairs of variables to
+//! list them, the cost depends on those that have one of the two.
 
 ghost use Rattle.std.specs.Prelude.{◌≡◌, ◌≢◌, ◌<◌, ◌≤◌, ◌+◌, ◌-◌, ◌&&◌, ◌||◌, ℕ, OnOk};
 ghost use Rattle.std.specs.Prelude.{length, get_or, nat_eq, nat_lt, nat_le, true, false};
 ghost use Rattle.mm_outline.specs.Blocks.{end_of};
 ghost use Rattle.mm_database.specs.DisjointIndex.{pair_lists, is_active_local, IsOrdered};
+ghost use Rattle.mm_database.specs.DisjointIndex.{is_narrow, is_active_in_row, is_active_pair};
+ghost use Rattle.mm_database.specs.DisjointIndex.{IsRow, row_of};
 ghost use Rattle.mm_database.specs.Pairs.{has_pair, AreRising, is_pair_before};
 ghost use Rattle.mm_database.specs.Starts.{IsStart, AreStarts};
 
+use mm_lists::Lists;
 use mm_outline::blocks::Blocks;
 use mm_outline::symbol::Sym;
 use std::alloc::{AllocError, Allocator};
 use std::marker::Model;
 
+/// The maximum number of symbols of a narrow `$d`: all pairs of its symbols are listed, which are at
+/// most 8 for each symbol.
+const MAX_NARROW: usize = 16;
+
+/// Whether a `$d` of these symbols is narrow.
+pub fn is_narrow(symbols: &[Sym]) -> bool
+    ensures { result ≡ is_narrow symbols.now }
+{
+    symbols.len() <= MAX_NARROW
+}
+
 /// The `$d` statements by their variables.
 pub struct DisjointIndex<A: Allocator> {
-    /// For each variable and each `$d` that has it the two, the variable first, in ascending order.
+    /// For each variable and each wide `$d` that has it the two, the variable first, in ascending order.
     by_symbol: Vec<(u32, u32), A>,
     /// For each pair the index of an earlier one, or its own. All pairs from there up to it have
     /// its variable, and their blocks end no later than its own. So if its block is closed, all of
@@ -23,6 +38,10 @@ pub struct DisjointIndex<A: Allocator> {
     skips: Vec<usize, A>,
     /// For each symbol up to the last that has pairs, the number of pairs of symbols before it.
     starts: Vec<usize, A>,
+    /// For each symbol up to the last that needs it a row: the higher symbols with which a narrow
+    /// `$d` has it, each paired with the `$d`, in ascending order. A pair is left out if the one
+    /// before it has the same symbol and a block that ends no earlier.
+    rows: Lists<(u32, u32), A>,
 }
 
 /// Dropped in one call: docs/PROOFS.md, "What a check costs".
@@ -32,6 +51,7 @@ impl<A: Allocator> Drop for DisjointIndex<A> {
             by_symbol: _,
             skips: _,
             starts: _,
+            rows: _,
         } = self;
     }
 }
@@ -42,26 +62,91 @@ impl<A: Allocator> Model for DisjointIndex<A> {
 
     ghost Value = { PairLists };
 
-    ghost view = { λ i. pair_lists i.by_symbol.items i.skips.items };
+    ghost view = { λ i. pair_lists i.by_symbol.items i.skips.items i.rows };
 
     ghost invariant = { λ i. AreStarts i.by_symbol.items i.starts.items };
 }
 
 impl<A: Allocator> DisjointIndex<A> {
-    /// Returns the index with these pairs, skips and starts.
+    /// Returns the index with these pairs, skips, starts and rows.
     pub fn new(
         by_symbol: Vec<(u32, u32), A>,
         skips: Vec<usize, A>,
         starts: Vec<usize, A>,
+        rows: Lists<(u32, u32), A>,
     ) -> DisjointIndex<A>
         requires { AreStarts by_symbol.items starts.items }
-        ensures { result ≡ pair_lists by_symbol.items skips.items }
+        ensures { result ≡ pair_lists by_symbol.items skips.items rows }
     {
         DisjointIndex {
             by_symbol,
             skips,
             starts,
+            rows,
         }
+    }
+
+    /// Returns the row of a symbol: the higher symbols with which a narrow `$d` has it, each paired
+    /// with the `$d`.
+    #[inline(always)]
+    pub fn row(&self, symbol: Sym) -> &[(u32, u32)]
+        ensures { result.now ≡ row_of self.now.rows symbol }
+    {
+        let index = symbol.number() as usize;
+        if index < self.rows.len() {
+            self.rows.get(index)
+        } else {
+            &[]
+        }
+    }
+}
+
+/// Returns the number of pairs of a row before the pair of `symbol` and the statement `at`.
+#[inline(always)]
+fn count_in_row(row: &[(u32, u32)], symbol: u32, at: u32) -> usize
+    requires { AreRising row.now }
+    ensures result_le_length { result ≤ length row.now }
+    ensures earlier_are_before { (p : ℕ)
+        → p < result → is_pair_before (get_or row.now p (0, 0)) symbol at ≡ true }
+    ensures later_are_not_before { (p : ℕ) → result ≤ p → p < length row.now
+        → is_pair_before (get_or row.now p (0, 0)) symbol at ≡ false }
+{
+    row.partition_point(
+        |pair: &(u32, u32)| -> bool
+            ensures { result ≡ is_pair_before pair.now symbol at }
+        { pair.0 < symbol || (pair.0 == symbol && pair.1 < at) },
+    )
+}
+
+/// Whether a row has the symbol with a `$d` that is active at the statement `at`.
+pub fn is_active_in_row<A: Allocator>(
+    blocks: &Blocks<A>,
+    row: &[(u32, u32)],
+    symbol: u32,
+    at: u32,
+) -> bool
+    requires { IsRow blocks.now row.now }
+    ensures { result ≡ is_active_in_row blocks.now row.now symbol at }
+{
+    let count = count_in_row(row, symbol, at);
+    ends_with(row, count, symbol) && blocks.is_open_at(row[count - 1].1, at)
+}
+
+/// Whether a narrow `$d` that is active at the statement `at` has both symbols.
+fn is_active_pair<A: Allocator>(
+    blocks: &Blocks<A>,
+    disjoint_index: &DisjointIndex<A>,
+    x: Sym,
+    y: Sym,
+    at: u32,
+) -> bool
+    requires { IsOrdered blocks.now disjoint_index.now }
+    ensures { result ≡ is_active_pair blocks.now disjoint_index.now.rows x y at }
+{
+    if x.number() < y.number() {
+        is_active_in_row(blocks, disjoint_index.row(x), y.number(), at)
+    } else {
+        is_active_in_row(blocks, disjoint_index.row(y), x.number(), at)
     }
 }
 
@@ -162,7 +247,7 @@ pub fn add_active<A: Allocator>(
 
 /// Whether a `$d` that is active at the statement `at` has both symbols.
 #[inline(never)]
-pub(crate) fn are_together<A: Allocator>(
+fn are_together<A: Allocator>(
     blocks: &Blocks<A>,
     disjoint_index: &DisjointIndex<A>,
     x: Sym,
@@ -196,4 +281,29 @@ pub(crate) fn are_together<A: Allocator>(
         }
     }
     false
+}
+
+/// Whether a `$d` that is active at the statement `at` has both symbols, which are different.
+pub(crate) fn are_in_one<A: Allocator>(
+    blocks: &Blocks<A>,
+    disjoint_index: &DisjointIndex<A>,
+    x: Sym,
+    y: Sym,
+    at: u32,
+) -> bool
+    requires { IsOrdered blocks.now disjoint_index.now }
+    ensures narrow_is_found { is_active_pair blocks.now disjoint_index.now.rows x y at ≡ true
+        → result ≡ true }
+    ensures wide_if_true { result ≡ true
+        → is_active_pair blocks.now disjoint_index.now.rows x y at ≡ false
+        → (j : ℕ) × (has_pair disjoint_index.now.by_symbol x j ≡ true)
+        × (has_pair disjoint_index.now.by_symbol y j ≡ true)
+        × (is_active_local blocks.now j at ≡ true) }
+    ensures none_if_false { result ≡ false
+        → (j : ℕ) → has_pair disjoint_index.now.by_symbol x j ≡ true
+        → has_pair disjoint_index.now.by_symbol y j ≡ true
+        → is_active_local blocks.now j at ≡ false }
+{
+    is_active_pair(blocks, disjoint_index, x, y, at)
+        || are_together(blocks, disjoint_index, x, y, at)
 }

@@ -32,7 +32,7 @@ fn shifted_index(index: u32, shift: u32) -> u32
 
 /// The frame of each statement that is an assertion.
 pub struct Frames<A: Allocator> {
-    /// The frames, in file order.
+    /// The frames, in file order. Neighbouring assertions with equal frames share one.
     list: Vec<Frame<A>, A>,
     /// For each statement the index of its frame in the list, or `NEVER` if it is no assertion.
     indices: Vec<u32, A>,
@@ -87,6 +87,16 @@ impl<A: Allocator> Frames<A> {
         Ok(())
     }
 
+    /// Adds the next statement, an assertion, with the frame of an earlier one: the two share it.
+    pub fn add_shared(&mut self, earlier: u32) -> Result<(), AllocError>
+        requires { IsSome (get_or self.old earlier None) }
+        ensures { OnOk result (self.new ≡ self.old ++ get_or self.old earlier None ∷ []) }
+    {
+        let index = self.indices[earlier as usize];
+        self.indices.push(index)?;
+        Ok(())
+    }
+
     /// Adds the next statement, which is no assertion.
     pub fn add_none(&mut self) -> Result<(), AllocError>
         ensures { OnOk result (self.new ≡ self.old ++ None ∷ []) }
@@ -119,7 +129,7 @@ impl<A: Allocator> Frames<A> {
 
     /// Returns the frame of an assertion.
     #[inline(always)]
-    pub(crate) fn of(&self, assertion: u32) -> &Frame<A>
+    pub fn of(&self, assertion: u32) -> &Frame<A>
         requires { IsSome (get_or self.now assertion None) }
         ensures { get_or self.now assertion None ≡ Some (mandatory_in result.now) }
     {

@@ -2,7 +2,7 @@
 use Rattle.std.proofs.Common.{◌≡◌, ◌≢◌, ℕ, ◌+◌, ◌-◌, ◌<◌, ◌≤◌, Bool, true, false, ◌&&◌, ◌||◌, List}
 use Rattle.std.proofs.Common.{[], ◌∷◌, ◌++◌, length, get_or, set, map, nat_eq, nat_lt, nat_le, refl}
 use Rattle.std.proofs.Common.{sym, ap, ap₂, ◌∙◌, subst, arith, eq-eqb, eqb-true, true≢false}
-use Rattle.std.proofs.Common.{length-append, ◌⊎◌, inl, inr, All, take}
+use Rattle.std.proofs.Common.{length-append, ◌⊎◌, inl, inr, All, take, not, if◌then◌else◌}
 use Rattle.std.proofs.lemmas.Bool.{cases_eq, cases_order, and_parts, or_cases, or_right, ne_eqb}
 use Rattle.std.proofs.lemmas.Bool.{lt-ltb, le-ltb, ltb-true, lt-leb, le-leb}
 use Rattle.std.proofs.lemmas.List.{get_or_push, get_or_append_left, get_or-set_same}
@@ -19,7 +19,7 @@ use Rattle.mm_spec.specs.Frame.{symbol_names, is_disjoint_statement, formula_at}
 use Rattle.mm_outline.proofs.StatementsLaw.{passing_lt_length}
 use Rattle.mm_spec.specs.Rising.{IsRisingFrom}
 use Rattle.mm_frame.specs.Chains.{IsLinkChain, AreLinked, HasChain, AreChains}
-use Rattle.mm_database.specs.DisjointIndex.{has_symbol}
+use Rattle.mm_database.specs.DisjointIndex.{has_symbol_by_width, is_disjoint_by_width, is_narrow}
 use Rattle.mm_database.specs.Pairs.{has_pair, IsBefore, AreRising}
 use Rattle.mm_database.specs.ParsedStatements.{IsSound}
 
@@ -234,26 +234,36 @@ test_with_next_symbol passes xs i d s k i_lt_length_xs s_is_element_i x j =
 
 -- ---- the statements, from the last to the first
 
+-- a narrow or wide `$d` is a `$d`
+width_is_disjoint : (db : List Statement) (narrow : Bool) (j : ℕ)
+    → is_disjoint_by_width db narrow j ≡ true
+    → list_any is_disjoint_statement (statement_at db j) ≡ true
+width_is_disjoint db narrow j is_disjoint =
+    (and_parts (list_any is_disjoint_statement (statement_at db j))
+    (if narrow then is_narrow (formula_at db j) else not (is_narrow (formula_at db j)))
+    is_disjoint).0
+
 -- past the last statement no symbol has a chain
-pub no_chains_at_start : (db : List Statement) (heads : List ℕ)
+pub no_chains_at_start : (db : List Statement) (narrow : Bool) (heads : List ℕ)
     → ((x : ℕ) → x < length heads → get_or heads x 0 ≡ 0)
-    → AreChains (λ x j. nat_le (length db) j && has_symbol db x j) (length db) heads []
-no_chains_at_start db heads heads_are_0 x x_lt_length = record {
+    → AreChains (λ x j. nat_le (length db) j && has_symbol_by_width db narrow x j) (length db) heads []
+no_chains_at_start db narrow heads heads_are_0 x x_lt_length = record {
   statements = [];
   chain = heads_are_0 x x_lt_length;
   rising = tt;
-  members_are = λ j. sym (none_past j (nat_le (length db) j) refl (has_symbol db x j) refl);
+  members_are = λ j. sym (none_past j (nat_le (length db) j) refl (has_symbol_by_width db narrow x j) refl);
 }
   where
-    none_past : (j : ℕ) (a : Bool) → nat_le (length db) j ≡ a → (b : Bool) → has_symbol db x j ≡ b
+    none_past : (j : ℕ) (a : Bool) → nat_le (length db) j ≡ a → (b : Bool) → has_symbol_by_width db narrow x j ≡ b
         → (a && b) ≡ false
     none_past j false length_le_j_is_a b has_symbol_is_b = refl
     none_past j true length_le_j_is_a false has_symbol_is_b = refl
     none_past j true length_le_j_is_a true has_symbol_x_j =
         let j_lt_length =
         passing_lt_length is_disjoint_statement db j
-        (and_parts (list_any is_disjoint_statement (statement_at db j))
-        (is_member (formula_at db j) x) has_symbol_x_j).0 in
+        (width_is_disjoint db narrow j
+        (and_parts (is_disjoint_by_width db narrow j)
+        (is_member (formula_at db j) x) has_symbol_x_j).0) in
         absurd (true≢false (sym length_le_j_is_a ∙ lt-leb (length db) j j_lt_length))
 
 -- without links each symbol is linked to none
@@ -281,58 +291,58 @@ le_is_le_next_or_equal k j = tests_agree (cases_order j k)
         le-leb k j (omega (arith, j_order))
         ∙ sym (ap (λ b. b || nat_eq j k) (le-leb (k + 1) j (omega (arith, j_order))))
 
-module _ (db : List Statement) (k : ℕ) (x j : ℕ) where
+module _ (db : List Statement) (narrow : Bool) (k : ℕ) (x j : ℕ) where
   -- the statements from `k` on are statement `k`, if it is a `$d`, and those after it
-  at_k_or_later : (d : Bool) → list_any is_disjoint_statement (statement_at db k) ≡ d
-      → ((nat_le (k + 1) j && has_symbol db x j)
+  at_k_or_later : (d : Bool) → is_disjoint_by_width db narrow k ≡ d
+      → ((nat_le (k + 1) j && has_symbol_by_width db narrow x j)
       || ((d && is_member (formula_at db k) x) && nat_eq j k))
-      ≡ (nat_le k j && has_symbol db x j)
+      ≡ (nat_le k j && has_symbol_by_width db narrow x j)
   at_k_or_later d k_is_disjoint_is_d =
       tests_agree (cases_eq j k)
-      ∙ sym (ap (λ b. b && has_symbol db x j) (le_is_le_next_or_equal k j))
+      ∙ sym (ap (λ b. b && has_symbol_by_width db narrow x j) (le_is_le_next_or_equal k j))
     where
       tests_agree : (j ≡ k) ⊎ (j ≢ k)
-          → ((nat_le (k + 1) j && has_symbol db x j)
+          → ((nat_le (k + 1) j && has_symbol_by_width db narrow x j)
           || ((d && is_member (formula_at db k) x) && nat_eq j k))
-          ≡ ((nat_le (k + 1) j || nat_eq j k) && has_symbol db x j)
+          ≡ ((nat_le (k + 1) j || nat_eq j k) && has_symbol_by_width db narrow x j)
       tests_agree (inl j_is_k) =
-          ap₂ (λ a b. (a && has_symbol db x j) || ((d && is_member (formula_at db k) x) && b))
+          ap₂ (λ a b. (a && has_symbol_by_width db narrow x j) || ((d && is_member (formula_at db k) x) && b))
           (lt-leb (k + 1) j (omega (arith, j_is_k))) (eq-eqb j k j_is_k)
           ∙ and-true (d && is_member (formula_at db k) x)
           ∙ ap (λ b. b && is_member (formula_at db k) x) (sym k_is_disjoint_is_d)
-          ∙ ap (has_symbol db x) (sym j_is_k)
-          ∙ sym (ap₂ (λ a b. (a || b) && has_symbol db x j)
+          ∙ ap (has_symbol_by_width db narrow x) (sym j_is_k)
+          ∙ sym (ap₂ (λ a b. (a || b) && has_symbol_by_width db narrow x j)
           (lt-leb (k + 1) j (omega (arith, j_is_k))) (eq-eqb j k j_is_k))
       tests_agree (inr j_ne_k) =
-          ap (λ b. (nat_le (k + 1) j && has_symbol db x j)
+          ap (λ b. (nat_le (k + 1) j && has_symbol_by_width db narrow x j)
           || ((d && is_member (formula_at db k) x) && b)) (ne_eqb j k j_ne_k)
-          ∙ ap (λ b. (nat_le (k + 1) j && has_symbol db x j) || b)
+          ∙ ap (λ b. (nat_le (k + 1) j && has_symbol_by_width db narrow x j) || b)
           (and-false (d && is_member (formula_at db k) x))
-          ∙ or-false (nat_le (k + 1) j && has_symbol db x j)
-          ∙ sym (ap (λ b. (nat_le (k + 1) j || b) && has_symbol db x j) (ne_eqb j k j_ne_k)
-          ∙ ap (λ b. b && has_symbol db x j) (or-false (nat_le (k + 1) j)))
+          ∙ or-false (nat_le (k + 1) j && has_symbol_by_width db narrow x j)
+          ∙ sym (ap (λ b. (nat_le (k + 1) j || b) && has_symbol_by_width db narrow x j) (ne_eqb j k j_ne_k)
+          ∙ ap (λ b. b && has_symbol_by_width db narrow x j) (or-false (nat_le (k + 1) j)))
 
   -- a `$d` statement with the symbol is the first of its chain
   pub has_symbol_with_disjoint : (least : ℕ) (xs : List ℕ) → least ≡ k + 1 → xs ≡ formula_at db k
-      → list_any is_disjoint_statement (statement_at db k) ≡ true
-      → ((nat_le least j && has_symbol db x j) || (is_member xs x && nat_eq j k))
-      ≡ (nat_le k j && has_symbol db x j)
+      → is_disjoint_by_width db narrow k ≡ true
+      → ((nat_le least j && has_symbol_by_width db narrow x j) || (is_member xs x && nat_eq j k))
+      ≡ (nat_le k j && has_symbol_by_width db narrow x j)
   has_symbol_with_disjoint least xs least_is_next_k xs_are_formula k_is_disjoint =
-      ap₂ (λ n ys. (nat_le n j && has_symbol db x j) || (is_member ys x && nat_eq j k))
+      ap₂ (λ n ys. (nat_le n j && has_symbol_by_width db narrow x j) || (is_member ys x && nat_eq j k))
       least_is_next_k xs_are_formula
       ∙ at_k_or_later true k_is_disjoint
 
-  -- a statement that is no `$d` changes no chain
+  -- another statement changes no chain
   pub has_symbol_without_disjoint : (least : ℕ) → least ≡ k + 1
-      → list_any is_disjoint_statement (statement_at db k) ≡ false
-      → (nat_le least j && has_symbol db x j) ≡ (nat_le k j && has_symbol db x j)
+      → is_disjoint_by_width db narrow k ≡ false
+      → (nat_le least j && has_symbol_by_width db narrow x j) ≡ (nat_le k j && has_symbol_by_width db narrow x j)
   has_symbol_without_disjoint least least_is_next_k k_is_not_disjoint =
-      ap (λ n. nat_le n j && has_symbol db x j) least_is_next_k
-      ∙ sym (or-false (nat_le (k + 1) j && has_symbol db x j))
+      ap (λ n. nat_le n j && has_symbol_by_width db narrow x j) least_is_next_k
+      ∙ sym (or-false (nat_le (k + 1) j && has_symbol_by_width db narrow x j))
       ∙ at_k_or_later false k_is_not_disjoint
 
 -- a member of a list is below what all its members are below
-member_lt_bound : (n y : ℕ) (xs : List ℕ) → All (λ s. s < n) xs → is_member xs y ≡ true → y < n
+pub member_lt_bound : (n y : ℕ) (xs : List ℕ) → All (λ s. s < n) xs → is_member xs y ≡ true → y < n
 member_lt_bound n y [] all_lt_n y_is_member = absurd (true≢false (sym y_is_member))
 member_lt_bound n y (x ∷ xs) all_lt_n y_is_member =
     y_lt_n (or_cases (nat_eq y x) (is_member xs y) y_is_member)
@@ -347,14 +357,14 @@ member_lt_bound n y (x ∷ xs) all_lt_n y_is_member =
     y_lt_n (inr y_in_rest) rest_lt_n = rest_lt_n y_in_rest
 
 -- a symbol of a `$d` has a number
-pub symbol_lt_symbol_count : (db : List Statement) → IsSound db → (x j : ℕ)
-    → has_symbol db x j ≡ true
+pub symbol_lt_symbol_count : (db : List Statement) → IsSound db → (narrow : Bool) (x j : ℕ)
+    → has_symbol_by_width db narrow x j ≡ true
     → x < length (symbol_names db)
-symbol_lt_symbol_count db sound x j j_has_x =
+symbol_lt_symbol_count db sound narrow x j j_has_x =
     let parts =
-    and_parts (list_any is_disjoint_statement (statement_at db j)) (is_member (formula_at db j) x)
-    j_has_x in
-    let j_lt_length = passing_lt_length is_disjoint_statement db j parts.0 in
+    and_parts (is_disjoint_by_width db narrow j) (is_member (formula_at db j) x) j_has_x in
+    let j_lt_length = passing_lt_length is_disjoint_statement db j
+    (width_is_disjoint db narrow j parts.0) in
     member_lt_bound (length (symbol_names db)) x (formula_at db j)
     (sound.symbols_have_numbers j j_lt_length)
     parts.1
@@ -415,12 +425,12 @@ module _ (links : List (ℕ × ℕ)) (symbol : ℕ) (earlier_pairs pairs_so_far 
 -- ---- the pairs of all chains, symbol after symbol
 
 -- the pairs of the symbols before x
-pub record ArePairsTo (db : List Statement) (x : ℕ) (ps : List (ℕ × ℕ)) : Type 0 where
+pub record ArePairsTo (db : List Statement) (narrow : Bool) (x : ℕ) (ps : List (ℕ × ℕ)) : Type 0 where
   pub rising : AreRising ps
-  pub members_are : (y j : ℕ) → has_pair ps y j ≡ (nat_lt y x && has_symbol db y j)
+  pub members_are : (y j : ℕ) → has_pair ps y j ≡ (nat_lt y x && has_symbol_by_width db narrow y j)
 
 -- two rising lists, one after the other, rise if the first ends before the second begins
-rising_append : (ps qs : List (ℕ × ℕ)) → AreRising ps → AreRising qs
+pub rising_append : (ps qs : List (ℕ × ℕ)) → AreRising ps → AreRising qs
     → ((a b x y : ℕ) → has_pair ps a b ≡ true → has_pair qs x y ≡ true → IsBefore a b x y)
     → AreRising (ps ++ qs)
 rising_append [] qs ps_are_rising qs_are_rising ps_before_qs = qs_are_rising
@@ -499,11 +509,11 @@ lt_next_is_lt_or_equal y x = tests_agree (cases_order y x)
         (ne_eqb y x (λ y_is_x. absurd (omega (arith, y_order, y_is_x)))))
 
 -- the pairs of the symbols so far, with those of one symbol more
-pub pairs_with_symbol : (db : List Statement) (x n : ℕ) (links ps qs : List (ℕ × ℕ))
-    (chain : HasChain (has_symbol db x) 0 links n) → ArePairsTo db x ps
-    → qs ≡ ps ++ map (λ j. (x, j)) chain.statements → ArePairsTo db (x + 1) qs
-pairs_with_symbol db x n links ps qs chain are_pairs_to qs_are_pushed =
-    subst (ArePairsTo db (x + 1)) (sym qs_are_pushed) (record {
+pub pairs_with_symbol : (db : List Statement) (narrow : Bool) (x n : ℕ) (links ps qs : List (ℕ × ℕ))
+    (chain : HasChain (has_symbol_by_width db narrow x) 0 links n) → ArePairsTo db narrow x ps
+    → qs ≡ ps ++ map (λ j. (x, j)) chain.statements → ArePairsTo db narrow (x + 1) qs
+pairs_with_symbol db narrow x n links ps qs chain are_pairs_to qs_are_pushed =
+    subst (ArePairsTo db narrow (x + 1)) (sym qs_are_pushed) (record {
       rising =
           rising_append ps row are_pairs_to.rising (rising_row x 0 chain.statements chain.rising)
           (λ b c y j ps_has_pair row_has_pair. inl
@@ -513,7 +523,7 @@ pairs_with_symbol db x n links ps qs chain are_pairs_to qs_are_pushed =
           ∙ ap₂ (λ b c. b || c) (are_pairs_to.members_are y j)
           (has_pair_in_row x chain.statements y j)
           ∙ tests_agree y j (cases_eq y x)
-          ∙ sym (ap (λ b. b && has_symbol db y j) (lt_next_is_lt_or_equal y x));
+          ∙ sym (ap (λ b. b && has_symbol_by_width db narrow y j) (lt_next_is_lt_or_equal y x));
     })
   where
     row : List (ℕ × ℕ)
@@ -521,7 +531,7 @@ pairs_with_symbol db x n links ps qs chain are_pairs_to qs_are_pushed =
 
     earlier_lt_row : (b c y j : ℕ) → has_pair ps b c ≡ true → has_pair row y j ≡ true → b < y
     earlier_lt_row b c y j ps_has_pair row_has_pair =
-        let b_lt_x = ltb-true b x (and_parts (nat_lt b x) (has_symbol db b c)
+        let b_lt_x = ltb-true b x (and_parts (nat_lt b x) (has_symbol_by_width db narrow b c)
         (sym (are_pairs_to.members_are b c) ∙ ps_has_pair)).0 in
         let y_is_x =
         eqb-true y x
@@ -530,17 +540,17 @@ pairs_with_symbol db x n links ps qs chain are_pairs_to qs_are_pushed =
         omega (arith, b_lt_x, y_is_x)
 
     tests_agree : (y j : ℕ) → (y ≡ x) ⊎ (y ≢ x)
-        → ((nat_lt y x && has_symbol db y j) || (nat_eq y x && is_member chain.statements j))
-        ≡ ((nat_lt y x || nat_eq y x) && has_symbol db y j)
+        → ((nat_lt y x && has_symbol_by_width db narrow y j) || (nat_eq y x && is_member chain.statements j))
+        ≡ ((nat_lt y x || nat_eq y x) && has_symbol_by_width db narrow y j)
     tests_agree y j (inl ps_has_pair) =
-        ap₂ (λ b c. (b && has_symbol db y j) || (c && is_member chain.statements j))
+        ap₂ (λ b c. (b && has_symbol_by_width db narrow y j) || (c && is_member chain.statements j))
         (le-ltb y x (omega (arith, ps_has_pair))) (eq-eqb y x ps_has_pair)
-        ∙ chain.members_are j ∙ ap (λ z. has_symbol db z j) (sym ps_has_pair)
-        ∙ sym (ap₂ (λ b c. (b || c) && has_symbol db y j) (le-ltb y x (omega (arith, ps_has_pair)))
+        ∙ chain.members_are j ∙ ap (λ z. has_symbol_by_width db narrow z j) (sym ps_has_pair)
+        ∙ sym (ap₂ (λ b c. (b || c) && has_symbol_by_width db narrow y j) (le-ltb y x (omega (arith, ps_has_pair)))
         (eq-eqb y x ps_has_pair))
     tests_agree y j (inr y_ne_x) =
-        ap (λ b. (nat_lt y x && has_symbol db y j) || (b && is_member chain.statements j))
+        ap (λ b. (nat_lt y x && has_symbol_by_width db narrow y j) || (b && is_member chain.statements j))
         (ne_eqb y x y_ne_x)
-        ∙ or-false (nat_lt y x && has_symbol db y j)
-        ∙ sym (ap (λ b. (nat_lt y x || b) && has_symbol db y j) (ne_eqb y x y_ne_x)
-        ∙ ap (λ b. b && has_symbol db y j) (or-false (nat_lt y x)))
+        ∙ or-false (nat_lt y x && has_symbol_by_width db narrow y j)
+        ∙ sym (ap (λ b. (nat_lt y x || b) && has_symbol_by_width db narrow y j) (ne_eqb y x y_ne_x)
+        ∙ ap (λ b. b && has_symbol_by_width db narrow y j) (or-false (nat_lt y x)))

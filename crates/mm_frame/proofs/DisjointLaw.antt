@@ -4,7 +4,7 @@ use Rattle.std.proofs.Common.{◌≡◌, ◌≢◌, ℕ, suc, ◌+◌, ◌<◌, 
 use Rattle.std.proofs.Common.{List, [], ◌∷◌, ◌++◌, length, get_or, map, nat_eq, nat_lt}
 use Rattle.std.proofs.Common.{refl, sym, ap, ap₂, ◌∙◌, arith, true≢false, ◌⊎◌, inl, inr}
 use Rattle.std.proofs.lemmas.Bool.{cases_lt, cases_eq, cases_order, lt-ltb, ltb-true}
-use Rattle.std.proofs.lemmas.Bool.{eq-eqb, eqb-true, ne_eqb, and_parts}
+use Rattle.std.proofs.lemmas.Bool.{eq-eqb, eqb-true, ne_eqb, and_parts, or_cases}
 use Rattle.std.proofs.lemmas.List.Folds.{list_any_at, list_any-append}
 use Rattle.std.specs.List.{list_any, range_with_len, filter}
 use Rattle.std.proofs.Math.Bool.{or-false, or-true}
@@ -16,11 +16,14 @@ use Rattle.mm_spec.specs.Frame.{mandatory_variables, mandatory_pairs, disjoint_a
 use Rattle.mm_spec.proofs.BoolLaw.{same_tests}
 use Rattle.mm_spec.proofs.MemberLaw.{passing_has_witness, witness_makes_any, member_range}
 use Rattle.mm_outline.specs.Blocks.{BlockLists, IsBlocks}
-use Rattle.mm_database.specs.DisjointIndex.{has_symbol, is_active_local}
+use Rattle.mm_database.specs.DisjointIndex.{has_symbol_by_width, is_disjoint_by_width}
+use Rattle.mm_database.specs.DisjointIndex.{has_narrow_pair, is_narrow, is_active_local}
+use Rattle.mm_database.specs.DisjointIndex.{is_active_in_row, IsRowOf, row_of}
 use Rattle.mm_database.specs.Pairs.{has_pair, IsBefore, AreRising}
-use Rattle.mm_database.proofs.TogetherLaw.{active_local_is_active, active_is_disjoint}
+use Rattle.mm_database.proofs.TogetherLaw.{HasBoth, together_from_both, both_from_together}
+use Rattle.mm_database.proofs.TogetherLaw.{row_is_together, narrow_is_in_row}
 use Rattle.mm_database.proofs.DisjointIndexLaw.{index_of_pair, has_pair_at_index, earlier_is_before}
-use Rattle.mm_frame.specs.Together.{has_later}
+use Rattle.mm_frame.specs.Together.{has_later, is_later_in_row, is_later_in_rows}
 use Rattle.mm_frame.proofs.HypothesesLaw.{mandatory_has_name}
 use Rattle.mm_frame.proofs.PairsLaw.{has_mapped_pair, mapped_are_sorted}
 use Rattle.mm_frame.proofs.PairsLaw.{sorted_with_same_members_equal, has_filtered_pair}
@@ -321,8 +324,10 @@ or_with_next_symbol false m q r l y s q_is_r = tests_agree (cases_eq y s)
 -- ---- the mandatory pairs
 
 module _ (db : List Statement) (b : BlockLists) (are_blocks : IsBlocks db b) (k : ℕ)
-    (k_le_length : k ≤ length db) (ps : List (ℕ × ℕ))
-    (pairs_are_members : (x j : ℕ) → has_pair ps x j ≡ has_symbol db x j) (variables : List ℕ)
+    (k_le_length : k ≤ length db) (rows : List (List (ℕ × ℕ)))
+    (rows_are : (x : ℕ) → IsRowOf b (has_narrow_pair db x) (row_of rows x)) (ps : List (ℕ × ℕ))
+    (pairs_are_members : (x j : ℕ) → has_pair ps x j ≡ has_symbol_by_width db false x j)
+    (variables : List ℕ)
     (by_statement : List (ℕ × ℕ))
     (variables_are : (x : ℕ) → is_member variables x ≡ is_member (mandatory_variables db k) x)
     (paired_is : (j y : ℕ)
@@ -340,9 +345,13 @@ module _ (db : List Statement) (b : BlockLists) (are_blocks : IsBlocks db b) (k 
         nat_lt p.low p.high && is_member vs p.low && is_member vs p.high
         && disjoint_at db k p.low p.high
 
-    -- whether two variables are in one of the `$d` statements
+    -- whether two variables are in one of the wide `$d`
     abbrev pub together : ℕ → ℕ → Bool
     together x y = list_any (λ p. has_later by_statement p x y) by_statement
+
+    -- whether they are in one `$d`
+    abbrev pub in_one : ℕ → ℕ → Bool
+    in_one x y = is_later_in_rows b rows variables k x y || together x y
 
     member_is_in_range : (x : ℕ) → is_member vs x ≡ true
         → is_member (range_with_len 0 count) x ≡ true
@@ -350,9 +359,18 @@ module _ (db : List Statement) (b : BlockLists) (are_blocks : IsBlocks db b) (k 
         let x_lt_count = mandatory_has_name db k x x_is_member in
         member_range count 0 x (omega arith) ∙ lt-ltb x (0 + count) (omega (arith, x_lt_count))
 
+    -- two different mandatory variables in one active `$d`
+    record AreMandatory (x y : ℕ) : Type 0 where
+      pub x_lt_y : x < y
+      pub x_is_member : is_member vs x ≡ true
+      pub y_is_member : is_member vs y ≡ true
+      pub both : HasBoth db b are_blocks k k_le_length x y
+
+    -- a wide `$d` with a variable
     paired_is_active_member : (j y : ℕ) → has_pair by_statement j y ≡ true
         → (is_member vs y ≡ true) × (is_member (formula_at db j) y ≡ true)
-        × (is_member (active_of is_disjoint_statement db k) j ≡ true)
+        × (list_any is_disjoint_statement (statement_at db j) ≡ true)
+        × (is_active_local b j k ≡ true)
     paired_is_active_member j y has_pair_x_y =
         let is_paired = sym (paired_is j y) ∙ has_pair_x_y in
         let is_active_pair =
@@ -360,34 +378,29 @@ module _ (db : List Statement) (b : BlockLists) (are_blocks : IsBlocks db b) (k 
         in
         let j_has_y = sym (pairs_are_members y j)
         ∙ (and_parts (has_pair ps y j) (is_active_local b j k) is_active_pair).0 in
-        let j_is_disjoint =
-        (and_parts (list_any is_disjoint_statement (statement_at db j))
-        (is_member (formula_at db j) y) j_has_y).0 in (
+        let parts = and_parts (is_disjoint_by_width db false j) (is_member (formula_at db j) y)
+        j_has_y in (
           sym (variables_are y)
               ∙ (and_parts (is_member variables y) (has_pair ps y j && is_active_local b j k)
               is_paired).0,
+          parts.1,
           (and_parts (list_any is_disjoint_statement (statement_at db j))
-              (is_member (formula_at db j) y) j_has_y).1,
-          sym (active_local_is_active db b are_blocks k k_le_length j j_is_disjoint)
-              ∙ (and_parts (has_pair ps y j) (is_active_local b j k) is_active_pair).1,
+              (not (is_narrow (formula_at db j))) parts.0).0,
+          (and_parts (has_pair ps y j) (is_active_local b j k) is_active_pair).1,
         )
 
-    active_member_is_paired : (j y : ℕ) → is_member vs y ≡ true
+    wide_member_is_paired : (j y : ℕ) → is_member vs y ≡ true
+        → is_disjoint_by_width db false j ≡ true
         → is_member (formula_at db j) y ≡ true
-        → is_member (active_of is_disjoint_statement db k) j ≡ true → has_pair by_statement j y
-        ≡ true
-    active_member_is_paired j y y_is_member j_has_y j_is_active =
-        let j_is_disjoint = active_is_disjoint db b are_blocks k k_le_length j j_is_active in
+        → is_active_local b j k ≡ true → has_pair by_statement j y ≡ true
+    wide_member_is_paired j y y_is_member j_is_wide j_has_y j_is_active =
         paired_is j y
         ∙ ap₂ (λ p q. p && q) (variables_are y ∙ y_is_member)
-        (ap₂ (λ p q. p && q) (pairs_are_members y j ∙ ap₂ (λ p q. p && q) j_is_disjoint j_has_y)
-        (active_local_is_active db b are_blocks k k_le_length j j_is_disjoint ∙ j_is_active))
+        (ap₂ (λ p q. p && q) (pairs_are_members y j ∙ ap₂ (λ p q. p && q) j_is_wide j_has_y)
+        j_is_active)
 
-    left_to_right : (x y : ℕ) → together x y ≡ true
-        → (wanted (pair x y)
-        && (is_member (range_with_len 0 count) x && is_member (range_with_len 0 count) y))
-        ≡ true
-    left_to_right x y x_y_together =
+    together_are_mandatory : (x y : ℕ) → together x y ≡ true → AreMandatory x y
+    together_are_mandatory x y x_y_together =
         let found = index_where_test_holds (λ p. has_later by_statement p x y) by_statement
         x_y_together in
         let j = (get_or by_statement found.0 (0, 0)).0 in
@@ -398,79 +411,148 @@ module _ (db : List Statement) (b : BlockLists) (are_blocks : IsBlocks db b) (k 
         let is_later_pair =
         (and_parts (nat_eq x (get_or by_statement found.0 (0, 0)).1)
         (has_pair by_statement j y && nat_lt x y) found.2).1 in
-        let x_lt_y_test = (and_parts (has_pair by_statement j y) (nat_lt x y) is_later_pair).1 in
-        let x_lt_y = ltb-true x y x_lt_y_test in
+        let later_parts = and_parts (has_pair by_statement j y) (nat_lt x y) is_later_pair in
         let x_of_j = paired_is_active_member j x (ap (has_pair by_statement j) x_is_variable
         ∙ has_pair_at_index by_statement found.0 (0, 0) found.1) in
-        let y_of_j = paired_is_active_member j y
-        (and_parts (has_pair by_statement j y) (nat_lt x y) is_later_pair).0 in
-        let some_active_has_both =
-        witness_makes_any (λ i. is_member (formula_at db i) x && is_member (formula_at db i) y)
-        (active_of is_disjoint_statement db k) j x_of_j.2 (ap₂ (λ a b. a && b) x_of_j.1 y_of_j.1) in
+        let y_of_j = paired_is_active_member j y later_parts.0 in
+        record {
+          x_lt_y = ltb-true x y later_parts.1;
+          x_is_member = x_of_j.0;
+          y_is_member = y_of_j.0;
+          both = record {
+            statement = j;
+            is_disjoint = x_of_j.2;
+            has_x = x_of_j.1;
+            has_y = y_of_j.1;
+            is_active = x_of_j.3;
+          };
+        }
+
+    later_in_rows_are_mandatory : (x y : ℕ) → is_later_in_rows b rows variables k x y ≡ true
+        → AreMandatory x y
+    later_in_rows_are_mandatory x y is_later =
+        let x_parts = and_parts (is_member variables x)
+        (is_later_in_row b (row_of rows x) x variables k y) is_later in
+        let y_parts = and_parts (is_member variables y)
+        (nat_lt x y && is_active_in_row b (row_of rows x) y k) x_parts.1 in
+        let order_parts = and_parts (nat_lt x y) (is_active_in_row b (row_of rows x) y k) y_parts.1
+        in
+        record {
+          x_lt_y = ltb-true x y order_parts.0;
+          x_is_member = sym (variables_are x) ∙ x_parts.0;
+          y_is_member = sym (variables_are y) ∙ y_parts.0;
+          both = row_is_together db b are_blocks k k_le_length rows rows_are x y order_parts.1;
+        }
+
+    mandatory_are_wanted : (x y : ℕ) → AreMandatory x y
+        → (wanted (pair x y)
+        && (is_member (range_with_len 0 count) x && is_member (range_with_len 0 count) y))
+        ≡ true
+    mandatory_are_wanted x y are_mandatory =
+        let x_lt_y = are_mandatory.x_lt_y in
         let are_disjoint : disjoint_at db k x y ≡ true =
         ap₂ (λ a b. not a && b) (ne_eqb x y (λ x_is_y. absurd (omega (arith, x_is_y, x_lt_y))))
-        some_active_has_both in
+        (together_from_both db b are_blocks k k_le_length x y are_mandatory.both) in
         ap₂ (λ a b. a && b)
         (ap₂ (λ a b. a && b)
-        (ap₂ (λ a b. a && b) (ap₂ (λ a b. a && b) x_lt_y_test x_of_j.0) y_of_j.0) are_disjoint)
-        (ap₂ (λ a b. a && b) (member_is_in_range x x_of_j.0) (member_is_in_range y y_of_j.0))
+        (ap₂ (λ a b. a && b) (ap₂ (λ a b. a && b) (lt-ltb x y x_lt_y) are_mandatory.x_is_member)
+        are_mandatory.y_is_member) are_disjoint)
+        (ap₂ (λ a b. a && b) (member_is_in_range x are_mandatory.x_is_member)
+        (member_is_in_range y are_mandatory.y_is_member))
+
+    left_to_right : (x y : ℕ) → in_one x y ≡ true
+        → (wanted (pair x y)
+        && (is_member (range_with_len 0 count) x && is_member (range_with_len 0 count) y))
+        ≡ true
+    left_to_right x y are_in_one = by_case (or_cases (is_later_in_rows b rows variables k x y)
+        (together x y) are_in_one)
+      where
+        by_case : (is_later_in_rows b rows variables k x y ≡ true) ⊎ (together x y ≡ true)
+            → (wanted (pair x y)
+            && (is_member (range_with_len 0 count) x && is_member (range_with_len 0 count) y))
+            ≡ true
+        by_case (inl is_later) =
+            mandatory_are_wanted x y (later_in_rows_are_mandatory x y is_later)
+        by_case (inr are_together) =
+            mandatory_are_wanted x y (together_are_mandatory x y are_together)
 
     right_to_left : (x y : ℕ)
         → (wanted (pair x y)
         && (is_member (range_with_len 0 count) x && is_member (range_with_len 0 count) y))
         ≡ true
-        → together x y ≡ true
+        → in_one x y ≡ true
     right_to_left x y are_wanted =
-        let pair_is_wanted =
-        (and_parts (wanted (pair x y))
-        (is_member (range_with_len 0 count) x && is_member (range_with_len 0 count) y)
-        are_wanted).0 in
-        let low_high_members =
-        (and_parts (nat_lt x y && is_member vs x && is_member vs y)
-        (disjoint_at db k x y) pair_is_wanted).0 in
-        let are_disjoint =
-        (and_parts (nat_lt x y && is_member vs x && is_member vs y)
-        (disjoint_at db k x y) pair_is_wanted).1 in
-        let low_high_member =
-        (and_parts (nat_lt x y && is_member vs x) (is_member vs y) low_high_members).0 in
-        let y_is_member =
-        (and_parts (nat_lt x y && is_member vs x) (is_member vs y) low_high_members).1 in
-        let x_lt_y_test = (and_parts (nat_lt x y) (is_member vs x) low_high_member).0 in
-        let x_is_member = (and_parts (nat_lt x y) (is_member vs x) low_high_member).1 in
-        let active_with_both =
-        passing_has_witness (λ i. is_member (formula_at db i) x && is_member (formula_at db i) y)
-        (active_of is_disjoint_statement db k)
-        (and_parts (not (nat_eq x y))
-        (list_any (λ i. is_member (formula_at db i) x && is_member (formula_at db i) y)
-        (active_of is_disjoint_statement db k)) are_disjoint).1 in
-        let j = active_with_both.0 in
-        let j_has_x =
-        active_member_is_paired j x x_is_member
-        (and_parts (is_member (formula_at db j) x)
-        (is_member (formula_at db j) y) active_with_both.2).0 active_with_both.1 in
-        let j_has_y =
-        active_member_is_paired j y y_is_member
-        (and_parts (is_member (formula_at db j) x)
-        (is_member (formula_at db j) y) active_with_both.2).1 active_with_both.1 in
-        let x_found = index_of_pair by_statement j x j_has_x in
-        list_any_at (λ p. has_later by_statement p x y) by_statement x_found.index
-        (0, 0) x_found.index_lt_length
-        (ap₂ (λ a b. a && b)
-        (eq-eqb x (get_or by_statement x_found.index (0, 0)).1 (sym x_found.second_is_y))
-        (ap₂ (λ a b. a && b) (ap (λ i. has_pair by_statement i y) x_found.first_is_x
-        ∙ j_has_y) x_lt_y_test))
+        by_width (is_narrow (formula_at db both.statement)) refl
+      where
+        pair_is_wanted : wanted (pair x y) ≡ true
+        pair_is_wanted =
+            (and_parts (wanted (pair x y))
+            (is_member (range_with_len 0 count) x && is_member (range_with_len 0 count) y)
+            are_wanted).0
+
+        members : (nat_lt x y && is_member vs x && is_member vs y) ≡ true
+        members =
+            (and_parts (nat_lt x y && is_member vs x && is_member vs y)
+            (disjoint_at db k x y) pair_is_wanted).0
+
+        order_and_x : (nat_lt x y && is_member vs x) ≡ true
+        order_and_x = (and_parts (nat_lt x y && is_member vs x) (is_member vs y) members).0
+
+        y_is_member : is_member vs y ≡ true
+        y_is_member = (and_parts (nat_lt x y && is_member vs x) (is_member vs y) members).1
+
+        x_lt_y_test : nat_lt x y ≡ true
+        x_lt_y_test = (and_parts (nat_lt x y) (is_member vs x) order_and_x).0
+
+        x_is_member : is_member vs x ≡ true
+        x_is_member = (and_parts (nat_lt x y) (is_member vs x) order_and_x).1
+
+        both : HasBoth db b are_blocks k k_le_length x y
+        both =
+            both_from_together db b are_blocks k k_le_length x y
+            (and_parts (not (nat_eq x y))
+            (list_any (λ i. is_member (formula_at db i) x && is_member (formula_at db i) y)
+            (active_of is_disjoint_statement db k))
+            (and_parts (nat_lt x y && is_member vs x && is_member vs y)
+            (disjoint_at db k x y) pair_is_wanted).1).1
+
+        j : ℕ
+        j = both.statement
+
+        by_width : (c : Bool) → is_narrow (formula_at db j) ≡ c → in_one x y ≡ true
+        by_width true is_narrow_here =
+            ap (λ c. c || together x y)
+            (ap₂ (λ p q. p && q) (variables_are x ∙ x_is_member)
+            (ap₂ (λ p q. p && q) (variables_are y ∙ y_is_member)
+            (ap₂ (λ p q. p && q) x_lt_y_test
+            (narrow_is_in_row db b are_blocks k k_le_length rows rows_are x y
+            (ltb-true x y x_lt_y_test) both is_narrow_here))))
+        by_width false is_wide =
+            let j_is_wide : is_disjoint_by_width db false j ≡ true =
+            ap₂ (λ p q. p && q) both.is_disjoint (ap not is_wide) in
+            let j_has_x = wide_member_is_paired j x x_is_member j_is_wide both.has_x both.is_active in
+            let j_has_y = wide_member_is_paired j y y_is_member j_is_wide both.has_y both.is_active in
+            let x_found = index_of_pair by_statement j x j_has_x in
+            ap (λ c. is_later_in_rows b rows variables k x y || c)
+            (list_any_at (λ p. has_later by_statement p x y) by_statement x_found.index
+            (0, 0) x_found.index_lt_length
+            (ap₂ (λ a b. a && b)
+            (eq-eqb x (get_or by_statement x_found.index (0, 0)).1 (sym x_found.second_is_y))
+            (ap₂ (λ a b. a && b) (ap (λ i. has_pair by_statement i y) x_found.first_is_x
+            ∙ j_has_y) x_lt_y_test)))
+            ∙ or-true (is_later_in_rows b rows variables k x y)
 
     -- rising pairs with the same members are the mandatory pairs of the frame
     pub pairs_are_mandatory_pairs : (qs : List (ℕ × ℕ)) → AreRising qs
-        → ((x y : ℕ) → has_pair qs x y ≡ together x y)
+        → ((x y : ℕ) → has_pair qs x y ≡ in_one x y)
         → map (λ p. pair p.0 p.1) qs ≡ mandatory_pairs db k
-    pairs_are_mandatory_pairs qs rising has_pair_is_together =
+    pairs_are_mandatory_pairs qs rising has_pair_is_in_one =
         sorted_with_same_members_equal (map (λ p. pair p.0 p.1) qs)
         (filter wanted (pairs_below count))
         (mapped_are_sorted qs rising)
         (filtered_are_sorted wanted (pairs_below count) (all_pairs_are_sorted count))
-        (λ x y. has_mapped_pair qs x y ∙ has_pair_is_together x y
-        ∙ same_tests (together x y)
+        (λ x y. has_mapped_pair qs x y ∙ has_pair_is_in_one x y
+        ∙ same_tests (in_one x y)
         (wanted (pair x y)
         && (is_member (range_with_len 0 count) x && is_member (range_with_len 0 count) y))
         (left_to_right x y) (right_to_left x y)

@@ -97,6 +97,25 @@ module _ (db : List Statement) (k : ℕ) where
       ∙ sym (same_members_same_any (λ j. is_member (formula_at db j) x) xs
       (active_of is_essential db k) essentials_are_active))))
 
+  -- those of the formula, and of the `$e`
+  pub listed_are_mandatory : (x : ℕ) (n e : Bool)
+      → e ≡ (is_variable_number db x
+      && list_any (λ j. is_member (formula_at db j) x) (active_of is_essential db k))
+      → n ≡ ((is_variable_number db x && is_member (formula_at db k) x)
+      || (is_variable_number db x && e))
+      → n ≡ is_member (mandatory_variables db k) x
+  listed_are_mandatory x n e e_is n_is =
+      n_is
+      ∙ ap (λ z. (is_variable_number db x && is_member (formula_at db k) x)
+      || (is_variable_number db x && z)) e_is
+      ∙ regroup (is_variable_number db x) (is_member (formula_at db k) x)
+      (list_any (λ j. is_member (formula_at db j) x) (active_of is_essential db k))
+      ∙ found_are_mandatory_variables (active_of is_essential db k) (λ i. refl) x
+    where
+      regroup : (v f e : Bool) → ((v && f) || (v && (v && e))) ≡ (v && (f || e))
+      regroup true f e = refl
+      regroup false f e = refl
+
   -- an active `$e` stands before the assertion
   pub essential_lt_k : (xs : List ℕ)
       → ((i : ℕ) → is_member xs i ≡ is_member (active_of is_essential db k) i) → (i : ℕ)
@@ -109,7 +128,7 @@ module _ (db : List Statement) (k : ℕ) where
       ltb-true j k (and_parts (nat_lt j k) (is_staying is_essential db j k) j_is_active).0
 
   -- a variable is one of the symbols
-  variable_has_name : (x : ℕ) → is_variable_number db x ≡ true → x < length (symbol_names db)
+  pub variable_has_name : (x : ℕ) → is_variable_number db x ≡ true → x < length (symbol_names db)
   variable_has_name x x_is_variable = x_lt_count (cases_lt x (length (symbol_names db)))
     where
       x_lt_count : (x < length (symbol_names db)) ⊎ (length (symbol_names db) ≤ x)

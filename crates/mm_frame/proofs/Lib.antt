@@ -20,4 +20,6 @@ pub mod PairsLaw
 pub mod SkipsLaw
 pub mod HypothesesLaw
 pub mod ChainsLaw
+pub mod RowsLaw
+pub mod ScopeLaw
 pub mod StretchesLaw

@@ -1,6 +1,8 @@
 -- One more element in the loops that collect numbers and pairs.
 use Rattle.std.proofs.Common.{◌≡◌, ℕ, ◌+◌, ◌<◌, Bool, true, false, ◌&&◌, ◌||◌, not, List, [], ◌∷◌}
-use Rattle.std.proofs.Common.{◌++◌, length, get_or, take, nat_eq, refl, sym, ap, ◌∙◌, arith}
+use Rattle.std.proofs.Common.{◌++◌, length, get_or, take, nat_eq, nat_lt, refl, sym, ap, ap₂, ◌∙◌}
+use Rattle.std.proofs.Common.{arith, ◌≢◌, ◌⊎◌, inl, inr}
+use Rattle.std.proofs.lemmas.Bool.{cases_eq, eq-eqb, eqb-true, ne_eqb}
 use Rattle.std.proofs.lemmas.List.Folds.{list_any_more, list_any-append}
 use Rattle.std.proofs.Math.Bool.{or-false}
 use Rattle.std.specs.List.{list_any}
@@ -132,3 +134,108 @@ floats_without_float hs unchanged f j never is_open never_true unchanged_is_hs =
     adds_nothing true b = refl
     adds_nothing false true = refl
     adds_nothing false false = refl
+
+-- the next element, if it passes a test
+pub passing_with_next_element : (g : ℕ → Bool) (xs : List ℕ) (i s d y : ℕ) (o b n : Bool)
+    → i < length xs → s ≡ get_or xs i d → b ≡ (o || (is_member (take i xs) y && g y))
+    → n ≡ (b || (nat_eq y s && g s)) → n ≡ (o || (is_member (take (i + 1) xs) y && g y))
+passing_with_next_element g xs i s d y o b n i_lt_length s_is_element b_is_so_far n_is_b_or_next =
+    n_is_b_or_next ∙ ap (λ z. z || (nat_eq y s && g s)) b_is_so_far
+    ∙ regroup o (is_member (take i xs) y) (nat_eq y s) (g y) (g s)
+    (λ y_is_s. ap g (eqb-true y s y_is_s))
+    ∙ ap (λ z. o || (z && g y))
+    (ap (λ z. is_member (take i xs) y || nat_eq y z) s_is_element
+    ∙ sym (list_any_more (nat_eq y) xs i d i_lt_length))
+  where
+    regroup : (o m e p q : Bool) → (e ≡ true → p ≡ q)
+        → ((o || (m && p)) || (e && q)) ≡ (o || ((m || e) && p))
+    regroup true m e p q equal = refl
+    regroup false true true true q equal = refl
+    regroup false true true false q equal = sym (equal refl)
+    regroup false true false p q equal = or-false p
+    regroup false false true p q equal = sym (equal refl)
+    regroup false false false p q equal = refl
+
+-- a pair more, if the second passes
+pub pair_if_passing : (ps qs : List (ℕ × ℕ)) (low s x y : ℕ) (passes : Bool)
+    → passes ≡ true → qs ≡ ps ++ (low, s) ∷ []
+    → has_pair qs x y ≡ (has_pair ps x y || (nat_eq y s && (nat_eq x low && passes)))
+pair_if_passing ps qs low s x y passes it_passes qs_are_pushed =
+    ap (λ rs. has_pair rs x y) qs_are_pushed
+    ∙ list_any-append (λ p. nat_eq x p.0 && nat_eq y p.1) ps ((low, s) ∷ [])
+    ∙ ap (λ z. has_pair ps x y || z) (regroup (nat_eq x low) (nat_eq y s))
+    ∙ sym (ap (λ z. has_pair ps x y || (nat_eq y s && (nat_eq x low && z))) it_passes)
+  where
+    regroup : (a b : Bool) → ((a && b) || false) ≡ (b && (a && true))
+    regroup true true = refl
+    regroup true false = refl
+    regroup false true = refl
+    regroup false false = refl
+
+pub no_pair_if_failing : (ps qs : List (ℕ × ℕ)) (low s x y : ℕ) (passes : Bool)
+    → passes ≡ false → qs ≡ ps
+    → has_pair qs x y ≡ (has_pair ps x y || (nat_eq y s && (nat_eq x low && passes)))
+no_pair_if_failing ps qs low s x y passes it_fails qs_are_ps =
+    ap (λ rs. has_pair rs x y) qs_are_ps
+    ∙ regroup (has_pair ps x y) (nat_eq y s) (nat_eq x low)
+    ∙ sym (ap (λ z. has_pair ps x y || (nat_eq y s && (nat_eq x low && z))) it_fails)
+  where
+    regroup : (o a b : Bool) → o ≡ (o || (a && (b && false)))
+    regroup true a b = refl
+    regroup false true true = refl
+    regroup false true false = refl
+    regroup false false b = refl
+
+-- two conditions exchanged
+pub and_swap : (o m e g : Bool) → (o || (m && (e && g))) ≡ (o || (e && (m && g)))
+and_swap true m e g = refl
+and_swap false true true g = refl
+and_swap false true false g = refl
+and_swap false false true g = refl
+and_swap false false false g = refl
+
+-- what a walk over a row finds of one symbol
+pub walked_in_row : (t : ℕ → Bool) (a : ℕ → Bool) (low x y : ℕ) (row : List (ℕ × ℕ))
+    → list_any (λ p. nat_eq y p.0 && (nat_eq x low && (nat_lt low p.0 && (t p.0 && a p.1)))) row
+    ≡ (nat_eq x low && (t y && (nat_lt low y && list_any (λ p. nat_eq y p.0 && a p.1) row)))
+walked_in_row t a low x y [] = none (nat_eq x low) (t y) (nat_lt low y)
+  where
+    none : (e m l : Bool) → false ≡ (e && (m && (l && false)))
+    none true true true = refl
+    none true true false = refl
+    none true false l = refl
+    none false m l = refl
+walked_in_row t a low x y (p ∷ row) =
+    ap (λ z. (nat_eq y p.0 && (nat_eq x low && (nat_lt low p.0 && (t p.0 && a p.1)))) || z)
+    (walked_in_row t a low x y row)
+    ∙ agree (cases_eq y p.0)
+  where
+    regroup : (e l m c r : Bool)
+        → ((e && (l && (m && c))) || (e && (m && (l && r)))) ≡ (e && (m && (l && (c || r))))
+    regroup true true true c r = refl
+    regroup true true false c r = refl
+    regroup true false true c r = refl
+    regroup true false false c r = refl
+    regroup false l m c r = refl
+
+    agree : (y ≡ p.0) ⊎ (y ≢ p.0)
+        → ((nat_eq y p.0 && (nat_eq x low && (nat_lt low p.0 && (t p.0 && a p.1))))
+        || (nat_eq x low && (t y && (nat_lt low y && list_any (λ p. nat_eq y p.0 && a p.1) row))))
+        ≡ (nat_eq x low && (t y && (nat_lt low y
+        && ((nat_eq y p.0 && a p.1) || list_any (λ p. nat_eq y p.0 && a p.1) row))))
+    agree (inl y_is_p) =
+        ap₂ (λ c z. (c && (nat_eq x low && (nat_lt low z && (t z && a p.1))))
+        || (nat_eq x low && (t y && (nat_lt low y && list_any (λ p. nat_eq y p.0 && a p.1) row))))
+        (eq-eqb y p.0 y_is_p) (sym y_is_p)
+        ∙ regroup (nat_eq x low) (nat_lt low y) (t y) (a p.1)
+        (list_any (λ p. nat_eq y p.0 && a p.1) row)
+        ∙ sym (ap (λ c. nat_eq x low && (t y && (nat_lt low y
+        && ((c && a p.1) || list_any (λ p. nat_eq y p.0 && a p.1) row))))
+        (eq-eqb y p.0 y_is_p))
+    agree (inr y_ne_p) =
+        ap (λ c. (c && (nat_eq x low && (nat_lt low p.0 && (t p.0 && a p.1))))
+        || (nat_eq x low && (t y && (nat_lt low y && list_any (λ p. nat_eq y p.0 && a p.1) row))))
+        (ne_eqb y p.0 y_ne_p)
+        ∙ sym (ap (λ c. nat_eq x low && (t y && (nat_lt low y
+        && ((c && a p.1) || list_any (λ p. nat_eq y p.0 && a p.1) row))))
+        (ne_eqb y p.0 y_ne_p))

@@ -30,12 +30,6 @@ pub record AreLastFloats (db : List Statement) (k : ℕ) (last_floats : List ℕ
       → typed_variable_at db j ≡ Some v
       → is_block_open db j k ≡ true → slice_index last_floats v ≡ j
 
--- What a walk keeps for the symbols is ready for statement k: the last `$f` of each variable before
--- k, and for each symbol a stamp that isn't after k.
-pub record AreReady (db : List Statement) (k : ℕ) (last_floats stamps : List ℕ) : Type 0 where
-  pub last_floats_are : AreLastFloats db k last_floats
-  pub stamps_are_fresh : IsFresh (length (symbol_names db)) k stamps
-
 -- statement j is the last `$f` of the variable, and active
 abbrev pub is_float_of : List Statement → ℕ → List ℕ → ℕ → ℕ → Bool
 is_float_of db k last_floats j v =

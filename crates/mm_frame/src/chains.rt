@@ -7,15 +7,16 @@ ghost use Rattle.std.specs.Prelude.{All, List, length, map, get_or, nat_eq, true
 ghost use Rattle.mm_spec.specs.Derivation.{is_member};
 ghost use Rattle.mm_spec.specs.Frame.{symbol_names};
 ghost use Rattle.mm_frame.specs.Chains.{AddsInFront, AreChains, AreLinked, IsChainOf};
-ghost use Rattle.mm_database.specs.DisjointIndex.{has_symbol};
+ghost use Rattle.mm_database.specs.DisjointIndex.{is_disjoint_by_width, has_symbol_by_width};
 ghost use Rattle.mm_database.specs.Pairs.{has_pair, AreRising};
 
+use mm_database::disjoint_index::is_narrow;
 use mm_database::statements::Statements;
 use mm_outline::symbol::Sym;
 use std::alloc::{AllocError, Allocator};
 
 /// The `$d` statements of each symbol.
-struct Chains<A: Allocator> {
+pub(crate) struct Chains<A: Allocator> {
     /// For each symbol the number of its first link, or 0 if it has none.
     heads: Vec<usize, A>,
     /// Each link is a statement and the number of the next link of its chain, which is 0 if there
@@ -84,18 +85,39 @@ fn add_links<A: Allocator>(
     Ok(())
 }
 
-/// Returns the `$d` of each symbol.
-fn chains_of<A: Allocator + Copy>(
+/// Whether a statement is a narrow `$d`, or a wide one.
+fn is_disjoint_by_width<A: Allocator>(
+    statements: &Statements<A>,
+    statement: u32,
+    narrow: bool,
+) -> bool
+    requires { statement < length statements.now.list }
+    ensures { result ≡ is_disjoint_by_width statements.now.list narrow statement }
+{
+    if !statements.is_disjoint(statement) {
+        return false;
+    }
+    let formula_is_narrow = is_narrow(statements.formula(statement));
+    if narrow {
+        formula_is_narrow
+    } else {
+        !formula_is_narrow
+    }
+}
+
+/// Returns the narrow `$d` of each symbol, or the wide ones.
+pub(crate) fn chains_of<A: Allocator + Copy>(
     alloc: A,
     statements: &Statements<A>,
+    narrow: bool,
 ) -> Result<Chains<A>, AllocError>
     ensures head_count_is { IfOk result
         (λ c. length c.heads.items ≡ length (symbol_names statements.now.list)) }
     ensures symbols_have_heads { IfOk result
-        (λ c. (x j : ℕ) → has_symbol statements.now.list x j ≡ true → x < length c.heads.items) }
+        (λ c. (x j : ℕ) → has_symbol_by_width statements.now.list narrow x j ≡ true → x < length c.heads.items) }
     ensures are_linked { IfOk result (λ c. AreLinked c.heads.items c.links.items) }
     ensures are_chains { IfOk result
-        (λ c. AreChains (has_symbol statements.now.list) 0 c.heads.items c.links.items) }
+        (λ c. AreChains (has_symbol_by_width statements.now.list narrow) 0 c.heads.items c.links.items) }
 {
     let heads = vec![in alloc; 0; statements.symbol_count() as usize]?;
     let mut chains = Chains {
@@ -105,7 +127,7 @@ fn chains_of<A: Allocator + Copy>(
     let mut statement = statements.len();
     while statement > 0 {
         statement -= 1;
-        if statements.is_disjoint(statement) {
+        if is_disjoint_by_width(statements, statement, narrow) {
             add_links(statements.formula(statement), statement, &mut chains)?;
         }
     }
@@ -113,7 +135,7 @@ fn chains_of<A: Allocator + Copy>(
 }
 
 /// Appends the symbol with each statement of the chain that begins at a link.
-fn add_chain<A: Allocator>(
+pub(crate) fn add_chain<A: Allocator>(
     chains: &Chains<A>,
     symbol: u32,
     by_symbol: &mut Vec<(u32, u32), A>,
@@ -133,16 +155,17 @@ fn add_chain<A: Allocator>(
     Ok(())
 }
 
-/// Returns for each symbol and each `$d` that has it the two, the symbol first, in ascending order.
+/// Returns for each symbol and each narrow, or wide, `$d` that has it the two, the symbol first, in ascending order.
 pub(crate) fn pairs_by_symbol<A: Allocator + Copy>(
     alloc: A,
     statements: &Statements<A>,
+    narrow: bool,
 ) -> Result<Vec<(u32, u32), A>, AllocError>
     ensures rising { IfOk result (λ v. AreRising v.items) }
     ensures members_are { IfOk result (λ v. (x j : ℕ) → has_pair v.items x j
-        ≡ has_symbol statements.now.list x j) }
+        ≡ has_symbol_by_width statements.now.list narrow x j) }
 {
-    let chains = chains_of(alloc, statements)?;
+    let chains = chains_of(alloc, statements, narrow)?;
     let mut by_symbol = Vec::with_capacity(alloc, chains.links.len())?;
     for symbol in 0..statements.symbol_count() {
         add_chain(&chains, symbol, &mut by_symbol)?;

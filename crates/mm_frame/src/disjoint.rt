@@ -1,17 +1,20 @@
 //! The mandatory pairs of disjoint variables of assertions.
 
-ghost use Rattle.std.specs.Prelude.{◌≡◌, ◌<◌, ◌&&◌, ◌||◌, ℕ, OnOk, IfOk, length, get_or, map};
+ghost use Rattle.std.specs.Prelude.{◌≡◌, ◌<◌, ◌+◌, ◌&&◌, ◌||◌, ℕ, OnOk, IfOk, All, length};
+ghost use Rattle.std.specs.Prelude.{get_or, map, nat_eq, nat_lt};
 ghost use Rattle.std.specs.List.{list_any};
 ghost use Rattle.mm_spec.specs.Derivation.{is_member, pair};
-ghost use Rattle.mm_spec.specs.Frame.{mandatory_variables, mandatory_pairs};
-ghost use Rattle.mm_database.specs.DisjointIndex.{is_active_local, IsOrdered};
+ghost use Rattle.mm_spec.specs.Frame.{mandatory_variables, mandatory_pairs, symbol_names};
+ghost use Rattle.mm_database.specs.DisjointIndex.{is_active_local, is_active_in_row, IsOrdered};
+ghost use Rattle.mm_database.specs.DisjointIndex.{IsRow};
+ghost use Rattle.mm_frame.specs.Hypotheses.{AreStamps};
 ghost use Rattle.mm_frame.specs.Sources.{AreSources};
-ghost use Rattle.mm_frame.specs.Together.{has_later};
+ghost use Rattle.mm_frame.specs.Together.{has_later, is_later_in_row, is_later_in_rows};
 ghost use Rattle.mm_database.specs.Pairs.{has_pair, AreRising};
 
 use crate::disjoint_index::sort_and_dedup_pairs;
 use crate::sources::FrameSources;
-use mm_database::disjoint_index::{DisjointIndex, add_active};
+use mm_database::disjoint_index::{DisjointIndex, add_active, is_active_in_row};
 use mm_outline::blocks::Blocks;
 use mm_outline::symbol::Sym;
 use std::alloc::{AllocError, Allocator};
@@ -81,7 +84,7 @@ fn add_all_active<A: Allocator>(
 }
 
 /// Returns the pairs of numbers as pairs of symbols.
-fn symbol_pairs<A: Allocator + Copy>(
+pub(crate) fn symbol_pairs<A: Allocator + Copy>(
     alloc: A,
     pairs: &[(u32, u32)],
 ) -> Result<Vec<(Sym, Sym), A>, AllocError>
@@ -95,38 +98,187 @@ fn symbol_pairs<A: Allocator + Copy>(
     Ok(symbols)
 }
 
-/// Returns the mandatory pairs of an assertion, by its mandatory variables. The cost is one step
-/// for each active `$d` of each of these variables, and one for each pair in each of these `$d`.
-/// `variables_by_statement` and `pairs_by_statement` are filled with these; what they had before is
+/// Whether a symbol is higher than `low`, whose row has it with an active `$d`.
+fn is_higher_in_row<A: Allocator>(
+    blocks: &Blocks<A>,
+    row: &[(u32, u32)],
+    low: u32,
+    high: u32,
+    at: u32,
+) -> bool
+    requires { IsRow blocks.now row.now }
+    ensures { result ≡ (nat_lt low high && is_active_in_row blocks.now row.now high at) }
+{
+    low < high && is_active_in_row(blocks, row, high, at)
+}
+
+/// Appends the pairs of a symbol and those of the variables that are higher and that its row has
+/// with an active `$d`. Each variable is looked up in the row.
+fn add_found<A: Allocator>(
+    blocks: &Blocks<A>,
+    row: &[(u32, u32)],
+    low: u32,
+    variables: &[Sym],
+    at: u32,
+    pairs: &mut Vec<(u32, u32), A>,
+) -> Result<(), AllocError>
+    requires { IsRow blocks.now row.now }
+    ensures { OnOk result
+        ((x y : ℕ)
+        → has_pair pairs.new.items x y
+        ≡ (has_pair pairs.old.items x y
+        || (nat_eq x low && is_later_in_row blocks.now row.now low variables.now at y))) }
+{
+    for variable in variables {
+        if is_higher_in_row(blocks, row, low, variable.number(), at) {
+            pairs.push((low, variable.number()))?;
+        }
+    }
+    Ok(())
+}
+
+/// Whether a symbol is one of the variables, which have the stamp.
+fn is_marked(marks: &[u32], stamp: u32, variables: &[Sym], symbol: u32) -> bool
+    requires variables_lt_count { All (λ s. s < length marks.now) variables.now }
+    requires are_stamps { AreStamps (length marks.now) stamp marks.now variables.now }
+    ensures { result ≡ is_member variables.now symbol }
+{
+    match marks.get(symbol as usize) {
+        Some(mark) => *mark == stamp,
+        None => false,
+    }
+}
+
+/// Whether a pair of a row has an active `$d` and a variable that is higher than `low`. The
+/// variables have the stamp.
+fn is_active_pair<A: Allocator>(
+    blocks: &Blocks<A>,
+    low: u32,
+    marks: &[u32],
+    stamp: u32,
+    variables: &[Sym],
+    at: u32,
+    pair: (u32, u32),
+) -> bool
+    requires variables_lt_count { All (λ s. s < length marks.now) variables.now }
+    requires are_stamps { AreStamps (length marks.now) stamp marks.now variables.now }
+    requires pair_has_block { (pair.1 < length blocks.now.block_of)
+        × (get_or blocks.now.block_of pair.1 0 < length blocks.now.ends) }
+    ensures { result
+        ≡ (nat_lt low pair.0
+        && (is_member variables.now pair.0 && is_active_local blocks.now pair.1 at)) }
+{
+    low < pair.0
+        && is_marked(marks, stamp, variables, pair.0)
+        && (pair.1 < at && blocks.is_open_at(pair.1, at))
+}
+
+/// The same as [`add_found`] by a walk over the row. The variables have the stamp.
+fn add_walked<A: Allocator>(
+    blocks: &Blocks<A>,
+    row: &[(u32, u32)],
+    low: u32,
+    marks: &[u32],
+    stamp: u32,
+    variables: &[Sym],
+    at: u32,
+    pairs: &mut Vec<(u32, u32), A>,
+) -> Result<(), AllocError>
+    requires is_row { IsRow blocks.now row.now }
+    requires variables_lt_count { All (λ s. s < length marks.now) variables.now }
+    requires are_stamps { AreStamps (length marks.now) stamp marks.now variables.now }
+    ensures { OnOk result
+        ((x y : ℕ)
+        → has_pair pairs.new.items x y
+        ≡ (has_pair pairs.old.items x y
+        || (nat_eq x low && is_later_in_row blocks.now row.now low variables.now at y))) }
+{
+    for pair in row {
+        if is_active_pair(blocks, low, marks, stamp, variables, at, *pair) {
+            pairs.push((low, pair.0))?;
+        }
+    }
+    Ok(())
+}
+
+/// Appends the pairs of variables, the lower one first, that a narrow `$d` has that is active at
+/// the statement `at`. The variables have the stamp. For each of them the cost is one step for each
+/// pair of its row, or one look-up for each variable, whichever are fewer.
+fn add_narrow<A: Allocator>(
+    blocks: &Blocks<A>,
+    disjoint_index: &DisjointIndex<A>,
+    marks: &[u32],
+    stamp: u32,
+    variables: &[Sym],
+    at: u32,
+    pairs: &mut Vec<(u32, u32), A>,
+) -> Result<(), AllocError>
+    requires ordered { IsOrdered blocks.now disjoint_index.now }
+    requires variables_lt_count { All (λ s. s < length marks.now) variables.now }
+    requires are_stamps { AreStamps (length marks.now) stamp marks.now variables.now }
+    ensures { OnOk result
+        ((x y : ℕ)
+        → has_pair pairs.new.items x y
+        ≡ (has_pair pairs.old.items x y
+        || is_later_in_rows blocks.now disjoint_index.now.rows variables.now at x y)) }
+{
+    for variable in variables {
+        let row = disjoint_index.row(*variable);
+        let low = variable.number();
+        if row.len() <= variables.len() {
+            add_walked(blocks, row, low, marks, stamp, variables, at, pairs)?;
+        } else {
+            add_found(blocks, row, low, variables, at, pairs)?;
+        }
+    }
+    Ok(())
+}
+
+/// Lists the mandatory pairs of an assertion in `pairs`, by its mandatory variables, which have the
+/// stamp 1 more than the assertion. For wide `$d` the cost is one step for each active one of each
+/// of these variables, and one for each pair in each of these `$d`. What the lists had before is
 /// removed.
-pub(crate) fn mandatory_pairs<A: Allocator + Copy>(
-    alloc: A,
+pub(crate) fn list_pairs<A: Allocator>(
     sources: &FrameSources<A>,
     variables: &[Sym],
+    marks: &[u32],
     assertion: u32,
     variables_by_statement: &mut Vec<(u32, u32), A>,
-    pairs_by_statement: &mut Vec<(u32, u32), A>,
-) -> Result<Vec<(Sym, Sym), A>, AllocError>
+    pairs: &mut Vec<(u32, u32), A>,
+) -> Result<(), AllocError>
     requires are_sources { AreSources sources.now }
     requires assertion_lt_length { assertion < length sources.now.statements.now.list }
     requires are_mandatory { (x : ℕ)
         → is_member variables.now x
         ≡ is_member (mandatory_variables sources.now.statements.now.list assertion) x }
-    ensures { IfOk result
-        (λ v. map (λ p. pair p.0 p.1) v.items
+    requires are_stamps { AreStamps (length (symbol_names sources.now.statements.now.list))
+        (assertion + 1) marks.now variables.now }
+    ensures { OnOk result
+        (map (λ p. pair p.0 p.1) pairs.new.items
         ≡ mandatory_pairs sources.now.statements.now.list assertion) }
 {
+    let blocks = sources.statements.blocks();
+    let disjoint_index = sources.disjoint_index;
     variables_by_statement.clear();
     add_all_active(
-        sources.statements.blocks(),
-        sources.disjoint_index,
+        blocks,
+        disjoint_index,
         variables,
         assertion,
         variables_by_statement,
     )?;
     sort_and_dedup_pairs(variables_by_statement);
-    pairs_by_statement.clear();
-    add_together(variables_by_statement, pairs_by_statement)?;
-    sort_and_dedup_pairs(pairs_by_statement);
-    symbol_pairs(alloc, pairs_by_statement)
+    pairs.clear();
+    add_narrow(
+        blocks,
+        disjoint_index,
+        marks,
+        assertion + 1,
+        variables,
+        assertion,
+        pairs,
+    )?;
+    add_together(variables_by_statement, pairs)?;
+    sort_and_dedup_pairs(pairs);
+    Ok(())
 }

@@ -1,15 +1,22 @@
 //! How the index of the `$d` statements by their variables is made.
 
-ghost use Rattle.std.specs.Prelude.{◌≡◌, ◌<◌, ◌+◌, ◌-◌, ◌&&◌, ℕ, IfOk};
-ghost use Rattle.std.specs.Prelude.{length, get_or, nat_eq, nat_le};
+ghost use Rattle.std.specs.Prelude.{◌≡◌, ◌<◌, ◌≤◌, ◌+◌, ◌-◌, ◌&&◌, ◌||◌, ℕ, All, IfOk, OnOk};
+ghost use Rattle.std.specs.Prelude.{length, get_or, nat_eq, nat_lt, nat_le, true, false};
+ghost use Rattle.std.specs.List.{list_any};
+ghost use Rattle.mm_spec.specs.Derivation.{is_member};
+ghost use Rattle.mm_spec.specs.Frame.{formula_at};
 ghost use Rattle.mm_outline.specs.Blocks.{end_of};
 ghost use Rattle.mm_database.specs.DisjointIndex.{HaveBlocks, AreSkips, IsDisjointIndex};
+ghost use Rattle.mm_database.specs.DisjointIndex.{IsRow, IsRowOf, row_of, has_narrow_pair};
+ghost use Rattle.mm_database.specs.DisjointIndex.{has_symbol_by_width};
+ghost use Rattle.mm_frame.specs.Chains.{AreChains, AreLinked};
 ghost use Rattle.mm_database.specs.Pairs.{has_pair, AreRising};
 ghost use Rattle.mm_database.specs.Starts.{AreStarts};
 
-use crate::chains::pairs_by_symbol;
+use crate::chains::{Chains, add_chain, chains_of, pairs_by_symbol};
 use mm_database::disjoint_index::DisjointIndex;
 use mm_database::statements::Statements;
+use mm_lists::Lists;
 use mm_outline::blocks::Blocks;
 use mm_outline::symbol::Sym;
 use std::alloc::{AllocError, Allocator};
@@ -75,6 +82,141 @@ fn starts_of<A: Allocator + Copy>(
     Ok(starts)
 }
 
+/// Appends each of the symbols that is higher than `low`, paired with the statement.
+fn add_higher<A: Allocator>(
+    symbols: &[Sym],
+    low: u32,
+    statement: u32,
+    pairs: &mut Vec<(u32, u32), A>,
+) -> Result<(), AllocError>
+    ensures { OnOk result
+        ((y j : ℕ)
+        → has_pair pairs.new.items y j
+        ≡ (has_pair pairs.old.items y j
+        || (nat_eq j statement && (nat_lt low y && is_member symbols.now y)))) }
+{
+    for symbol in symbols {
+        if low < symbol.number() {
+            pairs.push((symbol.number(), statement))?;
+        }
+    }
+    Ok(())
+}
+
+/// The same for each `$d` that the symbol `low` is paired with.
+fn add_all_higher<A: Allocator>(
+    statements: &Statements<A>,
+    low: u32,
+    of_low: &[(u32, u32)],
+    pairs: &mut Vec<(u32, u32), A>,
+) -> Result<(), AllocError>
+    requires { All (λ p. p.1 < length statements.now.list) of_low.now }
+    ensures { OnOk result
+        ((y j : ℕ)
+        → has_pair pairs.new.items y j
+        ≡ (has_pair pairs.old.items y j
+        || list_any (λ p. nat_eq j p.1
+        && (nat_lt low y && is_member (formula_at statements.now.list p.1) y)) of_low.now)) }
+{
+    for pair in of_low {
+        add_higher(statements.formula(pair.1), low, pair.1, pairs)?;
+    }
+    Ok(())
+}
+
+/// Lists in `pairs` the higher symbols with which a narrow `$d` has the symbol `low`, each paired
+/// with the `$d`, in ascending order. What the lists had before is removed.
+fn list_higher<A: Allocator>(
+    statements: &Statements<A>,
+    chains: &Chains<A>,
+    low: u32,
+    of_low: &mut Vec<(u32, u32), A>,
+    pairs: &mut Vec<(u32, u32), A>,
+) -> Result<(), AllocError>
+    requires low_lt_count { low < length chains.now.heads.items }
+    requires are_linked { AreLinked chains.now.heads.items chains.now.links.items }
+    requires are_chains { AreChains (has_symbol_by_width statements.now.list true) 0
+        chains.now.heads.items
+        chains.now.links.items }
+    ensures rising { OnOk result (AreRising pairs.new.items) }
+    ensures pairs_are { OnOk result
+        ((y j : ℕ)
+        → has_pair pairs.new.items y j ≡ has_narrow_pair statements.now.list low y j) }
+{
+    of_low.clear();
+    add_chain(chains, low, of_low)?;
+    pairs.clear();
+    add_all_higher(statements, low, of_low, pairs)?;
+    sort_and_dedup_pairs(pairs);
+    Ok(())
+}
+
+/// Whether the last pair of a row, if there is one, covers the pair.
+fn is_covered_by_last<A: Allocator>(
+    blocks: &Blocks<A>,
+    row: &[(u32, u32)],
+    pair: (u32, u32),
+) -> bool
+    requires row_has_blocks { HaveBlocks blocks.now row.now }
+    requires pair_has_block { (pair.1 < length blocks.now.block_of)
+        × (get_or blocks.now.block_of pair.1 0 < length blocks.now.ends) }
+    ensures covered_if_true { result ≡ true
+        → (0 < length row.now)
+        × (pair.0 ≡ (get_or row.now (length row.now - 1) (0, 0)).0)
+        × (end_of blocks.now pair.1
+        ≤ end_of blocks.now (get_or row.now (length row.now - 1) (0, 0)).1) }
+    ensures ends_later_if_false { result ≡ false
+        → 0 < length row.now
+        → pair.0 ≡ (get_or row.now (length row.now - 1) (0, 0)).0
+        → end_of blocks.now (get_or row.now (length row.now - 1) (0, 0)).1
+        < end_of blocks.now pair.1 }
+{
+    row.len() > 0 && is_covered(blocks, pair, row[row.len() - 1])
+}
+
+/// Lists in `row` the pairs without those that the pair listed before them covers. What it had
+/// before is removed.
+fn list_uncovered<A: Allocator>(
+    blocks: &Blocks<A>,
+    pairs: &[(u32, u32)],
+    row: &mut Vec<(u32, u32), A>,
+) -> Result<(), AllocError>
+    requires rising { AreRising pairs.now }
+    requires have_blocks { HaveBlocks blocks.now pairs.now }
+    ensures is_row { OnOk result (IsRow blocks.now row.new.items) }
+    ensures is_row_of { OnOk result (IsRowOf blocks.now (has_pair pairs.now) row.new.items) }
+{
+    row.clear();
+    for pair in pairs {
+        if !is_covered_by_last(blocks, row, *pair) {
+            row.push(*pair)?;
+        }
+    }
+    Ok(())
+}
+
+/// Returns the row of each symbol.
+fn rows_of<A: Allocator + Copy>(
+    alloc: A,
+    statements: &Statements<A>,
+) -> Result<Lists<(u32, u32), A>, AllocError>
+    ensures { IfOk result
+        (λ r. (x : ℕ) → IsRow statements.now.blocks (row_of r x)
+        × IsRowOf statements.now.blocks (has_narrow_pair statements.now.list x) (row_of r x)) }
+{
+    let chains = chains_of(alloc, statements, true)?;
+    let mut of_symbol = Vec::new(alloc);
+    let mut pairs = Vec::new(alloc);
+    let mut row = Vec::new(alloc);
+    let mut rows = Lists::new(alloc);
+    for symbol in 0..statements.symbol_count() {
+        list_higher(statements, &chains, symbol, &mut of_symbol, &mut pairs)?;
+        list_uncovered(statements.blocks(), &pairs, &mut row)?;
+        rows.push(&row)?;
+    }
+    Ok(rows)
+}
+
 /// Returns the index of the `$d` statements by their variables.
 pub(crate) fn disjoint_index_of<A: Allocator + Copy>(
     alloc: A,
@@ -83,8 +225,9 @@ pub(crate) fn disjoint_index_of<A: Allocator + Copy>(
     ensures { IfOk result
         (λ m. IsDisjointIndex statements.now.list statements.now.blocks m) }
 {
-    let by_symbol = pairs_by_symbol(alloc, statements)?;
+    let rows = rows_of(alloc, statements)?;
+    let by_symbol = pairs_by_symbol(alloc, statements, false)?;
     let skips = skips_of(alloc, statements.blocks(), &by_symbol)?;
     let starts = starts_of(alloc, &by_symbol)?;
-    Ok(DisjointIndex::new(by_symbol, skips, starts))
+    Ok(DisjointIndex::new(by_symbol, skips, starts, rows))
 }

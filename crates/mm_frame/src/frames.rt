@@ -1,30 +1,31 @@
 //! The frames of the assertions in a stretch of statements.
 
-ghost use Rattle.std.specs.Prelude.{◌≡◌, ◌<◌, ◌≤◌, ◌+◌, ◌^◌, ◌++◌, ◌∷◌, [], ℕ, IfOk, OnOk};
-ghost use Rattle.std.specs.Prelude.{length, slice_index};
+ghost use Rattle.std.specs.Prelude.{◌≡◌, ◌≢◌, ◌<◌, ◌≤◌, ◌+◌, ◌^◌, ◌++◌, ◌∷◌, [], ℕ, List, IfOk};
+ghost use Rattle.std.specs.Prelude.{OnOk, IsSome, Some, None, length, slice_index, get_or, map};
+ghost use Rattle.std.specs.Prelude.{true};
+ghost use Rattle.std.specs.List.{list_any};
+ghost use Rattle.mm_spec.specs.Statement.{Statement};
+ghost use Rattle.mm_spec.specs.Scope.{statement_at};
+ghost use Rattle.mm_spec.specs.Derivation.{is_member, pair};
+ghost use Rattle.mm_spec.specs.Citation.{is_assertion};
 ghost use Rattle.mm_spec.specs.Frame.{symbol_names};
-ghost use Rattle.mm_database.specs.Frames.{frame_or_none, frames_between, mandatory_at};
-ghost use Rattle.mm_database.specs.Frames.{mandatory_in};
-ghost use Rattle.mm_frame.specs.Sources.{AreSources};
+ghost use Rattle.mm_outline.specs.Blocks.{never};
+ghost use Rattle.mm_database.specs.Frames.{frame_or_none, frames_between, mandatory};
+ghost use Rattle.mm_database.specs.Frames.{mandatory_at};
 ghost use Rattle.mm_database.specs.ParsedStatements.{IsSound};
-ghost use Rattle.mm_frame.specs.Hypotheses.{AreReady, AreLastFloats, IsFresh};
+ghost use Rattle.mm_frame.specs.Sources.{AreSources};
+ghost use Rattle.mm_frame.specs.Hypotheses.{AreLastFloats, IsFresh};
+ghost use Rattle.mm_frame.specs.Scope.{AreEssentialLists, IsReady, is_further, index_from};
 
-use crate::disjoint::mandatory_pairs;
-use crate::hypotheses::list_hypotheses;
+use crate::disjoint::{list_pairs, symbol_pairs};
+use crate::hypotheses::{list_further_variables, list_hypotheses, list_mandatory_variables};
+use crate::scope::{EssentialLists, filled, keeps_scope, list_scope};
 use crate::sources::FrameSources;
 use mm_database::frames::{Frame, Frames};
 use mm_database::statements::Statements;
 use mm_outline::blocks::NEVER;
 use mm_outline::symbol::Sym;
 use std::alloc::{AllocError, Allocator};
-
-/// Returns a list that has `value` the given number of times.
-fn filled<A: Allocator + Copy>(alloc: A, value: u32, count: u32) -> Result<Vec<u32, A>, AllocError>
-    ensures length_is { IfOk result (λ v. length v.items ≡ count) }
-    ensures each_is_value { IfOk result (λ v. (i : ℕ) → i < count → slice_index v.items i ≡ value) }
-{
-    vec![in alloc; value; count as usize]
-}
 
 /// Makes the statement the last `$f` of its variable, if it is a `$f`.
 fn set_last_float<A: Allocator>(
@@ -42,45 +43,94 @@ fn set_last_float<A: Allocator>(
     }
 }
 
-/// Lists that are kept from one assertion to the next, so that their memory is reused.
-struct Scratch<A: Allocator> {
+/// What an assertion's frame is made of, in lists whose memory is used again for the next one.
+struct FrameLists<A: Allocator> {
     /// For each symbol 1 more than the last assertion for which it is a mandatory variable, or 0.
-    stamps: Vec<u32, A>,
+    marks: Vec<u32, A>,
     /// The mandatory variables.
     variables: Vec<Sym, A>,
     /// The mandatory hypotheses.
     hypotheses: Vec<u32, A>,
-    /// The active `$d` of the mandatory variables, each paired with those of them that it has.
+    /// The active wide `$d` of the mandatory variables, each paired with those of them that it has.
     variables_by_statement: Vec<(u32, u32), A>,
-    /// The pairs of mandatory variables that are together in one of these `$d`.
-    pairs_by_statement: Vec<(u32, u32), A>,
+    /// The pairs of mandatory variables that are in one active `$d`.
+    pairs: Vec<(u32, u32), A>,
+}
+
+/// Dropped in one call: docs/PROOFS.md, "What a check costs".
+impl<A: Allocator> Drop for FrameLists<A> {
+    fn drop(self) {
+        let Self {
+            marks: _,
+            variables: _,
+            hypotheses: _,
+            variables_by_statement: _,
+            pairs: _,
+        } = self;
+    }
+}
+
+/// What is kept from one assertion to the next.
+struct Scratch<A: Allocator> {
+    /// The last assertion before, or `NEVER`.
+    previous: u32,
+    /// Whether since then no `$d`, `$e` or `$f` and no block has begun or ended.
+    is_same_scope: bool,
+    /// Its active `$e`.
+    scope: EssentialLists<A>,
+    /// The variables of its formula that aren't in these `$e`, in ascending order.
+    previous_further: Vec<u32, A>,
+    /// Those of the assertion that is at hand.
+    further: Vec<u32, A>,
+    lists: FrameLists<A>,
 }
 
 /// Dropped in one call: docs/PROOFS.md, "What a check costs".
 impl<A: Allocator> Drop for Scratch<A> {
     fn drop(self) {
         let Self {
-            stamps: _,
-            variables: _,
-            hypotheses: _,
-            variables_by_statement: _,
-            pairs_by_statement: _,
+            previous: _,
+            is_same_scope: _,
+            scope: _,
+            previous_further: _,
+            further: _,
+            lists: _,
         } = self;
     }
 }
 
-impl<A: Allocator + Copy> Scratch<A> {
+impl<A: Allocator + Copy> FrameLists<A> {
     /// Returns the lists before the first assertion.
-    fn new(alloc: A, symbol_count: u32) -> Result<Scratch<A>, AllocError>
-        ensures { IfOk result (λ s. (at : ℕ) → IsFresh symbol_count at s.stamps.items) }
+    fn new(alloc: A, symbol_count: u32) -> Result<FrameLists<A>, AllocError>
+        ensures { IfOk result (λ s. (at : ℕ) → IsFresh symbol_count at s.marks.items) }
     {
-        let stamps = filled(alloc, 0, symbol_count)?;
-        Ok(Scratch {
-            stamps,
+        let marks = filled(alloc, 0, symbol_count)?;
+        Ok(FrameLists {
+            marks,
             variables: Vec::new(alloc),
             hypotheses: Vec::new(alloc),
             variables_by_statement: Vec::new(alloc),
-            pairs_by_statement: Vec::new(alloc),
+            pairs: Vec::new(alloc),
+        })
+    }
+}
+
+impl<A: Allocator + Copy> Scratch<A> {
+    /// Returns what there is before the first assertion of a stretch.
+    fn new(alloc: A, symbol_count: u32) -> Result<Scratch<A>, AllocError>
+        ensures { IfOk result
+            (λ s. (db : List Statement) (from : ℕ) → length (symbol_names db) ≡ symbol_count
+            → IsReady db from from s) }
+    {
+        let scope = EssentialLists::new(alloc, symbol_count)?;
+        let lists = FrameLists::new(alloc, symbol_count)?;
+        Ok(Scratch {
+            previous: NEVER,
+            is_same_scope: false,
+            scope,
+            previous_further: Vec::new(alloc),
+            further: Vec::new(alloc),
+            lists,
         })
     }
 }
@@ -111,45 +161,223 @@ fn copied<A: Allocator + Copy>(alloc: A, numbers: &[u32]) -> Result<Vec<u32, A>,
     Ok(list)
 }
 
-/// Returns the frame of an assertion.
-fn frame_of<A: Allocator + Copy>(
-    alloc: A,
+/// Lists what is mandatory for an assertion, by its active `$e`. Replaces what the lists have.
+fn list_frame<A: Allocator>(
     sources: &FrameSources<A>,
     last_floats: &[u32],
     assertion: u32,
-    scratch: &mut Scratch<A>,
-) -> Result<Frame<A>, AllocError>
+    scope: &EssentialLists<A>,
+    lists: &mut FrameLists<A>,
+) -> Result<(), AllocError>
     requires are_sources { AreSources sources.now }
     requires assertion_lt_length { assertion < length sources.now.statements.now.list }
-    requires are_ready { AreReady sources.now.statements.now.list assertion last_floats.now
-        scratch.old.stamps.items }
+    requires are_last_floats { AreLastFloats sources.now.statements.now.list assertion
+        last_floats.now }
+    requires are_fresh { IsFresh
+        (length (symbol_names sources.now.statements.now.list)) assertion lists.old.marks.items }
+    requires are_essential { AreEssentialLists sources.now.statements.now.list assertion scope.now }
     ensures are_fresh { OnOk result
         (IsFresh (length (symbol_names sources.now.statements.now.list)) (assertion + 1)
-        scratch.new.stamps.items) }
-    ensures frame_is { IfOk result
-        (λ f. mandatory_in f ≡ mandatory_at sources.now.statements.now.list assertion) }
+        lists.new.marks.items) }
+    ensures are_mandatory { OnOk result
+        (mandatory lists.new.hypotheses.items (map (λ p. pair p.0 p.1) lists.new.pairs.items)
+        ≡ mandatory_at sources.now.statements.now.list assertion) }
 {
+    list_mandatory_variables(
+        sources.statements,
+        &scope.variables,
+        assertion,
+        &mut lists.marks,
+        &mut lists.variables,
+    )?;
     list_hypotheses(
+        sources.statements,
+        last_floats,
+        assertion,
+        &scope.essentials,
+        &lists.variables,
+        &mut lists.hypotheses,
+    )?;
+    list_pairs(
+        sources,
+        &lists.variables,
+        &lists.marks,
+        assertion,
+        &mut lists.variables_by_statement,
+        &mut lists.pairs,
+    )
+}
+
+/// Whether these are the pairs of the symbols.
+fn are_pairs(symbols: &[(Sym, Sym)], pairs: &[(u32, u32)]) -> bool
+    ensures { result ≡ true
+        → map (λ p. pair p.0 p.1) symbols.now ≡ map (λ p. pair p.0 p.1) pairs.now }
+{
+    if symbols.len() != pairs.len() {
+        return false;
+    }
+    for index in 0..pairs.len() {
+        let (low, high) = symbols[index];
+        if low.number() != pairs[index].0 || high.number() != pairs[index].1 {
+            return false;
+        }
+    }
+    true
+}
+
+/// Whether the numbers are the same.
+fn are_same(first: &[u32], second: &[u32]) -> bool
+    ensures { result ≡ true → first.now ≡ second.now }
+{
+    first == second
+}
+
+/// Adds an assertion with what was listed for it. If the assertion before it has the same, they
+/// share one frame. `previous` is the index of the assertion before, among the statements that have
+/// been added, or `NEVER`.
+fn add_listed<A: Allocator + Copy>(
+    alloc: A,
+    previous: u32,
+    lists: &FrameLists<A>,
+    frames: &mut Frames<A>,
+) -> Result<(), AllocError>
+    requires few_frames { length frames.old < 2 ^ 31 }
+    requires has_frame { previous ≢ never → IsSome (get_or frames.old previous None) }
+    ensures { OnOk result
+        (frames.new
+        ≡ frames.old
+        ++ Some (mandatory lists.now.hypotheses.items
+        (map (λ p. pair p.0 p.1) lists.now.pairs.items)) ∷ []) }
+{
+    if previous != NEVER {
+        let frame = frames.of(previous);
+        if are_same(&frame.hyps, &lists.hypotheses) && are_pairs(&frame.pairs, &lists.pairs) {
+            return frames.add_shared(previous);
+        }
+    }
+    let hyps = copied(alloc, &lists.hypotheses)?;
+    let pairs = symbol_pairs(alloc, &lists.pairs)?;
+    frames.add(Frame { hyps, pairs })
+}
+
+/// Returns the index of a statement among those from `from` on, or `NEVER` if it is that.
+fn index_from(from: u32, statement: u32) -> u32
+    requires { statement ≢ never → from ≤ statement }
+    ensures { result ≡ index_from from statement }
+{
+    if statement == NEVER {
+        NEVER
+    } else {
+        statement - from
+    }
+}
+
+/// Lists the active `$e` of an assertion, unless the lists are those of the same scope, and its
+/// further variables.
+fn list_further<A: Allocator>(
+    sources: &FrameSources<A>,
+    assertion: u32,
+    is_same_scope: bool,
+    scope: &mut EssentialLists<A>,
+    further: &mut Vec<u32, A>,
+) -> Result<(), AllocError>
+    requires are_sources { AreSources sources.now }
+    requires assertion_lt_length { assertion < length sources.now.statements.now.list }
+    requires are_fresh { IsFresh
+        (length (symbol_names sources.now.statements.now.list)) assertion scope.old.stamps.items }
+    requires same_are_essential { is_same_scope ≡ true
+        → AreEssentialLists sources.now.statements.now.list assertion scope.old }
+    ensures are_essential { OnOk result
+        (AreEssentialLists sources.now.statements.now.list assertion scope.new) }
+    ensures same_stay { OnOk result (is_same_scope ≡ true → scope.new ≡ scope.old) }
+    ensures are_further { OnOk result
+        ((x : ℕ)
+        → is_member further.new.items x
+        ≡ is_further sources.now.statements.now.list assertion scope.new.variables.items x) }
+{
+    if !is_same_scope {
+        list_scope(sources, assertion, scope)?;
+    }
+    list_further_variables(
+        sources.statements,
+        sources.statements.formula(assertion),
+        scope.stamp,
+        &scope.stamps,
+        further,
+    )
+}
+
+/// Adds an assertion with its frame. If it is in the same scope as the assertion before it and has
+/// the same further variables, it has the same frame, which isn't made again.
+fn add_assertion<A: Allocator + Copy>(
+    alloc: A,
+    sources: &FrameSources<A>,
+    last_floats: &[u32],
+    from: u32,
+    assertion: u32,
+    scratch: &mut Scratch<A>,
+    frames: &mut Frames<A>,
+) -> Result<(), AllocError>
+    requires are_sources { AreSources sources.now }
+    requires assertion_lt_length { assertion < length sources.now.statements.now.list }
+    requires from_le_assertion { from ≤ assertion }
+    requires is_assertion { list_any is_assertion
+        (statement_at sources.now.statements.now.list assertion) ≡ true }
+    requires are_last_floats { AreLastFloats sources.now.statements.now.list assertion
+        last_floats.now }
+    requires is_ready { IsReady sources.now.statements.now.list from assertion scratch.old }
+    requires are_frames { frames.old
+        ≡ frames_between sources.now.statements.now.list from assertion }
+    requires few_frames { length frames.old < 2 ^ 31 }
+    ensures is_ready { OnOk result
+        (IsReady sources.now.statements.now.list from (assertion + 1) scratch.new) }
+    ensures frame_is_added { OnOk result
+        (frames.new
+        ≡ frames.old ++ Some (mandatory_at sources.now.statements.now.list assertion) ∷ []) }
+{
+    list_further(
+        sources,
+        assertion,
+        scratch.is_same_scope,
+        &mut scratch.scope,
+        &mut scratch.further,
+    )?;
+    let previous = index_from(from, scratch.previous);
+    if scratch.is_same_scope && are_same(&scratch.further, &scratch.previous_further) {
+        scratch.previous = assertion;
+        return frames.add_shared(previous);
+    }
+    list_frame(
         sources,
         last_floats,
         assertion,
-        &mut scratch.stamps,
-        &mut scratch.variables,
-        &mut scratch.hypotheses,
+        &scratch.scope,
+        &mut scratch.lists,
     )?;
-    let hypotheses = copied(alloc, &scratch.hypotheses)?;
-    let pairs = mandatory_pairs(
-        alloc,
-        sources,
-        &scratch.variables,
-        assertion,
-        &mut scratch.variables_by_statement,
-        &mut scratch.pairs_by_statement,
-    )?;
-    Ok(Frame {
-        hyps: hypotheses,
-        pairs,
-    })
+    add_listed(alloc, previous, &scratch.lists, frames)?;
+    std::mem::swap(&mut scratch.further, &mut scratch.previous_further);
+    scratch.previous = assertion;
+    scratch.is_same_scope = true;
+    Ok(())
+}
+
+/// Adds a statement that is no assertion.
+fn add_other<A: Allocator>(
+    statements: &Statements<A>,
+    from: u32,
+    statement: u32,
+    scratch: &mut Scratch<A>,
+    frames: &mut Frames<A>,
+) -> Result<(), AllocError>
+    requires statement_lt_length { statement < length statements.now.list }
+    requires is_ready { IsReady statements.now.list from statement scratch.old }
+    ensures is_ready { OnOk result (IsReady statements.now.list from (statement + 1) scratch.new) }
+    ensures none_is_added { OnOk result (frames.new ≡ frames.old ++ None ∷ []) }
+{
+    if !keeps_scope(statements.kind(statement)) {
+        scratch.is_same_scope = false;
+    }
+    frames.add_none()
 }
 
 /// Adds a statement, with its frame if it is an assertion.
@@ -157,27 +385,38 @@ fn add_frame<A: Allocator + Copy>(
     alloc: A,
     sources: &FrameSources<A>,
     last_floats: &[u32],
+    from: u32,
     statement: u32,
     scratch: &mut Scratch<A>,
     frames: &mut Frames<A>,
 ) -> Result<(), AllocError>
     requires are_sources { AreSources sources.now }
     requires statement_lt_length { statement < length sources.now.statements.now.list }
-    requires are_ready { AreReady sources.now.statements.now.list statement last_floats.now
-        scratch.old.stamps.items }
+    requires from_le_statement { from ≤ statement }
+    requires are_last_floats { AreLastFloats sources.now.statements.now.list statement
+        last_floats.now }
+    requires is_ready { IsReady sources.now.statements.now.list from statement scratch.old }
+    requires are_frames { frames.old
+        ≡ frames_between sources.now.statements.now.list from statement }
     requires few_frames { length frames.old < 2 ^ 31 }
-    ensures are_fresh { OnOk result
-        (IsFresh (length (symbol_names sources.now.statements.now.list)) (statement + 1)
-        scratch.new.stamps.items) }
+    ensures is_ready { OnOk result
+        (IsReady sources.now.statements.now.list from (statement + 1) scratch.new) }
     ensures frame_is_added { OnOk result
         (frames.new
         ≡ frames.old ++ frame_or_none sources.now.statements.now.list statement ∷ []) }
 {
     if sources.statements.is_assertion(statement) {
-        let frame = frame_of(alloc, sources, last_floats, statement, scratch)?;
-        frames.add(frame)
+        add_assertion(
+            alloc,
+            sources,
+            last_floats,
+            from,
+            statement,
+            scratch,
+            frames,
+        )
     } else {
-        frames.add_none()
+        add_other(sources.statements, from, statement, scratch, frames)
     }
 }
 
@@ -203,6 +442,7 @@ pub(crate) fn frames_between<A: Allocator + Copy>(
             alloc,
             sources,
             &last_floats,
+            from,
             statement,
             &mut scratch,
             &mut frames,

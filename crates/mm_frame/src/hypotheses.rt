@@ -1,18 +1,16 @@
 //! The mandatory variables and hypotheses of assertions.
 
 ghost use Rattle.std.specs.Prelude.{◌≡◌, ◌<◌, ◌≤◌, ◌+◌, ◌^◌, ◌&&◌, ◌||◌, ℕ, All, OnOk, length};
-ghost use Rattle.std.specs.Prelude.{nat_eq};
+ghost use Rattle.std.specs.Prelude.{nat_eq, not, slice_index};
 ghost use Rattle.std.specs.List.{list_any};
 ghost use Rattle.std.specs.List.Sorted.{IsStrictlyIncreasing};
 ghost use Rattle.mm_spec.specs.Derivation.{is_member};
 ghost use Rattle.mm_spec.specs.Frame.{symbol_names, is_variable_number, is_essential, active_of};
-ghost use Rattle.mm_spec.specs.Frame.{mandatory_variables, mandatory_hypotheses};
-ghost use Rattle.mm_frame.specs.Sources.{AreSources};
-ghost use Rattle.mm_frame.specs.Hypotheses.{AreReady, AreStamps, AreLastFloats, IsFresh};
+ghost use Rattle.mm_spec.specs.Frame.{mandatory_variables, mandatory_hypotheses, formula_at};
+ghost use Rattle.mm_database.specs.ParsedStatements.{IsSound};
+ghost use Rattle.mm_frame.specs.Hypotheses.{AreStamps, AreLastFloats, IsFresh};
 ghost use Rattle.mm_frame.specs.Hypotheses.{is_float_of};
 
-use crate::active::active_essentials;
-use crate::sources::FrameSources;
 use mm_database::statements::Statements;
 use mm_outline::blocks::NEVER;
 use mm_outline::symbol::Sym;
@@ -75,9 +73,9 @@ fn add_variables<A: Allocator>(
     Ok(())
 }
 
-/// Marks the mandatory variables of an assertion, and lists them in `variables`. Replaces what
+/// Marks the variables of the `$e` with a stamp, and lists them in `variables`. Replaces what
 /// `variables` has.
-fn list_mandatory_variables<A: Allocator>(
+pub(crate) fn list_essential_variables<A: Allocator>(
     statements: &Statements<A>,
     essentials: &[u32],
     assertion: u32,
@@ -94,19 +92,13 @@ fn list_mandatory_variables<A: Allocator>(
     ensures are_stamps { OnOk result
         (AreStamps (length (symbol_names statements.now.list))
         (assertion + 1) stamps.new.items variables.new.items) }
-    ensures are_mandatory { OnOk result
+    ensures variables_are { OnOk result
         ((x : ℕ)
         → is_member variables.new.items x
-        ≡ is_member (mandatory_variables statements.now.list assertion) x) }
+        ≡ (is_variable_number statements.now.list x
+        && list_any (λ j. is_member (formula_at statements.now.list j) x) essentials.now)) }
 {
     variables.clear();
-    add_variables(
-        statements,
-        statements.formula(assertion),
-        assertion + 1,
-        stamps,
-        variables,
-    )?;
     for essential in essentials {
         add_variables(
             statements,
@@ -117,6 +109,89 @@ fn list_mandatory_variables<A: Allocator>(
         )?;
     }
     Ok(())
+}
+
+/// Whether a symbol is a variable that doesn't have the stamp.
+fn is_further<A: Allocator>(
+    statements: &Statements<A>,
+    symbol: Sym,
+    stamp: u32,
+    stamps: &[u32],
+) -> bool
+    requires count { length stamps.now ≡ length (symbol_names statements.now.list) }
+    requires symbol_lt_count { symbol < length (symbol_names statements.now.list) }
+    ensures { result
+        ≡ (is_variable_number statements.now.list symbol
+        && not (nat_eq (slice_index stamps.now symbol) stamp)) }
+{
+    statements.is_variable(symbol) && stamps[symbol.number() as usize] != stamp
+}
+
+/// Lists the variables of a formula that don't have the stamp, in ascending order. Replaces what
+/// `further` has.
+pub(crate) fn list_further_variables<A: Allocator>(
+    statements: &Statements<A>,
+    symbols: &[Sym],
+    stamp: u32,
+    stamps: &[u32],
+    further: &mut Vec<u32, A>,
+) -> Result<(), AllocError>
+    requires count { length stamps.now ≡ length (symbol_names statements.now.list) }
+    requires symbols_lt_count { All
+        (λ s. s < length (symbol_names statements.now.list)) symbols.now }
+    ensures { OnOk result
+        ((x : ℕ)
+        → is_member further.new.items x
+        ≡ (is_member symbols.now x
+        && (is_variable_number statements.now.list x
+        && not (nat_eq (slice_index stamps.now x) stamp)))) }
+{
+    further.clear();
+    for symbol in symbols {
+        if is_further(statements, *symbol, stamp, stamps) {
+            further.push(symbol.number())?;
+        }
+    }
+    sort_and_dedup_numbers(further);
+    Ok(())
+}
+
+/// Marks the mandatory variables of an assertion, and lists them in `variables`. Replaces what
+/// `variables` has.
+pub(crate) fn list_mandatory_variables<A: Allocator>(
+    statements: &Statements<A>,
+    essential_variables: &[Sym],
+    assertion: u32,
+    marks: &mut Vec<u32, A>,
+    variables: &mut Vec<Sym, A>,
+) -> Result<(), AllocError>
+    requires few_statements { length statements.now.list < 2 ^ 31 }
+    requires assertion_lt_length { assertion < length statements.now.list }
+    requires are_variables { (x : ℕ)
+        → is_member essential_variables.now x
+        ≡ (is_variable_number statements.now.list x
+        && list_any (λ j. is_member (formula_at statements.now.list j) x)
+        (active_of is_essential statements.now.list assertion)) }
+    requires are_fresh { IsFresh
+        (length (symbol_names statements.now.list)) assertion marks.old.items }
+    ensures are_stamps { OnOk result
+        (AreStamps (length (symbol_names statements.now.list))
+        (assertion + 1) marks.new.items variables.new.items) }
+    ensures are_mandatory { OnOk result
+        ((x : ℕ)
+        → is_member variables.new.items x
+        ≡ is_member (mandatory_variables statements.now.list assertion) x) }
+{
+    variables.clear();
+    let formula = statements.formula(assertion);
+    add_variables(statements, formula, assertion + 1, marks, variables)?;
+    add_variables(
+        statements,
+        essential_variables,
+        assertion + 1,
+        marks,
+        variables,
+    )
 }
 
 /// Appends the active `$f` statements of the variables.
@@ -157,33 +232,29 @@ fn sort_and_dedup_numbers<A: Allocator>(numbers: &mut Vec<u32, A>)
     numbers.dedup();
 }
 
-/// Lists the mandatory hypotheses of an assertion in `hypotheses` and its mandatory variables in
-/// `variables`, and marks these variables. Replaces what the two lists have.
+/// Lists the mandatory hypotheses of an assertion in `hypotheses`. Replaces what it has.
 pub(crate) fn list_hypotheses<A: Allocator>(
-    sources: &FrameSources<A>,
+    statements: &Statements<A>,
     last_floats: &[u32],
     assertion: u32,
-    stamps: &mut Vec<u32, A>,
-    variables: &mut Vec<Sym, A>,
+    essentials: &[u32],
+    variables: &[Sym],
     hypotheses: &mut Vec<u32, A>,
 ) -> Result<(), AllocError>
-    requires are_sources { AreSources sources.now }
-    requires assertion_lt_length { assertion < length sources.now.statements.now.list }
-    requires are_ready { AreReady sources.now.statements.now.list assertion last_floats.now
-        stamps.old.items }
-    ensures are_stamps { OnOk result
-        (AreStamps (length (symbol_names sources.now.statements.now.list))
-        (assertion + 1) stamps.new.items variables.new.items) }
-    ensures variables_are_mandatory { OnOk result
-        ((x : ℕ)
-        → is_member variables.new.items x
-        ≡ is_member (mandatory_variables sources.now.statements.now.list assertion) x) }
-    ensures hypotheses_are_mandatory { OnOk result
-        (hypotheses.new.items ≡ mandatory_hypotheses sources.now.statements.now.list assertion) }
+    requires is_sound { IsSound statements.now.list }
+    requires assertion_lt_length { assertion < length statements.now.list }
+    requires are_last_floats { AreLastFloats statements.now.list assertion last_floats.now }
+    requires are_active { (i : ℕ)
+        → is_member essentials.now i
+        ≡ is_member (active_of is_essential statements.now.list assertion) i }
+    requires are_mandatory { (x : ℕ)
+        → is_member variables.now x
+        ≡ is_member (mandatory_variables statements.now.list assertion) x }
+    ensures { OnOk result
+        (hypotheses.new.items ≡ mandatory_hypotheses statements.now.list assertion) }
 {
-    let statements = sources.statements;
-    active_essentials(statements, sources.essentials, assertion, hypotheses)?;
-    list_mandatory_variables(statements, hypotheses, assertion, stamps, variables)?;
+    hypotheses.clear();
+    hypotheses.extend_from_slice(essentials)?;
     add_floats(statements, last_floats, assertion, variables, hypotheses)?;
     sort_and_dedup_numbers(hypotheses);
     Ok(())

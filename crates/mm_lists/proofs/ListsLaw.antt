@@ -97,6 +97,14 @@ module _ {X : Type 0} where
       range_is_joined_lists e ends all i j are_ends.1 (omega arith) (omega arith)
       ∙ sym (ap (λ n. joined (take n (drop i (cut_at e ends all)))) differences_equal)
 
+  -- there is a list for each bound but the first
+  pub count_is_bounds : (bounds : List ℕ) (all : List X) (lists : List (List X))
+      → cut bounds all ≡ lists → length bounds - 1 ≡ length lists
+  count_is_bounds [] all lists cut_is_lists = ap length cut_is_lists
+  count_is_bounds (from ∷ ends) all lists cut_is_lists =
+      let counts_equal = ap length cut_is_lists in let count_is_ends = length_cut from ends all in
+      omega (arith, counts_equal, count_is_ends)
+
   pub next_bound_exists : (bounds : List ℕ) (all : List X) (lists : List (List X))
       → cut bounds all ≡ lists → (i : ℕ) → i < length lists → i + 1 < length bounds
   next_bound_exists [] all lists cut_is_lists i i_lt_count =

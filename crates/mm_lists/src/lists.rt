@@ -110,6 +110,13 @@ impl<T, A: Allocator> Lists<T, A> {
         Lists { items, bounds }
     }
 
+    /// How many lists there are.
+    pub fn len(&self) -> usize
+        ensures { result ≡ length self.now }
+    {
+        self.bounds.len().saturating_sub(1)
+    }
+
     /// How many elements the lists have together.
     pub fn item_count(&self) -> usize
         ensures { result ≡ sum_by length self.now }

@@ -23,7 +23,7 @@ loop-statement-init g c =
       count = length_heads_is_n ∙ c.symbol_count.ensures.count_is;
       linked = rw c.new.ensures.items (no_links_are_linked heads heads_are_0);
       chains = rw (c.new.ensures.items, c.len-statement.ensures.len)
-          (no_chains_at_start db heads heads_are_0);
+          (no_chains_at_start db c.args.narrow heads heads_are_0);
     }
 
 pub loop-statement-preserved-in-Continue-branch-2 :
@@ -41,9 +41,9 @@ loop-statement-preserved-in-Continue-branch-2 g c =
       linked = c.in_ok-add_links.ensures.are_linked;
       chains =
           chains_for_equal_tests _ _ (statement - 1) (statement - 1) _ _ (omega arith)
-          (λ x j. has_symbol_with_disjoint db (statement - 1) x j statement c.formula.result.now
+          (λ x j. has_symbol_with_disjoint db c.args.narrow (statement - 1) x j statement c.formula.result.now
           statement_is_next
-          c.formula.ensures.formula (sym c.is_disjoint.ensures ∙ c.if-is_disjoint.true))
+          c.formula.ensures.formula (sym c.is_disjoint_by_width.ensures ∙ c.if-is_disjoint_by_width.true))
           (c.in_ok-add_links.ensures.adds_in_front _
           (chains_for_equal_tests _ _ (statement - 1) statement _ _ (omega arith) (λ x j. refl)
           c.loop-statement.invariant.chains));
@@ -63,14 +63,14 @@ loop-statement-preserved g c =
       linked = c.loop-statement.invariant.linked;
       chains =
           chains_for_equal_tests _ _ (statement - 1) statement _ _ (omega arith)
-          (λ x j. has_symbol_without_disjoint db (statement - 1) x j statement statement_is_next
-          (sym c.is_disjoint.ensures ∙ c.if-is_disjoint.false))
+          (λ x j. has_symbol_without_disjoint db c.args.narrow (statement - 1) x j statement statement_is_next
+          (sym c.is_disjoint_by_width.ensures ∙ c.if-is_disjoint_by_width.false))
           c.loop-statement.invariant.chains;
     }
 
 pub returns-clause-symbols_have_heads : goal.returns-clause-symbols_have_heads
 returns-clause-symbols_have_heads g c = λ x j j_has_x.
     let x_lt_symbol_count =
-    symbol_lt_symbol_count c.args.statements.now.list c.len-statement.ensures.is_sound x j j_has_x
+    symbol_lt_symbol_count c.args.statements.now.list c.len-statement.ensures.is_sound c.args.narrow x j j_has_x
     in
     omega (arith, x_lt_symbol_count, c.loop-statement.invariant.count)

@@ -18,7 +18,7 @@ loop-symbol-preserved g c =
       c.in_ok-chains.ensures.head_count_is,
     ) in
     let chain = c.in_ok-chains.ensures.are_chains x x_lt_length_heads in
-    pairs_with_symbol c.args.statements.now.list x
+    pairs_with_symbol c.args.statements.now.list c.args.narrow x
     (get_or heads x 0) links c.loop-symbol.by_symbol.items
     c.add_chain.new.by_symbol.items chain c.loop-symbol.invariant
     (c.in_ok-add_chain.ensures chain.statements chain.chain)

@@ -2,4 +2,4 @@ use Rattle.mm_frame.proofs.ChainsLaw.{ArePairsTo}
 use Rattle.mm_frame.proofs.chains.pairs_by_symbol.Given as goal
 
 abbrev pub invariant-loop-symbol : goal.invariant-loop-symbol
-invariant-loop-symbol g l = ArePairsTo l.statements.list l.symbol l.by_symbol.items
+invariant-loop-symbol g l = ArePairsTo l.statements.list l.narrow l.symbol l.by_symbol.items

@@ -1,5 +1,5 @@
 use Rattle.std.proofs.Common.{◌≡◌, length, ap, sym, ◌∙◌, subst, arith}
-use Rattle.mm_frame.specs.Hypotheses.{AreLastFloats, IsFresh}
+use Rattle.mm_frame.specs.Hypotheses.{AreLastFloats}
 use Rattle.mm_database.specs.Frames.{frames_between}
 use Rattle.mm_frame.proofs.FramesLaw.{no_frames_at_start, frames_with_statement, frame_count}
 use Rattle.mm_frame.proofs.frames.frames_between.Goals as goal
@@ -13,9 +13,9 @@ last_floats_before-requires-clause-at_le_length g c =
 pub loop-statement-init : goal.loop-statement-init
 loop-statement-init g c = record {
   last_floats = c.in_ok-last_floats.ensures;
-  stamps =
-      subst (λ n. IsFresh n c.args.from c.in_ok-scratch.scratch.stamps.items)
-      c.symbol_count.ensures.count_is (c.in_ok-scratch.ensures c.args.from);
+  ready =
+      c.in_ok-scratch.ensures c.args.sources.now.statements.now.list c.args.from
+      (sym c.symbol_count.ensures.count_is);
   from_le_statement = omega arith;
   frames =
       c.none-frames.ensures
@@ -25,7 +25,7 @@ loop-statement-init g c = record {
 pub loop-statement-preserved : goal.loop-statement-preserved
 loop-statement-preserved g c = record {
   last_floats = c.set_last_float.ensures;
-  stamps = c.in_ok-add_frame.ensures.are_fresh;
+  ready = c.in_ok-add_frame.ensures.is_ready;
   from_le_statement =
       (let from_le_statement = c.loop-statement.invariant.from_le_statement in
       omega (arith, from_le_statement));
@@ -35,15 +35,12 @@ loop-statement-preserved g c = record {
       c.loop-statement.invariant.frames c.in_ok-add_frame.ensures.frame_is_added;
 }
 
-pub add_frame-requires-clause-are_ready : goal.add_frame-requires-clause-are_ready
-add_frame-requires-clause-are_ready g c = record {
-  last_floats_are =
-      subst (λ xs. AreLastFloats c.args.sources.now.statements.now.list c.loop-statement.statement
-      xs)
-      (sym c.deref.ensures.value)
-      c.loop-statement.invariant.last_floats;
-  stamps_are_fresh = c.loop-statement.invariant.stamps;
-}
+pub add_frame-requires-clause-are_last_floats : goal.add_frame-requires-clause-are_last_floats
+add_frame-requires-clause-are_last_floats g c =
+    subst (λ xs. AreLastFloats c.args.sources.now.statements.now.list c.loop-statement.statement
+    xs)
+    (sym c.deref.ensures.value)
+    c.loop-statement.invariant.last_floats
 
 pub add_frame-requires-clause-statement_lt_length :
     goal.add_frame-requires-clause-statement_lt_length

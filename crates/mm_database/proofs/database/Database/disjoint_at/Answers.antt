@@ -1,4 +1,4 @@
-use Rattle.std.proofs.Common.{◌≡◌, ◌∙◌, ◌≤◌, not, ◌&&◌, length, sym, ap, nat_eq, false, arith}
+use Rattle.std.proofs.Common.{◌≡◌, ◌≢◌, ◌∙◌, ◌≤◌, not, ◌&&◌, length, sym, ap, nat_eq, false, arith}
 use Rattle.std.proofs.lemmas.Bool.{ne_eqb}
 use Rattle.mm_spec.specs.Opened.{counted}
 use Rattle.mm_spec.specs.Frame.{disjoint_at}
@@ -9,12 +9,10 @@ use Rattle.mm_database.proofs.TogetherLaw.{found_is_together}
 use Rattle.mm_database.proofs.CountedLaw.{together_counted}
 use Rattle.mm_database.proofs.database.Database.disjoint_at.Goals as goal
 
-pub are_together-requires : goal.are_together-requires
-are_together-requires g c = record {
-  ordered =
-      rw c.blocks-else-are_together_near.ensures.blocks_are
-      c.self.invariant.frame_tables_are.disjoint_index.ordered;
-}
+pub are_in_one-requires : goal.are_in_one-requires
+are_in_one-requires g c =
+    rw c.blocks-else-are_together_near.ensures.blocks_are
+    c.self.invariant.frame_tables_are.disjoint_index.ordered
 
 pub returns-else-are_together_near : goal.returns-else-are_together_near
 returns-else-are_together_near g c =
@@ -27,13 +25,17 @@ returns-else-are_together_near g c =
     let counts_equal = as_many_statements _ _ _ _ _ c.self.view_is in
     let statement_le_length = c.requires in
     let k_le_length_list : k ≤ length s.list = omega (arith, counts_equal, statement_le_length) in
-    let x_ne_y : nat_eq x y ≡ false =
-    ne_eqb x y (λ x_is_y. c.if-number.true (c.number.ensures ∙ x_is_y ∙ sym c.number-2.ensures)) in
+    let x_ne_y_here : x ≢ y =
+    λ x_is_y. c.if-number.true (c.number.ensures ∙ x_is_y ∙ sym c.number-2.ensures) in
+    let x_ne_y : nat_eq x y ≡ false = ne_eqb x y x_ne_y_here in
     let blocks = c.blocks-else-are_together_near.ensures in
-    found_is_together s.list s.blocks blocks.are_blocks k k_le_length_list _
-    c.self.invariant.frame_tables_are.disjoint_index.members_are c.are_together.result x y
-    (rw (← blocks.blocks_are) c.are_together.ensures.are_together_if_true)
-    (rw (← blocks.blocks_are) c.are_together.ensures.none_if_false)
+    let index_is = c.self.invariant.frame_tables_are.disjoint_index in
+    let found = c.are_in_one.ensures in
+    found_is_together s.list s.blocks blocks.are_blocks k k_le_length_list _ index_is.rows_are
+    _ index_is.members_are c.are_in_one.result x y x_ne_y_here
+    (rw (← blocks.blocks_are) found.narrow_is_found)
+    (rw (← blocks.blocks_are) found.wide_if_true)
+    (rw (← blocks.blocks_are) found.none_if_false)
     ∙ sym (together_counted w s.list k x y) ∙ sym (ap (λ t. not t && are_together_at db k x y)
     x_ne_y)
     ∙ ap (λ (n : Contents). disjoint_at n.statements k x y) c.self.view_is

@@ -1,10 +1,16 @@
-use Rattle.std.proofs.Common.{arith}
+use Rattle.std.proofs.Common.{◌≡◌, length, sym, subst, true≢false, refl}
+use Rattle.mm_spec.specs.Frame.{symbol_names}
+use Rattle.mm_frame.specs.Hypotheses.{IsFresh}
 use Rattle.mm_frame.proofs.frames.Scratch.new.Goals as goal
 
 pub returns : goal.returns
-returns g c = λ at. record {
-  count = c.in_ok-stamps.ensures.length_is;
-  stamps_le_stamp = λ x x_lt_count.
-      let stamp_is_0 = c.in_ok-stamps.ensures.each_is_value x x_lt_count in
-      omega (arith, stamp_is_0);
+returns g c = λ db from count_is. record {
+  stamps_are_fresh =
+      subst (λ n. IsFresh n from c.in_ok-scope.scope.stamps.items) (sym count_is)
+      (c.in_ok-scope.ensures from);
+  marks_are_fresh =
+      subst (λ n. IsFresh n from c.in_ok-lists.lists.marks.items) (sym count_is)
+      (c.in_ok-lists.ensures from);
+  previous_is_assertion = λ is_some. absurd (is_some refl);
+  previous_is_known = λ is_same. absurd (true≢false (sym is_same));
 }

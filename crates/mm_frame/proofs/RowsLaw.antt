@@ -1,0 +1,558 @@
+-- How the rows of the `$d` are made, pair by pair.
+use Rattle.std.proofs.Common.{◌≡◌, ◌≢◌, ℕ, zero, suc, ◌+◌, ◌-◌, ◌<◌, ◌≤◌, Bool, true, false, ◌&&◌}
+use Rattle.std.proofs.Common.{◌||◌, List, [], ◌∷◌, ◌++◌, length, get_or, take, map, nat_eq, nat_lt}
+use Rattle.std.proofs.Common.{nat_le, refl, sym, ap, ap₂, ◌∙◌, subst, arith, true≢false, ◌⊎◌, inl}
+use Rattle.std.proofs.Common.{inr, take_all, All}
+use Rattle.std.proofs.lemmas.Bool.{cases_lt, cases_eq, cases_order, and_parts, or_cases, eq-eqb}
+use Rattle.std.proofs.lemmas.Bool.{eqb-true, ne_eqb, le-leb, leb-true}
+use Rattle.std.proofs.lemmas.List.{get_or_push, get_or_append_left, length_push, get_or-take}
+use Rattle.std.proofs.lemmas.List.{length-take-le, get_or_past, length-map, get_or-map}
+use Rattle.std.proofs.lemmas.List.Folds.{list_any_more, list_any-append}
+use Rattle.std.proofs.Math.Bool.{or-false, or-true}
+use Rattle.std.specs.List.{list_any}
+use Rattle.mm_spec.specs.Statement.{Statement}
+use Rattle.mm_spec.specs.Derivation.{is_member}
+use Rattle.mm_spec.specs.Scope.{statement_at}
+use Rattle.mm_spec.specs.Frame.{symbol_names, formula_at, is_disjoint_statement}
+use Rattle.mm_spec.proofs.ListLaw.{element_is_member}
+use Rattle.mm_outline.proofs.StatementsLaw.{passing_lt_length}
+use Rattle.mm_outline.specs.Blocks.{BlockLists, IsBlocks, end_of}
+use Rattle.mm_database.specs.Pairs.{has_pair, IsBefore, AreRising}
+use Rattle.mm_database.specs.ParsedStatements.{IsSound}
+use Rattle.mm_database.specs.DisjointIndex.{HaveBlocks, IsRow, IsRowOf, IsCoveredIn, row_of}
+use Rattle.mm_database.specs.DisjointIndex.{has_narrow_pair, has_symbol_by_width}
+use Rattle.mm_database.specs.DisjointIndex.{is_disjoint_by_width, is_narrow}
+use Rattle.mm_database.proofs.DisjointIndexLaw.{HasIndex, index_of_pair, has_pair_at_index}
+use Rattle.mm_database.proofs.DisjointIndexLaw.{earlier_is_before, disjoint_has_block}
+use Rattle.mm_frame.specs.Chains.{HasChain}
+use Rattle.mm_frame.proofs.ChainsLaw.{rising_append}
+
+-- ---- the higher symbols of the `$d` of a symbol
+
+-- one symbol more
+pub higher_with_next_symbol : (xs : List ℕ) (i s d low st y j : ℕ) (o b n : Bool) → i < length xs
+    → s ≡ get_or xs i d
+    → b ≡ (o || (nat_eq j st && (nat_lt low y && is_member (take i xs) y)))
+    → n ≡ (b || (nat_eq j st && (nat_lt low y && nat_eq y s)))
+    → n ≡ (o || (nat_eq j st && (nat_lt low y && is_member (take (i + 1) xs) y)))
+higher_with_next_symbol xs i s d low st y j o b n i_lt_length s_is_item b_is_so_far n_is_next =
+    n_is_next ∙ ap (λ z. z || (nat_eq j st && (nat_lt low y && nat_eq y s))) b_is_so_far
+    ∙ regroup o (nat_eq j st) (nat_lt low y) (is_member (take i xs) y) (nat_eq y s)
+    ∙ ap (λ z. o || (nat_eq j st && (nat_lt low y && z)))
+    (ap (λ t. is_member (take i xs) y || nat_eq y t) s_is_item
+    ∙ sym (list_any_more (nat_eq y) xs i d i_lt_length))
+  where
+    regroup : (o e l t n : Bool)
+        → ((o || (e && (l && t))) || (e && (l && n))) ≡ (o || (e && (l && (t || n))))
+    regroup true e l t n = refl
+    regroup false false l t n = refl
+    regroup false true false t n = refl
+    regroup false true true t n = refl
+
+-- a symbol that is higher is added
+pub higher_is_added : (ps qs : List (ℕ × ℕ)) (s st low y j : ℕ) → nat_lt low s ≡ true
+    → qs ≡ ps ++ (s, st) ∷ []
+    → has_pair qs y j ≡ (has_pair ps y j || (nat_eq j st && (nat_lt low y && nat_eq y s)))
+higher_is_added ps qs s st low y j low_lt_s qs_are_pushed =
+    ap (λ rs. has_pair rs y j) qs_are_pushed
+    ∙ list_any-append (λ p. nat_eq y p.0 && nat_eq j p.1) ps ((s, st) ∷ [])
+    ∙ ap (λ z. has_pair ps y j || z) (agree (cases_eq y s))
+  where
+    agree : (y ≡ s) ⊎ (y ≢ s)
+        → ((nat_eq y s && nat_eq j st) || false) ≡ (nat_eq j st && (nat_lt low y && nat_eq y s))
+    agree (inl y_is_s) =
+        or-false (nat_eq y s && nat_eq j st)
+        ∙ ap (λ a. a && nat_eq j st) (eq-eqb y s y_is_s)
+        ∙ and_true_right (nat_eq j st)
+        ∙ sym (ap₂ (λ a c. nat_eq j st && (a && c)) (ap (nat_lt low) y_is_s ∙ low_lt_s)
+        (eq-eqb y s y_is_s))
+      where
+        and_true_right : (c : Bool) → c ≡ (c && true)
+        and_true_right true = refl
+        and_true_right false = refl
+    agree (inr y_ne_s) =
+        or-false (nat_eq y s && nat_eq j st)
+        ∙ ap (λ a. a && nat_eq j st) (ne_eqb y s y_ne_s)
+        ∙ all_false (nat_eq j st) (nat_lt low y)
+        ∙ sym (ap (λ c. nat_eq j st && (nat_lt low y && c)) (ne_eqb y s y_ne_s))
+      where
+        all_false : (c l : Bool) → false ≡ (c && (l && false))
+        all_false true true = refl
+        all_false true false = refl
+        all_false false l = refl
+
+-- one that isn't changes nothing
+pub lower_is_not_added : (ps qs : List (ℕ × ℕ)) (s st low y j : ℕ) → nat_lt low s ≡ false
+    → qs ≡ ps
+    → has_pair qs y j ≡ (has_pair ps y j || (nat_eq j st && (nat_lt low y && nat_eq y s)))
+lower_is_not_added ps qs s st low y j low_not_lt_s qs_are_ps =
+    ap (λ rs. has_pair rs y j) qs_are_ps
+    ∙ sym (or-false (has_pair ps y j))
+    ∙ ap (λ z. has_pair ps y j || z) (agree (cases_eq y s))
+  where
+    all_false : (c l e : Bool) → (l ≡ false) ⊎ (e ≡ false) → false ≡ (c && (l && e))
+    all_false true true e (inl l_false) = absurd (true≢false l_false)
+    all_false true true e (inr e_false) = sym e_false
+    all_false true false e is_false = refl
+    all_false false l e is_false = refl
+
+    agree : (y ≡ s) ⊎ (y ≢ s) → false ≡ (nat_eq j st && (nat_lt low y && nat_eq y s))
+    agree (inl y_is_s) =
+        all_false (nat_eq j st) (nat_lt low y) (nat_eq y s)
+        (inl (ap (nat_lt low) y_is_s ∙ low_not_lt_s))
+    agree (inr y_ne_s) =
+        all_false (nat_eq j st) (nat_lt low y) (nat_eq y s) (inr (ne_eqb y s y_ne_s))
+
+-- what a test finds in the pairs of a symbol with statements
+any_of_statements : (low : ℕ) (g : ℕ → Bool) (js : List ℕ) (j : ℕ)
+    → list_any (λ (p : ℕ × ℕ). nat_eq j p.1 && g p.1) (map (λ i. (low, i)) js)
+    ≡ (is_member js j && g j)
+any_of_statements low g [] j = refl
+any_of_statements low g (i ∷ js) j =
+    ap (λ z. (nat_eq j i && g i) || z) (any_of_statements low g js j)
+    ∙ agree (cases_eq j i)
+  where
+    absorb : (a m : Bool) → (a || (m && a)) ≡ a
+    absorb true m = refl
+    absorb false true = refl
+    absorb false false = refl
+
+    agree : (j ≡ i) ⊎ (j ≢ i)
+        → ((nat_eq j i && g i) || (is_member js j && g j)) ≡ ((nat_eq j i || is_member js j) && g j)
+    agree (inl j_is_i) =
+        ap₂ (λ a z. (a && z) || (is_member js j && g j)) (eq-eqb j i j_is_i) (ap g (sym j_is_i))
+        ∙ absorb (g j) (is_member js j)
+        ∙ sym (ap (λ a. (a || is_member js j) && g j) (eq-eqb j i j_is_i))
+    agree (inr j_ne_i) =
+        ap (λ a. (a && g i) || (is_member js j && g j)) (ne_eqb j i j_ne_i)
+        ∙ sym (ap (λ a. (a || is_member js j) && g j) (ne_eqb j i j_ne_i))
+
+-- the higher symbols of the narrow `$d` of a symbol
+pub higher_are_narrow_pairs : (db : List Statement) (low n : ℕ) (links ps : List (ℕ × ℕ))
+    (chain : HasChain (has_symbol_by_width db true low) 0 links n)
+    → ps ≡ map (λ j. (low, j)) chain.statements → (y j : ℕ)
+    → list_any (λ (p : ℕ × ℕ). nat_eq j p.1 && (nat_lt low y && is_member (formula_at db p.1) y)) ps
+    ≡ has_narrow_pair db low y j
+higher_are_narrow_pairs db low n links ps chain ps_are y j =
+    ap (list_any (λ (p : ℕ × ℕ). nat_eq j p.1
+    && (nat_lt low y && is_member (formula_at db p.1) y))) ps_are
+    ∙ any_of_statements low (λ i. nat_lt low y && is_member (formula_at db i) y) chain.statements j
+    ∙ ap (λ z. z && (nat_lt low y && is_member (formula_at db j) y)) (chain.members_are j)
+    ∙ regroup (is_disjoint_by_width db true j) (is_member (formula_at db j) low) (nat_lt low y)
+    (is_member (formula_at db j) y)
+  where
+    regroup : (d m l n : Bool) → ((d && m) && (l && n)) ≡ (l && ((d && n) && m))
+    regroup true true true n = agree n
+      where
+        agree : (n : Bool) → n ≡ (n && true)
+        agree true = refl
+        agree false = refl
+    regroup true true false n = refl
+    regroup true false true true = refl
+    regroup true false true false = refl
+    regroup true false false n = refl
+    regroup false m true n = refl
+    regroup false m false n = refl
+
+-- the statements of a chain are there
+pub chained_are_statements : (db : List Statement) (low n : ℕ) (links ps : List (ℕ × ℕ))
+    (chain : HasChain (has_symbol_by_width db true low) 0 links n)
+    → ps ≡ map (λ j. (low, j)) chain.statements → All (λ p. p.1 < length db) ps
+chained_are_statements db low n links ps chain ps_are k d k_lt_length =
+    let js = chain.statements in
+    let with_low : ℕ → ℕ × ℕ = λ (j : ℕ). (low, j) in
+    let count = length-map js with_low in
+    let lengths_equal = ap length ps_are in
+    let k_lt_js : k < length js = omega (arith, k_lt_length, lengths_equal, count) in
+    let is_at : get_or ps k d ≡ (low, get_or js k 0) =
+    ap (λ qs. get_or qs k d) ps_are ∙ get_or-map with_low js k 0 d k_lt_js in
+    let j_has_low = sym (chain.members_are (get_or js k 0)) ∙ element_is_member js k 0 k_lt_js in
+    subst (λ (p : ℕ × ℕ). p.1 < length db) (sym is_at)
+    (passing_lt_length is_disjoint_statement db (get_or js k 0)
+    (and_parts (list_any is_disjoint_statement (statement_at db (get_or js k 0)))
+    (is_narrow (formula_at db (get_or js k 0)))
+    (and_parts (is_disjoint_by_width db true (get_or js k 0))
+    (is_member (formula_at db (get_or js k 0)) low) j_has_low).0).0)
+
+-- ---- leaving out what is covered
+
+-- the row of the first i pairs
+pub record IsRowTo (b : BlockLists) (pairs : List (ℕ × ℕ)) (i : ℕ) (row : List (ℕ × ℕ)) : Type 0
+  where
+    pub is_row : IsRow b row
+    pub pairs_are : (y j : ℕ) → has_pair row y j ≡ true → has_pair (take i pairs) y j ≡ true
+    pub are_covered : (y j : ℕ) → has_pair (take i pairs) y j ≡ true → IsCoveredIn b row y j
+
+module _ (b : BlockLists) (pairs : List (ℕ × ℕ)) where
+  -- before the first pair
+  pub no_row_at_start : (row : List (ℕ × ℕ)) → row ≡ [] → IsRowTo b pairs 0 row
+  no_row_at_start row row_is_empty = subst (IsRowTo b pairs 0) (sym row_is_empty) (record {
+    is_row = record {
+      rising = tt;
+      known = λ p p_lt_length. absurd (omega (arith, p_lt_length));
+      ends_rise = λ y i j has_i. absurd (true≢false (sym has_i));
+    };
+    pairs_are = λ y j is_there. absurd (true≢false (sym is_there));
+    are_covered = λ y j is_there. absurd (true≢false (sym is_there));
+  })
+
+  -- all pairs
+  pub row_of_all : (i : ℕ) (row : List (ℕ × ℕ)) → length pairs ≤ i → IsRowTo b pairs i row
+      → IsRowOf b (has_pair pairs) row
+  row_of_all i row length_le_i is_row_to =
+      let all = take_all i pairs length_le_i in
+      record {
+        pairs_pass = λ y j is_there. sym (ap (λ ps. has_pair ps y j) all)
+            ∙ is_row_to.pairs_are y j is_there;
+        passing_are_covered = λ y j passes. is_row_to.are_covered y j
+            (ap (λ ps. has_pair ps y j) all ∙ passes);
+      }
+
+  module _ (are_rising : AreRising pairs) (have : HaveBlocks b pairs) (i : ℕ)
+      (i_lt_length : i < length pairs) where
+    abbrev next : ℕ × ℕ
+    next = get_or pairs i (0, 0)
+
+    -- an earlier pair is before the next one
+    earlier_before_next : (y j : ℕ) → has_pair (take i pairs) y j ≡ true
+        → IsBefore y j next.0 next.1
+    earlier_before_next y j is_there =
+        let found = index_of_pair (take i pairs) y j is_there in
+        let q = found.index in
+        let q_lt_taken = found.index_lt_length in
+        let taken_length = length-take-le i pairs (omega (arith, i_lt_length)) in
+        let q_lt_i : q < i = omega (arith, q_lt_taken, taken_length) in
+        let is_at : get_or (take i pairs) q (0, 0) ≡ get_or pairs q (0, 0) =
+        get_or-take i pairs q (0, 0) q_lt_i in
+        subst (λ z. IsBefore z j next.0 next.1) (found.first_is_x)
+        (subst (λ z. IsBefore (get_or (take i pairs) q (0, 0)).0 z next.0 next.1) found.second_is_y
+        (subst (λ (z : ℕ × ℕ). IsBefore z.0 z.1 next.0 next.1) (sym is_at)
+        (earlier_is_before pairs are_rising q i (0, 0) q_lt_i i_lt_length)))
+
+    has_with_next : (y j : ℕ) → has_pair (take (i + 1) pairs) y j
+        ≡ (has_pair (take i pairs) y j || (nat_eq y next.0 && nat_eq j next.1))
+    has_with_next y j = list_any_more (λ p. nat_eq y p.0 && nat_eq j p.1) pairs i (0, 0) i_lt_length
+
+    is_next : (y j : ℕ) → (nat_eq y next.0 && nat_eq j next.1) ≡ true
+        → (y ≡ next.0) × (j ≡ next.1)
+    is_next y j is_equal =
+        let parts = and_parts (nat_eq y next.0) (nat_eq j next.1) is_equal in
+        (eqb-true y next.0 parts.0, eqb-true j next.1 parts.1)
+
+    module _ (row : List (ℕ × ℕ)) (is_row_to : IsRowTo b pairs i row) where
+      abbrev last : ℕ × ℕ
+      last = get_or row (length row - 1) (0, 0)
+
+      in_row_is_before : (y j : ℕ) → has_pair row y j ≡ true → IsBefore y j next.0 next.1
+      in_row_is_before y j is_there = earlier_before_next y j (is_row_to.pairs_are y j is_there)
+
+      -- the last pair of the row covers the next one
+      pub row_without_next : (rows : List (ℕ × ℕ)) → rows ≡ row → 0 < length row → next.0 ≡ last.0
+          → end_of b next.1 ≤ end_of b last.1
+          → IsRowTo b pairs (i + 1) rows
+      row_without_next rows rows_are row_is_some same_symbol ends_no_later =
+          subst (IsRowTo b pairs (i + 1)) (sym rows_are) (record {
+            is_row = is_row_to.is_row;
+            pairs_are = λ y j is_there. has_with_next y j
+                ∙ ap (λ z. z || (nat_eq y next.0 && nat_eq j next.1))
+                (is_row_to.pairs_are y j is_there);
+            are_covered = λ y j is_there. covered y j (or_cases (has_pair (take i pairs) y j)
+                (nat_eq y next.0 && nat_eq j next.1) (sym (has_with_next y j) ∙ is_there));
+          })
+        where
+          last_is_there : has_pair row last.0 last.1 ≡ true
+          last_is_there = has_pair_at_index row (length row - 1) (0, 0)
+              (omega (arith, row_is_some))
+
+          last_le_next : IsBefore last.0 last.1 next.0 next.1 → last.1 ≤ next.1
+          last_le_next (inl lower) = absurd (omega (arith, lower, same_symbol))
+          last_le_next (inr (symbols_equal, lower)) = omega (arith, lower)
+
+          covered : (y j : ℕ) → (has_pair (take i pairs) y j ≡ true)
+              ⊎ ((nat_eq y next.0 && nat_eq j next.1) ≡ true) → IsCoveredIn b row y j
+          covered y j (inl is_earlier) = is_row_to.are_covered y j is_earlier
+          covered y j (inr is_equal) =
+              let equal = is_next y j is_equal in
+              let j_is = equal.1 in
+              let last_le = last_le_next (in_row_is_before last.0 last.1 last_is_there) in
+              record {
+                covering = last.1;
+                is_there =
+                    ap (λ z. has_pair row z last.1) (equal.0 ∙ same_symbol) ∙ last_is_there;
+                covering_le = omega (arith, j_is, last_le);
+                ends_no_earlier =
+                    subst (λ z. end_of b z ≤ end_of b last.1) (sym j_is) ends_no_later;
+              }
+
+      -- the next pair isn't covered by the last one
+      pub row_with_next : (rows : List (ℕ × ℕ)) → rows ≡ row ++ next ∷ []
+          → (0 < length row → next.0 ≡ last.0 → end_of b last.1 < end_of b next.1)
+          → IsRowTo b pairs (i + 1) rows
+      row_with_next rows rows_are ends_later =
+          subst (IsRowTo b pairs (i + 1)) (sym rows_are) (record {
+            is_row = record {
+              rising = rising_append row (next ∷ []) is_row_to.is_row.rising
+                  (λ x y is_there. absurd (true≢false (sym is_there)), tt)
+                  (λ a c x y in_row is_there. before_pushed a c x y in_row
+                  (is_next x y (sym (or-false (nat_eq x next.0 && nat_eq y next.1)) ∙ is_there)));
+              known = λ p p_lt_length. known_at p p_lt_length (cases_lt p (length row));
+              ends_rise = λ y j k has_j has_k j_lt_k. ends_rise_in y j k (in_either y j has_j)
+                  (in_either y k has_k) j_lt_k;
+            };
+            pairs_are = λ y j is_there. has_with_next y j ∙ is_among y j (in_either y j is_there);
+            are_covered = λ y j is_there. covered y j (or_cases (has_pair (take i pairs) y j)
+                (nat_eq y next.0 && nat_eq j next.1) (sym (has_with_next y j) ∙ is_there));
+          })
+        where
+          pushed : List (ℕ × ℕ)
+          pushed = row ++ next ∷ []
+
+          in_either : (y j : ℕ) → has_pair (row ++ next ∷ []) y j ≡ true
+              → (has_pair row y j ≡ true) ⊎ ((y ≡ next.0) × (j ≡ next.1))
+          in_either y j is_there =
+              sorted (or_cases (has_pair row y j) ((nat_eq y next.0 && nat_eq j next.1) || false)
+              (sym (list_any-append (λ p. nat_eq y p.0 && nat_eq j p.1) row (next ∷ []))
+              ∙ is_there))
+            where
+              sorted : (has_pair row y j ≡ true)
+                  ⊎ (((nat_eq y next.0 && nat_eq j next.1) || false) ≡ true)
+                  → (has_pair row y j ≡ true) ⊎ ((y ≡ next.0) × (j ≡ next.1))
+              sorted (inl in_row) = inl in_row
+              sorted (inr is_equal) =
+                  inr (is_next y j
+                  (sym (or-false (nat_eq y next.0 && nat_eq j next.1)) ∙ is_equal))
+
+          before_pushed : (a c x y : ℕ) → has_pair row a c ≡ true
+              → (x ≡ next.0) × (y ≡ next.1) → IsBefore a c x y
+          before_pushed a c x y in_row equal =
+              subst (λ z. IsBefore a c z y) (sym equal.0)
+              (subst (IsBefore a c next.0) (sym equal.1) (in_row_is_before a c in_row))
+
+          known_at : (p : ℕ) → p < length (row ++ next ∷ []) → (p < length row) ⊎ (length row ≤ p)
+              → ((get_or (row ++ next ∷ []) p (0, 0)).1 < length b.block_of)
+              × (get_or b.block_of (get_or (row ++ next ∷ []) p (0, 0)).1 0 < length b.ends)
+          known_at p p_lt_pushed (inl p_lt_length) =
+              subst (λ (z : ℕ × ℕ). (z.1 < length b.block_of)
+              × (get_or b.block_of z.1 0 < length b.ends))
+              (sym (get_or_append_left row (next ∷ []) (0, 0) p p_lt_length))
+              (is_row_to.is_row.known p p_lt_length)
+          known_at p p_lt_pushed (inr length_le_p) =
+              let pushed_length = length_push row next in
+              subst (λ (z : ℕ × ℕ). (z.1 < length b.block_of)
+              × (get_or b.block_of z.1 0 < length b.ends))
+              (sym (get_or_push row next (0, 0) p
+              (omega (arith, p_lt_pushed, length_le_p, pushed_length))))
+              (have i i_lt_length)
+
+          is_among : (y j : ℕ) → (has_pair row y j ≡ true) ⊎ ((y ≡ next.0) × (j ≡ next.1))
+              → (has_pair (take i pairs) y j || (nat_eq y next.0 && nat_eq j next.1)) ≡ true
+          is_among y j (inl in_row) =
+              ap (λ z. z || (nat_eq y next.0 && nat_eq j next.1)) (is_row_to.pairs_are y j in_row)
+          is_among y j (inr (y_is, j_is)) =
+              ap (λ z. has_pair (take i pairs) y j || z)
+              (ap₂ (λ u v. u && v) (eq-eqb y next.0 y_is) (eq-eqb j next.1 j_is))
+              ∙ or-true (has_pair (take i pairs) y j)
+
+          still_there : (y j : ℕ) → has_pair row y j ≡ true
+              → has_pair (row ++ next ∷ []) y j ≡ true
+          still_there y j in_row =
+              list_any-append (λ p. nat_eq y p.0 && nat_eq j p.1) row (next ∷ [])
+              ∙ ap (λ z. z || ((nat_eq y next.0 && nat_eq j next.1) || false)) in_row
+
+          next_is_there : (y j : ℕ) → y ≡ next.0 → j ≡ next.1
+              → has_pair (row ++ next ∷ []) y j ≡ true
+          next_is_there y j y_is j_is =
+              list_any-append (λ p. nat_eq y p.0 && nat_eq j p.1) row (next ∷ [])
+              ∙ ap (λ z. has_pair row y j || (z || false))
+              (ap₂ (λ u v. u && v) (eq-eqb y next.0 y_is) (eq-eqb j next.1 j_is))
+              ∙ or-true (has_pair row y j)
+
+          covered : (y j : ℕ) → (has_pair (take i pairs) y j ≡ true)
+              ⊎ ((nat_eq y next.0 && nat_eq j next.1) ≡ true)
+              → IsCoveredIn b (row ++ next ∷ []) y j
+          covered y j (inl is_earlier) =
+              let before = is_row_to.are_covered y j is_earlier in
+              record {
+                covering = before.covering;
+                is_there = still_there y before.covering before.is_there;
+                covering_le = before.covering_le;
+                ends_no_earlier = before.ends_no_earlier;
+              }
+          covered y j (inr is_equal) =
+              let equal = is_next y j is_equal in
+              record {
+                covering = j;
+                is_there = next_is_there y j equal.0 equal.1;
+                covering_le = omega arith;
+                ends_no_earlier = omega arith;
+              }
+
+          -- a pair of the row with the symbol of the next one ends before it
+          ends_before_next : (y j : ℕ) → has_pair row y j ≡ true → y ≡ next.0
+              → end_of b j < end_of b next.1
+          ends_before_next y j in_row y_is =
+              by_index (cases_eq q (length row - 1))
+            where
+              found : HasIndex row y j
+              found = index_of_pair row y j in_row
+
+              q : ℕ
+              q = found.index
+
+              last_is_there : has_pair row last.0 last.1 ≡ true
+              last_is_there =
+                  let q_lt = found.index_lt_length in
+                  has_pair_at_index row (length row - 1) (0, 0) (omega (arith, q_lt))
+
+              last_symbol_le : last.0 ≤ next.0
+              last_symbol_le = symbol_le (in_row_is_before last.0 last.1 last_is_there)
+                where
+                  symbol_le : IsBefore last.0 last.1 next.0 next.1 → last.0 ≤ next.0
+                  symbol_le (inl lower) = omega (arith, lower)
+                  symbol_le (inr (symbols_equal, lower)) = omega (arith, symbols_equal)
+
+              by_index : (q ≡ length row - 1) ⊎ (q ≢ length row - 1)
+                  → end_of b j < end_of b next.1
+              by_index (inl q_is_last) =
+                  let q_lt = found.index_lt_length in
+                  let last_is_y = sym (ap (λ r. (get_or row r (0, 0)).0) q_is_last)
+                  ∙ found.first_is_x in
+                  let last_is_j = sym (ap (λ r. (get_or row r (0, 0)).1) q_is_last)
+                  ∙ found.second_is_y in
+                  subst (λ z. end_of b z < end_of b next.1) last_is_j
+                  (ends_later (omega (arith, q_lt)) (sym y_is ∙ sym last_is_y))
+              by_index (inr q_ne_last) =
+                  let q_lt = found.index_lt_length in
+                  by_order (earlier_is_before row is_row_to.is_row.rising q (length row - 1) (0, 0)
+                  (omega (arith, q_lt, q_ne_last)) (omega (arith, q_lt)))
+                where
+                  by_order : IsBefore (get_or row q (0, 0)).0 (get_or row q (0, 0)).1 last.0 last.1
+                      → end_of b j < end_of b next.1
+                  by_order (inl lower) =
+                      let first_is_y = found.first_is_x in
+                      let last_le = last_symbol_le in
+                      absurd (omega (arith, lower, first_is_y, last_le, y_is))
+                  by_order (inr (symbols_equal, lower)) =
+                      let q_lt = found.index_lt_length in
+                      let second_is_j = found.second_is_y in
+                      let last_is_y : last.0 ≡ y = sym symbols_equal ∙ found.first_is_x in
+                      let ends_rise = is_row_to.is_row.ends_rise y j last.1 in_row
+                      (ap (λ z. has_pair row z last.1) (sym last_is_y) ∙ last_is_there)
+                      (omega (arith, second_is_j, lower)) in
+                      let last_ends = ends_later (omega (arith, q_lt))
+                      (sym y_is ∙ sym last_is_y) in
+                      omega (arith, ends_rise, last_ends)
+
+          ends_rise_in : (y j k : ℕ)
+              → (has_pair row y j ≡ true) ⊎ ((y ≡ next.0) × (j ≡ next.1))
+              → (has_pair row y k ≡ true) ⊎ ((y ≡ next.0) × (k ≡ next.1))
+              → j < k → end_of b j < end_of b k
+          ends_rise_in y j k (inl j_in_row) (inl k_in_row) j_lt_k =
+              is_row_to.is_row.ends_rise y j k j_in_row k_in_row j_lt_k
+          ends_rise_in y j k (inl j_in_row) (inr (y_is, k_is)) j_lt_k =
+              subst (λ z. end_of b j < end_of b z) (sym k_is) (ends_before_next y j j_in_row y_is)
+          ends_rise_in y j k (inr (y_is, j_is)) (inl k_in_row) j_lt_k =
+              absurd (not_before (in_row_is_before y k k_in_row))
+            where
+              not_before : IsBefore y k next.0 next.1 → ⊥
+              not_before (inl lower) = omega (arith, lower, y_is)
+              not_before (inr (symbols_equal, lower)) = omega (arith, lower, j_is, j_lt_k)
+          ends_rise_in y j k (inr (y_is, j_is)) (inr (y_is_too, k_is)) j_lt_k =
+              absurd (omega (arith, j_is, k_is, j_lt_k))
+
+-- a row of equal tests
+pub row_of_equal_tests : (b : BlockLists) (t u : ℕ → ℕ → Bool) (row : List (ℕ × ℕ))
+    → ((y j : ℕ) → t y j ≡ u y j) → IsRowOf b t row → IsRowOf b u row
+row_of_equal_tests b t u row tests_equal is_row_of = record {
+  pairs_pass = λ y j is_there. sym (tests_equal y j) ∙ is_row_of.pairs_pass y j is_there;
+  passing_are_covered = λ y j passes. is_row_of.passing_are_covered y j (tests_equal y j ∙ passes);
+}
+
+-- ---- the rows of all symbols
+
+module _ (db : List Statement) (b : BlockLists) where
+  -- the rows of the symbols before x
+  pub record AreRowsTo (x : ℕ) (rows : List (List (ℕ × ℕ))) : Type 0 where
+    pub count : length rows ≡ x
+    pub are_rows : (z : ℕ) → z < x → IsRow b (row_of rows z)
+    pub rows_are : (z : ℕ) → z < x → IsRowOf b (has_narrow_pair db z) (row_of rows z)
+
+  pub rows_with_next : (x : ℕ) (rows more : List (List (ℕ × ℕ))) (row : List (ℕ × ℕ))
+      → AreRowsTo x rows → more ≡ rows ++ row ∷ [] → IsRow b row
+      → IsRowOf b (has_narrow_pair db x) row → AreRowsTo (x + 1) more
+  rows_with_next x rows more row are_rows_to more_are is_row is_row_of =
+      subst (AreRowsTo (x + 1)) (sym more_are) (record {
+        count = let pushed_length = length_push rows row in
+            let count_is = are_rows_to.count in omega (arith, pushed_length, count_is);
+        are_rows = λ z z_lt_next. is_row_at z z_lt_next (cases_lt z x);
+        rows_are = λ z z_lt_next. is_row_of_at z z_lt_next (cases_lt z x);
+      })
+    where
+      is_row_at : (z : ℕ) → z < x + 1 → (z < x) ⊎ (x ≤ z)
+          → IsRow b (row_of (rows ++ row ∷ []) z)
+      is_row_at z z_lt_next (inl z_lt_x) =
+          let count_is = are_rows_to.count in
+          subst (IsRow b) (sym (get_or_append_left rows (row ∷ []) [] z
+          (omega (arith, z_lt_x, count_is)))) (are_rows_to.are_rows z z_lt_x)
+      is_row_at z z_lt_next (inr x_le_z) =
+          let count_is = are_rows_to.count in
+          subst (IsRow b) (sym (get_or_push rows row [] z
+          (omega (arith, z_lt_next, x_le_z, count_is)))) is_row
+
+      is_row_of_at : (z : ℕ) → z < x + 1 → (z < x) ⊎ (x ≤ z)
+          → IsRowOf b (has_narrow_pair db z) (row_of (rows ++ row ∷ []) z)
+      is_row_of_at z z_lt_next (inl z_lt_x) =
+          let count_is = are_rows_to.count in
+          subst (IsRowOf b (has_narrow_pair db z)) (sym (get_or_append_left rows (row ∷ []) [] z
+          (omega (arith, z_lt_x, count_is)))) (are_rows_to.rows_are z z_lt_x)
+      is_row_of_at z z_lt_next (inr x_le_z) =
+          let count_is = are_rows_to.count in
+          let z_is_x : z ≡ x = omega (arith, z_lt_next, x_le_z) in
+          subst (IsRowOf b (has_narrow_pair db z)) (sym (get_or_push rows row [] z
+          (omega (arith, z_lt_next, x_le_z, count_is))))
+          (subst (λ w. IsRowOf b (has_narrow_pair db w) row) (sym z_is_x) is_row_of)
+
+  -- past the last symbol rows are empty
+  pub rows_of_all : (x : ℕ) (rows : List (List (ℕ × ℕ)))
+      → ((z j : ℕ) → has_symbol_by_width db true z j ≡ true → z < x) → AreRowsTo x rows → (z : ℕ)
+      → IsRow b (row_of rows z) × IsRowOf b (has_narrow_pair db z) (row_of rows z)
+  rows_of_all x rows symbols_lt_x are_rows_to z = at (cases_lt z x)
+    where
+      at : (z < x) ⊎ (x ≤ z)
+          → IsRow b (row_of rows z) × IsRowOf b (has_narrow_pair db z) (row_of rows z)
+      at (inl z_lt_x) = (are_rows_to.are_rows z z_lt_x, are_rows_to.rows_are z z_lt_x)
+      at (inr x_le_z) =
+          let count_is = are_rows_to.count in
+          let is_empty = get_or_past rows z [] (omega (arith, x_le_z, count_is)) in (
+            subst (IsRow b) (sym is_empty) (record {
+              rising = tt;
+              known = λ p p_lt_length. absurd (omega (arith, p_lt_length));
+              ends_rise = λ y i j has_i. absurd (true≢false (sym has_i));
+            }),
+            subst (IsRowOf b (has_narrow_pair db z)) (sym is_empty) (record {
+              pairs_pass = λ y j is_there. absurd (true≢false (sym is_there));
+              passing_are_covered = λ y j passes. absurd (not_past y j passes);
+            }),
+          )
+        where
+          not_past : (y j : ℕ) → has_narrow_pair db z y j ≡ true → ⊥
+          not_past y j passes =
+              let both = and_parts (has_symbol_by_width db true y j) (is_member (formula_at db j) z)
+              (and_parts (nat_lt z y)
+              (has_symbol_by_width db true y j && is_member (formula_at db j) z) passes).1 in
+              let z_lt_x = symbols_lt_x z j
+              (ap₂ (λ p q. p && q) (and_parts (is_disjoint_by_width db true j)
+              (is_member (formula_at db j) y) both.0).0 both.1) in
+              omega (arith, z_lt_x, x_le_z)
+
+  -- the higher symbols of a symbol are paired with statements that have a block
+  pub higher_have_blocks : IsBlocks db b → (low : ℕ) (ps : List (ℕ × ℕ))
+      → ((y j : ℕ) → has_pair ps y j ≡ has_narrow_pair db low y j) → HaveBlocks b ps
+  higher_have_blocks blocks low ps pairs_are p p_lt_length =
+      let y = (get_or ps p (0, 0)).0 in
+      let j = (get_or ps p (0, 0)).1 in
+      let passes = sym (pairs_are y j) ∙ has_pair_at_index ps p (0, 0) p_lt_length in
+      disjoint_has_block db b blocks true y j
+      (and_parts (has_symbol_by_width db true y j) (is_member (formula_at db j) low)
+      (and_parts (nat_lt low y)
+      (has_symbol_by_width db true y j && is_member (formula_at db j) low) passes).1).0

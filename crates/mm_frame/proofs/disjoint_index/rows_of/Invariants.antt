@@ -1,0 +1,6 @@
+use Rattle.std.proofs.Common.{◌≡◌}
+use Rattle.mm_frame.proofs.RowsLaw.{AreRowsTo}
+use Rattle.mm_frame.proofs.disjoint_index.rows_of.Given as goal
+
+abbrev pub invariant-loop-symbol : goal.invariant-loop-symbol
+invariant-loop-symbol g l = AreRowsTo l.statements.list l.statements.blocks l.symbol l.rows

@@ -1,0 +1,17 @@
+use Rattle.std.proofs.Common.{◌≡◌, ◌∙◌, ◌&&◌, ap, sym}
+use Rattle.std.specs.List.{list_any}
+use Rattle.mm_spec.specs.Derivation.{is_member}
+use Rattle.mm_spec.specs.Frame.{is_variable_number, formula_at, active_of, is_essential}
+use Rattle.mm_spec.proofs.MemberLaw.{same_members_same_any}
+use Rattle.mm_frame.proofs.frames.list_frame.Goals as goal
+
+pub list_mandatory_variables-requires-clause-are_variables :
+    goal.list_mandatory_variables-requires-clause-are_variables
+list_mandatory_variables-requires-clause-are_variables g c = λ x.
+    let db = c.args.sources.now.statements.now.list in
+    let scope = c.args.scope.now in
+    ap (λ xs. is_member xs x) c.deref.ensures.value
+    ∙ c.requires.are_essential.variables_are x
+    ∙ ap (λ z. is_variable_number db x && z)
+    (same_members_same_any (λ j. is_member (formula_at db j) x) scope.essentials.items
+    (active_of is_essential db c.args.assertion) c.requires.are_essential.essentials_are)
