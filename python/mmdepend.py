@@ -16,12 +16,12 @@ import ctypes
 import ctypes.util
 import mmap
 import os
-from dataclasses import dataclass
-from functools import cache
+from dataclasses import dataclass, field
+from functools import cache, cached_property
 from pathlib import Path
 from typing import Literal
 
-__all__ = ["PARTS", "Refused", "report", "version"]
+__all__ = ["PARTS", "Refused", "Report", "report", "version"]
 
 # The parts of a report by their names, each with its bit. `all` are the first three of the others.
 PARTS = {"all": 7, "matrix": 1, "counts": 2, "usage": 4, "citations": 8}
@@ -61,6 +61,10 @@ class Refused(Exception):
         self.line = line
         self.column = column
         self.code = code
+
+    def __reduce__(self) -> tuple[type["Refused"], tuple[int, int, str]]:
+        """By what it is made again where it is copied or comes from another process."""
+        return Refused, (self.line, self.column, self.code)
 
 
 class Room(ctypes.Structure):
@@ -165,8 +169,16 @@ def output(text: bytes, request: Request) -> tuple[int, bytes]:
                 return status, out.pages[:written]
 
 
+def of_type(value: object, types: tuple[type, ...], name: str) -> None:
+    """TypeError where a value has none of these types."""
+    if not isinstance(value, types):
+        wanted = " or ".join(each.__name__ for each in types)
+        raise TypeError(f"{name} is to be {wanted}, and not {type(value).__name__}")
+
+
 def sections_of(part: str) -> int:
     """The bits of the parts that are named, with commas between them."""
+    of_type(part, (str,), "part")
     sections = 0
     for name in part.split(","):
         if name not in PARTS:
@@ -194,15 +206,19 @@ def report(
     """Verifies a database and returns the bytes of its report, as the program writes them.
 
     `text` is the database. `part` is what is reported: `matrix`, `counts`, `usage` and `citations`,
-    one or more of them with commas between them, or `all`: the first three. `only` is the typecode of the axioms that are columns, such as `|-`; if
-    it is None, all axioms are. `form` is how the matrix is written: 1 a digit for each column, 2 a
-    hexadecimal digit for every four. With `essential` a theorem cites only what the logical part of
-    its proof applies, and with `open_theorems` a theorem whose proof is `?` counts as an axiom.
+    one or more of them with commas between them, or `all`: the first three. `only` is the typecode
+    of the axioms that are columns, such as `|-`; if it is None, all axioms are. `form` is how the
+    matrix is written: 1 a digit for each column, 2 a hexadecimal digit for every four. With
+    `essential` a theorem cites only what the logical part of its proof applies, and with
+    `open_theorems` a theorem whose proof is `?` counts as an axiom.
 
     Raises Refused if the database has a fault, ValueError if there is no such part or form, or
-    `only` can't be written as UTF-8, MemoryError if memory runs out, and OSError if the shared
-    library isn't found.
+    `only` can't be written as UTF-8, TypeError if an argument has another type, MemoryError if
+    memory runs out, and OSError if the shared library isn't found.
     """
+    of_type(text, (bytes, bytearray, memoryview, mmap.mmap), "text")
+    of_type(only, (str, type(None)), "only")
+    of_type(form, (int,), "form")
     sections = sections_of(part)
     if form not in (1, 2):
         raise ValueError(f"no form of the matrix has the number {form!r}")
@@ -214,6 +230,72 @@ def report(
     if status != ACCEPTED:
         raise AssertionError(f"the library ended with status {status}")
     return written
+
+
+@dataclass(frozen=True)
+class Report:
+    """On which axioms each theorem of a database rests.
+
+    `axioms` are the labels of the axioms, `theorems` those of the theorems, both in file order. A
+    report is made by `Report.of`.
+    """
+
+    axioms: tuple[str, ...]
+    theorems: tuple[str, ...]
+    cells: tuple[str, ...] = field(repr=False)
+    """For each theorem a hexadecimal digit for each four axioms."""
+    used_by: tuple[str, ...] = field(repr=False)
+    """For each axiom the labels of the theorems that rest on it, with spaces between them."""
+
+    @classmethod
+    def of(
+        cls,
+        text: bytes | bytearray | memoryview | mmap.mmap,
+        *,
+        only: str | None = None,
+        essential: bool = False,
+        open_theorems: bool = False,
+    ) -> "Report":
+        """Verifies a database. The arguments, and what is raised, are those of `report`."""
+        written = report(
+            text,
+            "matrix,usage",
+            only=only,
+            form=2,
+            essential=essential,
+            open_theorems=open_theorems,
+        )
+        lines = written.decode("ascii").split("\n")
+        matrix, usage = lines.index("matrix"), lines.index("usage")
+        rows = [line.split(":") for line in lines[matrix + 1 : usage]]
+        columns = [line.split(":") for line in lines[usage + 1 : lines.index("end", usage)]]
+        return cls(
+            tuple(row[0] for row in columns),
+            tuple(row[0] for row in rows),
+            tuple(row[1] for row in rows),
+            tuple(row[2] for row in columns),
+        )
+
+    @cached_property
+    def rows(self) -> dict[str, int]:
+        """The index of each theorem."""
+        return {label: row for row, label in enumerate(self.theorems)}
+
+    @cached_property
+    def columns(self) -> dict[str, int]:
+        """The index of each axiom."""
+        return {label: column for column, label in enumerate(self.axioms)}
+
+    def rests(self, label: str) -> list[str]:
+        """The axioms on which a theorem rests, in file order. KeyError if there is no such
+        theorem."""
+        cells = self.cells[self.rows[label]]
+        digits = f"{int(cells, 16):0{4 * len(cells)}b}" if cells else ""
+        return [axiom for axiom, digit in zip(self.axioms, digits) if digit == "1"]
+
+    def users(self, label: str) -> list[str]:
+        """The theorems that rest on an axiom, in file order. KeyError if there is no such axiom."""
+        return self.used_by[self.columns[label]].split()
 
 
 def version() -> str:

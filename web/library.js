@@ -193,6 +193,19 @@ class Run {
     }
 
     /**
+     * The room that is tried next: a third more, or all that there is besides the output.
+     * @param {number} room
+     * @param {number} output
+     */
+    largerRoom(room, output) {
+        const { memory } = this;
+        const left = memory.most - upTo(memory.free, PAGE) - output;
+        const larger = Math.min(upTo((room * 4) / 3, PAGE), left - (left % PAGE));
+        if (larger <= room) throw new Exhausted();
+        return larger;
+    }
+
+    /**
      * Calls the module with more memory until that is enough, or there is no more.
      * @param {number} room
      * @returns {Answer}
@@ -202,7 +215,7 @@ class Run {
         for (;;) {
             const { status, out, report } = this.call(room, output);
             if (status === OUT_TOO_SHORT) output = upTo(report, PAGE);
-            else if (status === ROOM_TOO_SMALL) room *= 2;
+            else if (status === ROOM_TOO_SMALL) room = this.largerRoom(room, output);
             else {
                 return {
                     status: /** @type {Answer["status"]} */ (status),
