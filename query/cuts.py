@@ -1,6 +1,7 @@
 """Which citations, and which theorems, hold others to an assertion: least cuts and bottlenecks.
 
 Everything here is about chains of citations that end at one node, `end`, an axiom or a theorem.
+Theorems may be `kept`: they rest on it whatever is done, so a chain may end at one of them as well.
 """
 
 from collections.abc import Iterator
@@ -13,7 +14,7 @@ Citation = tuple[int, int]  # a theorem and what it cites
 
 @dataclass
 class Flow:
-    """Chains from one node to another that share no citation, as many as there can be.
+    """Chains from one node to one of others that share no citation, as many as there can be.
 
     `ahead` has for each theorem on the way what it cites on the way. Each citation carries one
     chain at most: `used` are those that carry one, and `back` has for each node from where they
@@ -21,7 +22,7 @@ class Flow:
     """
 
     start: int
-    end: int
+    ends: frozenset[int]
     ahead: dict[int, list[int]]
     used: set[Citation] = field(default_factory=set)
     back: dict[int, dict[int, bool]] = field(default_factory=dict)
@@ -33,10 +34,10 @@ class Flow:
         return forward + list(self.back.get(node, {}))
 
     def levels(self) -> dict[int, int]:
-        """How many steps the nodes are from the start, up to the end."""
+        """How many steps the nodes are from the start, up to the first of the ends."""
         level = {self.start: 0}
         edge = [self.start]
-        while edge and self.end not in level:
+        while edge and self.ends.isdisjoint(level):
             further = []
             for node in edge:
                 for to in self.steps(node):
@@ -63,7 +64,7 @@ class Flow:
         chain = [self.start]
         while chain:
             node = chain[-1]
-            if node == self.end:
+            if node in self.ends:
                 self.carry(chain)
                 chain = [self.start]
                 continue
@@ -81,18 +82,18 @@ class Flow:
         """Adds chains until no further one can be added."""
         while True:
             level = self.levels()
-            if self.end not in level:
+            if self.ends.isdisjoint(level):
                 return
             self.augment(level)
 
     def reaching(self) -> set[int]:
-        """The nodes from which steps lead to the end."""
+        """The nodes from which steps lead to one of the ends."""
         before: dict[int, list[int]] = {}
-        for node in [*self.ahead, self.end]:
+        for node in [*self.ahead, *self.ends]:
             for to in self.steps(node):
                 before.setdefault(to, []).append(node)
-        found = {self.end}
-        left = [self.end]
+        found = set(self.ends)
+        left = list(self.ends)
         while left:
             for node in before.get(left.pop(), []):
                 if node not in found:
@@ -112,32 +113,36 @@ class Flow:
 
 @dataclass(frozen=True)
 class WayOut:
-    """What would free a theorem of `end`: `applies` are the theorems on the way that cite it;
-    `first` and `last` are least sets of citations that have to go, next to the theorem and next to
-    the end.
+    """What would free a theorem of `end`: `applies` are the citations on the way of it and of what
+    is kept; `first` and `last` are least sets of citations that have to go, next to the theorem and
+    next to the end.
     """
 
-    applies: list[int]
+    applies: list[Citation]
     first: list[Citation]
     last: list[Citation]
 
 
-def way_out(graph: Graph, start: int, end: int) -> WayOut:
+NOTHING: frozenset[int] = frozenset()
+
+
+def way_out(graph: Graph, start: int, end: int, kept: frozenset[int] = NOTHING) -> WayOut:
     """The least changes that free a theorem of another assertion. Empty where it doesn't rest on
-    it."""
+    it, or is kept."""
     far = graph.above([end])
-    if start not in far or start == end:
+    ends = (kept & far) | {end}
+    if start not in far or start in ends:
         return WayOut([], [], [])
     ahead: dict[int, list[int]] = {}
     left = [start]
     while left:
         node = left.pop()
-        if node not in ahead and node != end:
+        if node not in ahead and node not in ends:
             ahead[node] = [cited for cited in graph.cites[node] if cited in far]
             left += ahead[node]
-    flow = Flow(start, end, ahead)
+    flow = Flow(start, ends, ahead)
     flow.fill()
-    applies = [node for node in sorted(ahead) if end in ahead[node]]
+    applies = [(node, cited) for node in sorted(ahead) for cited in ahead[node] if cited in ends]
     return WayOut(applies, flow.cut(set(flow.levels())), flow.cut(set(ahead) - flow.reaching()))
 
 
@@ -150,8 +155,11 @@ class Bottlenecks:
     parts has digits.
     """
 
-    def __init__(self, graph: Graph, end: int, citations: bool = False) -> None:
+    def __init__(
+        self, graph: Graph, end: int, citations: bool = False, kept: frozenset[int] = NOTHING
+    ) -> None:
         self.end = end
+        self.kept = kept & graph.above([end])
         self.deep: dict[int | Citation, int] = {end: 0}
         self.over: dict[int | Citation, int | Citation] = {}
         self.far: dict[int | Citation, int | Citation] = {end: end}
@@ -159,13 +167,19 @@ class Bottlenecks:
         # For each theorem the first and the last citation on all its chains; None where there is
         # none.
         self.ends: dict[int, tuple[Citation, Citation] | None] = {end: None}
-        for node in sorted(node for node in graph.above([end]) if node != end):
-            cited = [other for other in graph.cites[node] if other in self.deep]
+        for node in sorted(graph.above([end]) - self.kept - {end}):
+            cited = [
+                other for other in graph.cites[node] if other in self.deep or other in self.kept
+            ]
             self.theorems.append(node)
             if citations and len(cited) == 1:
                 self.add_citation(node, cited[0])
             else:
-                self.add(node, cited)
+                self.add(node, [self.merged(other) for other in cited])
+
+    def merged(self, node: int) -> int:
+        """A node, or the end where it is kept."""
+        return self.end if node in self.kept else node
 
     def add(self, node: int, cited: list[int]) -> None:
         """Adds a theorem that cites these."""
@@ -176,9 +190,9 @@ class Bottlenecks:
     def add_citation(self, node: int, cited: int) -> None:
         """Adds a theorem that cites one alone, so that this citation is on all its chains."""
         edge = node, cited
-        self.put(edge, cited)
+        self.put(edge, self.merged(cited))
         self.put(node, edge)
-        before = self.ends[cited]
+        before = self.ends[self.merged(cited)]
         self.ends[node] = edge, before[1] if before else edge
 
     def put(self, part: int | Citation, over: int | Citation) -> None:
@@ -216,10 +230,10 @@ class Bottlenecks:
         return one
 
 
-def freeing(graph: Graph, end: int) -> list[tuple[int, int]]:
-    """For each theorem that rests on `end`, in file order: how many theorems no longer do if it is
-    proved without, itself included, and the theorem."""
-    found = Bottlenecks(graph, end)
+def freeing(graph: Graph, end: int, kept: frozenset[int] = NOTHING) -> list[tuple[int, int]]:
+    """For each theorem that rests on `end` and isn't kept, in file order: how many theorems no
+    longer do if it is proved without, itself included, and the theorem."""
+    found = Bottlenecks(graph, end, kept=kept)
     freed = dict.fromkeys(found.theorems, 0)
     freed[end] = 0
     for node in reversed(found.theorems):
@@ -230,12 +244,13 @@ def freeing(graph: Graph, end: int) -> list[tuple[int, int]]:
     return [(freed[node], node) for node in found.theorems]
 
 
-def freed(graph: Graph, end: int, again: set[int]) -> list[int]:
+def freed(graph: Graph, end: int, again: set[int], kept: frozenset[int] = NOTHING) -> list[int]:
     """The theorems, in file order, that no longer rest on `end` if those of `again` are proved
     without it."""
-    still = {end}
+    above = graph.above([end])
+    still = {end} | (kept & above)
     found = []
-    for node in sorted(graph.above([end]) - {end}):
+    for node in sorted(above - still):
         if node not in again and not still.isdisjoint(graph.cites[node]):
             still.add(node)
         else:

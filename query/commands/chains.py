@@ -30,7 +30,7 @@ cited    what is cited
 WAY_OUT_PAGE = """
 Shows the smallest change that frees THEOREM of ON, an axiom or a theorem, as far as citations tell.
 
-what     applies: on the way to ON, the proof of `theorem` applies it
+what     applies: on the way to ON, the proof of `theorem` applies it, or what is kept
          first: one of the fewest citations that have to go, of all such sets that next to THEOREM
          last: the same, of the set next to ON
 theorem  who cites
@@ -42,8 +42,12 @@ theorem            the theorem
 first, first_cited the first such citation: who cites, and what
 last, last_cited   the last such citation
 
+With --keep LABEL, theorems that need ON anyway: they stay as they are, and what cites them counts
+as what cites ON.
+
   $ mmquery way-out set.mm numth2 ax-ac2
   $ mmquery way-out set.mm ax-ac2
+  $ mmquery way-out set.mm numth2 ax-ac2 --keep axac3
 """
 
 FREES_PAGE = """
@@ -57,7 +61,11 @@ Without a THEOREM, the theorems that free most so, each by itself:
 freed    how many theorems it frees, itself included
 theorem  the label of the theorem
 
+With --keep LABEL, theorems that need ON anyway: they get no other proof, and what cites them rests
+on ON.
+
   $ mmquery frees set.mm ax-ac2 axac3
+  $ mmquery frees set.mm ax-ac2 --keep axac3
   $ mmquery frees set.mm ax-ac2 --most 4
 """
 
@@ -102,10 +110,35 @@ def reverse(graph: Graph, node: int, end: int) -> str:
     return ""
 
 
+def add_keep(parser: argparse.ArgumentParser) -> None:
+    """Adds `--keep`."""
+    parser.add_argument(
+        "--keep",
+        metavar="LABEL",
+        action="append",
+        default=[],
+        help="a theorem that needs ON anyway; several: by commas, or more options",
+    )
+
+
+def kept_in(graph: Graph, end: int, words: list[str]) -> frozenset[int]:
+    """The theorems that are kept. NoAnswer where one isn't a theorem, or doesn't rest on ON."""
+    nodes = [graph.theorem(label) for word in words for label in word.split(",") if label]
+    above = graph.above([end]) if nodes else set()
+    for node in nodes:
+        if node not in above or node == end:
+            raise NoAnswer(
+                f"{graph.name}: {graph.labels[node]} doesn't rest on {graph.labels[end]},"
+                " so --keep has nothing to keep"
+            )
+    return frozenset(nodes)
+
+
 def configure_way_out(parser: argparse.ArgumentParser) -> None:
     """The words and options of `way-out`."""
     add_database(parser)
     parser.add_argument("labels", metavar="[THEOREM] ON", nargs="+")
+    add_keep(parser)
     add_choice_of_citations(parser)
 
 
@@ -116,16 +149,24 @@ def run_way_out(context: Context, arguments: argparse.Namespace) -> int:
     graph = context.database(arguments.database, options_of(arguments)).graph()
     end = graph.node(arguments.labels[-1])
     labels = graph.labels
+    kept = kept_in(graph, end, arguments.keep)
     if len(arguments.labels) == 2:
         start = graph.theorem(arguments.labels[0])
-        found = cuts.way_out(graph, start, end)
-        rows = [["applies", labels[node], labels[end]] for node in found.applies]
-        for word, edges in (("first", found.first), ("last", found.last)):
-            rows += [[word, labels[node], labels[cited]] for node, cited in edges]
-        why = f"{graph.name}: {labels[start]} doesn't rest on {labels[end]}"
-        context.table(["what", "theorem", "cited"], rows, why)
+        found = cuts.way_out(graph, start, end, kept)
+        rows = [
+            [word, labels[node], labels[cited]]
+            for word, edges in (
+                ("applies", found.applies),
+                ("first", found.first),
+                ("last", found.last),
+            )
+            for node, cited in edges
+        ]
+        why = "is kept" if start in kept else f"doesn't rest on {labels[end]}"
+        columns = ["what", "theorem", "cited"]
+        context.table(columns, rows, f"{graph.name}: {labels[start]} {why}")
         return 0
-    ends = cuts.Bottlenecks(graph, end, citations=True).ends
+    ends = cuts.Bottlenecks(graph, end, citations=True, kept=kept).ends
     rows = []
     for node, pair in ends.items():
         if pair:
@@ -147,6 +188,7 @@ def configure_frees(parser: argparse.ArgumentParser) -> None:
         default=10,
         help="without THEOREM: how many are listed (else: 10)",
     )
+    add_keep(parser)
     add_choice_of_citations(parser)
 
 
@@ -154,12 +196,13 @@ def run_frees(context: Context, arguments: argparse.Namespace) -> int:
     """Answers `frees`."""
     graph = context.database(arguments.database, options_of(arguments)).graph()
     end = graph.node(arguments.on)
+    kept = kept_in(graph, end, arguments.keep)
     if arguments.theorems:
         again = {graph.theorem(label) for label in arguments.theorems}
-        rows = [[graph.labels[node]] for node in cuts.freed(graph, end, again)]
+        rows = [[graph.labels[node]] for node in cuts.freed(graph, end, again, kept)]
         context.table(["theorem"], rows, nothing_rests(graph, end, "of these "))
         return 0
-    most = sorted(cuts.freeing(graph, end), key=lambda pair: -pair[0])[: arguments.most]
+    most = sorted(cuts.freeing(graph, end, kept), key=lambda pair: -pair[0])[: arguments.most]
     found: list[list[Value]] = [[freed, graph.labels[node]] for freed, node in most]
     context.table(["freed", "theorem"], found, nothing_rests(graph, end))
     return 0

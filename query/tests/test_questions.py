@@ -180,6 +180,38 @@ class Questions(World):
             self.assertEqual(first(asked("frees", path, "--", on, *some)), wanted)
         self.assertGreater(tried, 5)
 
+    def test_keep(self) -> None:
+        """What is kept is as an axiom that is given up together with the one that is asked for."""
+        tried = 0
+        for world, path, chance in self.worlds(20):
+            on = chance.choice(world.labels())
+            users = world.users(on)
+            if len(users) < 3:
+                continue
+            kept = chance.choice(users)
+            cites = {**world.cites, kept: [on]}
+            keep = f"--keep={kept}"
+            others = [label for label in users if label != kept]
+            numbers = {}
+            for label in others:
+                wanted = kept_freed(cites, on, kept, {label})
+                self.assertEqual(first(asked("frees", path, keep, "--", on, label)), wanted)
+                numbers[label] = len(wanted)
+                rows = asked("way-out", path, keep, "--", label, on)
+                cut = {(row[1], row[2]) for row in rows if row[0] == "first"}
+                self.assertTrue(cut)
+                self.assertFalse(kept in {one for one, _ in cut})
+                left = {
+                    one: [each for each in cited if (one, each) not in cut]
+                    for one, cited in cites.items()
+                }
+                self.assertFalse({on, kept} & reached(left, label))
+                tried += len(cut) > 1
+            most = asked("frees", path, "--most", "99", keep, "--", on)
+            self.assertEqual({label: int(count) for count, label in most}, numbers)
+            self.assertEqual(asked("way-out", path, keep, "--", kept, on), [])
+        self.assertGreater(tried, 3)
+
     def test_top(self) -> None:
         for world, path, _ in self.worlds():
             sizes = [(len(world.users(axiom)), axiom) for axiom in world.axioms]
@@ -234,6 +266,29 @@ def all_chains(world: Invented, label: str, on: str) -> list[list[str]]:
         [label, *rest]
         for cited in world.cites.get(label, [])
         for rest in all_chains(world, cited, on)
+    ]
+
+
+def reached(cites: dict[str, list[str]], label: str) -> set[str]:
+    """What a label leads to."""
+    found = {label}
+    left = [label]
+    while left:
+        for cited in cites.get(left.pop(), []):
+            if cited not in found:
+                found.add(cited)
+                left.append(cited)
+    return found
+
+
+def kept_freed(cites: dict[str, list[str]], on: str, kept: str, again: set[str]) -> list[str]:
+    """What no longer rests on an assertion, or on what is kept, if some theorems cite nothing."""
+    ends = {on, kept}
+    left = {one: [] if one in again else cited for one, cited in cites.items()}
+    return [
+        one
+        for one in cites
+        if one not in ends and ends & reached(cites, one) and not ends & reached(left, one)
     ]
 
 
