@@ -14,7 +14,7 @@ _mmquery() {
             cache:cache) words='show clear' ;;
             *)
                 case ${COMP_WORDS[1]}:$word in
-                    verify:-*) words='--essential --open --format --no-cache -h --help' ;;
+                    verify:-*) words='--each --most --essential --open --format --no-cache -h --help' ;;
                     rests:-*) words='--theorems --apart --only --all --axioms --ignore-definitions --essential --open --format --no-cache -h --help' ;;
                     falls:-*) words='--any-of --all-of --without --only --all --axioms --ignore-definitions --essential --open --format --no-cache -h --help' ;;
                     cites:-*) words='--on --essential --open --format --no-cache -h --help' ;;

@@ -26,6 +26,8 @@ complete -c mmquery -n __fish_use_subcommand -a page -d 'one HTML file that show
 complete -c mmquery -n __fish_use_subcommand -a set-proof -d 'the database with the proof of one theorem for that of another'
 complete -c mmquery -n __fish_use_subcommand -a export -d 'statements, citations and marks as tables of SQLite'
 complete -c mmquery -n __fish_use_subcommand -a cache -d 'the results that are kept: show or clear'
+complete -c mmquery -n '__fish_seen_subcommand_from verify' -l each -d 'the faults of all proofs'
+complete -c mmquery -n '__fish_seen_subcommand_from verify' -l most -r -d 'with --each: how many (else: 100)'
 complete -c mmquery -n '__fish_seen_subcommand_from verify' -l essential -d 'only the logical part of proofs cites'
 complete -c mmquery -n '__fish_seen_subcommand_from verify' -l open -d 'a theorem whose proof is ? counts as an axiom'
 complete -c mmquery -n '__fish_seen_subcommand_from verify' -l format -x -a 'text tsv csv json' -d 'the form of the answer (else: text)'

@@ -29,6 +29,11 @@ class Refused(NoAnswer):
         self.column = column
         self.code = code
 
+    @property
+    def is_of_proof(self) -> bool:
+        """Whether a proof has the fault. Other faults come first, wherever they stand."""
+        return self.code.startswith(("E3", "E4"))
+
     def __str__(self) -> str:
         from query.faults import explained
 

@@ -19,8 +19,6 @@ database may have open theorems and wrong proofs, and `set-proof` takes what it 
   $ mmquery set-proof set.mm numth3 '?' > open.mm
 """
 
-FAULTS_OF_PROOFS = ("E3", "E4")
-
 
 def configure(parser: argparse.ArgumentParser) -> None:
     """The words."""
@@ -44,7 +42,7 @@ def run(context: Context, arguments: argparse.Namespace) -> int:
     try:
         database.graph()
     except Refused as refused:
-        if not refused.code.startswith(FAULTS_OF_PROOFS):
+        if not refused.is_of_proof:
             raise
     text = text_of(database)
     start, end = proof_of(text, database.name, arguments.theorem)

@@ -1,35 +1,55 @@
 """`verify`: whether a database is valid, or what is wrong with it."""
 
 import argparse
+import re
+from bisect import bisect_right
+from collections.abc import Iterator
 
+from query import progress
+from query.changes import text_of
 from query.commands import Command
 from query.context import Context
+from query.database import Database
 from query.faults import FAULTS, UNKNOWN, place_of, statement_at
-from query.options import add_choice_of_citations, add_database, options_of
-from query.output import Output, Value
+from query.options import add_choice_of_citations, add_database, count, options_of
+from query.output import Value
 from query.program import Refused
 from query.source import Source
+from query.text import Assertion, Text
 
 PAGE = """
 Tells whether every proof is valid (status 0), or the first fault (status 1) as compilers write it:
 file, line, column, code and statement; what the code means, and what to do. Where a proof ends in
-another formula than that of its theorem, both formulas are shown.
+another formula than that of its theorem, both formulas are shown. Where a proof has a word that it
+can't cite, the word is shown, and the line on which something of this name is declared.
 
 valid      whether the database is accepted
 axioms     how many axioms of every typecode it has
 theorems   how many theorems it has
 line, column, code, statement, meaning, advice   the fault; the column counts bytes from 1
 proved, wanted   the formula that the proof proves and that of the theorem, for the code E38
+word, declared   the word, and the line on which there is something of this name, for the code E33
+
+With --each, the faults of all proofs: a theorem whose proof has one is taken as an axiom, and the
+other proofs are judged on. --most N ends with the Nth fault.
 
   $ mmquery verify set.mm
+  $ mmquery verify --each broken.mm
 """
 
-FIELDS = ["line", "column", "code", "statement", "meaning", "advice", "proved", "wanted"]
+NO_NEWLINE = re.compile(rb"[^\n]")
+FIELDS = ["line", "column", "code", "statement", "meaning", "advice"]
+FIELDS += ["proved", "wanted", "word", "declared"]
+COLUMNS = ["valid", "axioms", "theorems", *FIELDS]
 
 
 def configure(parser: argparse.ArgumentParser) -> None:
     """The words and options of `verify`."""
     add_database(parser)
+    parser.add_argument("--each", action="store_true", help="the faults of all proofs")
+    parser.add_argument(
+        "--most", metavar="N", type=count, default=100, help="with --each: how many (else: 100)"
+    )
     add_choice_of_citations(parser)
 
 
@@ -39,7 +59,12 @@ def run(context: Context, arguments: argparse.Namespace) -> int:
     try:
         found = database.prepared(database.options.only)
     except Refused as refusal:
-        put_refusal(context.out, refusal)
+        refusals = [refusal]
+        if arguments.each and not database.is_report:
+            refusals += others(database, refusal, arguments.most - 1)
+        put_refusals(context, refusals)
+        if arguments.each and len(refusals) == arguments.most:
+            context.tell(f"{database.name}: there may be more faults than these {arguments.most}")
         return 1
     if context.out.format == "text":
         context.out.line(
@@ -47,44 +72,134 @@ def run(context: Context, arguments: argparse.Namespace) -> int:
         )
     else:
         row: list[Value] = [True, found.axioms, len(found.theorems)]
-        context.out.table(["valid", "axioms", "theorems", *FIELDS], [row + [None] * len(FIELDS)])
+        context.out.table(COLUMNS, [row + [None] * len(FIELDS)])
     return 0
 
 
-def put_refusal(out: Output, refusal: Refused) -> None:
-    """Answers with the fault."""
-    source, line, column, code = refusal.source, refusal.line, refusal.column, refusal.code
-    proved, wanted = formulas(source, refusal) if code == "E38" else (None, None)
-    meaning, advice = FAULTS.get(code, UNKNOWN)
-    statement = "" if source.is_report() else statement_at(source.data, line, column, code)
-    if out.format == "text":
-        place = f" {statement}" if statement else ""
-        out.line(f"{source.name}:{line}:{column}: refused {code}{place}: {meaning}")
-        out.line(f"  what to do        {advice}")
-        if proved is not None:
-            out.line(f"  the proof proves  {proved}")
-            out.line(f"  the theorem says  {wanted}")
+def others(database: Database, first: Refused, most: int) -> Iterator[Refused]:
+    """The faults of other proofs than the first that has one, in file order; so many at most."""
+    from query import program
+
+    if not first.is_of_proof:
         return
-    label = statement.removeprefix("in ").strip("'") or None
-    row: list[Value] = [False, None, None, line, column, code, label]
-    out.table(["valid", "axioms", "theorems", *FIELDS], [[*row, meaning, advice, proved, wanted]])
+    text = text_of(database)
+    data = bytearray(database.text())
+    refusal = first
+    for number in range(most):
+        leave_open(text, data, refusal)
+        progress.now(f"verifying {database.name} without {number + 1} proofs")
+        source = Source(database.name, bytes(data))
+        words = ["--report=counts", "--only="] + ["--open"] * database.options.open
+        try:
+            program.reports(program.found(), source, [words])
+            return
+        except Refused as found:
+            refusal = Refused(database.source, found.line, found.column, found.code)
+        yield refusal
 
 
-def formulas(source: Source, refusal: Refused) -> tuple[str | None, str | None]:
-    """What the proof proves and what its theorem says; None where that can't be told."""
-    from query.proof import proved
+def leave_open(text: Text, data: bytearray, refusal: Refused) -> None:
+    """Makes an axiom of the theorem whose proof has a fault. No place changes by that."""
+    theorem = theorem_at(text, place_of(text.data, refusal.line, refusal.column))
+    assert theorem.proof is not None
+    start, end = theorem.proof
+    keyword = data.rindex(b"$p", theorem.place, theorem.formula[0])
+    data[keyword : keyword + 2] = b"$a"
+    data[start - 2 : end] = NO_NEWLINE.sub(b" ", data[start - 2 : end])
+
+
+def theorem_at(text: Text, place: int) -> Assertion:
+    """The theorem in which a place is."""
+    places = [one.place for one in text.assertions]
+    return text.assertions[bisect_right(places, place) - 1]
+
+
+def put_refusals(context: Context, refusals: list[Refused]) -> None:
+    """Answers with faults."""
+    if context.out.format == "text":
+        for refusal in refusals:
+            put_lines(context, refusal)
+        return
+    rows: list[list[Value]] = []
+    for refusal in refusals:
+        meaning, advice = FAULTS.get(refusal.code, UNKNOWN)
+        label = statement_of(refusal).removeprefix("in ").strip("'") or None
+        row: list[Value] = [refusal.line, refusal.column, refusal.code, label, meaning, advice]
+        rows.append([False, None, None, *row, *formulas(refusal), *word_of(refusal)])
+    context.out.table(COLUMNS, rows)
+
+
+def put_lines(context: Context, refusal: Refused) -> None:
+    """Answers with a fault, for a person."""
+    meaning, advice = FAULTS.get(refusal.code, UNKNOWN)
+    statement = statement_of(refusal)
+    place = f" {statement}" if statement else ""
+    at = f"{refusal.source.name}:{refusal.line}:{refusal.column}"
+    context.out.line(f"{at}: refused {refusal.code}{place}: {meaning}")
+    word, declared = word_of(refusal)
+    if word is not None:
+        where = f"is declared on line {declared}" if declared else "is declared nowhere"
+        context.out.line(f"  the word          {word}, which {where}")
+    context.out.line(f"  what to do        {advice}")
+    proved, wanted = formulas(refusal)
+    if proved is not None:
+        context.out.line(f"  the proof proves  {proved}")
+        context.out.line(f"  the theorem says  {wanted}")
+
+
+def statement_of(refusal: Refused) -> str:
+    """Which statement has a fault, such as `in 'id'`; empty where that can't be told."""
+    source = refusal.source
+    if source.is_report():
+        return ""
+    return statement_at(source.data, refusal.line, refusal.column, refusal.code)
+
+
+def text_up_to(refusal: Refused, end: int | None) -> Text | None:
+    """The text of a refused database up to a place, or all of it; None where it can't be read."""
     from query.text import UnreadableText, read_text
 
-    if source.is_report():
-        return None, None
-    end = place_of(source.data, refusal.line, refusal.column) + len(b"$.")
+    if refusal.source.is_report():
+        return None
     try:
-        text = read_text(source.data[:end])
+        return read_text(refusal.source.data[:end])
     except UnreadableText:
+        return None
+
+
+def formulas(refusal: Refused) -> tuple[str | None, str | None]:
+    """What the proof proves and what its theorem says; None where that can't be told."""
+    from query.proof import proved
+
+    if refusal.code != "E38":
+        return None, None
+    end = place_of(refusal.source.data, refusal.line, refusal.column) + len(b"$.")
+    text = text_up_to(refusal, end)
+    if text is None:
         return None, None
     theorem = text.assertions[-1]
     found = proved(text, theorem)
     return (None, None) if found is None else (found, text.formula(theorem))
 
+
+def word_of(refusal: Refused) -> tuple[str | None, int | None]:
+    """The word of a proof that can't be cited, and the line on which something of this name is
+    declared; None where that can't be told."""
+    text = text_up_to(refusal, None) if refusal.code == "E33" else None
+    if text is None:
+        return None, None
+    place = place_of(text.data, refusal.line, refusal.column)
+    word = text.data[place : place + LONGEST].split(None, 1)[0].decode("latin-1")
+    found = text.find(word)
+    if found is not None:
+        return word, text.line(found.place)
+    for hypothesis in text.hypotheses:
+        if hypothesis.label == word:
+            return word, text.line(hypothesis.place)
+    return word, None
+
+
+LONGEST = 1000
+"""Bytes of a word that are shown."""
 
 COMMANDS = [Command("verify", PAGE, configure, run)]

@@ -47,6 +47,32 @@ class Answers(World):
         found = [row[name] for name in ("valid", "line", "column", "code", "statement")]
         self.assertEqual(found, [False, 8, 47, "E37", "wi2"])
 
+    def test_verify_each(self) -> None:
+        text = SMALL + "bad1 $p |- p $= wp\n wq $.\nbad2 $p wff p $= wp last $.\n"
+        text += "good $p wff p $= wp $.\nbad3 $p |- p $= bad1 none $.\nlast $p wff p $= wp $.\n"
+        self.write("bad.mm", text)
+        came = self.query("verify", "bad.mm", "--each", "--format=json")
+        first = SMALL.count("\n") + 1
+        wanted = [
+            [first + 1, "E37", "bad1", None, None],
+            [first + 2, "E33", "bad2", "last", first + 5],
+            [first + 4, "E33", "bad3", "none", None],
+        ]
+        keys = ("line", "code", "statement", "word", "declared")
+        self.assertEqual([[row[key] for key in keys] for row in came.rows()], wanted)
+        self.assertEqual((came.status, came.err), (1, ""))
+        whole = self.query("verify", "bad.mm", "--each").out
+        self.assertIn(f"the word          last, which is declared on line {first + 5}\n", whole)
+        self.assertIn("the word          none, which is declared nowhere\n", whole)
+        self.assertTrue(whole.startswith(self.query("verify", "bad.mm").out))
+        came = self.query("verify", "bad.mm", "--each", "--most=2", "--format=json")
+        self.assertEqual(len(came.rows()), 2)
+        self.assertIn("there may be more faults than these 2", came.err)
+        self.write("early.mm", SMALL + "x $a nothing $.\n" + text)
+        (row,) = self.query("verify", "early.mm", "--each", "--format=json").rows()
+        self.assertEqual(row["code"], "E17")
+        self.assertEqual(self.query("verify", "--each", "small.mm").status, 0)
+
     def test_verify_tells_both_formulas(self) -> None:
         for old, new, proved, wanted in (
             ("wi2 $p wff ( p", "wi2 $p wff ( q", "( p -> ( q -> p ) )", "( q -> ( q -> p ) )"),
