@@ -94,7 +94,7 @@ struct Outcome {
 }
 
 /// What a run on a text comes to, which writes only marks: no names of axioms.
-fn outcome<R: Threads + Wait + Sync>(rt: &R, alloc: Global, mut text: &[u8]) -> Outcome {
+fn outcome_of<R: Threads + Wait + Sync>(rt: &R, alloc: Global, mut text: &[u8]) -> Outcome {
     let plan = plan_of(Cutting::Count(1), 1, Choice::Matrix);
     let heap = Refusing::new(alloc);
     let before = heap.count();
@@ -111,9 +111,9 @@ fn outcome<R: Threads + Wait + Sync>(rt: &R, alloc: Global, mut text: &[u8]) -> 
 fn labels_with_the_same_slots(rt: HostRuntime) -> Result<(), AllocError> {
     let alloc = rt.alloc();
     let text = with_labels(alloc, Ends::Same)?;
-    let usual = outcome(&rt, alloc, &with_labels(alloc, Ends::Digits)?);
+    let usual = outcome_of(&rt, alloc, &with_labels(alloc, Ends::Digits)?);
     assert!(&rt; usual.end == Some(RunEnd::Accepted));
-    assert!(&rt; outcome(&rt, alloc, &text).growths > usual.growths);
+    assert!(&rt; outcome_of(&rt, alloc, &text).growths > usual.growths);
     assert_right_with_each_refusal(&rt, alloc, Choice::Matrix, &text, &usual.written, 1);
     Ok(())
 }
@@ -122,9 +122,9 @@ fn labels_with_the_same_slots(rt: HostRuntime) -> Result<(), AllocError> {
 fn symbols_with_the_same_slots(rt: HostRuntime) -> Result<(), AllocError> {
     let alloc = rt.alloc();
     let text = with_symbols(alloc, Ends::Same, 1)?;
-    let usual = outcome(&rt, alloc, &with_symbols(alloc, Ends::Digits, 1)?);
+    let usual = outcome_of(&rt, alloc, &with_symbols(alloc, Ends::Digits, 1)?);
     assert!(&rt; usual.end == Some(RunEnd::Accepted));
-    assert!(&rt; outcome(&rt, alloc, &text).growths > usual.growths);
+    assert!(&rt; outcome_of(&rt, alloc, &text).growths > usual.growths);
     assert_right_with_each_refusal(&rt, alloc, Choice::Matrix, &text, &usual.written, 1);
     Ok(())
 }
@@ -132,8 +132,8 @@ fn symbols_with_the_same_slots(rt: HostRuntime) -> Result<(), AllocError> {
 #[test]
 fn symbols_with_the_same_slots_are_told_apart(rt: HostRuntime) -> Result<(), AllocError> {
     let alloc = rt.alloc();
-    let found = outcome(&rt, alloc, &with_symbols(alloc, Ends::Same, 2)?);
-    let usual = outcome(&rt, alloc, &with_symbols(alloc, Ends::Digits, 2)?);
+    let found = outcome_of(&rt, alloc, &with_symbols(alloc, Ends::Same, 2)?);
+    let usual = outcome_of(&rt, alloc, &with_symbols(alloc, Ends::Digits, 2)?);
     assert!(&rt; usual.end != Some(RunEnd::Accepted));
     assert!(&rt; found.end == usual.end);
     assert_eq!(&rt; found.written.as_slice(), usual.written.as_slice());
