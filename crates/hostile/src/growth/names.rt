@@ -95,8 +95,8 @@ struct Outcome {
 
 /// What a run on a text comes to, which writes only marks: no names of axioms.
 fn outcome_of<R: Threads + Wait + Sync>(rt: &R, alloc: Global, mut text: &[u8]) -> Outcome {
-    let plan = plan_of(Cutting::Count(1), 1, Choice::Matrix);
     let heap = Refusing::new(alloc);
+    let plan = plan_of(Cutting::Count(1), 1, Choice::Matrix);
     let before = heap.count();
     let mut written = Vec::new(alloc);
     let end = ended(rt, &heap, &plan, &mut text, &mut written);
