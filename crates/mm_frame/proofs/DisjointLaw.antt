@@ -14,7 +14,7 @@ use Rattle.mm_spec.specs.Derivation.{Pair, pair, is_member}
 use Rattle.mm_spec.specs.Frame.{symbol_names, is_disjoint_statement, active_of, formula_at}
 use Rattle.mm_spec.specs.Frame.{mandatory_variables, mandatory_pairs, disjoint_at, pairs_below}
 use Rattle.mm_spec.proofs.BoolLaw.{same_tests}
-use Rattle.mm_spec.proofs.MemberLaw.{passing_has_witness, witness_makes_any, member_range}
+use Rattle.mm_spec.proofs.MemberLaw.{member_range}
 use Rattle.mm_outline.specs.Blocks.{BlockLists, IsBlocks}
 use Rattle.mm_database.specs.DisjointIndex.{has_symbol_by_width, is_disjoint_by_width}
 use Rattle.mm_database.specs.DisjointIndex.{has_narrow_pair, is_narrow, is_active_local}

@@ -1,7 +1,7 @@
 -- One statement more in the walk that makes the frames.
 use Rattle.std.proofs.Common.{◌≡◌, ◌≢◌, ℕ, ◌+◌, ◌-◌, ◌<◌, ◌≤◌, Bool, true, List, [], ◌∷◌, ◌++◌}
 use Rattle.std.proofs.Common.{length, map}
-use Rattle.std.proofs.Common.{get_or, set, Option, None, Some, sym, ap, ap₂, ◌∙◌, arith, ◌⊎◌, inl}
+use Rattle.std.proofs.Common.{get_or, set, Option, None, Some, sym, ap, ◌∙◌, arith, ◌⊎◌, inl}
 use Rattle.std.proofs.Common.{inr, if◌then◌else◌}
 use Rattle.std.proofs.lemmas.Bool.{cases_lt, cases_eq}
 use Rattle.std.proofs.lemmas.List.{get_or-set_same, get_or-set_other, length-set}

@@ -1,10 +1,10 @@
 -- How the rows of the `$d` are made, pair by pair.
-use Rattle.std.proofs.Common.{◌≡◌, ◌≢◌, ℕ, zero, suc, ◌+◌, ◌-◌, ◌<◌, ◌≤◌, Bool, true, false, ◌&&◌}
+use Rattle.std.proofs.Common.{◌≡◌, ◌≢◌, ℕ, ◌+◌, ◌-◌, ◌<◌, ◌≤◌, Bool, true, false, ◌&&◌}
 use Rattle.std.proofs.Common.{◌||◌, List, [], ◌∷◌, ◌++◌, length, get_or, take, map, nat_eq, nat_lt}
-use Rattle.std.proofs.Common.{nat_le, refl, sym, ap, ap₂, ◌∙◌, subst, arith, true≢false, ◌⊎◌, inl}
+use Rattle.std.proofs.Common.{refl, sym, ap, ap₂, ◌∙◌, subst, arith, true≢false, ◌⊎◌, inl}
 use Rattle.std.proofs.Common.{inr, take_all, All}
-use Rattle.std.proofs.lemmas.Bool.{cases_lt, cases_eq, cases_order, and_parts, or_cases, eq-eqb}
-use Rattle.std.proofs.lemmas.Bool.{eqb-true, ne_eqb, le-leb, leb-true}
+use Rattle.std.proofs.lemmas.Bool.{cases_lt, cases_eq, and_parts, or_cases, eq-eqb}
+use Rattle.std.proofs.lemmas.Bool.{eqb-true, ne_eqb}
 use Rattle.std.proofs.lemmas.List.{get_or_push, get_or_append_left, length_push, get_or-take}
 use Rattle.std.proofs.lemmas.List.{length-take-le, get_or_past, length-map, get_or-map}
 use Rattle.std.proofs.lemmas.List.Folds.{list_any_more, list_any-append}
@@ -13,12 +13,11 @@ use Rattle.std.specs.List.{list_any}
 use Rattle.mm_spec.specs.Statement.{Statement}
 use Rattle.mm_spec.specs.Derivation.{is_member}
 use Rattle.mm_spec.specs.Scope.{statement_at}
-use Rattle.mm_spec.specs.Frame.{symbol_names, formula_at, is_disjoint_statement}
+use Rattle.mm_spec.specs.Frame.{formula_at, is_disjoint_statement}
 use Rattle.mm_spec.proofs.ListLaw.{element_is_member}
 use Rattle.mm_outline.proofs.StatementsLaw.{passing_lt_length}
 use Rattle.mm_outline.specs.Blocks.{BlockLists, IsBlocks, end_of}
 use Rattle.mm_database.specs.Pairs.{has_pair, IsBefore, AreRising}
-use Rattle.mm_database.specs.ParsedStatements.{IsSound}
 use Rattle.mm_database.specs.DisjointIndex.{HaveBlocks, IsRow, IsRowOf, IsCoveredIn, row_of}
 use Rattle.mm_database.specs.DisjointIndex.{has_narrow_pair, has_symbol_by_width}
 use Rattle.mm_database.specs.DisjointIndex.{is_disjoint_by_width, is_narrow}

@@ -2,13 +2,13 @@
 use Rattle.std.proofs.Common.{◌≡◌, ◌≢◌, ℕ, zero, suc, ◌+◌, ◌-◌, ◌<◌, ◌≤◌, Bool, true, false, ◌&&◌}
 use Rattle.std.proofs.Common.{◌||◌, not, cond, List, [], ◌∷◌, ◌++◌, length, get_or, take, nat_eq}
 use Rattle.std.proofs.Common.{nat_lt, nat_le, refl, sym, ap, ap₂, ◌∙◌, subst, arith, true≢false}
-use Rattle.std.proofs.Common.{◌⊎◌, inl, inr, Option, Some, None, slice_get, count_by, append-nil}
+use Rattle.std.proofs.Common.{Option, Some, None, slice_get, count_by, append-nil}
 use Rattle.std.proofs.Common.{if◌then◌else◌}
-use Rattle.std.proofs.lemmas.Bool.{cases_lt, le-leb, leb-true, lt-ltb, and_parts, eqb-true, ne_eqb}
+use Rattle.std.proofs.lemmas.Bool.{le-leb, lt-ltb, ne_eqb}
 use Rattle.std.proofs.lemmas.Option.{same_Some}
 use Rattle.std.proofs.lemmas.Grind.{common_steps}
 use Rattle.std.proofs.lemmas.List.Elements.{filter-append}
-use Rattle.std.proofs.Math.Bool.{or-false, or-true, and-true}
+use Rattle.std.proofs.Math.Bool.{or-false, and-true}
 use Rattle.std.proofs.lemmas.List.FromFn.{get_or-map-range_with_len}
 use Rattle.std.specs.List.{list_any, range_with_len, filter}
 use Rattle.std.specs.Option.{option_map}
@@ -16,7 +16,7 @@ use Rattle.mm_spec.specs.Statement.{Statement, constants, variables, disjoint, f
 use Rattle.mm_spec.specs.Statement.{axiomatic, provable, opening, closing, is_opening, is_closing}
 use Rattle.mm_spec.specs.Scope.{statement_at, active, active_at, depth, is_block_open}
 use Rattle.mm_spec.specs.Scope.{is_some_still_active}
-use Rattle.mm_spec.specs.Derivation.{is_member, Pair, pair}
+use Rattle.mm_spec.specs.Derivation.{is_member, Pair}
 use Rattle.mm_spec.specs.Citation.{is_assertion}
 use Rattle.mm_spec.specs.Frame.{is_variable_number, is_essential, is_floating, formula_at}
 use Rattle.mm_spec.specs.Frame.{is_disjoint_statement, active_of, mandatory_variables}
@@ -24,7 +24,6 @@ use Rattle.mm_spec.specs.Frame.{mandatory_hypotheses, mandatory_pairs, pairs_bel
 use Rattle.mm_spec.specs.Frame.{disjoint_at}
 use Rattle.mm_spec.proofs.ActivityLaw.{range_with_one_more, is_block_open_one_later}
 use Rattle.mm_spec.proofs.ActivityLaw.{is_block_open_iff_in_block}
-use Rattle.mm_spec.proofs.BoolLaw.{same_tests}
 use Rattle.mm_outline.specs.Blocks.{never}
 use Rattle.mm_outline.specs.declared.parts.Kind.{Kind}
 use Rattle.mm_database.specs.Kinds.{kind_of}

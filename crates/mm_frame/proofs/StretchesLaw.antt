@@ -1,11 +1,11 @@
 -- Frames of stretches, put one behind the other.
 use Rattle.std.proofs.Common.{◌≡◌, ℕ, zero, suc, ◌+◌, ◌-◌, ◌*◌, ◌/◌, ◌<◌, ◌≤◌, ◌^◌, List, [], ◌∷◌}
-use Rattle.std.proofs.Common.{◌++◌, length, map, get_or, min, Option, Result, Ok, refl, sym, ap, ap₂}
+use Rattle.std.proofs.Common.{◌++◌, length, map, get_or, Option, Result, Ok, refl, sym, ap, ap₂}
 use Rattle.std.proofs.Common.{subst, ◌∙◌, arith}
 use Rattle.std.specs.Prelude.{IfOk}
 use Rattle.std.specs.List.{AllZip, range_with_len, remove}
 use Rattle.std.specs.declared.alloc.AllocError.{AllocError}
-use Rattle.std.proofs.Math.Nat.{lt-mul-div-succ, mul-le-mul_left, div-le_self, mul-zero}
+use Rattle.std.proofs.Math.Nat.{lt-mul-div-succ, mul-le-mul_left, mul-zero}
 use Rattle.std.proofs.lemmas.List.{map-append}
 use Rattle.std.proofs.lemmas.List.FromFn.{length-range_with_len, get_or-range_with_len}
 use Rattle.std.proofs.lemmas.List.Edits.{length-remove, get_or-remove_above}

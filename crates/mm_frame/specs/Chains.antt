@@ -1,7 +1,7 @@
 -- The `$d` statements of each symbol, as a chain of links. Link n is the one with index n - 1, and
 -- no link has the number 0, which ends a chain. A link has a statement and the number of the next
 -- link.
-use Rattle.std.specs.Prelude.{◌≡◌, ℕ, ◌<◌, ◌≤◌, ◌+◌, ◌-◌, Bool, ◌&&◌, ◌||◌, List, [], ◌∷◌, length}
+use Rattle.std.specs.Prelude.{◌≡◌, ℕ, ◌<◌, ◌≤◌, ◌-◌, Bool, ◌&&◌, ◌||◌, List, [], ◌∷◌, length}
 use Rattle.std.specs.Prelude.{get_or, nat_eq}
 use Rattle.mm_spec.specs.Derivation.{is_member}
 use Rattle.mm_spec.specs.Rising.{IsRisingFrom}

@@ -3,8 +3,8 @@
 use Rattle.std.specs.Prelude.{◌≡◌, ◌≢◌, ℕ, ◌+◌, ◌-◌, ◌<◌, ◌≤◌, Bool, true, false, ◌&&◌, not}
 use Rattle.std.specs.Prelude.{List, length, nat_eq, if◌then◌else◌}
 use Rattle.std.specs.List.{list_any, filter}
-use Rattle.mm_spec.specs.Statement.{Statement, constants, variables, disjoint, floating, essential}
-use Rattle.mm_spec.specs.Statement.{axiomatic, provable, opening, closing}
+use Rattle.mm_spec.specs.Statement.{Statement, constants, variables}
+use Rattle.mm_spec.specs.Statement.{axiomatic, provable}
 use Rattle.mm_spec.specs.Scope.{statement_at, active}
 use Rattle.mm_spec.specs.Derivation.{is_member}
 use Rattle.mm_spec.specs.Citation.{is_assertion}

@@ -8,6 +8,7 @@
 mod alone;
 mod given;
 mod lists;
+mod names;
 mod proofs;
 mod rows;
 mod runs;

@@ -29,10 +29,11 @@ fn writes_without_growth<R: Threads + Wait + Sync>(
     rt: &R,
     alloc: Global,
     heap: &Refusing<Global>,
+    sections: Sections,
     mut text: &[u8],
     output: &[u8],
 ) -> Option<bool> {
-    let plan = plan_of(Cutting::Count(PIECES), WORKERS, Sections::by_default());
+    let plan = plan_of(Cutting::Count(PIECES), WORKERS, sections);
     let mut to = GrowthWatching::new(alloc, heap);
     let end = ended(rt, heap, &plan, &mut text, &mut to);
     if end == Some(RunEnd::NoMemory) && to.calls == 0 {
@@ -55,14 +56,15 @@ fn assert_right_with_refusal<R: Abort + Threads + Wait + Sync>(
     rt: &R,
     heap: &Refusing<Global>,
     alloc: Global,
+    sections: Sections,
     text: &[u8],
     output: &[u8],
     growth: u64,
 ) -> bool {
     heap.refuse(growth);
-    let is_right = writes_without_growth(rt, alloc, heap, text, output);
+    let is_right = writes_without_growth(rt, alloc, heap, sections, text, output);
     let refused = was_refused(rt, heap, is_right);
-    let is_right_again = writes_without_growth(rt, alloc, heap, text, output);
+    let is_right_again = writes_without_growth(rt, alloc, heap, sections, text, output);
     assert!(rt; is_right_again == Some(true));
     refused
 }
@@ -73,9 +75,10 @@ const LEAST_GROWTHS: u64 = 20;
 /// Refuses the first growth of a run, in the next run the one that is `step` after it, and so on,
 /// until a run meets no refusal. Asserts that each run is right, and that there were more than
 /// `LEAST_GROWTHS` of them.
-fn assert_right_with_each_refusal<R: Abort + Threads + Wait + Sync>(
+pub(super) fn assert_right_with_each_refusal<R: Abort + Threads + Wait + Sync>(
     rt: &R,
     alloc: Global,
+    sections: Sections,
     text: &[u8],
     output: &[u8],
     step: u64,
@@ -86,6 +89,7 @@ fn assert_right_with_each_refusal<R: Abort + Threads + Wait + Sync>(
             rt,
             &heap,
             alloc,
+            sections,
             text,
             output,
             turn.wrapping_mul(step).wrapping_add(1),
@@ -108,7 +112,7 @@ fn a_run_without_memory_writes_nothing(rt: HostRuntime) {
         (TWO_FAULTS, TWO_FAULTS_REFUSAL),
     ];
     for (text, output) in rows {
-        assert_right_with_each_refusal(&rt, rt.alloc(), text, output, 1);
+        assert_right_with_each_refusal(&rt, rt.alloc(), Sections::by_default(), text, output, 1);
     }
 }
 
@@ -139,6 +143,6 @@ fn a_long_report_takes_no_memory_while_it_is_written(rt: HostRuntime) -> Result<
     let text = many_theorems(alloc, 1500)?;
     let output = output_of(&rt, alloc, &text);
     assert!(&rt; output.len() > 30_000);
-    assert_right_with_each_refusal(&rt, alloc, &text, &output, 61);
+    assert_right_with_each_refusal(&rt, alloc, Sections::by_default(), &text, &output, 61);
     Ok(())
 }

@@ -1,4 +1,4 @@
-use Rattle.std.proofs.Common.{◌≡◌, ◌∙◌, ◌<◌, length, sym, true≢false}
+use Rattle.std.proofs.Common.{◌∙◌, length, sym, true≢false}
 use Rattle.std.proofs.lemmas.Bool.{false_from_ne_true, lt-ltb}
 use Rattle.mm_spec.specs.Derivation.{is_member}
 use Rattle.mm_frame.proofs.ChainsLaw.{member_lt_bound}

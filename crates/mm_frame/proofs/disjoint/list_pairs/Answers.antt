@@ -1,10 +1,9 @@
-use Rattle.std.proofs.Common.{◌≡◌, ◌∙◌, ℕ, ◌≤◌, ◌<◌, ◌&&◌, ◌||◌, List, length, get_or, map, ap, sym, arith}
+use Rattle.std.proofs.Common.{◌∙◌, ℕ, ◌≤◌, ◌&&◌, ◌||◌, List, length, ap, arith}
 use Rattle.std.specs.List.{list_any}
-use Rattle.mm_spec.specs.Derivation.{pair, is_member}
+use Rattle.mm_spec.specs.Derivation.{is_member}
 use Rattle.mm_database.specs.DisjointIndex.{is_active_local}
 use Rattle.mm_database.specs.Pairs.{has_pair}
 use Rattle.mm_frame.specs.Together.{has_later, is_later_in_rows}
-use Rattle.mm_outline.proofs.ResultsLaw.{ok_then}
 use Rattle.mm_frame.proofs.DisjointLaw.{pairs_are_mandatory_pairs}
 use Rattle.mm_frame.proofs.HypothesesLaw.{variables_have_names}
 use Rattle.mm_frame.proofs.disjoint.list_pairs.Goals as goal

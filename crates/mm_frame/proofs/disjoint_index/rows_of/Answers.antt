@@ -1,6 +1,4 @@
-use Rattle.std.proofs.Common.{◌≡◌, ◌∙◌, ◌<◌, ◌≤◌, ◌++◌, ◌∷◌, [], length, sym, ap, subst, arith, List, ℕ}
-use Rattle.mm_spec.specs.Frame.{symbol_names}
-use Rattle.mm_outline.specs.Blocks.{BlockLists}
+use Rattle.std.proofs.Common.{◌∙◌, ◌++◌, ◌∷◌, [], sym, ap, subst, arith, List, ℕ}
 use Rattle.mm_database.specs.Pairs.{has_pair}
 use Rattle.mm_database.specs.DisjointIndex.{HaveBlocks, IsRow, IsRowOf, has_narrow_pair}
 use Rattle.mm_frame.proofs.RowsLaw.{rows_of_all, rows_with_next, row_of_equal_tests}

@@ -1,4 +1,3 @@
-use Rattle.std.proofs.Common.{◌≡◌}
 use Rattle.mm_frame.proofs.RowsLaw.{AreRowsTo}
 use Rattle.mm_frame.proofs.disjoint_index.rows_of.Given as goal
 

@@ -1,14 +1,13 @@
-use Rattle.std.proofs.Common.{◌≡◌, ◌≢◌, ◌∙◌, ◌<◌, ◌≤◌, ◌++◌, ◌∷◌, [], ℕ, Some, None, IsSome, is_some}
-use Rattle.std.proofs.Common.{Option, length, get_or, nat_eq, refl, sym, ap, arith, true}
+use Rattle.std.proofs.Common.{◌≢◌, ◌∙◌, ◌++◌, ◌∷◌, [], ℕ, Some, None, is_some}
+use Rattle.std.proofs.Common.{Option, length, get_or, refl, sym, ap, arith}
 use Rattle.std.proofs.Common.{◌-◌, Bool, List, if◌then◌else◌}
 use Rattle.std.proofs.lemmas.Bool.{eq-eqb}
 use Rattle.mm_spec.specs.Derivation.{is_member}
 use Rattle.mm_spec.specs.Frame.{symbol_names}
 use Rattle.mm_outline.specs.Blocks.{never}
-use Rattle.mm_database.specs.Frames.{Mandatory, mandatory_at}
+use Rattle.mm_database.specs.Frames.{Mandatory}
 use Rattle.mm_database.proofs.NamesLaw.{on_ok_then}
-use Rattle.mm_frame.specs.Scope.{AreEssentialLists, index_from, is_further}
-use Rattle.mm_frame.specs.Hypotheses.{IsFresh}
+use Rattle.mm_frame.specs.Scope.{is_further}
 use Rattle.mm_frame.proofs.ScopeLaw.{essential_lists_stay, previous_has_frame, taken_over}
 use Rattle.mm_frame.proofs.ScopeLaw.{ready_after_assertion, fresh_later}
 use Rattle.mm_frame.proofs.frames.add_assertion.Goals as goal

@@ -1,4 +1,4 @@
-use Rattle.std.proofs.Common.{◌≡◌, ◌∙◌, ◌+◌, refl, sym, ap, subst}
+use Rattle.std.proofs.Common.{◌∙◌, ◌+◌, refl, sym, subst}
 use Rattle.mm_database.proofs.NamesLaw.{on_ok_then}
 use Rattle.mm_frame.specs.Scope.{IsReady}
 use Rattle.mm_frame.proofs.ScopeLaw.{ready_in_same_scope, ready_without_scope, kind_at_keeps}

@@ -1,4 +1,4 @@
-use Rattle.std.proofs.Common.{◌≡◌, ◌∙◌, List, ℕ, length, map, take, ap, sym, take_all, arith}
+use Rattle.std.proofs.Common.{◌∙◌, map, ap, sym, take_all, arith}
 use Rattle.mm_spec.specs.Derivation.{pair}
 use Rattle.mm_frame.proofs.frames.are_pairs.Goals as goal
 

@@ -1,4 +1,4 @@
-use Rattle.std.proofs.Common.{◌≡◌, length, map, take}
+use Rattle.std.proofs.Common.{◌≡◌, map, take}
 use Rattle.mm_spec.specs.Derivation.{pair}
 use Rattle.mm_frame.proofs.frames.are_pairs.Given as goal
 

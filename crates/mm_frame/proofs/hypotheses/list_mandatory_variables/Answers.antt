@@ -1,8 +1,8 @@
-use Rattle.std.proofs.Common.{◌&&◌, ◌||◌, ◌∙◌, ◌<◌, All, ap, ap₂, sym, length, List, ℕ, get_or}
+use Rattle.std.proofs.Common.{◌&&◌, ◌||◌, ◌∙◌, ap, ap₂, sym, List, ℕ, get_or}
 use Rattle.std.proofs.lemmas.Bool.{and_parts}
 use Rattle.std.specs.List.{list_any}
 use Rattle.mm_spec.specs.Derivation.{is_member}
-use Rattle.mm_spec.specs.Frame.{symbol_names, is_variable_number, formula_at, active_of}
+use Rattle.mm_spec.specs.Frame.{is_variable_number, formula_at, active_of}
 use Rattle.mm_spec.specs.Frame.{is_essential}
 use Rattle.mm_spec.proofs.ListLaw.{element_is_member}
 use Rattle.mm_frame.proofs.HypothesesLaw.{listed_are_mandatory, variable_has_name}

@@ -1,5 +1,4 @@
-use Rattle.std.proofs.Common.{◌≡◌, length, sym, subst, true≢false, refl}
-use Rattle.mm_spec.specs.Frame.{symbol_names}
+use Rattle.std.proofs.Common.{sym, subst, true≢false, refl}
 use Rattle.mm_frame.specs.Hypotheses.{IsFresh}
 use Rattle.mm_frame.proofs.frames.Scratch.new.Goals as goal
 
