@@ -240,7 +240,7 @@ const FAULTS: [(&[&str], &str); 11] = [
     ),
     (
         &["mmdepend", "--report", "matrix,"],
-        "error: invalid value '' for '--report <PART>'\n  [possible values: all, matrix, counts, usage, citations]\n\nFor more information, try '--help'.\n",
+        "error: a value is required for '--report <PART>' but none was supplied\n  [possible values: all, matrix, counts, usage, citations]\n\nFor more information, try '--help'.\n",
     ),
     (
         &["mmdepend", "a.mm", "b.mm"],
