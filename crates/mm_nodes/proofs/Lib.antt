@@ -1,0 +1,4 @@
+mod CopyLaw
+pub mod StringLaw
+mod StoreLaw
+mod WalkLaw
