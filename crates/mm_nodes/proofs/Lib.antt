@@ -1,4 +1,4 @@
 mod CopyLaw
 pub mod StringLaw
-mod StoreLaw
+pub mod StoreLaw
 mod WalkLaw

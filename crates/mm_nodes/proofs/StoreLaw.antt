@@ -5,6 +5,8 @@ use Rattle.std.proofs.Common.{subst, arith, All, length-append, map, nat_lt, tru
 use Rattle.std.proofs.Common.{Bool}
 use Rattle.std.proofs.lemmas.List.{take-append-drop, length-take-le, take-append-le, drop_at}
 use Rattle.std.proofs.lemmas.List.{take_all}
+use Rattle.std.specs.List.{AllByRecursion}
+use Rattle.std.proofs.lemmas.List.Elements.{recursion_from_All}
 use Rattle.std.proofs.lemmas.Bool.{cases_lt}
 use Rattle.std.proofs.lemmas.Bool.Decides.{nat_tests}
 use Rattle.mm_nodes.specs.declared.heads.Head.{Head}
@@ -319,9 +321,9 @@ module _ (bodies : List ℕ) (heads : List Head) (added : List ℕ) (h : Head)
                 (joined_string_of (nodes_of bodies heads) added ∷ []) 0 []));
           }
 
-  pub made_by_push : (nodes' : List (List ℕ)) (b : ℕ) → nodes' ≡ nodes_of bodies heads ++ added ∷ []
+  pub made_by_push : 0 < length added → (nodes' : List (List ℕ)) (b : ℕ) → nodes' ≡ nodes_of bodies heads ++ added ∷ []
       → b ≡ first_node + length heads → IsMade (nodes_of bodies heads) nodes' added b
-  made_by_push nodes' b nodes_are b_is =
+  made_by_push has_bodies nodes' b nodes_are b_is =
       let node_count = length_nodes bodies heads in
       let count = length_strings [] [] (nodes_of bodies heads) in
       let is_no_symbol : nat_lt b first_node ≡ false = grind (arith, nat_tests) in
@@ -337,6 +339,7 @@ module _ (bodies : List ℕ) (heads : List Head) (added : List ℕ) (h : Head)
               node_count,
               length-append (nodes_of bodies heads) (added ∷ []),
             );
+        is_none = λ no_length. absurd (omega (arith, has_bodies, no_length));
         string_is =
             ap (λ ns. string_of ns b) nodes_are
             ∙ ap (λ ss. body_string ss b) strings_pushed
@@ -351,6 +354,7 @@ pub nothing_made : (nodes : List (List ℕ)) → length nodes < first_node
     → (bodies : List ℕ) → length bodies ≡ 0 → (b : ℕ) → b ≡ no_body → IsMade nodes nodes bodies b
 nothing_made nodes count_lt [] none b b_is = record {
   is_body = λ some. absurd (omega (arith, some));
+  is_none = λ no_length. b_is;
   string_is = no_string nodes b 2147483647 (omega (arith, b_is)) (omega (arith, count_lt));
 }
 nothing_made nodes count_lt (x ∷ bodies) none b b_is = absurd (omega (arith, none))
@@ -376,3 +380,24 @@ body_if_some nodes b some = by_case (cases_lt b (first_node + length nodes))
         let none = ap length (no_string nodes b (b - first_node) (omega (arith, b_ge))
         (omega (arith, b_ge))) in
         absurd (omega (arith, none, some))
+
+-- the string of a body stays as nodes behind it are given up
+pub string_when_cut : (nodes : List (List ℕ)) (k b : ℕ) → k ≤ length nodes → b < first_node + k
+    → string_of (take k nodes) b ≡ string_of nodes b
+string_when_cut nodes k b k_le b_lt =
+    let count = length-take-le k nodes k_le in
+    sym (string_with_more (take k nodes) (drop k nodes) b (omega (arith, count, b_lt)))
+    ∙ ap (λ ns. string_of ns b) (take-append-drop k nodes)
+
+-- the strings of bodies stay
+pub joined_when_cut : (nodes : List (List ℕ)) (k : ℕ) (bodies : List ℕ) → k ≤ length nodes
+    → All (λ b. b < first_node + k) bodies
+    → joined_string_of (take k nodes) bodies ≡ joined_string_of nodes bodies
+joined_when_cut nodes k bodies k_le are_below =
+    each bodies (recursion_from_All (λ b. b < first_node + k) bodies are_below)
+  where
+    each : (bodies : List ℕ) → AllByRecursion (λ b. b < first_node + k) bodies
+        → joined_string_of (take k nodes) bodies ≡ joined_string_of nodes bodies
+    each [] are_below = refl
+    each (b ∷ bodies) are_below =
+        ap₂ (λ u v. u ++ v) (string_when_cut nodes k b k_le are_below.0) (each bodies are_below.1)

@@ -46,8 +46,9 @@ IsBody nodes b = b < first_node + length nodes
 abbrev pub Extends : List (List ℕ) → List (List ℕ) → Type 0
 Extends nodes nodes' = (more : List (List ℕ)) × (nodes' ≡ nodes ++ more)
 
--- a body was made that stands for the string of others, and if it has symbols, it is one of those
--- that there are now
+-- A body was made that stands for the string of others. It is one of those that there are now, or
+-- none, if there are no others.
 pub record IsMade (nodes nodes' : List (List ℕ)) (bodies : List ℕ) (b : ℕ) : Type 0 where
   pub is_body : 0 < length bodies → IsBody nodes' b
+  pub is_none : length bodies ≡ 0 → b ≡ no_body
   pub string_is : string_of nodes' b ≡ joined_string_of nodes bodies

@@ -1,6 +1,6 @@
 //! The parts of a string.
 
-ghost use Rattle.std.specs.Prelude.{◌≡◌, ◌<◌, ◌+◌, ℕ, IfSome, IfNone};
+ghost use Rattle.std.specs.Prelude.{◌≡◌, ◌<◌, ◌+◌, ℕ, IfSome, IfNone, nat_lt};
 ghost use Rattle.mm_nodes.specs.Strings.{first_node, no_body};
 
 use std::marker::Model;
@@ -45,6 +45,14 @@ impl Body {
         ensures { result ≡ first_node + index }
     {
         Body(FIRST_NODE + index)
+    }
+
+    /// Whether it is a symbol.
+    #[inline(always)]
+    pub fn is_symbol(self) -> bool
+        ensures { result ≡ nat_lt self first_node }
+    {
+        self.number() < FIRST_NODE
     }
 
     /// The index of the node; `None` for a symbol.

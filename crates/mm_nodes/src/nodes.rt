@@ -98,7 +98,8 @@ impl<A: Allocator> Nodes<A> {
     /// Keeps the first `count` nodes.
     #[inline(always)]
     pub fn truncate(&mut self, count: usize)
-        ensures { self.new ≡ take count self.old }
+        ensures nodes_are_taken { self.new ≡ take count self.old }
+        ensures count_lt { length self.new < first_node }
     {
         if count < self.heads.len() {
             let end = self.heads[count].start as usize;
@@ -143,6 +144,7 @@ impl<A: Allocator> Nodes<A> {
     #[inline(always)]
     fn push(&mut self, bodies: &[Body], symbol_count: u32) -> Result<Body, AllocError>
         requires has_room { length self.old < MAX_NODES }
+        requires has_bodies { 0 < length bodies.now }
         requires are_bodies { All (IsBody self.old) bodies.now }
         requires length_is { symbol_count ≡ length (joined_string_of self.old bodies.now) }
         ensures nodes_stay { Extends self.old self.new }

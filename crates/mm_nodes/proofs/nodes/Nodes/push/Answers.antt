@@ -57,7 +57,8 @@ returns-in-Ok-clause-is_made g c =
     subst (λ (ns : List (List ℕ)). IsMade ns (nodes_of c.append.new.self c.push.new.self.items)
     c.args.bodies.now c.node.result) c.self.view_is
     (made_by_push bodies heads c.args.bodies.now h c.self.invariant c.len-start.ensures end_is
-    length_is are_bodies count_lt (nodes_of c.append.new.self c.push.new.self.items) c.node.result
+    length_is are_bodies count_lt c.requires.has_bodies
+    (nodes_of c.append.new.self c.push.new.self.items) c.node.result
     (rw (c.in_ok-append.ensures.appends_bodies, c.in-Ok.ensures.items)
     (nodes_pushed bodies heads c.args.bodies.now h c.self.invariant c.len-start.ensures end_is
     length_is are_bodies count_lt))

@@ -13,8 +13,9 @@ invariant_of-self g c =
     count_lt (ap (λ h. h.start)
     (c.index.ensures ∙ get_or_default heads c.args.count c.index.result.now no_head count_lt)))
 
-pub returns-then-count-len : goal.returns-then-count-len
-returns-then-count-len g c =
+pub returns-then-count-len-clause-nodes_are_taken :
+    goal.returns-then-count-len-clause-nodes_are_taken
+returns-then-count-len-clause-nodes_are_taken g c =
     let heads = c.self.inside.heads.items in
     let count_lt : c.args.count < length heads = omega (arith, c.self.inside.heads.ok.0) in
     rw (c.truncate-then-count-len.ensures, c.truncate.ensures.items)
