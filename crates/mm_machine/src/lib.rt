@@ -12,6 +12,9 @@
 mod arena;
 mod disjoint_cache;
 mod distinct;
+mod entry;
+mod entry_stack;
+mod entry_test;
 mod fill;
 mod flag_rows;
 mod machine;
