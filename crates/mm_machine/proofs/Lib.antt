@@ -21,3 +21,4 @@ mod EntryFitLaw
 mod EntryTestLaw
 mod EntryRuleLaw
 mod EntryLaw
+mod FlatLaw

@@ -17,6 +17,7 @@ mod entry_stack;
 mod entry_test;
 mod fill;
 mod flag_rows;
+mod flat;
 mod machine;
 mod reason;
 mod rule_test;
