@@ -16,3 +16,9 @@ pub mod MarksLaw
 pub mod PlacedLaw
 pub mod RuleTestLaw
 pub mod StretchLaw
+mod FilledLaw
+mod EntryFitLaw
+mod EntryTestLaw
+mod EntryRuleLaw
+mod EntryLaw
+mod FlatLaw

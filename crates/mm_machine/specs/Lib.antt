@@ -1,4 +1,6 @@
 pub mod Arena
+pub mod Entries
+pub mod Filled
 pub mod FlagRows
 pub mod DisjointCache
 pub mod Distinct

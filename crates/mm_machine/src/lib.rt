@@ -12,8 +12,12 @@
 mod arena;
 mod disjoint_cache;
 mod distinct;
+mod entry;
+mod entry_stack;
+mod entry_test;
 mod fill;
 mod flag_rows;
+mod flat;
 mod machine;
 mod reason;
 mod rule_test;

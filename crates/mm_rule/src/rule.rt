@@ -2,6 +2,8 @@
 
 ghost use Rattle.std.specs.Prelude.{◌≡◌, ◌<◌, ◌^◌};
 ghost use Rattle.mm_rule.specs.declared.rule.RulePart.TheVariants.{Constant, Variable};
+ghost use Rattle.mm_rule.specs.Packed.{first_variable};
+ghost use Rattle.mm_rule.specs.Rule.{IsConstantBelow};
 
 use mm_database::Sym;
 use std::marker::Model;
@@ -61,16 +63,25 @@ impl PackedPart {
         PackedPart(FIRST_VARIABLE + floating_index)
     }
 
-    /// The part that it stands for.
+    /// The part that it stands for. A constant's number is below 2^31.
     #[inline(always)]
-    pub fn unpack(self) -> RulePart
-        ensures { result ≡ self }
+    pub fn to_part(self) -> RulePart
+        ensures part_is { result ≡ self }
+        ensures constant_is_below { IsConstantBelow first_variable result }
     {
         if self.0 < FIRST_VARIABLE {
             RulePart::Constant(Sym::new(self.0))
         } else {
             RulePart::Variable(self.0 - FIRST_VARIABLE)
         }
+    }
+
+    /// The part that it stands for.
+    #[inline(always)]
+    pub fn unpack(self) -> RulePart
+        ensures { result ≡ self }
+    {
+        self.to_part()
     }
 }
 

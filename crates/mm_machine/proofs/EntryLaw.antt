@@ -1,0 +1,159 @@
+-- Entries stay as nodes are added or given up.
+use Rattle.std.proofs.Common.{◌≡◌, ℕ, zero, suc, ◌+◌, ◌<◌, ◌≤◌, ◌⊎◌, inl, inr, List, [], ◌∷◌, ◌++◌}
+use Rattle.std.proofs.Common.{length, take, drop, map, refl, sym, ap, ap₂, ◌∙◌, subst, arith, All}
+use Rattle.std.proofs.Common.{length-append}
+use Rattle.std.specs.List.{AllByRecursion}
+use Rattle.std.proofs.lemmas.List.{length-take-le}
+use Rattle.std.proofs.lemmas.List.Elements.{recursion_from_All, All-from_recursion, All-push}
+use Rattle.std.proofs.lemmas.Bool.{cases_lt}
+use Rattle.mm_spec.specs.Limits.{formula_limit}
+use Rattle.mm_nodes.specs.Strings.{first_node, no_body, string_of, joined_string_of, IsMade}
+use Rattle.mm_nodes.specs.Strings.{Extends}
+use Rattle.mm_nodes.proofs.StoreLaw.{no_string, string_with_more, string_when_cut, joined_when_cut}
+use Rattle.mm_machine.specs.declared.entry.Entry.{Entry}
+use Rattle.mm_machine.specs.Entries.{IsEntry, HasNoSymbols, entry_formula, entry_formulas}
+use Rattle.mm_machine.proofs.FilledLaw.{symbol_string_is, nil_if_no_length}
+
+-- the entry is one over the other nodes too, with the same formula
+pub record EntryStays (nodes nodes' : List (List ℕ)) (e : Entry) : Type 0 where
+  pub is_entry : IsEntry nodes' e
+  pub formulas_equal : entry_formula nodes' e ≡ entry_formula nodes e
+
+module _ (nodes nodes' : List (List ℕ)) (e : Entry) (is_entry : IsEntry nodes e)
+    (count_lt : length nodes' < first_node) (needed_le : e.needed ≤ length nodes')
+    (strings_stay : (b : ℕ) → b < first_node + e.needed → string_of nodes' b ≡ string_of nodes b)
+  where
+    body_stays : string_of nodes' e.body ≡ string_of nodes e.body
+    body_stays = by_case is_entry.body_is_among
+      where
+        by_case : (e.body < first_node + e.needed) ⊎ ((e.body ≡ no_body) × (e.length ≡ 0))
+            → string_of nodes' e.body ≡ string_of nodes e.body
+        by_case (inl among) = strings_stay e.body among
+        by_case (inr none) =
+            let body_is = none.0 in
+            let no_length = none.1 in
+            let length_is = is_entry.length_is in
+            no_string nodes' e.body 2147483647 (omega (arith, body_is)) (omega (arith, count_lt))
+            ∙ sym (nil_if_no_length (string_of nodes e.body) (omega (arith, length_is, no_length)))
+
+    pub entry_stays : EntryStays nodes nodes' e
+    entry_stays = by_case is_entry.has_typecode
+      where
+        with_typecode : (e.typecode < first_node) ⊎ HasNoSymbols nodes' e
+            → string_of nodes' e.typecode ≡ string_of nodes e.typecode → EntryStays nodes nodes' e
+        with_typecode has_typecode typecode_stays = record {
+          is_entry = record {
+            has_typecode = has_typecode;
+            body_is_among = is_entry.body_is_among;
+            needed_le_count = needed_le;
+            length_is = is_entry.length_is ∙ ap length (sym body_stays);
+            length_le_limit = is_entry.length_le_limit;
+          };
+          formulas_equal = ap₂ (λ u v. u ++ v) typecode_stays body_stays;
+        }
+
+        by_case : (e.typecode < first_node) ⊎ HasNoSymbols nodes e → EntryStays nodes nodes' e
+        by_case (inl is_symbol) =
+            with_typecode (inl is_symbol)
+            (symbol_string_is nodes' e.typecode is_symbol
+            ∙ sym (symbol_string_is nodes e.typecode is_symbol))
+        by_case (inr none) =
+            let typecode_is = none.0 in
+            let no_typecode : string_of nodes' e.typecode ≡ [] =
+            no_string nodes' e.typecode 2147483647 (omega (arith, typecode_is))
+            (omega (arith, count_lt)) in
+            with_typecode (inr (none.0, no_typecode, body_stays ∙ none.2))
+            (no_typecode ∙ sym none.1)
+
+entry_is_kept : (nodes more nodes' : List (List ℕ)) (keep : ℕ) (e : Entry)
+    → nodes' ≡ take keep nodes ++ more → keep ≤ length nodes → length nodes' < first_node
+    → IsEntry nodes e → e.needed ≤ keep → EntryStays nodes nodes' e
+entry_is_kept nodes more nodes' keep e nodes_are keep_le count_lt is_entry needed_le =
+    let taken = length-take-le keep nodes keep_le in
+    let count = ap length nodes_are in
+    entry_stays nodes nodes' e is_entry count_lt
+    (omega (arith, needed_le, taken, count, length-append (take keep nodes) more))
+    (λ b b_lt. ap (λ ns. string_of ns b) nodes_are
+    ∙ string_with_more (take keep nodes) more b (omega (arith, b_lt, needed_le, taken))
+    ∙ string_when_cut nodes keep b keep_le (omega (arith, b_lt, needed_le)))
+
+module _ (nodes more nodes' : List (List ℕ)) (keep : ℕ) (es : List Entry)
+    (nodes_are : nodes' ≡ take keep nodes ++ more) (keep_le : keep ≤ length nodes)
+    (count_lt : length nodes' < first_node) (are_entries : All (IsEntry nodes) es)
+    (are_kept : All (λ e. e.needed ≤ keep) es) where
+  stay : AllByRecursion (EntryStays nodes nodes') es
+  stay = each es (recursion_from_All (IsEntry nodes) es are_entries)
+      (recursion_from_All (λ e. e.needed ≤ keep) es are_kept)
+    where
+      each : (es : List Entry) → AllByRecursion (IsEntry nodes) es
+          → AllByRecursion (λ e. e.needed ≤ keep) es → AllByRecursion (EntryStays nodes nodes') es
+      each [] all_in all_kept = tt
+      each (e ∷ es) all_in all_kept = (
+        entry_is_kept nodes more nodes' keep e nodes_are keep_le count_lt all_in.0 all_kept.0,
+        each es all_in.1 all_kept.1,
+      )
+
+  pub entries_are_kept : All (IsEntry nodes') es
+  entries_are_kept = All-from_recursion (IsEntry nodes') es (each es stay)
+    where
+      each : (es : List Entry) → AllByRecursion (EntryStays nodes nodes') es
+          → AllByRecursion (IsEntry nodes') es
+      each [] all_stay = tt
+      each (e ∷ es) all_stay = (all_stay.0.is_entry, each es all_stay.1)
+
+  pub formulas_are_kept : entry_formulas nodes' es ≡ entry_formulas nodes es
+  formulas_are_kept = each es stay
+    where
+      each : (es : List Entry) → AllByRecursion (EntryStays nodes nodes') es
+          → entry_formulas nodes' es ≡ entry_formulas nodes es
+      each [] all_stay = refl
+      each (e ∷ es) all_stay =
+          ap₂ (λ f fs. f ∷ fs) all_stay.0.formulas_equal (each es all_stay.1)
+
+pub entry_formulas_take : (nodes : List (List ℕ)) (n : ℕ) (es : List Entry)
+    → entry_formulas nodes (take n es) ≡ take n (entry_formulas nodes es)
+entry_formulas_take nodes zero es = refl
+entry_formulas_take nodes (suc n) [] = refl
+entry_formulas_take nodes (suc n) (e ∷ es) =
+    ap (λ fs. entry_formula nodes e ∷ fs) (entry_formulas_take nodes n es)
+
+pub entry_formulas_push : (nodes : List (List ℕ)) (es : List Entry) (e : Entry)
+    → entry_formulas nodes (es ++ e ∷ []) ≡ entry_formulas nodes es ++ entry_formula nodes e ∷ []
+entry_formulas_push nodes [] e = refl
+entry_formulas_push nodes (x ∷ es) e =
+    ap (λ fs. entry_formula nodes x ∷ fs) (entry_formulas_push nodes es e)
+
+-- the entry of a body that was made
+module _ (nodes kept nodes' : List (List ℕ)) (bodies : List ℕ) (e : Entry)
+    (made : IsMade kept nodes' bodies e.body)
+    (strings_are : joined_string_of kept bodies ≡ joined_string_of nodes bodies)
+    (is_symbol : e.typecode < first_node)
+    (length_is : e.length ≡ length (joined_string_of nodes bodies))
+    (length_le : e.length ≤ formula_limit) (needed_is : e.needed ≡ length nodes') where
+  pub made_formula : entry_formula nodes' e ≡ e.typecode ∷ joined_string_of nodes bodies
+  made_formula =
+      ap₂ (λ u v. u ++ v) (symbol_string_is nodes' e.typecode is_symbol)
+      (made.string_is ∙ strings_are)
+
+  pub made_is_entry : IsEntry nodes' e
+  made_is_entry = record {
+    has_typecode = inl is_symbol;
+    body_is_among = by_case (cases_lt 0 (length bodies));
+    needed_le_count = omega (arith, needed_is);
+    length_is = length_is ∙ ap length (sym (made.string_is ∙ strings_are));
+    length_le_limit = length_le;
+  }
+    where
+      by_case : (0 < length bodies) ⊎ (length bodies ≤ 0)
+          → (e.body < first_node + e.needed) ⊎ ((e.body ≡ no_body) × (e.length ≡ 0))
+      by_case (inl some) =
+          let is_body = made.is_body some in inl (omega (arith, is_body, needed_is))
+      by_case (inr none) = inr (
+        made.is_none (omega (arith, none)),
+        length_is ∙ no_strings bodies (omega (arith, none)),
+      )
+        where
+          no_strings : (bodies : List ℕ) → length bodies ≡ 0
+              → length (joined_string_of nodes bodies) ≡ 0
+          no_strings [] no_length = refl
+          no_strings (b ∷ bodies) no_length = absurd (omega (arith, no_length))

@@ -1,0 +1,10 @@
+use Rattle.std.proofs.Common.{◌≤◌, length}
+use Rattle.mm_spec.specs.Limits.{formula_limit}
+use Rattle.mm_machine.proofs.FilledLaw.{IsWritten}
+use Rattle.mm_machine.proofs.entry.fill.Given as goal
+
+abbrev pub invariant-loop-part : goal.invariant-loop-part
+invariant-loop-part g l = record {
+  is_written : IsWritten l._nodes l.premises l.parts l.list l.count l.length l.needed l.part-index;
+  length_le_limit : l.length ≤ formula_limit;
+}

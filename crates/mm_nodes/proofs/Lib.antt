@@ -1,0 +1,4 @@
+mod CopyLaw
+pub mod StringLaw
+pub mod StoreLaw
+mod WalkLaw

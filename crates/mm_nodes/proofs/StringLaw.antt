@@ -1,0 +1,129 @@
+-- The strings of nodes stay as nodes are added or given up.
+use Rattle.std.proofs.Common.{◌≡◌, ℕ, zero, suc, ◌+◌, ◌-◌, ◌<◌, ◌≤◌, Bool, true, false, List, []}
+use Rattle.std.proofs.Common.{◌∷◌, ◌++◌, length, take, drop, get_or, nat_lt, cond, refl, sym, ap, ap₂}
+use Rattle.std.proofs.Common.{◌∙◌, subst, arith, All, length-append}
+use Rattle.std.specs.List.{AllByRecursion, flat_map}
+use Rattle.std.proofs.lemmas.List.{take-append-drop, length-take-le}
+use Rattle.std.proofs.lemmas.Bool.Decides.{nat_tests}
+use Rattle.std.proofs.lemmas.List.Elements.{recursion_from_All}
+use Rattle.mm_nodes.specs.Strings.{first_node, body_string, joined_strings, strings_after}
+use Rattle.mm_nodes.specs.Strings.{strings_of}
+
+-- an element of a list, after others are put behind it
+pub get_or_front : {X : Type 0} (xs ys : List X) (i : ℕ) (d : X) → i < length xs
+    → get_or (xs ++ ys) i d ≡ get_or xs i d
+get_or_front [] ys i d i_lt = absurd (omega arith)
+get_or_front (x ∷ xs) ys zero d i_lt = refl
+get_or_front (x ∷ xs) ys (suc i) d i_lt = get_or_front xs ys i d (omega arith)
+
+pub get_or_behind : {X : Type 0} (xs ys : List X) (i : ℕ) (d : X)
+    → get_or (xs ++ ys) (length xs + i) d ≡ get_or ys i d
+get_or_behind [] ys i d = let i_is : 0 + i ≡ i = omega arith in ap (λ n. get_or ys n d) i_is
+get_or_behind (x ∷ xs) ys i d =
+    let i_is : length (x ∷ xs) + i ≡ suc (length xs + i) = omega arith in
+    ap (λ n. get_or (x ∷ (xs ++ ys)) n d) i_is ∙ get_or_behind xs ys i d
+
+-- past the end there is the default alone
+pub get_or_past : {X : Type 0} (xs : List X) (i : ℕ) (d : X) → length xs ≤ i → get_or xs i d ≡ d
+get_or_past [] zero d le = refl
+get_or_past [] (suc i) d le = refl
+get_or_past (x ∷ xs) zero d le = absurd (omega arith)
+get_or_past (x ∷ xs) (suc i) d le = get_or_past xs i d (omega arith)
+
+module _ (front : List ℕ) where
+  length_added : (ss : List (List ℕ)) (bs : List ℕ)
+      → length (ss ++ (front ++ joined_strings ss bs) ∷ []) ≡ length ss + 1
+  length_added ss bs = length-append ss ((front ++ joined_strings ss bs) ∷ [])
+
+  pub length_strings : (ss ns : List (List ℕ))
+      → length (strings_after front ss ns) ≡ length ss + length ns
+  unfolding strings_after
+  length_strings ss [] = omega arith
+  length_strings ss (bs ∷ ns) =
+      let rest = length_strings (ss ++ (front ++ joined_strings ss bs) ∷ []) ns in
+      let one_more = length_added ss bs in omega (arith, rest, one_more)
+
+  -- the strings of earlier nodes stay
+  pub string_stays : (ss ns : List (List ℕ)) (i : ℕ) → i < length ss
+      → get_or (strings_after front ss ns) i [] ≡ get_or ss i []
+  unfolding strings_after
+  string_stays ss [] i i_lt = refl
+  string_stays ss (bs ∷ ns) i i_lt =
+      let one_more = length_added ss bs in
+      string_stays (ss ++ (front ++ joined_strings ss bs) ∷ []) ns i (omega (arith, one_more))
+      ∙ get_or_front ss ((front ++ joined_strings ss bs) ∷ []) i [] i_lt
+
+  pub strings_append : (ss xs ys : List (List ℕ))
+      → strings_after front ss (xs ++ ys)
+      ≡ strings_after front (strings_after front ss xs) ys
+  unfolding strings_after
+  strings_append ss [] ys = refl
+  strings_append ss (x ∷ xs) ys =
+      strings_append (ss ++ (front ++ joined_strings ss x) ∷ []) xs ys
+
+  string_at : (ss ns : List (List ℕ)) (i : ℕ) → i < length ns
+      → get_or (strings_after front ss ns) (length ss + i) []
+      ≡ front ++ joined_strings (strings_after front ss (take i ns)) (get_or ns i [])
+  unfolding strings_after
+  string_at ss [] i i_lt = absurd (omega arith)
+  string_at ss (bs ∷ ns) zero i_lt =
+      let one_more = length_added ss bs in
+      string_stays (ss ++ (front ++ joined_strings ss bs) ∷ []) ns (length ss + 0)
+      (omega (arith, one_more))
+      ∙ get_or_behind ss ((front ++ joined_strings ss bs) ∷ []) 0 []
+  string_at ss (bs ∷ ns) (suc i) i_lt =
+      let one_more = length_added ss bs in
+      let i_is : length ss + suc i ≡ length (ss ++ (front ++ joined_strings ss bs) ∷ []) + i =
+      omega (arith, one_more) in
+      ap (λ n. get_or (strings_after front (ss ++ (front ++ joined_strings ss bs) ∷ []) ns) n [])
+      i_is
+      ∙ string_at (ss ++ (front ++ joined_strings ss bs) ∷ []) ns i (omega arith)
+
+  -- a body that there was stands for the same string
+  pub body_stays : (ss ns : List (List ℕ)) (b : ℕ) → b < first_node + length ss
+      → body_string (strings_after front ss ns) b ≡ body_string ss b
+  body_stays ss ns b b_lt = by_case (nat_lt b first_node) refl
+    where
+      by_case : (test : Bool) → nat_lt b first_node ≡ test
+          → body_string (strings_after front ss ns) b ≡ body_string ss b
+      by_case true is = rw is refl
+      by_case false is = rw is (string_stays ss ns (b - first_node) (grind (arith, nat_tests)))
+
+  pub joined_stay : (ss ns : List (List ℕ)) (bs : List ℕ)
+      → All (λ b. b < first_node + length ss) bs
+      → joined_strings (strings_after front ss ns) bs ≡ joined_strings ss bs
+  joined_stay ss ns bs all_below = each bs (recursion_from_All (λ b. b < first_node + length ss) bs
+      all_below)
+    where
+      each : (bs : List ℕ) → AllByRecursion (λ b. b < first_node + length ss) bs
+          → joined_strings (strings_after front ss ns) bs ≡ joined_strings ss bs
+      each [] are_below = refl
+      each (b ∷ bs) are_below =
+          ap₂ (λ u v. u ++ v) (body_stays ss ns b are_below.0) (each bs are_below.1)
+
+  -- a node stands for the strings of its bodies
+  pub node_string : (ns : List (List ℕ)) (i : ℕ) → i < length ns
+      → All (λ b. b < first_node + i) (get_or ns i [])
+      → get_or (strings_after front [] ns) i []
+      ≡ front ++ joined_strings (strings_after front [] ns) (get_or ns i [])
+  node_string ns i i_lt are_below =
+      let i_is : 0 + i ≡ i = omega arith in
+      let taken_count : length (take i ns) ≡ i = length-take-le i ns (omega arith) in
+      let count = length_strings [] (take i ns) in
+      let count_is : length (strings_after front [] (take i ns)) ≡ i =
+      omega (arith, count, taken_count) in
+      ap (λ n. get_or (strings_after front [] ns) n []) (sym i_is) ∙ string_at [] ns i i_lt
+      ∙ ap (λ u. front ++ u)
+      (sym (joined_stay (strings_after front [] (take i ns)) (drop i ns) (get_or ns i [])
+      (rw count_is are_below))
+      ∙ ap (λ ss. joined_strings ss (get_or ns i []))
+      (sym (strings_append [] (take i ns) (drop i ns))
+      ∙ ap (strings_after front []) (take-append-drop i ns)))
+
+  -- the strings after nodes are given up
+  pub strings_take : (ns : List (List ℕ)) (k : ℕ)
+      → strings_after front [] ns
+      ≡ strings_after front (strings_after front [] (take k ns)) (drop k ns)
+  strings_take ns k =
+      sym (ap (strings_after front []) (take-append-drop k ns))
+      ∙ strings_append [] (take k ns) (drop k ns)

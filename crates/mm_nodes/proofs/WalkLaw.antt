@@ -1,0 +1,487 @@
+-- A string is read from its first body on, and what is left of it is a stretch and stretches that
+-- were put off.
+use Rattle.std.proofs.Common.{◌≡◌, ℕ, zero, suc, ◌+◌, ◌-◌, ◌<◌, ◌≤◌, ◌⊎◌, inl, inr, List, [], ◌∷◌}
+use Rattle.std.proofs.Common.{◌++◌, length, take, drop, get_or, slice_range, refl, sym, ap, ap₂, ◌∙◌}
+use Rattle.std.proofs.Common.{subst, arith, All, length-append, Bool, true, false, nat_lt, bytes_eq}
+use Rattle.std.proofs.Common.{true≢false, append-nil}
+use Rattle.std.proofs.lemmas.List.{append_assoc, drop_more}
+use Rattle.std.proofs.lemmas.List.Elements.{All-get_or, All-take, All-drop, All-weaker, All-push}
+use Rattle.std.proofs.lemmas.List.Elements.{All-nil}
+use Rattle.std.proofs.lemmas.Slice.Eq.{bytes_eq-Decides}
+use Rattle.std.proofs.lemmas.Bool.Decides.{nat_tests}
+use Rattle.std.proofs.lemmas.Bool.{cases_lt}
+use Rattle.mm_nodes.specs.declared.heads.Head.{Head}
+use Rattle.mm_nodes.specs.declared.heads.Stretch.{Stretch}
+use Rattle.mm_nodes.specs.Strings.{first_node, body_string, joined_strings, strings_after}
+use Rattle.mm_nodes.specs.Strings.{string_of, joined_string_of, IsBody}
+use Rattle.mm_nodes.specs.Store.{nodes_of, AreNodes, IsStretch, MayPutOff, IsPlaceOf, stretch}
+use Rattle.mm_nodes.specs.Store.{stretch_bodies, stretch_string, no_head}
+use Rattle.mm_nodes.proofs.StringLaw.{node_string}
+use Rattle.mm_nodes.proofs.StoreLaw.{length_nodes, node_at, nodes_with_more, nodes_are_kept}
+use Rattle.mm_nodes.proofs.StoreLaw.{range_of_front, range_behind}
+
+slice_is_cons : (l : List ℕ) (a e : ℕ) → a < e → e ≤ length l
+    → slice_range l a e ≡ get_or l a 0 ∷ slice_range l (a + 1) e
+slice_is_cons l a e a_lt_e e_le_length =
+    let difference_is_suc : e - a ≡ suc (e - (a + 1)) = omega arith in
+    ap (take (e - a)) (drop_more l a 0 (omega arith))
+    ∙ ap (λ m. take m (get_or l a 0 ∷ drop (a + 1) l)) difference_is_suc
+
+last_is : {X : Type 0} (xs : List X) (x d : X) → get_or (xs ++ x ∷ []) (length xs) d ≡ x
+last_is [] x d = refl
+last_is (y ∷ xs) x d = last_is xs x d
+
+front_is : {X : Type 0} (xs ys : List X) → take (length xs) (xs ++ ys) ≡ xs
+front_is [] ys = refl
+front_is (x ∷ xs) ys = ap (λ zs. x ∷ zs) (front_is xs ys)
+
+slice_is_empty : (l : List ℕ) (a e : ℕ) → e ≤ a → slice_range l a e ≡ []
+slice_is_empty l a e e_le =
+    let no_length : e - a ≡ 0 = omega arith in ap (λ n. take n (drop a l)) no_length
+
+module _ (front bodies : List ℕ) (heads : List Head) where
+  -- the string of a stretch, with `front` before the string of each node
+  abbrev pub string_of_stretch : Stretch → List ℕ
+  string_of_stretch s =
+      joined_strings (strings_after front [] (nodes_of bodies heads)) (stretch_bodies bodies s)
+
+  -- what the stretches stand for that were put off: the last of them comes first
+  pub later_string : List Stretch → List ℕ
+  later_string [] = []
+  later_string (s ∷ later) = later_string later ++ string_of_stretch s
+
+  pub later_string_nil : later_string [] ≡ []
+  unfolding later_string
+  later_string_nil = refl
+
+  pub later_string_push : (later : List Stretch) (s : Stretch)
+      → later_string (later ++ s ∷ []) ≡ string_of_stretch s ++ later_string later
+  unfolding later_string
+  later_string_push [] s = sym (append-nil (string_of_stretch s))
+  later_string_push (t ∷ later) s =
+      ap (λ u. u ++ string_of_stretch t) (later_string_push later s)
+      ∙ append_assoc (string_of_stretch s) (later_string later) (string_of_stretch t)
+
+  -- the first body and the rest
+  pub string_splits : (s : Stretch) → s.start < s.end → s.end ≤ length bodies
+      → string_of_stretch s
+      ≡ body_string (strings_after front [] (nodes_of bodies heads)) (get_or bodies s.start 0)
+      ++ string_of_stretch (stretch (s.start + 1) s.end)
+  string_splits s start_lt end_le =
+      ap (joined_strings (strings_after front [] (nodes_of bodies heads)))
+      (slice_is_cons bodies s.start s.end start_lt end_le)
+
+  pub string_is_empty : (s : Stretch) → s.end ≤ s.start → string_of_stretch s ≡ []
+  string_is_empty s end_le =
+      ap (joined_strings (strings_after front [] (nodes_of bodies heads)))
+      (slice_is_empty bodies s.start s.end end_le)
+
+  pub later_string_put_off : (s : Stretch) (later later' : List Stretch) → MayPutOff s later later'
+      → later_string later'
+      ≡ string_of_stretch (stretch (s.start + 1) s.end) ++ later_string later
+  later_string_put_off s later later' (inl none) =
+      ap later_string none.1
+      ∙ sym (ap (λ u. u ++ later_string later)
+      (string_is_empty (stretch (s.start + 1) s.end) none.0))
+  later_string_put_off s later later' (inr is_pushed) =
+      ap later_string is_pushed ∙ later_string_push later (stretch (s.start + 1) s.end)
+
+  -- a node's string is that of the stretch of its bodies
+  pub node_is_opened : AreNodes bodies heads → (b i : ℕ) (p : Stretch) → b ≡ first_node + i
+      → i < length heads → IsPlaceOf heads i p
+      → body_string (strings_after front [] (nodes_of bodies heads)) b
+      ≡ front ++ string_of_stretch p
+  node_is_opened are_nodes b i p b_is i_lt is_place =
+      let count = length_nodes bodies heads in
+      let is_no_symbol : nat_lt b first_node ≡ false = grind (arith, nat_tests) in
+      let index_is : b - first_node ≡ i = omega (arith, b_is) in
+      rw (is_no_symbol, index_is)
+      (node_string front (nodes_of bodies heads) i (omega (arith, count, i_lt))
+      (are_nodes i i_lt).bodies_below
+      ∙ ap (λ bs. front ++ joined_strings (strings_after front [] (nodes_of bodies heads)) bs)
+      (node_at bodies heads i i_lt
+      ∙ sym (ap₂ (slice_range bodies) is_place.0 is_place.1)))
+
+-- ---- where the stretches are
+
+pub body_in_range : (bodies : List ℕ) (heads : List Head) (s : Stretch) → IsStretch bodies heads s
+    → s.start < s.end → get_or bodies s.start 0 < first_node + length heads
+body_in_range bodies heads s is_in start_lt =
+    All-get_or (λ b. b < first_node + length heads)
+    (get_or bodies s.start 0 ∷ slice_range bodies (s.start + 1) s.end) 0 0 (omega arith)
+    (subst (λ (bs : List ℕ). All (λ b. b < first_node + length heads) bs)
+    (slice_is_cons bodies s.start s.end start_lt is_in.end_le_length) is_in.are_bodies)
+
+rest_is_in : (bodies : List ℕ) (heads : List Head) (s : Stretch) → IsStretch bodies heads s
+    → s.start < s.end → IsStretch bodies heads (stretch (s.start + 1) s.end)
+rest_is_in bodies heads s is_in start_lt = record {
+  end_le_length = is_in.end_le_length;
+  are_bodies =
+      All-drop (λ b. b < first_node + length heads) 1
+      (get_or bodies s.start 0 ∷ slice_range bodies (s.start + 1) s.end)
+      (subst (λ (bs : List ℕ). All (λ b. b < first_node + length heads) bs)
+      (slice_is_cons bodies s.start s.end start_lt is_in.end_le_length) is_in.are_bodies);
+}
+
+pub place_is_in : (bodies : List ℕ) (heads : List Head) (i : ℕ) (p : Stretch)
+    → AreNodes bodies heads → i < length heads → IsPlaceOf heads i p → IsStretch bodies heads p
+place_is_in bodies heads i p are_nodes i_lt is_place = record {
+  end_le_length = rw is_place.1 (are_nodes i i_lt).end_le_length;
+  are_bodies =
+      subst (λ (bs : List ℕ). All (λ b. b < first_node + length heads) bs)
+      (node_at bodies heads i i_lt ∙ sym (ap₂ (slice_range bodies) is_place.0 is_place.1))
+      (All-weaker (λ b. b < first_node + i) (λ b. b < first_node + length heads)
+      (λ b b_lt. omega (arith, b_lt, i_lt)) (get_or (nodes_of bodies heads) i [])
+      (are_nodes i i_lt).bodies_below);
+}
+
+later_are_in : (bodies : List ℕ) (heads : List Head) (s : Stretch) (later later' : List Stretch)
+    → IsStretch bodies heads s → s.start < s.end → All (IsStretch bodies heads) later
+    → MayPutOff s later later' → All (IsStretch bodies heads) later'
+later_are_in bodies heads s later later' is_in start_lt are_in (inl none) =
+    subst (All (IsStretch bodies heads)) (sym none.1) are_in
+later_are_in bodies heads s later later' is_in start_lt are_in (inr is_pushed) =
+    subst (All (IsStretch bodies heads)) (sym is_pushed)
+    (All-push (IsStretch bodies heads) later (stretch (s.start + 1) s.end) are_in
+    (rest_is_in bodies heads s is_in start_lt))
+
+-- ---- one string is read
+
+-- `common` was read of the string `whole`, and the stretch and those that were put off are left
+pub record Reads (bodies : List ℕ) (heads : List Head) (whole common : List ℕ) (s : Stretch)
+    (later : List Stretch) : Type 0 where
+  pub whole_is : common ++ (string_of_stretch [] bodies heads s
+      ++ later_string [] bodies heads later) ≡ whole
+  pub is_in : IsStretch bodies heads s
+  pub are_in : All (IsStretch bodies heads) later
+
+-- a body isn't nothing to do
+some_work : (bodies : List ℕ) (heads : List Head) → AreNodes bodies heads → (b : ℕ)
+    → b < first_node + length heads
+    → 0 < length (body_string (strings_after (0 ∷ 0 ∷ []) [] (nodes_of bodies heads)) b)
+some_work bodies heads are_nodes b b_lt = by_case (cases_lt b first_node)
+  where
+    by_case : (b < first_node) ⊎ (first_node ≤ b)
+        → 0 < length (body_string (strings_after (0 ∷ 0 ∷ []) [] (nodes_of bodies heads)) b)
+    by_case (inl is_symbol) =
+        let test_is : nat_lt b first_node ≡ true = grind (arith, nat_tests) in
+        rw test_is (omega arith)
+    by_case (inr is_node) =
+        let i = b - first_node in
+        let opened = ap length (node_is_opened (0 ∷ 0 ∷ []) bodies heads are_nodes b (b - first_node)
+        (stretch (get_or heads (b - first_node) no_head).start
+        (get_or heads (b - first_node) no_head).end) (omega (arith, is_node))
+        (omega (arith, is_node, b_lt)) (refl, refl)) in
+        omega (
+          arith,
+          opened,
+          length-append (0 ∷ 0 ∷ [])
+              (string_of_stretch (0 ∷ 0 ∷ []) bodies heads
+              (stretch (get_or heads (b - first_node) no_head).start
+              (get_or heads (b - first_node) no_head).end)),
+        )
+
+-- what is left to be done: two for each node, one for each symbol, one for each that was put off
+abbrev pub work : List ℕ → List Head → Stretch → List Stretch → ℕ
+work bodies heads s later =
+    length (string_of_stretch (0 ∷ 0 ∷ []) bodies heads s)
+    + length (later_string (0 ∷ 0 ∷ []) bodies heads later) + length later
+
+module _ (bodies : List ℕ) (heads : List Head) (are_nodes : AreNodes bodies heads) where
+  pub reading_begins : (s : Stretch) (later : List Stretch) → IsStretch bodies heads s
+      → later ≡ [] → Reads bodies heads (stretch_string bodies heads s) [] s later
+  reading_begins s later is_in later_is = rw later_is (record {
+    whole_is =
+        ap (λ u. string_of_stretch [] bodies heads s ++ u) (later_string_nil [] bodies heads)
+        ∙ append-nil (string_of_stretch [] bodies heads s);
+    is_in = is_in;
+    are_in = All-nil (IsStretch bodies heads);
+  })
+
+  module _ (whole common : List ℕ) (s : Stretch) (later : List Stretch)
+      (reads : Reads bodies heads whole common s later) where
+    pub all_is_read : s.end ≤ s.start → later ≡ [] → common ≡ whole
+    all_is_read end_le later_is =
+        sym (append-nil common)
+        ∙ ap (λ u. common ++ u)
+        (sym (ap₂ (λ u v. u ++ v) (string_is_empty [] bodies heads s end_le)
+        (ap (later_string [] bodies heads) later_is ∙ later_string_nil [] bodies heads)))
+        ∙ reads.whole_is
+
+    pub reads_later : s.end ≤ s.start → (later' : List Stretch) (t : Stretch)
+        → later ≡ later' ++ t ∷ [] → Reads bodies heads whole common t later'
+    reads_later end_le later' t later_is = record {
+      whole_is =
+          sym (ap (λ u. common ++ u)
+          (ap₂ (λ u v. u ++ v) (string_is_empty [] bodies heads s end_le)
+          (ap (later_string [] bodies heads) later_is ∙ later_string_push [] bodies heads later' t)))
+          ∙ reads.whole_is;
+      is_in =
+          subst (IsStretch bodies heads) (last_is later' t s)
+          (All-get_or (IsStretch bodies heads) (later' ++ t ∷ []) (length later') s
+          (omega (arith, length-append later' (t ∷ [])))
+          (subst (All (IsStretch bodies heads)) later_is reads.are_in));
+      are_in =
+          subst (All (IsStretch bodies heads)) (front_is later' (t ∷ []))
+          (All-take (IsStretch bodies heads) (length later') (later' ++ t ∷ [])
+          (subst (All (IsStretch bodies heads)) later_is reads.are_in));
+    }
+
+    pub less_work_later : (later' : List Stretch) (t : Stretch) → later ≡ later' ++ t ∷ []
+        → work bodies heads t later' < work bodies heads s later
+    less_work_later later' t later_is =
+        let string_is = ap length (ap (later_string (0 ∷ 0 ∷ []) bodies heads) later_is
+        ∙ later_string_push (0 ∷ 0 ∷ []) bodies heads later' t) in
+        let count_is = ap length later_is in
+        omega (
+          arith,
+          string_is,
+          count_is,
+          length-append later' (t ∷ []),
+          length-append (string_of_stretch (0 ∷ 0 ∷ []) bodies heads t)
+              (later_string (0 ∷ 0 ∷ []) bodies heads later'),
+        )
+
+    module _ (start_lt : s.start < s.end) (b : ℕ) (b_is : b ≡ get_or bodies s.start 0) where
+      pub first_body_is : whole ≡ common
+          ++ (body_string (strings_after [] [] (nodes_of bodies heads)) b
+          ++ (string_of_stretch [] bodies heads (stretch (s.start + 1) s.end)
+          ++ later_string [] bodies heads later))
+      first_body_is = rw b_is
+          (sym reads.whole_is
+          ∙ ap (λ u. common ++ u)
+          (ap (λ u. u ++ later_string [] bodies heads later)
+          (string_splits [] bodies heads s start_lt reads.is_in.end_le_length)
+          ∙ append_assoc _ (string_of_stretch [] bodies heads (stretch (s.start + 1) s.end))
+          (later_string [] bodies heads later)))
+
+      pub reads_on : (common' : List ℕ)
+          → common' ≡ common ++ body_string (strings_after [] [] (nodes_of bodies heads)) b
+          → Reads bodies heads whole common' (stretch (s.start + 1) s.end) later
+      reads_on common' common_is = record {
+        whole_is =
+            ap (λ u. u ++ (string_of_stretch [] bodies heads (stretch (s.start + 1) s.end)
+            ++ later_string [] bodies heads later)) common_is
+            ∙ append_assoc common _ _ ∙ sym first_body_is;
+        is_in = rest_is_in bodies heads s reads.is_in start_lt;
+        are_in = reads.are_in;
+      }
+
+      pub less_work_on : work bodies heads (stretch (s.start + 1) s.end) later
+          < work bodies heads s later
+      less_work_on =
+          let front = 0 ∷ 0 ∷ [] in
+          let splits = ap length (string_splits front bodies heads s start_lt
+          reads.is_in.end_le_length) in
+          let some = some_work bodies heads are_nodes (get_or bodies s.start 0)
+          (body_in_range bodies heads s reads.is_in start_lt) in
+          omega (
+            arith,
+            splits,
+            some,
+            length-append (body_string (strings_after front [] (nodes_of bodies heads))
+                (get_or bodies s.start 0))
+                (string_of_stretch front bodies heads (stretch (s.start + 1) s.end)),
+          )
+
+      module _ (i : ℕ) (is_node : b ≡ first_node + i) where
+        pub index_lt : i < length heads
+        index_lt =
+            let in_range = body_in_range bodies heads s reads.is_in start_lt in
+            omega (arith, in_range, b_is, is_node)
+
+        pub reads_into : (p : Stretch) (later' : List Stretch) → IsPlaceOf heads i p
+            → MayPutOff s later later' → Reads bodies heads whole common p later'
+        reads_into p later' is_place put_off = record {
+          whole_is =
+              ap (λ u. common ++ u)
+              (ap₂ (λ u v. u ++ v)
+              (sym (node_is_opened [] bodies heads are_nodes b i p is_node index_lt is_place))
+              (later_string_put_off [] bodies heads s later later' put_off))
+              ∙ sym first_body_is;
+          is_in = place_is_in bodies heads i p are_nodes index_lt is_place;
+          are_in = later_are_in bodies heads s later later' reads.is_in start_lt reads.are_in put_off;
+        }
+
+        pub less_work_into : (p : Stretch) (later' : List Stretch) → IsPlaceOf heads i p
+            → MayPutOff s later later' → work bodies heads p later' < work bodies heads s later
+        less_work_into p later' is_place put_off =
+            let front = 0 ∷ 0 ∷ [] in
+            let splits = ap length (string_splits front bodies heads s start_lt
+            reads.is_in.end_le_length) in
+            let opened = ap length (node_is_opened front bodies heads are_nodes b i p is_node
+            index_lt is_place) in
+            let later_is = ap length (later_string_put_off front bodies heads s later later' put_off)
+            in
+            let count_le = put_off_count put_off in
+            let same = ap (λ x. length (body_string (strings_after front [] (nodes_of bodies heads))
+            x)) b_is in
+            omega (
+              arith,
+              splits,
+              opened,
+              later_is,
+              count_le,
+              same,
+              length-append (body_string (strings_after front [] (nodes_of bodies heads))
+                  (get_or bodies s.start 0))
+                  (string_of_stretch front bodies heads (stretch (s.start + 1) s.end)),
+              length-append front (string_of_stretch front bodies heads p),
+              length-append (string_of_stretch front bodies heads (stretch (s.start + 1) s.end))
+                  (later_string front bodies heads later),
+            )
+          where
+            put_off_count : MayPutOff s later later' → length later' ≤ length later + 1
+            put_off_count (inl none) = let same = ap length none.1 in omega (arith, same)
+            put_off_count (inr is_pushed) = let more = ap length is_pushed in
+                omega (arith, more, length-append later (stretch (s.start + 1) s.end ∷ []))
+
+-- ---- two strings are compared
+
+pub equal_if_first_is_read : (u v more : List ℕ) → u ++ more ≡ v → length u ≡ length v
+    → true ≡ bytes_eq v u
+equal_if_first_is_read u v [] v_is lengths_equal =
+    sym ((bytes_eq-Decides v u).1 (sym v_is ∙ append-nil u))
+equal_if_first_is_read u v (x ∷ more) v_is lengths_equal =
+    let sum = ap length v_is in
+    absurd (omega (arith, sum, lengths_equal, length-append u (x ∷ more)))
+
+pub equal_if_second_is_read : (u v more : List ℕ) → v ++ more ≡ u → length u ≡ length v
+    → true ≡ bytes_eq v u
+equal_if_second_is_read u v [] u_is lengths_equal =
+    sym ((bytes_eq-Decides v u).1 (sym (append-nil v) ∙ u_is))
+equal_if_second_is_read u v (x ∷ more) u_is lengths_equal =
+    let sum = ap length u_is in
+    absurd (omega (arith, sum, lengths_equal, length-append v (x ∷ more)))
+
+module _ (bodies : List ℕ) (heads : List Head) (are_nodes : AreNodes bodies heads)
+    (u v common : List ℕ) (s t : Stretch) (later later' : List Stretch)
+    (first : Reads bodies heads u common s later) (second : Reads bodies heads v common t later')
+    (lengths_equal : length u ≡ length v) where
+  pub equal_at_first_end : s.end ≤ s.start → later ≡ [] → true ≡ bytes_eq v u
+  equal_at_first_end end_le later_is =
+      equal_if_first_is_read u v
+      (string_of_stretch [] bodies heads t ++ later_string [] bodies heads later')
+      (ap (λ w. w ++ (string_of_stretch [] bodies heads t ++ later_string [] bodies heads later'))
+      (sym (all_is_read bodies heads are_nodes u common s later first end_le later_is))
+      ∙ second.whole_is) lengths_equal
+
+  pub equal_at_second_end : t.end ≤ t.start → later' ≡ [] → true ≡ bytes_eq v u
+  equal_at_second_end end_le later_is =
+      equal_if_second_is_read u v
+      (string_of_stretch [] bodies heads s ++ later_string [] bodies heads later)
+      (ap (λ w. w ++ (string_of_stretch [] bodies heads s ++ later_string [] bodies heads later))
+      (sym (all_is_read bodies heads are_nodes v common t later' second end_le later_is))
+      ∙ first.whole_is) lengths_equal
+
+pub nil_if_no_length : (later : List Stretch) → length later ≡ 0 → later ≡ []
+nil_if_no_length [] none = refl
+nil_if_no_length (s ∷ later) none = absurd (omega (arith, none))
+
+same_after : (common x y : List ℕ) → common ++ x ≡ common ++ y → x ≡ y
+same_after [] x y same = same
+same_after (c ∷ common) x y same = same_after common x y (cc)
+
+-- two different symbols follow
+pub different_if_symbols_are : (u v common x y : List ℕ) (strings : List (List ℕ)) (a b : ℕ)
+    → u ≡ common ++ (body_string strings a ++ x) → v ≡ common ++ (body_string strings b ++ y)
+    → a < first_node → b < first_node → (a ≡ b → ⊥) → false ≡ bytes_eq v u
+different_if_symbols_are u v common x y strings a b u_is v_is a_lt b_lt differ =
+    by_test (bytes_eq v u) refl
+  where
+    by_test : (t : Bool) → bytes_eq v u ≡ t → false ≡ t
+    by_test false is = refl
+    by_test true is =
+        let a_is_symbol : nat_lt a first_node ≡ true = grind (arith, nat_tests) in
+        let b_is_symbol : nat_lt b first_node ≡ true = grind (arith, nat_tests) in
+        let same : b ∷ y ≡ a ∷ x =
+        same_after common (b ∷ y) (a ∷ x)
+        (rw b_is_symbol at (sym v_is ∙ (bytes_eq-Decides v u).0 is ∙ rw a_is_symbol at u_is)) in
+        absurd (differ (cc))
+
+pub less_left : (a b c : ℕ) → a < b → a + c < b + c
+less_left a b c a_lt_b = omega (arith, a_lt_b)
+
+pub less_right : (a b c : ℕ) → a < b → c + a < c + b
+less_right a b c a_lt_b = omega (arith, a_lt_b)
+
+pub less_both : (a b c d : ℕ) → a < b → c < d → a + c < b + d
+less_both a b c d a_lt_b c_lt_d = omega (arith, a_lt_b, c_lt_d)
+
+pub symbol_string : (strings : List (List ℕ)) (b : ℕ) → b < first_node
+    → body_string strings b ≡ b ∷ []
+symbol_string strings b b_lt =
+    let test_is : nat_lt b first_node ≡ true = grind (arith, nat_tests) in rw test_is refl
+
+-- ---- bodies behind those of the nodes
+
+module _ (bodies wanted : List ℕ) (b : ℕ) (heads : List Head) (are_nodes : AreNodes bodies heads)
+    (are_bodies : All (IsBody (nodes_of bodies heads)) wanted)
+    (is_body : IsBody (nodes_of bodies heads) b) (all : List ℕ) (start middle end : ℕ)
+    (all_is : all ≡ (bodies ++ wanted) ++ b ∷ []) (start_is : start ≡ length bodies)
+    (middle_is : middle ≡ length (bodies ++ wanted)) (end_is : end ≡ length all) where
+  regrouped : all ≡ bodies ++ (wanted ++ b ∷ [])
+  regrouped = all_is ∙ append_assoc bodies wanted (b ∷ [])
+
+  nodes_same : nodes_of all heads ≡ nodes_of bodies heads
+  nodes_same =
+      ap (λ bs. nodes_of bs heads) regrouped
+      ∙ nodes_with_more bodies (wanted ++ b ∷ []) heads (λ i i_lt. (are_nodes i i_lt).end_le_length)
+
+  pub are_nodes_behind : AreNodes all heads
+  are_nodes_behind = rw regrouped (nodes_are_kept bodies (wanted ++ b ∷ []) heads are_nodes)
+
+  first_bodies : stretch_bodies all (stretch start middle) ≡ wanted
+  first_bodies =
+      ap (λ bs. slice_range bs start middle) all_is
+      ∙ range_of_front (bodies ++ wanted) (b ∷ []) start middle (omega (arith, middle_is))
+      ∙ range_behind bodies wanted start middle start_is middle_is
+
+  second_bodies : stretch_bodies all (stretch middle end) ≡ b ∷ []
+  second_bodies =
+      ap (λ bs. slice_range bs middle end) all_is
+      ∙ range_behind (bodies ++ wanted) (b ∷ []) middle end middle_is
+      (end_is ∙ ap length all_is)
+
+  pub first_string : stretch_string all heads (stretch start middle)
+      ≡ joined_string_of (nodes_of bodies heads) wanted
+  first_string = ap₂ joined_string_of nodes_same first_bodies
+
+  pub second_string : stretch_string all heads (stretch middle end)
+      ≡ string_of (nodes_of bodies heads) b
+  second_string =
+      ap₂ joined_string_of nodes_same second_bodies
+      ∙ append-nil (string_of (nodes_of bodies heads) b)
+
+  pub first_is_stretch : IsStretch all heads (stretch start middle)
+  first_is_stretch = record {
+    end_le_length =
+        let all_count = ap length all_is in
+        omega (arith, all_count, middle_is, length-append (bodies ++ wanted) (b ∷ []));
+    are_bodies =
+        let count = length_nodes bodies heads in
+        subst (λ (bs : List ℕ). All (λ b. b < first_node + length heads) bs) (sym first_bodies)
+        (subst (λ (n : ℕ). All (λ b. b < first_node + n) wanted) count are_bodies);
+  }
+
+  pub second_is_stretch : IsStretch all heads (stretch middle end)
+  second_is_stretch = record {
+    end_le_length = omega (arith, end_is);
+    are_bodies =
+        let count = length_nodes bodies heads in
+        subst (λ (bs : List ℕ). All (λ b. b < first_node + length heads) bs) (sym second_bodies)
+        (All-push (λ b. b < first_node + length heads) [] b
+        (All-nil (λ b. b < first_node + length heads)) (omega (arith, count, is_body)));
+  }
+
+pub bodies_stay : (bodies more all : List ℕ) → all ≡ bodies ++ more
+    → take (length bodies) all ≡ bodies
+bodies_stay bodies more all all_is = ap (take (length bodies)) all_is ∙ front_is bodies more
+
+pub equal_if_same : (u v : List ℕ) → u ≡ v → true ≡ bytes_eq u v
+equal_if_same u v same = sym ((bytes_eq-Decides u v).1 same)
+
+pub equal_if_empty : (u v : List ℕ) → length u ≡ 0 → length v ≡ 0 → true ≡ bytes_eq u v
+equal_if_empty [] [] no_u no_v = refl
+equal_if_empty [] (y ∷ v) no_u no_v = absurd (omega (arith, no_v))
+equal_if_empty (x ∷ u) v no_u no_v = absurd (omega (arith, no_u))

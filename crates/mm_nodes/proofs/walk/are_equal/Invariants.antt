@@ -1,0 +1,18 @@
+use Rattle.std.proofs.Common.{◌+◌, List, ℕ}
+use Rattle.mm_nodes.specs.Store.{stretch_string}
+use Rattle.mm_nodes.proofs.WalkLaw.{Reads, work}
+use Rattle.mm_nodes.proofs.walk.are_equal.Given as goal
+
+abbrev pub invariant-loop-left : goal.invariant-loop-left
+invariant-loop-left g l = record {
+  reads : (common : List ℕ)
+      × Reads l.bodies l.heads (stretch_string l.bodies l.heads l.fn.first) common l.left
+      l.left_later.items
+      × Reads l.bodies l.heads (stretch_string l.bodies l.heads l.fn.second) common l.right
+      l.right_later.items;
+}
+
+abbrev pub decreases-loop-left : goal.decreases-loop-left
+decreases-loop-left g l =
+    work l.bodies l.heads l.left l.left_later.items
+    + work l.bodies l.heads l.right l.right_later.items

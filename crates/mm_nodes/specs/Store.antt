@@ -1,0 +1,66 @@
+-- How nodes are kept.
+use Rattle.std.specs.Prelude.{ℕ, ◌+◌, ◌-◌, ◌<◌, ◌≤◌, ◌≡◌, List, [], ◌∷◌, ◌++◌, length, get_or, map, ◌⊎◌}
+use Rattle.std.specs.Prelude.{slice_range, All}
+use Rattle.mm_nodes.specs.declared.heads.Head.{Head}
+use Rattle.mm_nodes.specs.declared.heads.Stretch.{Stretch}
+use Rattle.mm_nodes.specs.Strings.{first_node, strings_of, joined_string_of}
+
+abbrev pub head : ℕ → ℕ → ℕ → Head
+head start end length = record { start = start; end = end; length = length }
+
+-- a node without bodies
+abbrev pub no_head : Head
+no_head = head 0 0 0
+
+-- the bodies of each node
+abbrev pub nodes_of : List ℕ → List Head → List (List ℕ)
+nodes_of bodies heads = map (λ h. slice_range bodies h.start h.end) heads
+
+-- The bodies of the nodes follow one another without gaps, from index `from` to index `to`.
+abbrev pub Follow : ℕ → List Head → ℕ → Type 0
+Follow from [] to = from ≡ to
+Follow from (h ∷ heads) to = (h.start ≡ from) × (from ≤ h.end) × Follow h.end heads to
+
+-- the bodies of a node are among all, each is a symbol or an earlier node, and its length is right
+pub record IsNode (bodies : List ℕ) (heads : List Head) (i : ℕ) : Type 0 where
+  pub start_le_end : (get_or heads i no_head).start ≤ (get_or heads i no_head).end
+  pub end_le_length : (get_or heads i no_head).end ≤ length bodies
+  pub bodies_below : All (λ b. b < first_node + i) (get_or (nodes_of bodies heads) i [])
+  pub length_is : (get_or heads i no_head).length
+      ≡ length (get_or (strings_of (nodes_of bodies heads)) i [])
+
+abbrev pub AreNodes : List ℕ → List Head → Type 0
+AreNodes bodies heads = (i : ℕ) → i < length heads → IsNode bodies heads i
+
+-- these are nodes, and no further bodies are kept
+pub record IsStore (bodies : List ℕ) (heads : List Head) : Type 0 where
+  pub follow : Follow 0 heads (length bodies)
+  pub are_nodes : AreNodes bodies heads
+  pub count_lt : length heads < first_node
+
+abbrev pub stretch : ℕ → ℕ → Stretch
+stretch start end = record { start = start; end = end }
+
+-- the bodies of a stretch
+abbrev pub stretch_bodies : List ℕ → Stretch → List ℕ
+stretch_bodies bodies s = slice_range bodies s.start s.end
+
+-- the string of a stretch of bodies
+abbrev pub stretch_string : List ℕ → List Head → Stretch → List ℕ
+stretch_string bodies heads s = joined_string_of (nodes_of bodies heads) (stretch_bodies bodies s)
+
+-- a stretch of the bodies, each of which is a symbol or one of the nodes
+pub record IsStretch (bodies : List ℕ) (heads : List Head) (s : Stretch) : Type 0 where
+  pub end_le_length : s.end ≤ length bodies
+  pub are_bodies : All (λ b. b < first_node + length heads) (stretch_bodies bodies s)
+
+-- the first body of a stretch is left out, and the rest is put off, if there is any
+abbrev pub MayPutOff : Stretch → List Stretch → List Stretch → Type 0
+MayPutOff s later later' =
+    ((s.end ≤ s.start + 1) × (later' ≡ later))
+    ⊎ (later' ≡ later ++ stretch (s.start + 1) s.end ∷ [])
+
+-- the stretch has the bodies of the node
+abbrev pub IsPlaceOf : List Head → ℕ → Stretch → Type 0
+IsPlaceOf heads i s =
+    (s.start ≡ (get_or heads i no_head).start) × (s.end ≡ (get_or heads i no_head).end)

@@ -1,0 +1,20 @@
+//! Strings of symbols as nodes. A *body* is a symbol or a node, and a *node* is a list of bodies,
+//! each a symbol or an earlier node. So a string that has another as a part takes one body for it,
+//! however long the part is. This layer knows nothing of databases: a symbol is a number below
+//! 2^31. It promises what string a body stands for, and that two bodies are found to be equal
+//! exactly if their strings are.
+//!
+//! A caller makes a [`Nodes`] once, makes bodies of others with [`Nodes::make`], compares them with
+//! [`Nodes::is_equal`], reads their symbols with [`Nodes::append_symbols`], and gives up the last
+//! nodes with [`Nodes::truncate`]. No call is recursive, however deep nodes are nested.
+#![tactic(auto)]
+
+mod body;
+mod body_list;
+mod copy;
+mod heads;
+mod nodes;
+mod walk;
+
+pub use body::Body;
+pub use nodes::Nodes;

@@ -1,0 +1,171 @@
+//! Walks over strings, without recursion.
+
+ghost use Rattle.std.specs.Prelude.{◌≡◌, ◌<◌, ◌+◌, ◌++◌, [], ◌∷◌, length, OnOk, IfOk, bytes_eq};
+ghost use Rattle.std.specs.Prelude.{get_or, slice_index_or, List};
+ghost use Rattle.mm_nodes.specs.Strings.{first_node, strings_of, string_of};
+ghost use Rattle.mm_nodes.specs.Store.{AreNodes, IsStretch, nodes_of, stretch_string, no_head};
+ghost use Rattle.mm_nodes.specs.Store.{MayPutOff, stretch, IsPlaceOf};
+
+use crate::body::Body;
+use crate::heads::{Head, Stretch};
+use std::alloc::{AllocError, Allocator};
+
+/// How many symbols a body's string has.
+#[inline(always)]
+pub fn length_of(heads: &[Head], _bodies: &[Body], body: Body) -> u32
+    requires { AreNodes _bodies.now heads.now }
+    ensures { result ≡ length (string_of (nodes_of _bodies.now heads.now) body) }
+{
+    match body.index() {
+        None => 1,
+        Some(index) => {
+            if index < heads.len() {
+                heads[index].length
+            } else {
+                0
+            }
+        }
+    }
+}
+
+/// Where the bodies of a node are.
+#[inline(always)]
+pub fn place_of(heads: &[Head], index: usize) -> Stretch
+    requires { index < length heads.now }
+    ensures { IsPlaceOf heads.now index result }
+{
+    let head = heads[index];
+    Stretch {
+        start: head.start as usize,
+        end: head.end as usize,
+    }
+}
+
+/// The bodies of a node.
+#[inline(always)]
+pub fn bodies_of<'a>(heads: &[Head], bodies: &'a [Body], index: usize) -> &'a [Body]
+    requires are_nodes { AreNodes bodies.now heads.now }
+    requires index_lt_length { index < length heads.now }
+    ensures { result.now ≡ slice_index_or (nodes_of bodies.now heads.now) index [] }
+{
+    let place = place_of(heads, index);
+    &bodies[place.start..place.end]
+}
+
+/// Puts off what a stretch has after its first body, if it has more.
+#[inline(always)]
+fn put_off<A: Allocator>(from: Stretch, later: &mut Vec<Stretch, A>) -> Result<(), AllocError>
+    requires { from.start < from.end }
+    ensures { OnOk result (MayPutOff from later.old.items later.new.items) }
+{
+    let start = from.start + 1;
+    if start < from.end {
+        later.push(Stretch {
+            start,
+            end: from.end,
+        })?;
+    }
+    Ok(())
+}
+
+/// Whether two strings are equal. They have the same length.
+pub fn are_equal<A: Allocator>(
+    heads: &[Head],
+    bodies: &[Body],
+    first: Stretch,
+    second: Stretch,
+    left_later: &mut Vec<Stretch, A>,
+    right_later: &mut Vec<Stretch, A>,
+) -> Result<bool, AllocError>
+    requires are_nodes { AreNodes bodies.now heads.now }
+    requires first_is_stretch { IsStretch bodies.now heads.now first }
+    requires second_is_stretch { IsStretch bodies.now heads.now second }
+    requires lengths_equal { length (stretch_string bodies.now heads.now first)
+        ≡ length (stretch_string bodies.now heads.now second) }
+    ensures { IfOk result
+        (λ b. b ≡ bytes_eq (stretch_string bodies.now heads.now second)
+        (stretch_string bodies.now heads.now first)) }
+{
+    left_later.clear();
+    right_later.clear();
+    let mut left = first;
+    let mut right = second;
+    loop {
+        if left.start >= left.end {
+            match left_later.pop() {
+                None => return Ok(true),
+                Some(next) => left = next,
+            }
+        } else if right.start >= right.end {
+            match right_later.pop() {
+                None => return Ok(true),
+                Some(next) => right = next,
+            }
+        } else {
+            let a = bodies[left.start];
+            let b = bodies[right.start];
+            if a == b {
+                left.start += 1;
+                right.start += 1;
+                continue;
+            }
+            match (a.index(), b.index()) {
+                (None, None) => return Ok(false),
+                (Some(index), None) => {
+                    put_off(left, left_later)?;
+                    left = place_of(heads, index);
+                }
+                (None, Some(index)) => {
+                    put_off(right, right_later)?;
+                    right = place_of(heads, index);
+                }
+                (Some(i), Some(j)) => {
+                    if length_of(heads, bodies, a) >= length_of(heads, bodies, b) {
+                        put_off(left, left_later)?;
+                        left = place_of(heads, i);
+                    } else {
+                        put_off(right, right_later)?;
+                        right = place_of(heads, j);
+                    }
+                }
+            }
+        }
+    }
+}
+
+/// Appends the symbols of a stretch of bodies to a list.
+pub fn append_all<A: Allocator>(
+    heads: &[Head],
+    bodies: &[Body],
+    all: Stretch,
+    later: &mut Vec<Stretch, A>,
+    list: &mut Vec<Body, A>,
+) -> Result<(), AllocError>
+    requires are_nodes { AreNodes bodies.now heads.now }
+    requires is_stretch { IsStretch bodies.now heads.now all }
+    ensures { OnOk result
+        (list.new.items ≡ list.old.items ++ stretch_string bodies.now heads.now all) }
+{
+    later.clear();
+    let mut rest = all;
+    loop {
+        if rest.start >= rest.end {
+            match later.pop() {
+                None => return Ok(()),
+                Some(next) => rest = next,
+            }
+        } else {
+            let body = bodies[rest.start];
+            match body.index() {
+                None => {
+                    list.push(body)?;
+                    rest.start += 1;
+                }
+                Some(index) => {
+                    put_off(rest, later)?;
+                    rest = place_of(heads, index);
+                }
+            }
+        }
+    }
+}
