@@ -209,24 +209,23 @@ module _ (text : List ℕ) (db : List Statement) (w : Bool) (fault : Option Faul
         let some_kind_is_x : Some (kind_of s) ≡ Some x =
         sym (ap (option_map kind_of) s_is_statement_k) ∙ kind_k_is_x in cc
 
-    counted_label_is_label : option_map (λ t. t.word)
-        (option_and_then label_of (slice_get n.statements k))
-        ≡ option_map (λ t. t.word) (label_of s)
-    counted_label_is_label =
-        subst (λ (n : Contents). option_map (λ t. t.word)
-        (option_and_then label_of (slice_get n.statements k))
-        ≡ option_map (λ t. t.word) (label_of s)) contents_are_n
-        (ap (option_map (λ t. t.word))
+    counted_label_is_label : {X : Type 0} (f : Token → X)
+        → option_map f (option_and_then label_of (slice_get n.statements k))
+        ≡ option_map f (label_of s)
+    counted_label_is_label f =
+        subst (λ (n : Contents). option_map f (option_and_then label_of (slice_get n.statements k))
+        ≡ option_map f (label_of s)) contents_are_n
+        (ap (option_map f)
         (counted_then w db label_of (λ l k xs e ps d. refl) k
         ∙ ap (option_and_then label_of) s_is_statement_k))
 
     -- no label
-    pub label_missing : (x : Kind) → option_map kind_of (slice_get db k) ≡ Some x
-        → is_labelled_kind x ≡ false
-        → None ≡ option_map (λ t. t.word) (option_and_then label_of (slice_get n.statements k))
-    label_missing x kind_k_is_x is_not_labelled =
-        sym (counted_label_is_label
-        ∙ ap (option_map (λ t. t.word))
+    pub label_missing : {X : Type 0} (f : Token → X) (x : Kind)
+        → option_map kind_of (slice_get db k) ≡ Some x → is_labelled_kind x ≡ false
+        → None ≡ option_map f (option_and_then label_of (slice_get n.statements k))
+    label_missing f x kind_k_is_x is_not_labelled =
+        sym (counted_label_is_label f
+        ∙ ap (option_map f)
         (unlabelled_has_no_label s (ap is_labelled_kind (kind_of_s_is_kind_k x kind_k_is_x)
         ∙ is_not_labelled)))
 
@@ -292,14 +291,14 @@ module _ (text : List ℕ) (db : List Statement) (w : Bool) (fault : Option Faul
               retained_k.words_are ∙ ap (λ l. l ++ (retained_k.proof ++ retained_k.last ∷ []))
               first_is_label.1
 
-          first_word_is_label : (d : Word)
-              → Some (slice_range text (get_or words 0 d).start (get_or words 0 d).end)
-              ≡ option_map (λ t. t.word) (option_and_then label_of (slice_get n.statements k))
-          first_word_is_label d =
-              ap (λ ys. Some (token_of text (get_or ys 0 d)).word) words_begin_with_label
-              ∙ ap (λ t. Some t.word) first_is_label.2
-              ∙ sym (counted_label_is_label
-              ∙ ap (option_map (λ t. t.word)) (has_label s s_is_labelled).1)
+          first_word_is_label : {X : Type 0} (f : Token → X) (d : Word)
+              → Some (f (token_of text (get_or words 0 d)))
+              ≡ option_map f (option_and_then label_of (slice_get n.statements k))
+          first_word_is_label f d =
+              ap (λ ys. Some (f (token_of text (get_or ys 0 d)))) words_begin_with_label
+              ∙ ap (λ t. Some (f t)) first_is_label.2
+              ∙ sym (counted_label_is_label f
+              ∙ ap (option_map f) (has_label s s_is_labelled).1)
 
           word_count_with_label : length words ≡ suc (length retained_k.proof + 1)
           word_count_with_label =
@@ -319,12 +318,12 @@ module _ (text : List ℕ) (db : List Statement) (w : Bool) (fault : Option Faul
               ∙ take-append_seam retained_k.proof (retained_k.last ∷ [])
 
         -- the first of the retained words of a labelled statement is its label
-        pub label_is_retained : (x : Kind) → option_map kind_of (slice_get db k) ≡ Some x
-            → is_labelled_kind x ≡ true → (d : Word)
-            → Some (slice_range text (get_or words 0 d).start (get_or words 0 d).end)
-            ≡ option_map (λ t. t.word) (option_and_then label_of (slice_get n.statements k))
-        label_is_retained x kind_k_is_x is_labelled d =
-            first_word_is_label x (kind_of_s_is_kind_k x kind_k_is_x) is_labelled d
+        pub label_is_retained : {X : Type 0} (f : Token → X) (x : Kind)
+            → option_map kind_of (slice_get db k) ≡ Some x → is_labelled_kind x ≡ true → (d : Word)
+            → Some (f (token_of text (get_or words 0 d)))
+            ≡ option_map f (option_and_then label_of (slice_get n.statements k))
+        label_is_retained f x kind_k_is_x is_labelled d =
+            first_word_is_label x (kind_of_s_is_kind_k x kind_k_is_x) is_labelled f d
 
         module _ (counts : option_map kind_of (slice_get n.statements k) ≡ Some kind.Theorem) where
           theorem : (kind_of s ≡ kind.Theorem) × (slice_get (counted w db) k ≡ Some s)

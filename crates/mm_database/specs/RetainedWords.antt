@@ -2,8 +2,8 @@
 use Rattle.std.specs.Prelude.{◌≡◌, ℕ, ◌+◌, ◌-◌, List, [], ◌∷◌, ◌++◌, length, slice_get}
 use Rattle.std.specs.Prelude.{slice_index_or, slice_range, if◌then◌else◌, None, Some}
 use Rattle.mm_spec.specs.Text.{Token}
-use Rattle.mm_spec.specs.Statement.{Statement, constants, variables, disjoint, floating, essential}
-use Rattle.mm_spec.specs.Statement.{axiomatic, provable, opening, closing, label_of, proof_of}
+pub use Rattle.mm_spec.specs.Assertion.{end_at}
+use Rattle.mm_spec.specs.Statement.{Statement, label_of, proof_of}
 use Rattle.mm_spec.specs.declared.Word.{Word}
 use Rattle.mm_outline.specs.Parts.{nth_word, as_tokens, is_labelled_kind, AreWithin}
 use Rattle.mm_outline.specs.declared.parts.Outline.{Outline}
@@ -15,18 +15,6 @@ label_word ws o = if is_labelled_kind o.kind then nth_word ws (o.keyword - 1) �
 abbrev pub retained_words : List Word → Outline → List Word
 retained_words ws o = label_word ws o ++ (slice_range ws (o.middle + 1) o.end
     ++ nth_word ws o.end ∷ [])
-
--- the place of a statement's last token
-abbrev pub end_at : Statement → ℕ
-end_at (constants k xs d) = d
-end_at (variables k xs d) = d
-end_at (disjoint k xs d) = d
-end_at (floating l k xs d) = d
-end_at (essential l k xs d) = d
-end_at (axiomatic l k xs d) = d
-end_at (provable l k xs e ps d) = d
-end_at (opening k) = k
-end_at (closing k) = k
 
 -- the label if there is one
 abbrev pub label_tokens : Statement → List Token

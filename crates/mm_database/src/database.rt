@@ -137,6 +137,21 @@ impl<'a, A: Allocator> Database<'a, A> {
         words[words.len() - 1].start
     }
 
+    /// Returns the place of a statement's first token, a byte offset from 0, if that is its label,
+    /// or `None` if it has none.
+    pub fn label_at(&self, statement: u32) -> Option<u32>
+        requires { statement < length self.now.statements }
+        ensures { result
+            ≡ option_map (λ t. t.at)
+            (option_and_then label_of (slice_get self.now.statements statement)) }
+    {
+        if self.reading.statements.kind(statement).has_label() {
+            Some(self.tables.retained_words.get(statement as usize)[0].start)
+        } else {
+            None
+        }
+    }
+
     /// Returns the label of a statement, or `None` if it has none.
     pub fn label(&self, statement: u32) -> Option<&'a [u8]>
         requires { statement < length self.now.statements }

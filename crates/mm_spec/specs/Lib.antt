@@ -21,6 +21,7 @@ pub mod Valid
 pub mod Chains
 pub mod Nodes
 pub mod Citation
+pub mod Assertion
 pub mod Report
 pub mod Request
 pub mod Output

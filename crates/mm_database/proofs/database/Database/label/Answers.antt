@@ -47,10 +47,10 @@ returns-then-has_label g c =
     (c.text.ensures ∙ sym (ap (λ (n : Contents). n.text) c.self.view_is))
     ∙ label_is_retained _ _ _ _ _ c.self.view_is _ c.requires _ c.self.invariant.retained_are
     c.get.result.now
-    c.get.ensures.is_list _ c.kind.ensures (sym c.has_label.ensures ∙ c.if-has_label.true)
+    c.get.ensures.is_list (λ t. t.word) _ c.kind.ensures (sym c.has_label.ensures ∙ c.if-has_label.true)
     (record { start = 0; end = 0 })
 
 pub returns-else-has_label : goal.returns-else-has_label
 returns-else-has_label g c =
-    label_missing _ _ _ _ _ c.self.view_is _ c.requires _ c.kind.ensures
+    label_missing _ _ _ _ _ c.self.view_is _ c.requires (λ t. t.word) _ c.kind.ensures
     (sym c.has_label.ensures ∙ c.if-has_label.false)
