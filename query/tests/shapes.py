@@ -324,7 +324,7 @@ SHAPES = [
           ("compare a.mm b.mm", "gate a.mm b.mm", "page --against a.mm b.mm")),
     Shape("equal statements with the old proofs", proved_anew, 4_000, 10_000,
           ("compare a.mm b.mm", "gate a.mm b.mm")),
-    Shape("a long `$d`", distinct, 2_000, 4_000,
+    Shape("a long `$d`", distinct, 2_000, 2_000,
           ("compare a.mm b.mm", "gate a.mm b.mm", "page a.mm")),
     Shape("a long `$d` around", far_distinct, 2_000, 4_000,
           ("compare a.mm b.mm", "gate a.mm b.mm", "page a.mm", "export --sqlite out.db a.mm")),
