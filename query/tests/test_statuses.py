@@ -217,8 +217,7 @@ class Interrupts(World):
                     self.assertTrue(whole.out.startswith(came.out), f"{words}")
                     stopped += 1
                 else:
-                    self.assertEqual((came.out, came.err), (whole.out, ""), f"{words}: {came}")
-                    self.assertEqual(came.status, whole.status, f"{words}, {was_running}")
+                    self.assertEqual(came, whole, f"{words}, {was_running}")
         self.assertGreater(stopped, len(names()))
 
     def test_while_python_starts(self) -> None:
