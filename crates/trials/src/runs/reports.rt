@@ -235,7 +235,13 @@ const CITATIONS_CASES: [Case<'static>; 8] = [
         output: b"mmdepend 2\naxioms 3\ntheorems 2\nmatrix\na1i:e\na2:e\ncitations\na1i:3:wi ax-1 ax-mp\na2:2:wi a1i\nend\n",
     },
     Case {
-        words: &["mmdepend", "--report", "citations,usage,usage", "--only", "|-"],
+        words: &[
+            "mmdepend",
+            "--report",
+            "citations,usage,usage",
+            "--only",
+            "|-",
+        ],
         parts: TWO_THEOREMS,
         output: b"mmdepend 1\naxioms 2\ntheorems 2\nusage\nax-1:2:a1i a2\nax-mp:2:a1i a2\ncitations\na1i:2:ax-1 ax-mp\na2:1:a1i\nend\n",
     },

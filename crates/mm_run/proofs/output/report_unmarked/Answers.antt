@@ -16,8 +16,8 @@ returns-in-Ok g c =
       (d.read, c.requires.is_judged.has_no_fault),
       (
         unmarked_report_of request d c.args.chosen.now (citing_rows_of request d citing),
-        unmarked_is_output request d citing c.args.chosen.now 
-          c.requires.is_judged c.requires.columns_are c.requires.no_marks,
+        unmarked_is_output request d citing c.args.chosen.now
+            c.requires.is_judged c.requires.columns_are c.requires.no_marks,
         c.in-Ok.ensures.report_is_written,
       ),
     )
@@ -30,7 +30,7 @@ returns-in-Err g c =
     let is_prefix = c.in-Err.ensures.prefix_is_written in (
       unmarked_report_of request d c.args.chosen.now (citing_rows_of request d citing),
       is_prefix.0,
-      unmarked_is_output request d citing c.args.chosen.now 
+      unmarked_is_output request d citing c.args.chosen.now
           c.requires.is_judged c.requires.columns_are c.requires.no_marks,
       is_prefix.1,
     )

@@ -17,7 +17,7 @@ returns-in-Ok g c =
       (
         report_of request d c.args.chosen.now c.args.matrix.now (citing_rows_of request d citing),
         table_is_output request d citing c.args.chosen.now c.args.matrix.now
-          c.requires.is_judged c.requires.columns_are c.requires.is_matrix,
+            c.requires.is_judged c.requires.columns_are c.requires.is_matrix,
         c.in-Ok.ensures.report_is_written,
       ),
     )
