@@ -21,6 +21,18 @@ pub(crate) const CITED_TWICE: &[u8] =
 pub(crate) const CITED_TWICE_REPORT: &[u8] =
     b"mmdepend 1\naxioms 3\ntheorems 2\nmatrix\na1i:111\na2:111\ncounts\na1i:3\na2:3\nusage\nwi:2:a1i a2\nax-1:2:a1i a2\nax-mp:2:a1i a2\nend\n";
 
+/// The report of its statements.
+pub(crate) const CITED_TWICE_STATEMENTS: &[u8] =
+    b"mmdepend 1\naxioms 3\ntheorems 2\nstatements\nwi:a:60:83: $f wp wff p $f wq wff q $a wff ( p -> q )\nax-1:a:84:117: $f wp wff p $f wq wff q $a |- ( p -> ( q -> p ) )\nax-mp:a:160:176: $f wp wff p $f wq wff q $e min |- p $e maj |- ( p -> q ) $a |- q\na1i:p:196:253: $f wp wff p $f wq wff q $e h |- p $p |- ( q -> p )\na2:p:273:335: $f wp wff p $f wq wff q $e g |- p $p |- ( q -> ( q -> p ) )\nend\n";
+
+/// Two blocks, and two theorems with a dummy variable that has to be distinct from the other one.
+pub(crate) const DUMMIES: &[u8] =
+    b"$c wff |- $. $v x y z $.\n${ fx $f wff x $. fy $f wff y $. fz $f wff z $. $d x y z $. e $e |- x y $. ax $a |- y $. $}\n${ gx $f wff x $. gz $f wff z $. $d x z $. one $a wff $. two $a |- x $.\n${ m $e |- z $. cut $a |- x $. $}\np $p |- x $= gx gz gz two cut $.\nq $p |- x $= ( gz two cut ) ABBCD $.\n$}\n";
+
+/// The report of the statements of that text.
+pub(crate) const DUMMIES_STATEMENTS: &[u8] =
+    b"mmdepend 1\naxioms 4\ntheorems 2\nstatements\nax:a:100:113: $f fx wff x $f fy wff y $e e |- x y $d x y $a |- y\none:a:160:173: $a wff\ntwo:a:174:188: $f gx wff x $a |- x\ncut:a:205:219: $f gx wff x $f gz wff z $e m |- z $d x z $a |- x\np:p:223:255: $f gx wff x $v z $d x z $p |- x\nq:p:256:292: $f gx wff x $v z $d x z $p |- x\nend\n";
+
 /// Only the first of these theorems, its proof in compressed form with a step that is marked and
 /// repeated.
 pub(crate) const COMPRESSED: &[u8] =

@@ -1,18 +1,20 @@
 -- The beginning and the end of a proof.
 use Rattle.std.proofs.Common.{◌≡◌, ℕ, ◌<◌, ◌∷◌, [], List, length, slice_get, Some, None, Option}
 use Rattle.std.proofs.Common.{Bool}
-use Rattle.std.proofs.Common.{sym, subst, inr, true, false, refl, true≢false, arith}
+use Rattle.std.proofs.Common.{sym, subst, inr, true, false, refl, true≢false, arith, ◌==◌, ap}
 use Rattle.std.specs.Prelude.{Decides}
 use Rattle.std.specs.List.{list_any}
 use Rattle.std.specs.Option.{option_map}
 use Rattle.std.specs.List.Sorted.{IsStrictlyIncreasing}
 use Rattle.std.proofs.lemmas.List.{take_all}
+use Rattle.std.proofs.lemmas.Bool.Decides.{nat_tests}
 use Rattle.mm_spec.specs.Text.{fault}
 use Rattle.mm_spec.specs.Statement.{Statement}
 use Rattle.mm_spec.specs.Steps.{PlacedStep}
 use Rattle.mm_spec.specs.Derivation.{Formula, Trees, is_member}
 use Rattle.mm_spec.specs.Output.{ProofFault, proof_end}
 use Rattle.mm_spec.specs.declared.Code.{Code}
+use Rattle.mm_spec.specs.declared.Code.TheVariants.{NotOneEntry, OtherFormula}
 use Rattle.mm_spec.specs.Valid.{Derives, ProofEndFault, IsEndCode}
 use Rattle.mm_spec.specs.Frame.{formula_at}
 use Rattle.mm_spec.specs.Citation.{context_at, is_theorem, IsProof, Cites}
@@ -21,7 +23,9 @@ use Rattle.mm_database.specs.Database.{end_at}
 use Rattle.mm_rules.specs.Rules.{RuleLists}
 use Rattle.mm_machine.specs.DisjointCache.{KnownPairs, AreDisjointAt}
 use Rattle.mm_machine.specs.State.{MachineState, machine_state}
-use Rattle.mm_check.specs.Contract.{IsChecked}
+use Rattle.mm_check.specs.declared.checker.CheckRefused.{CheckRefused}
+use Rattle.mm_check.specs.declared.checker.CheckRefused.TheVariants.{Fault as Faulty, Memory}
+use Rattle.mm_check.specs.Contract.{IsChecked, IsCheckRefusal, IsEndRefusal}
 use Rattle.mm_check.specs.Reached.{IsReached, AreStepsOf, steps_of}
 use Rattle.mm_check.specs.Checker.{CheckerState, checker_state, AreOfDatabase, HasPerformed}
 use Rattle.mm_check.proofs.CitesLaw.{labels_are_cited}
@@ -109,3 +113,23 @@ module _ (db : List Statement) (t : ℕ) (steps : List PlacedStep) where
               (end_code_is_fault db t steps c.machine.stack ends c.noted all_reached end code f
               is_end_code))),
         )
+
+    pub end_refusal_is_right : (e : CheckRefused) → IsEndRefusal db t c.machine.stack e
+        → IsCheckRefusal db t e
+    end_refusal_is_right (Faulty f) is_end_refusal =
+        end_is_refused f.at f.code is_end_refusal.0 is_end_refusal.1
+    end_refusal_is_right Memory is_end_refusal = tt
+
+-- the code of the end, by the tests that the code makes
+pub many_entries_code : (stack : List Formula) (f : Formula) → (length stack == 1) ≡ false
+    → IsEndCode stack f NotOneEntry
+many_entries_code [] f not_one = refl
+many_entries_code (g ∷ []) f not_one = absurd (true≢false not_one)
+many_entries_code (g ∷ h ∷ stack) f not_one = refl
+
+pub other_formula_code : (stack : List Formula) (f : Formula) → (length stack == 1) ≡ true
+    → (stack ≡ f ∷ [] → ⊥) → IsEndCode stack f OtherFormula
+other_formula_code [] f one differs = absurd (true≢false (sym one))
+other_formula_code (g ∷ []) f one differs = (λ g_is. differs (ap (λ z. z ∷ []) g_is), refl)
+other_formula_code (g ∷ h ∷ stack) f one differs =
+    let count : length (g ∷ h ∷ stack) ≡ 1 = grind (arith, nat_tests) in absurd (omega (arith, count))

@@ -15,8 +15,8 @@ use Rattle.mm_spec.specs.Citation.{context_at}
 use Rattle.mm_spec.specs.Laws.Stack.{IsGoodStep, step_entries, top}
 use Rattle.mm_steps.specs.TheoremSteps.{step_at, is_marked, repeats}
 use Rattle.mm_machine.specs.State.{MachineState, machine_state, with_mark, reason_of}
-use Rattle.mm_machine.specs.declared.machine.StepRefused.{StepRefused}
-use Rattle.mm_machine.specs.declared.machine.StepRefused.TheVariants.{Fault, Memory}
+use Rattle.mm_machine.specs.declared.reason.StepRefused.{StepRefused}
+use Rattle.mm_machine.specs.declared.reason.StepRefused.TheVariants.{Fault, Memory}
 use Rattle.mm_check.specs.Contract.{IsReady, IsRefusalOfSomeStep, refusal_at}
 use Rattle.mm_check.specs.Checker.{CheckerState, checker_state, IsAtTheorem, HasPerformed, Performs}
 use Rattle.mm_check.specs.Checker.{IsStepRefusal}

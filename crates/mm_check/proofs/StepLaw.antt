@@ -14,7 +14,7 @@ use Rattle.mm_rule.specs.Assertions.{is_assertion_at}
 use Rattle.mm_machine.specs.DisjointCache.{KnownPairs}
 use Rattle.mm_machine.specs.State.{MachineState, machine_state, applied}
 use Rattle.mm_machine.specs.Applied.{IsRefusalOf}
-use Rattle.mm_machine.specs.declared.machine.StepRefused.{StepRefused}
+use Rattle.mm_machine.specs.declared.reason.StepRefused.{StepRefused}
 use Rattle.mm_check.specs.Checker.{CheckerState, checker_state}
 use Rattle.mm_check.specs.Checker.{Performs, IsStepRefusal}
 use Rattle.mm_check.proofs.CompilerStateLaw.{assertion_rule}

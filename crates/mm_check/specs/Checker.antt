@@ -12,7 +12,7 @@ use Rattle.mm_rules.specs.Rules.{RuleLists, AreRules}
 use Rattle.mm_machine.specs.DisjointCache.{KnownPairs, AreDisjointAt}
 use Rattle.mm_machine.specs.State.{MachineState}
 use Rattle.mm_machine.specs.Applied.{IsRefusalOf}
-use Rattle.mm_machine.specs.declared.machine.StepRefused.{StepRefused}
+use Rattle.mm_machine.specs.declared.reason.StepRefused.{StepRefused}
 use Rattle.mm_check.specs.Contract.{is_labelled_step}
 use Rattle.mm_check.specs.Reached.{HasRun, AreEndFormulas, AreStepsOf}
 

@@ -1,19 +1,22 @@
 -- What the answers of the checker mean.
-use Rattle.std.specs.Prelude.{ℕ, ◌<◌, Bool, false, ◌==◌, List, slice_get, Decides}
+use Rattle.std.specs.Prelude.{ℕ, ◌≡◌, ◌<◌, Bool, false, ◌==◌, List, Some, slice_get, Decides}
 use Rattle.std.specs.List.{Contains}
+use Rattle.std.specs.Option.{option_map}
 use Rattle.std.specs.List.Sorted.{IsStrictlyIncreasing}
 use Rattle.mm_spec.specs.Statement.{Statement}
-use Rattle.mm_spec.specs.Derivation.{Context, Trees, is_member}
+use Rattle.mm_spec.specs.Derivation.{Context, Formula, Trees, is_member}
+use Rattle.mm_spec.specs.Frame.{formula_at}
 use Rattle.mm_spec.specs.Steps.{Step, label, marked, PlacedStep}
 use Rattle.mm_spec.specs.Text.{fault}
-use Rattle.mm_spec.specs.Valid.{StepFault, code_of}
+use Rattle.mm_spec.specs.Valid.{StepFault, code_of, IsEndCode}
 use Rattle.mm_spec.specs.Citation.{IsProof, Cites, context_at}
 use Rattle.mm_spec.specs.Output.{ProofFault, proof_end}
 use Rattle.mm_spec.specs.Laws.Stack.{IsCompleteReferent}
+use Rattle.mm_database.specs.Database.{end_at}
 use Rattle.mm_machine.specs.State.{reason_of}
-use Rattle.mm_machine.specs.declared.machine.StepRefused.{StepRefused}
-use Rattle.mm_machine.specs.declared.machine.StepRefused.TheVariants.{Fault as Reasoned}
-use Rattle.mm_machine.specs.declared.machine.StepRefused.TheVariants.{Memory as Full}
+use Rattle.mm_machine.specs.declared.reason.StepRefused.{StepRefused}
+use Rattle.mm_machine.specs.declared.reason.StepRefused.TheVariants.{Fault as Reasoned}
+use Rattle.mm_machine.specs.declared.reason.StepRefused.TheVariants.{Memory as Full}
 use Rattle.mm_check.specs.declared.checker.CheckRefused.{CheckRefused}
 use Rattle.mm_check.specs.declared.checker.CheckRefused.TheVariants.{Fault as Faulty, Memory}
 
@@ -43,6 +46,13 @@ IsCheckRefusal db t Memory = Unit {0}
 abbrev pub IsRefusalOfSomeStep : List Statement → ℕ → List PlacedStep → CheckRefused → Type 0
 IsRefusalOfSomeStep db t steps (Faulty f) = StepFault (context_at db t) steps f
 IsRefusalOfSomeStep db t steps Memory = Unit {0}
+
+-- if the refusal is a fault, it is that of the end of the theorem's proof, after which there are these
+-- entries
+abbrev pub IsEndRefusal : List Statement → ℕ → List Formula → CheckRefused → Type 0
+IsEndRefusal db t stack (Faulty f) =
+    (option_map end_at (slice_get db t) ≡ Some f.at) × IsEndCode stack (formula_at db t) f.code
+IsEndRefusal db t stack Memory = Unit {0}
 
 -- the refusal of a proof, a step of which was refused at the place
 abbrev pub refusal_at : ℕ → StepRefused → CheckRefused

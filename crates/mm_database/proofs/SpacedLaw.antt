@@ -6,7 +6,8 @@ use Rattle.std.proofs.lemmas.List.{take-map, drop-map}
 use Rattle.std.proofs.lemmas.List.Elements.{All-from_recursion}
 use Rattle.std.proofs.lemmas.List.Folds.{flat_map-map}
 use Rattle.mm_spec.specs.Statement.{Statement}
-use Rattle.mm_spec.specs.Output.{is_theorem_at, theorems, label_at}
+use Rattle.mm_spec.specs.Assertion.{label_at}
+use Rattle.mm_spec.specs.Output.{is_theorem_at, theorems}
 use Rattle.mm_spec.proofs.FindsLaw.{each_filter, each_any}
 use Rattle.mm_lists.specs.Lists.{joined}
 use Rattle.mm_database.specs.Database.{spaced_labels}

@@ -8,7 +8,8 @@ use Rattle.mm_spec.specs.Opened.{counted}
 use Rattle.mm_spec.specs.Scope.{statement_at}
 use Rattle.mm_spec.specs.Frame.{symbol_names, formula_at}
 use Rattle.mm_spec.specs.Lexed.{lexed_of}
-use Rattle.mm_spec.specs.Output.{IsRead, theorems, columns, label_at}
+use Rattle.mm_spec.specs.Assertion.{label_at}
+use Rattle.mm_spec.specs.Output.{IsRead, theorems, columns}
 use Rattle.mm_database.specs.FrameTables.{AreFrameTables}
 use Rattle.mm_database.specs.Labels.{AreLabels}
 use Rattle.mm_database.specs.Names.{find, names_of}

@@ -18,7 +18,7 @@ use Rattle.mm_spec.specs.Derivation.{is_member}
 use Rattle.mm_spec.specs.Frame.{symbol_names, is_disjoint_statement, formula_at}
 use Rattle.mm_outline.proofs.StatementsLaw.{passing_lt_length}
 use Rattle.mm_spec.specs.Rising.{IsRisingFrom}
-use Rattle.mm_frame.specs.Chains.{IsLinkChain, AreLinked, HasChain, AreChains}
+use Rattle.mm_frame.specs.Chains.{IsLinkChain, AreLinked, HasChain, AreChains, has_lower}
 use Rattle.mm_database.specs.DisjointIndex.{has_symbol_by_width, is_disjoint_by_width, is_narrow}
 use Rattle.mm_database.specs.Pairs.{has_pair, IsBefore, AreRising}
 use Rattle.mm_database.specs.ParsedStatements.{IsSound}
@@ -210,27 +210,52 @@ chains_for_equal_tests passes equal_test a b heads links a_le_b tests_equal are_
     (tests_equal x)
     (are_chains x x_lt_length)
 
--- the chains have the statement for the first i + 1 symbols
-pub test_with_next_symbol : (passes : ℕ → ℕ → Bool) (xs : List ℕ) (i d s k : ℕ) → i < length xs
-    → s ≡ get_or xs i d → (x j : ℕ)
-    → ((passes x j || (is_member (take i xs) x && nat_eq j k)) || (nat_eq x s && nat_eq j k))
-    ≡ (passes x j || (is_member (take (i + 1) xs) x && nat_eq j k))
-test_with_next_symbol passes xs i d s k i_lt_length_xs s_is_element_i x j =
-    or_factors (passes x j) (is_member (take i xs) x) (nat_eq x s) (nat_eq j k)
-    ∙ sym (ap (λ b. passes x j || (b && nat_eq j k)) member_of_one_more)
+module _ (passes : ℕ → ℕ → Bool) (test : ℕ → Bool) (xs : List ℕ) (i d s k : ℕ)
+    (i_lt_length_xs : i < length xs) (s_is_element_i : s ≡ get_or xs i d)
   where
-    member_of_one_more : is_member (take (i + 1) xs) x ≡ (is_member (take i xs) x || nat_eq x s)
-    member_of_one_more =
+    member_of_one_more : (x : ℕ)
+        → is_member (take (i + 1) xs) x ≡ (is_member (take i xs) x || nat_eq x s)
+    member_of_one_more x =
         ap (λ ys. is_member ys x) (take_more xs i d i_lt_length_xs)
         ∙ list_any-append (nat_eq x) (take i xs) (get_or xs i d ∷ [])
         ∙ ap (λ b. is_member (take i xs) x || b) (or-false (nat_eq x (get_or xs i d)))
         ∙ ap (λ y. is_member (take i xs) x || nat_eq x y) (sym s_is_element_i)
 
-    or_factors : (a m n e : Bool) → ((a || (m && e)) || (n && e)) ≡ (a || ((m || n) && e))
-    or_factors true m n e = refl
-    or_factors false true n true = refl
-    or_factors false true n false = and-false n
-    or_factors false false n e = refl
+    -- the chains have the statement for those of the first i + 1 symbols that pass the test
+    pub test_with_next_symbol : test s ≡ true → (x j : ℕ)
+        → ((passes x j || ((test x && is_member (take i xs) x) && nat_eq j k))
+        || (nat_eq x s && nat_eq j k))
+        ≡ (passes x j || ((test x && is_member (take (i + 1) xs) x) && nat_eq j k))
+    test_with_next_symbol s_passes x j =
+        or_factors (passes x j) (test x) (is_member (take i xs) x) (nat_eq x s) (nat_eq j k)
+        (λ x_equals_s. ap test (eqb-true x s x_equals_s) ∙ s_passes)
+        ∙ sym (ap (λ b. passes x j || ((test x && b) && nat_eq j k)) (member_of_one_more x))
+      where
+        or_factors : (a t m n e : Bool) → (n ≡ true → t ≡ true)
+            → ((a || ((t && m) && e)) || (n && e)) ≡ (a || ((t && (m || n)) && e))
+        or_factors true t m n e passes_if_next = refl
+        or_factors false true true n true passes_if_next = refl
+        or_factors false true true n false passes_if_next = and-false n
+        or_factors false true false n e passes_if_next = refl
+        or_factors false false m true e passes_if_next =
+            absurd (true≢false (sym (passes_if_next refl)))
+        or_factors false false m false e passes_if_next = refl
+
+    -- the symbol after them doesn't pass
+    pub test_without_next_symbol : test s ≡ false → (x j : ℕ)
+        → (passes x j || ((test x && is_member (take i xs) x) && nat_eq j k))
+        ≡ (passes x j || ((test x && is_member (take (i + 1) xs) x) && nat_eq j k))
+    test_without_next_symbol s_fails x j =
+        ap (λ b. passes x j || (b && nat_eq j k))
+        (omitted (test x) (is_member (take i xs) x) (nat_eq x s)
+        (λ x_equals_s. ap test (eqb-true x s x_equals_s) ∙ s_fails)
+        ∙ sym (ap (λ b. test x && b) (member_of_one_more x)))
+      where
+        omitted : (t m n : Bool) → (n ≡ true → t ≡ false) → (t && m) ≡ (t && (m || n))
+        omitted false m n fails_if_next = refl
+        omitted true true n fails_if_next = refl
+        omitted true false false fails_if_next = refl
+        omitted true false true fails_if_next = absurd (true≢false (fails_if_next refl))
 
 -- ---- the statements, from the last to the first
 
@@ -243,28 +268,32 @@ width_is_disjoint db narrow j is_disjoint =
     (if narrow then is_narrow (formula_at db j) else not (is_narrow (formula_at db j)))
     is_disjoint).0
 
--- past the last statement no symbol has a chain
-pub no_chains_at_start : (db : List Statement) (narrow : Bool) (heads : List ℕ)
+-- where all that pass are below n, no symbol has a chain from n on
+pub no_chains_at_start : (n : ℕ) (passes : ℕ → ℕ → Bool) (heads : List ℕ)
+    → ((x j : ℕ) → passes x j ≡ true → j < n)
     → ((x : ℕ) → x < length heads → get_or heads x 0 ≡ 0)
-    → AreChains (λ x j. nat_le (length db) j && has_symbol_by_width db narrow x j) (length db) heads []
-no_chains_at_start db narrow heads heads_are_0 x x_lt_length = record {
+    → AreChains (λ x j. nat_le n j && passes x j) n heads []
+no_chains_at_start n passes heads passing_lt_n heads_are_0 x x_lt_length = record {
   statements = [];
   chain = heads_are_0 x x_lt_length;
   rising = tt;
-  members_are = λ j. sym (none_past j (nat_le (length db) j) refl (has_symbol_by_width db narrow x j) refl);
+  members_are = λ j. sym (none_past j (nat_le n j) refl (passes x j) refl);
 }
   where
-    none_past : (j : ℕ) (a : Bool) → nat_le (length db) j ≡ a → (b : Bool) → has_symbol_by_width db narrow x j ≡ b
+    none_past : (j : ℕ) (a : Bool) → nat_le n j ≡ a → (b : Bool) → passes x j ≡ b
         → (a && b) ≡ false
-    none_past j false length_le_j_is_a b has_symbol_is_b = refl
-    none_past j true length_le_j_is_a false has_symbol_is_b = refl
-    none_past j true length_le_j_is_a true has_symbol_x_j =
-        let j_lt_length =
-        passing_lt_length is_disjoint_statement db j
-        (width_is_disjoint db narrow j
-        (and_parts (is_disjoint_by_width db narrow j)
-        (is_member (formula_at db j) x) has_symbol_x_j).0) in
-        absurd (true≢false (sym length_le_j_is_a ∙ lt-leb (length db) j j_lt_length))
+    none_past j false n_le_j_is_a b passes_is_b = refl
+    none_past j true n_le_j_is_a false passes_is_b = refl
+    none_past j true n_le_j_is_a true passes_x_j =
+        absurd (true≢false (sym n_le_j_is_a ∙ lt-leb n j (passing_lt_n x j passes_x_j)))
+
+-- a `$d` that has a symbol is one of the statements
+pub has_symbol_lt_length : (db : List Statement) (narrow : Bool) (x j : ℕ)
+    → has_symbol_by_width db narrow x j ≡ true → j < length db
+has_symbol_lt_length db narrow x j j_has_x =
+    passing_lt_length is_disjoint_statement db j
+    (width_is_disjoint db narrow j
+    (and_parts (is_disjoint_by_width db narrow j) (is_member (formula_at db j) x) j_has_x).0)
 
 -- without links each symbol is linked to none
 pub no_links_are_linked : (heads : List ℕ) → ((x : ℕ) → x < length heads → get_or heads x 0 ≡ 0)
@@ -356,6 +385,15 @@ member_lt_bound n y (x ∷ xs) all_lt_n y_is_member =
         omega (arith, y_is_x, x_lt_n)
     y_lt_n (inr y_in_rest) rest_lt_n = rest_lt_n y_in_rest
 
+-- all members are below what the list is below
+pub members_below : (n x : ℕ) (xs : List ℕ) → All (λ s. s < n) xs
+    → (nat_lt x n && is_member xs x) ≡ is_member xs x
+members_below n x xs all_lt_n = below (is_member xs x) refl
+  where
+    below : (b : Bool) → is_member xs x ≡ b → (nat_lt x n && b) ≡ b
+    below true x_is_member = ap (λ b. b && true) (lt-ltb x n (member_lt_bound n x xs all_lt_n x_is_member))
+    below false x_is_member = and-false (nat_lt x n)
+
 -- a symbol of a `$d` has a number
 pub symbol_lt_symbol_count : (db : List Statement) → IsSound db → (narrow : Bool) (x j : ℕ)
     → has_symbol_by_width db narrow x j ≡ true
@@ -368,6 +406,52 @@ symbol_lt_symbol_count db sound narrow x j j_has_x =
     member_lt_bound (length (symbol_names db)) x (formula_at db j)
     (sound.symbols_have_numbers j j_lt_length)
     parts.1
+
+-- ---- the pairs, from the last to the first
+
+-- the pair with index k stands in front of the chains of the lower symbols
+pub lower_with_pair : (db : List Statement) (pairs : List (ℕ × ℕ)) (k least : ℕ) (p : ℕ × ℕ)
+    (xs : List ℕ) → least ≡ k + 1 → k < length pairs → p ≡ get_or pairs k (0, 0)
+    → xs ≡ formula_at db p.1 → (x i : ℕ)
+    → ((nat_le least i && has_lower db pairs x i)
+    || ((nat_lt x p.0 && is_member xs x) && nat_eq i k))
+    ≡ (nat_le k i && has_lower db pairs x i)
+lower_with_pair db pairs k least p xs least_is_next_k k_lt_length p_is_pair xs_are_formula x i =
+    ap₂ (λ n ys. (nat_le n i && has_lower db pairs x i)
+    || ((nat_lt x p.0 && is_member ys x) && nat_eq i k)) least_is_next_k xs_are_formula
+    ∙ ap (λ (q : ℕ × ℕ). (nat_le (k + 1) i && has_lower db pairs x i)
+    || ((nat_lt x q.0 && is_member (formula_at db q.1) x) && nat_eq i k)) p_is_pair
+    ∙ tests_agree (cases_eq i k)
+    ∙ sym (ap (λ b. b && has_lower db pairs x i) (le_is_le_next_or_equal k i))
+  where
+    lower : ℕ → Bool
+    lower j = nat_lt x (get_or pairs j (0, 0)).0 && is_member (formula_at db (get_or pairs j (0, 0)).1) x
+
+    tests_agree : (i ≡ k) ⊎ (i ≢ k)
+        → ((nat_le (k + 1) i && has_lower db pairs x i) || (lower k && nat_eq i k))
+        ≡ ((nat_le (k + 1) i || nat_eq i k) && has_lower db pairs x i)
+    tests_agree (inl i_is_k) =
+        ap₂ (λ a b. (a && has_lower db pairs x i) || (lower k && b))
+        (lt-leb (k + 1) i (omega (arith, i_is_k))) (eq-eqb i k i_is_k)
+        ∙ and-true (lower k)
+        ∙ ap lower (sym i_is_k)
+        ∙ sym (ap (λ b. b && lower i) (lt-ltb i (length pairs) (omega (arith, i_is_k, k_lt_length))))
+        ∙ sym (ap₂ (λ a b. (a || b) && has_lower db pairs x i)
+        (lt-leb (k + 1) i (omega (arith, i_is_k))) (eq-eqb i k i_is_k))
+    tests_agree (inr i_ne_k) =
+        ap (λ b. (nat_le (k + 1) i && has_lower db pairs x i) || (lower k && b)) (ne_eqb i k i_ne_k)
+        ∙ ap (λ b. (nat_le (k + 1) i && has_lower db pairs x i) || b) (and-false (lower k))
+        ∙ or-false (nat_le (k + 1) i && has_lower db pairs x i)
+        ∙ sym (ap (λ b. (nat_le (k + 1) i || b) && has_lower db pairs x i) (ne_eqb i k i_ne_k)
+        ∙ ap (λ b. b && has_lower db pairs x i) (or-false (nat_le (k + 1) i)))
+
+-- what a chain of pairs has are their indices
+pub lower_lt_length : (db : List Statement) (pairs : List (ℕ × ℕ)) (x i : ℕ)
+    → has_lower db pairs x i ≡ true → i < length pairs
+lower_lt_length db pairs x i is_lower =
+    ltb-true i (length pairs) (and_parts (nat_lt i (length pairs))
+    (nat_lt x (get_or pairs i (0, 0)).0 && is_member (formula_at db (get_or pairs i (0, 0)).1) x)
+    is_lower).0
 
 -- ---- the pairs of one chain
 
@@ -464,7 +548,7 @@ has_pair_in_row x (i ∷ js) y j =
     and_factors false b c = refl
 
 -- each member is at least what the list rises from
-least_le_member : (least j : ℕ) (js : List ℕ) → IsRisingFrom least js → is_member js j ≡ true
+pub least_le_member : (least j : ℕ) (js : List ℕ) → IsRisingFrom least js → is_member js j ≡ true
     → least ≤ j
 least_le_member least j [] is_rising j_is_member = absurd (true≢false (sym j_is_member))
 least_le_member least j (i ∷ js) is_rising j_is_member =

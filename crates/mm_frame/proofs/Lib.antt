@@ -3,7 +3,7 @@
 -- `open_candidate_is_latest` and `walked_is_active` (`LatestLaw.antt`) find the active `$e`,
 -- `found_are_mandatory_variables` the variables, and `hypotheses_are_mandatory`
 -- (`HypothesesLaw.antt`) the hypotheses. `has_symbol_with_disjoint` and `pairs_with_symbol`
--- (`ChainsLaw.antt`) give the `$d` by variables. `higher_are_narrow_pairs` and `row_with_next`
+-- (`ChainsLaw.antt`) give the `$d` by variables. `chained_are_higher` and `row_with_next`
 -- (`RowsLaw.antt`) make the rows of the narrow ones. With `have_blocks` of `mm_database` they give
 -- `IsDisjointIndex`. `pairs_are_mandatory_pairs` (`DisjointLaw.antt`) gives the pairs.
 -- `same_frame` (`ScopeLaw.antt`) says when an assertion has the frame of the one before it.

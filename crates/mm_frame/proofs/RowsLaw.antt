@@ -4,7 +4,7 @@ use Rattle.std.proofs.Common.{◌||◌, List, [], ◌∷◌, ◌++◌, length, g
 use Rattle.std.proofs.Common.{refl, sym, ap, ap₂, ◌∙◌, subst, arith, true≢false, ◌⊎◌, inl}
 use Rattle.std.proofs.Common.{inr, take_all, All}
 use Rattle.std.proofs.lemmas.Bool.{cases_lt, cases_eq, and_parts, or_cases, eq-eqb}
-use Rattle.std.proofs.lemmas.Bool.{eqb-true, ne_eqb}
+use Rattle.std.proofs.lemmas.Bool.{eqb-true, ne_eqb, lt-ltb}
 use Rattle.std.proofs.lemmas.List.{get_or_push, get_or_append_left, length_push, get_or-take}
 use Rattle.std.proofs.lemmas.List.{length-take-le, get_or_past, length-map, get_or-map}
 use Rattle.std.proofs.lemmas.List.Folds.{list_any_more, list_any-append}
@@ -23,155 +23,193 @@ use Rattle.mm_database.specs.DisjointIndex.{has_narrow_pair, has_symbol_by_width
 use Rattle.mm_database.specs.DisjointIndex.{is_disjoint_by_width, is_narrow}
 use Rattle.mm_database.proofs.DisjointIndexLaw.{HasIndex, index_of_pair, has_pair_at_index}
 use Rattle.mm_database.proofs.DisjointIndexLaw.{earlier_is_before, disjoint_has_block}
-use Rattle.mm_frame.specs.Chains.{HasChain}
-use Rattle.mm_frame.proofs.ChainsLaw.{rising_append}
+use Rattle.mm_spec.specs.Rising.{IsRisingFrom}
+use Rattle.mm_frame.specs.Chains.{HasChain, has_lower}
+use Rattle.mm_frame.proofs.ChainsLaw.{rising_append, least_le_member, lower_lt_length}
 
--- ---- the higher symbols of the `$d` of a symbol
+-- ---- the pairs of the higher symbols of a symbol, by their indices
 
--- one symbol more
-pub higher_with_next_symbol : (xs : List ℕ) (i s d low st y j : ℕ) (o b n : Bool) → i < length xs
-    → s ≡ get_or xs i d
-    → b ≡ (o || (nat_eq j st && (nat_lt low y && is_member (take i xs) y)))
-    → n ≡ (b || (nat_eq j st && (nat_lt low y && nat_eq y s)))
-    → n ≡ (o || (nat_eq j st && (nat_lt low y && is_member (take (i + 1) xs) y)))
-higher_with_next_symbol xs i s d low st y j o b n i_lt_length s_is_item b_is_so_far n_is_next =
-    n_is_next ∙ ap (λ z. z || (nat_eq j st && (nat_lt low y && nat_eq y s))) b_is_so_far
-    ∙ regroup o (nat_eq j st) (nat_lt low y) (is_member (take i xs) y) (nat_eq y s)
-    ∙ ap (λ z. o || (nat_eq j st && (nat_lt low y && z)))
-    (ap (λ t. is_member (take i xs) y || nat_eq y t) s_is_item
-    ∙ sym (list_any_more (nat_eq y) xs i d i_lt_length))
+-- a pair that stands at one of these indices
+record IsPairAt (pairs : List (ℕ × ℕ)) (indices : List ℕ) (y j : ℕ) : Type 0 where
+  index : ℕ
+  is_index : is_member indices index ≡ true
+  first_is : (get_or pairs index (0, 0)).0 ≡ y
+  second_is : (get_or pairs index (0, 0)).1 ≡ j
+
+module _ (pairs : List (ℕ × ℕ)) where
+  abbrev pub at_index : ℕ → ℕ × ℕ
+  at_index i = get_or pairs i (0, 0)
+
+  -- a pair of those at these indices stands at one of them
+  has_its_index : (indices : List ℕ) (y j : ℕ) → has_pair (map at_index indices) y j ≡ true
+      → IsPairAt pairs indices y j
+  has_its_index [] y j is_there = absurd (true≢false (sym is_there))
+  has_its_index (i ∷ indices) y j is_there =
+      by_case (or_cases (nat_eq y (at_index i).0 && nat_eq j (at_index i).1)
+      (has_pair (map at_index indices) y j) is_there) (has_its_index indices y j)
+    where
+      by_case : ((nat_eq y (at_index i).0 && nat_eq j (at_index i).1) ≡ true)
+          ⊎ (has_pair (map at_index indices) y j ≡ true)
+          → (has_pair (map at_index indices) y j ≡ true → IsPairAt pairs indices y j)
+          → IsPairAt pairs (i ∷ indices) y j
+      by_case (inl is_equal) has_later =
+          let both = and_parts (nat_eq y (at_index i).0) (nat_eq j (at_index i).1) is_equal in
+          record {
+            index = i;
+            is_index = ap (λ b. b || is_member indices i) (eq-eqb i i refl);
+            first_is = sym (eqb-true y (at_index i).0 both.0);
+            second_is = sym (eqb-true j (at_index i).1 both.1);
+          }
+      by_case (inr is_later) has_later =
+          let later = has_later is_later in
+          record {
+            index = later.index;
+            is_index = ap (λ b. nat_eq later.index i || b) later.is_index
+                ∙ or-true (nat_eq later.index i);
+            first_is = later.first_is;
+            second_is = later.second_is;
+          }
+
+  -- what stands at one of the indices is a pair of those
+  pair_at_index : (indices : List ℕ) (i : ℕ) → is_member indices i ≡ true
+      → has_pair (map at_index indices) (at_index i).0 (at_index i).1 ≡ true
+  pair_at_index [] i is_index = absurd (true≢false (sym is_index))
+  pair_at_index (k ∷ indices) i is_index =
+      by_case (or_cases (nat_eq i k) (is_member indices i) is_index) (pair_at_index indices i)
+    where
+      here : ℕ → Bool
+      here n = nat_eq (at_index i).0 (at_index n).0 && nat_eq (at_index i).1 (at_index n).1
+
+      by_case : (nat_eq i k ≡ true) ⊎ (is_member indices i ≡ true)
+          → (is_member indices i ≡ true
+          → has_pair (map at_index indices) (at_index i).0 (at_index i).1 ≡ true)
+          → (here k || has_pair (map at_index indices) (at_index i).0 (at_index i).1) ≡ true
+      by_case (inl i_equals_k) at_later =
+          ap (λ b. b || has_pair (map at_index indices) (at_index i).0 (at_index i).1)
+          (ap here (sym (eqb-true i k i_equals_k))
+          ∙ ap₂ (λ a b. a && b) (eq-eqb (at_index i).0 (at_index i).0 refl)
+          (eq-eqb (at_index i).1 (at_index i).1 refl))
+      by_case (inr is_later) at_later =
+          ap (λ b. here k || b) (at_later is_later) ∙ or-true (here k)
+
+  -- pairs at rising indices of a rising list rise
+  pub pairs_at_rising : AreRising pairs → (least : ℕ) (indices : List ℕ)
+      → IsRisingFrom least indices → ((i : ℕ) → is_member indices i ≡ true → i < length pairs)
+      → AreRising (map at_index indices)
+  pairs_at_rising rising least [] are_rising in_range = tt
+  pairs_at_rising rising least (i ∷ indices) are_rising in_range = (
+    λ x y is_there. let found = has_its_index indices x y is_there in
+        let next_le = least_le_member (i + 1) found.index indices are_rising.1 found.is_index in
+        subst (λ z. IsBefore (at_index i).0 (at_index i).1 z y) found.first_is
+        (subst (IsBefore (at_index i).0 (at_index i).1 (at_index found.index).0) found.second_is
+        (earlier_is_before pairs rising i found.index (0, 0) (omega (arith, next_le))
+        (in_range found.index (ap (λ b. nat_eq found.index i || b) found.is_index
+        ∙ or-true (nat_eq found.index i))))),
+    pairs_at_rising rising (i + 1) indices are_rising.1 (λ k is_index. in_range k
+        (ap (λ b. nat_eq k i || b) is_index ∙ or-true (nat_eq k i))),
+  )
+
+-- the indices that stand behind a symbol are in range
+pub indices_in_range : (pairs : List (ℕ × ℕ)) (x : ℕ) (indices : List ℕ) (listed : List (ℕ × ℕ))
+    → listed ≡ map (λ i. (x, i)) indices → All (λ i. i < length pairs) indices
+    → All (λ (p : ℕ × ℕ). p.1 < length pairs) listed
+indices_in_range pairs x indices listed listed_are in_range k d k_lt_length =
+    let behind : ℕ → ℕ × ℕ = λ i. (x, i) in
+    let listed_length = ap length listed_are ∙ length-map indices behind in
+    let k_lt_indices : k < length indices = omega (arith, k_lt_length, listed_length) in
+    subst (λ (p : ℕ × ℕ). p.1 < length pairs)
+    (sym (ap (λ (ps : List (ℕ × ℕ)). get_or ps k d) listed_are
+    ∙ get_or-map behind indices k 0 d k_lt_indices))
+    (in_range k 0 k_lt_indices)
+
+-- the indices of a symbol's chain are in range
+pub chained_in_range : (db : List Statement) (pairs : List (ℕ × ℕ)) (x : ℕ) (indices : List ℕ)
+    → ((i : ℕ) → is_member indices i ≡ has_lower db pairs x i)
+    → All (λ i. i < length pairs) indices
+chained_in_range db pairs x indices are_indices k d k_lt_length =
+    lower_lt_length db pairs x (get_or indices k d)
+    (sym (are_indices (get_or indices k d)) ∙ element_is_member indices k d k_lt_length)
+
+-- what stands at the indices behind a symbol
+pub pairs_behind : (pairs : List (ℕ × ℕ)) (x : ℕ) (indices : List ℕ)
+    → map (λ (p : ℕ × ℕ). get_or pairs p.1 (0, 0)) (map (λ i. (x, i)) indices)
+    ≡ map (λ i. get_or pairs i (0, 0)) indices
+pairs_behind pairs x [] = refl
+pairs_behind pairs x (i ∷ indices) = ap (λ ps. get_or pairs i (0, 0) ∷ ps) (pairs_behind pairs x indices)
+
+-- the pairs at the indices of a symbol's chain are those of the higher symbols
+module _ (db : List Statement) (pairs : List (ℕ × ℕ)) (low : ℕ) (indices : List ℕ)
+    (are_pairs : (x j : ℕ) → has_pair pairs x j ≡ has_symbol_by_width db true x j)
+    (are_indices : (i : ℕ) → is_member indices i ≡ has_lower db pairs low i)
   where
-    regroup : (o e l t n : Bool)
-        → ((o || (e && (l && t))) || (e && (l && n))) ≡ (o || (e && (l && (t || n))))
-    regroup true e l t n = refl
-    regroup false false l t n = refl
-    regroup false true false t n = refl
-    regroup false true true t n = refl
-
--- a symbol that is higher is added
-pub higher_is_added : (ps qs : List (ℕ × ℕ)) (s st low y j : ℕ) → nat_lt low s ≡ true
-    → qs ≡ ps ++ (s, st) ∷ []
-    → has_pair qs y j ≡ (has_pair ps y j || (nat_eq j st && (nat_lt low y && nat_eq y s)))
-higher_is_added ps qs s st low y j low_lt_s qs_are_pushed =
-    ap (λ rs. has_pair rs y j) qs_are_pushed
-    ∙ list_any-append (λ p. nat_eq y p.0 && nat_eq j p.1) ps ((s, st) ∷ [])
-    ∙ ap (λ z. has_pair ps y j || z) (agree (cases_eq y s))
-  where
-    agree : (y ≡ s) ⊎ (y ≢ s)
-        → ((nat_eq y s && nat_eq j st) || false) ≡ (nat_eq j st && (nat_lt low y && nat_eq y s))
-    agree (inl y_is_s) =
-        or-false (nat_eq y s && nat_eq j st)
-        ∙ ap (λ a. a && nat_eq j st) (eq-eqb y s y_is_s)
-        ∙ and_true_right (nat_eq j st)
-        ∙ sym (ap₂ (λ a c. nat_eq j st && (a && c)) (ap (nat_lt low) y_is_s ∙ low_lt_s)
-        (eq-eqb y s y_is_s))
+    pub chained_are_narrow_pairs : (y j : ℕ)
+        → has_pair (map (λ i. get_or pairs i (0, 0)) indices) y j ≡ has_narrow_pair db low y j
+    chained_are_narrow_pairs y j =
+        equal_if_both (has_pair (map (λ i. get_or pairs i (0, 0)) indices) y j)
+        (has_narrow_pair db low y j) is_narrow_pair is_chained
       where
-        and_true_right : (c : Bool) → c ≡ (c && true)
-        and_true_right true = refl
-        and_true_right false = refl
-    agree (inr y_ne_s) =
-        or-false (nat_eq y s && nat_eq j st)
-        ∙ ap (λ a. a && nat_eq j st) (ne_eqb y s y_ne_s)
-        ∙ all_false (nat_eq j st) (nat_lt low y)
-        ∙ sym (ap (λ c. nat_eq j st && (nat_lt low y && c)) (ne_eqb y s y_ne_s))
-      where
-        all_false : (c l : Bool) → false ≡ (c && (l && false))
-        all_false true true = refl
-        all_false true false = refl
-        all_false false l = refl
+        equal_if_both : (a b : Bool) → (a ≡ true → b ≡ true) → (b ≡ true → a ≡ true) → a ≡ b
+        equal_if_both true b to from = sym (to refl)
+        equal_if_both false true to from = from refl
+        equal_if_both false false to from = refl
 
--- one that isn't changes nothing
-pub lower_is_not_added : (ps qs : List (ℕ × ℕ)) (s st low y j : ℕ) → nat_lt low s ≡ false
-    → qs ≡ ps
-    → has_pair qs y j ≡ (has_pair ps y j || (nat_eq j st && (nat_lt low y && nat_eq y s)))
-lower_is_not_added ps qs s st low y j low_not_lt_s qs_are_ps =
-    ap (λ rs. has_pair rs y j) qs_are_ps
-    ∙ sym (or-false (has_pair ps y j))
-    ∙ ap (λ z. has_pair ps y j || z) (agree (cases_eq y s))
-  where
-    all_false : (c l e : Bool) → (l ≡ false) ⊎ (e ≡ false) → false ≡ (c && (l && e))
-    all_false true true e (inl l_false) = absurd (true≢false l_false)
-    all_false true true e (inr e_false) = sym e_false
-    all_false true false e is_false = refl
-    all_false false l e is_false = refl
+        is_narrow_pair : has_pair (map (λ i. get_or pairs i (0, 0)) indices) y j ≡ true
+            → has_narrow_pair db low y j ≡ true
+        is_narrow_pair is_there =
+            let found = has_its_index pairs indices y j is_there in
+            let i = found.index in
+            let is_lower = sym (are_indices i) ∙ found.is_index in
+            let i_lt_length = lower_lt_length db pairs low i is_lower in
+            let both = and_parts (nat_lt low (get_or pairs i (0, 0)).0)
+            (is_member (formula_at db (get_or pairs i (0, 0)).1) low)
+            (and_parts (nat_lt i (length pairs)) (nat_lt low (get_or pairs i (0, 0)).0
+            && is_member (formula_at db (get_or pairs i (0, 0)).1) low) is_lower).1 in
+            ap₂ (λ a b. a && b) (ap (nat_lt low) (sym found.first_is) ∙ both.0)
+            (ap₂ (λ a b. a && b)
+            (sym (are_pairs y j)
+            ∙ ap₂ (has_pair pairs) (sym found.first_is) (sym found.second_is)
+            ∙ has_pair_at_index pairs i (0, 0) i_lt_length)
+            (ap (λ k. is_member (formula_at db k) low) (sym found.second_is) ∙ both.1))
 
-    agree : (y ≡ s) ⊎ (y ≢ s) → false ≡ (nat_eq j st && (nat_lt low y && nat_eq y s))
-    agree (inl y_is_s) =
-        all_false (nat_eq j st) (nat_lt low y) (nat_eq y s)
-        (inl (ap (nat_lt low) y_is_s ∙ low_not_lt_s))
-    agree (inr y_ne_s) =
-        all_false (nat_eq j st) (nat_lt low y) (nat_eq y s) (inr (ne_eqb y s y_ne_s))
+        is_chained : has_narrow_pair db low y j ≡ true
+            → has_pair (map (λ i. get_or pairs i (0, 0)) indices) y j ≡ true
+        is_chained passes =
+            let outer = and_parts (nat_lt low y)
+            (has_symbol_by_width db true y j && is_member (formula_at db j) low) passes in
+            let inner = and_parts (has_symbol_by_width db true y j) (is_member (formula_at db j) low)
+            outer.1 in
+            let found = index_of_pair pairs y j (are_pairs y j ∙ inner.0) in
+            let i = found.index in
+            ap₂ (has_pair (map (λ i. get_or pairs i (0, 0)) indices)) (sym found.first_is_x)
+            (sym found.second_is_y)
+            ∙ pair_at_index pairs indices i (are_indices i
+            ∙ ap₂ (λ a b. a && b) (lt-ltb i (length pairs) found.index_lt_length)
+            (ap₂ (λ a b. a && b) (ap (nat_lt low) found.first_is_x ∙ outer.0)
+            (ap (λ k. is_member (formula_at db k) low) found.second_is_y ∙ inner.1)))
 
--- what a test finds in the pairs of a symbol with statements
-any_of_statements : (low : ℕ) (g : ℕ → Bool) (js : List ℕ) (j : ℕ)
-    → list_any (λ (p : ℕ × ℕ). nat_eq j p.1 && g p.1) (map (λ i. (low, i)) js)
-    ≡ (is_member js j && g j)
-any_of_statements low g [] j = refl
-any_of_statements low g (i ∷ js) j =
-    ap (λ z. (nat_eq j i && g i) || z) (any_of_statements low g js j)
-    ∙ agree (cases_eq j i)
-  where
-    absorb : (a m : Bool) → (a || (m && a)) ≡ a
-    absorb true m = refl
-    absorb false true = refl
-    absorb false false = refl
+    -- they rise
+    pub chained_are_rising : AreRising pairs → IsRisingFrom 0 indices
+        → AreRising (map (λ i. get_or pairs i (0, 0)) indices)
+    chained_are_rising pairs_rise indices_rise =
+        pairs_at_rising pairs pairs_rise 0 indices indices_rise
+        (λ i is_index. lower_lt_length db pairs low i (sym (are_indices i) ∙ is_index))
 
-    agree : (j ≡ i) ⊎ (j ≢ i)
-        → ((nat_eq j i && g i) || (is_member js j && g j)) ≡ ((nat_eq j i || is_member js j) && g j)
-    agree (inl j_is_i) =
-        ap₂ (λ a z. (a && z) || (is_member js j && g j)) (eq-eqb j i j_is_i) (ap g (sym j_is_i))
-        ∙ absorb (g j) (is_member js j)
-        ∙ sym (ap (λ a. (a || is_member js j) && g j) (eq-eqb j i j_is_i))
-    agree (inr j_ne_i) =
-        ap (λ a. (a && g i) || (is_member js j && g j)) (ne_eqb j i j_ne_i)
-        ∙ sym (ap (λ a. (a || is_member js j) && g j) (ne_eqb j i j_ne_i))
+-- the pairs of the higher symbols of a symbol, in order
+pub record AreHigher (db : List Statement) (low : ℕ) (listed : List (ℕ × ℕ)) : Type 0 where
+  pub rising : AreRising listed
+  pub are : (y j : ℕ) → has_pair listed y j ≡ has_narrow_pair db low y j
 
--- the higher symbols of the narrow `$d` of a symbol
-pub higher_are_narrow_pairs : (db : List Statement) (low n : ℕ) (links ps : List (ℕ × ℕ))
-    (chain : HasChain (has_symbol_by_width db true low) 0 links n)
-    → ps ≡ map (λ j. (low, j)) chain.statements → (y j : ℕ)
-    → list_any (λ (p : ℕ × ℕ). nat_eq j p.1 && (nat_lt low y && is_member (formula_at db p.1) y)) ps
-    ≡ has_narrow_pair db low y j
-higher_are_narrow_pairs db low n links ps chain ps_are y j =
-    ap (list_any (λ (p : ℕ × ℕ). nat_eq j p.1
-    && (nat_lt low y && is_member (formula_at db p.1) y))) ps_are
-    ∙ any_of_statements low (λ i. nat_lt low y && is_member (formula_at db i) y) chain.statements j
-    ∙ ap (λ z. z && (nat_lt low y && is_member (formula_at db j) y)) (chain.members_are j)
-    ∙ regroup (is_disjoint_by_width db true j) (is_member (formula_at db j) low) (nat_lt low y)
-    (is_member (formula_at db j) y)
-  where
-    regroup : (d m l n : Bool) → ((d && m) && (l && n)) ≡ (l && ((d && n) && m))
-    regroup true true true n = agree n
-      where
-        agree : (n : Bool) → n ≡ (n && true)
-        agree true = refl
-        agree false = refl
-    regroup true true false n = refl
-    regroup true false true true = refl
-    regroup true false true false = refl
-    regroup true false false n = refl
-    regroup false m true n = refl
-    regroup false m false n = refl
-
--- the statements of a chain are there
-pub chained_are_statements : (db : List Statement) (low n : ℕ) (links ps : List (ℕ × ℕ))
-    (chain : HasChain (has_symbol_by_width db true low) 0 links n)
-    → ps ≡ map (λ j. (low, j)) chain.statements → All (λ p. p.1 < length db) ps
-chained_are_statements db low n links ps chain ps_are k d k_lt_length =
-    let js = chain.statements in
-    let with_low : ℕ → ℕ × ℕ = λ (j : ℕ). (low, j) in
-    let count = length-map js with_low in
-    let lengths_equal = ap length ps_are in
-    let k_lt_js : k < length js = omega (arith, k_lt_length, lengths_equal, count) in
-    let is_at : get_or ps k d ≡ (low, get_or js k 0) =
-    ap (λ qs. get_or qs k d) ps_are ∙ get_or-map with_low js k 0 d k_lt_js in
-    let j_has_low = sym (chain.members_are (get_or js k 0)) ∙ element_is_member js k 0 k_lt_js in
-    subst (λ (p : ℕ × ℕ). p.1 < length db) (sym is_at)
-    (passing_lt_length is_disjoint_statement db (get_or js k 0)
-    (and_parts (list_any is_disjoint_statement (statement_at db (get_or js k 0)))
-    (is_narrow (formula_at db (get_or js k 0)))
-    (and_parts (is_disjoint_by_width db true (get_or js k 0))
-    (is_member (formula_at db (get_or js k 0)) low) j_has_low).0).0)
+pub chained_are_higher : (db : List Statement) (pairs : List (ℕ × ℕ)) (low n : ℕ)
+    (links listed : List (ℕ × ℕ)) → AreRising pairs
+    → ((x j : ℕ) → has_pair pairs x j ≡ has_symbol_by_width db true x j)
+    → (chain : HasChain (has_lower db pairs low) 0 links n)
+    → listed ≡ map (λ i. get_or pairs i (0, 0)) chain.statements → AreHigher db low listed
+chained_are_higher db pairs low n links listed rising are_pairs chain listed_are =
+    subst (AreHigher db low) (sym listed_are) (record {
+      rising = chained_are_rising db pairs low chain.statements are_pairs chain.members_are rising
+          chain.rising;
+      are = chained_are_narrow_pairs db pairs low chain.statements are_pairs chain.members_are;
+    })
 
 -- ---- leaving out what is covered
 

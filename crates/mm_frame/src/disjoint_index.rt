@@ -1,19 +1,18 @@
 //! How the index of the `$d` statements by their variables is made.
 
-ghost use Rattle.std.specs.Prelude.{◌≡◌, ◌<◌, ◌≤◌, ◌+◌, ◌-◌, ◌&&◌, ◌||◌, ℕ, All, IfOk, OnOk};
-ghost use Rattle.std.specs.Prelude.{length, get_or, nat_eq, nat_lt, nat_le, true, false};
-ghost use Rattle.std.specs.List.{list_any};
+ghost use Rattle.std.specs.Prelude.{◌≡◌, ◌<◌, ◌≤◌, ◌-◌, ◌++◌, ◌&&◌, ℕ, List, All, IfOk, OnOk};
+ghost use Rattle.std.specs.Prelude.{length, map, get_or, nat_eq, nat_le, true, false};
 ghost use Rattle.mm_spec.specs.Derivation.{is_member};
 ghost use Rattle.mm_spec.specs.Frame.{formula_at};
 ghost use Rattle.mm_outline.specs.Blocks.{end_of};
 ghost use Rattle.mm_database.specs.DisjointIndex.{HaveBlocks, AreSkips, IsDisjointIndex};
 ghost use Rattle.mm_database.specs.DisjointIndex.{IsRow, IsRowOf, row_of, has_narrow_pair};
 ghost use Rattle.mm_database.specs.DisjointIndex.{has_symbol_by_width};
-ghost use Rattle.mm_frame.specs.Chains.{AreChains, AreLinked};
+ghost use Rattle.mm_frame.specs.Chains.{AreLinked, IsChainOf};
 ghost use Rattle.mm_database.specs.Pairs.{has_pair, AreRising};
 ghost use Rattle.mm_database.specs.Starts.{AreStarts};
 
-use crate::chains::{Chains, add_chain, chains_of, pairs_by_symbol};
+use crate::chains::{Chains, add_chain, lower_chains, pairs_by_symbol};
 use mm_database::disjoint_index::DisjointIndex;
 use mm_database::statements::Statements;
 use mm_lists::Lists;
@@ -82,73 +81,44 @@ fn starts_of<A: Allocator + Copy>(
     Ok(starts)
 }
 
-/// Appends each of the symbols that is higher than `low`, paired with the statement.
-fn add_higher<A: Allocator>(
-    symbols: &[Sym],
-    low: u32,
-    statement: u32,
+/// Appends the pairs with these indices, each of which stands behind a symbol.
+fn add_indexed<A: Allocator>(
+    by_symbol: &[(u32, u32)],
+    indices: &[(u32, u32)],
     pairs: &mut Vec<(u32, u32), A>,
 ) -> Result<(), AllocError>
+    requires { All (λ p. p.1 < length by_symbol.now) indices.now }
     ensures { OnOk result
-        ((y j : ℕ)
-        → has_pair pairs.new.items y j
-        ≡ (has_pair pairs.old.items y j
-        || (nat_eq j statement && (nat_lt low y && is_member symbols.now y)))) }
+        (pairs.new.items
+        ≡ pairs.old.items ++ map (λ p. get_or by_symbol.now p.1 (0, 0)) indices.now) }
 {
-    for symbol in symbols {
-        if low < symbol.number() {
-            pairs.push((symbol.number(), statement))?;
-        }
+    for index in indices {
+        pairs.push(by_symbol[index.1 as usize])?;
     }
     Ok(())
 }
 
-/// The same for each `$d` that the symbol `low` is paired with.
-fn add_all_higher<A: Allocator>(
-    statements: &Statements<A>,
-    low: u32,
-    of_low: &[(u32, u32)],
-    pairs: &mut Vec<(u32, u32), A>,
-) -> Result<(), AllocError>
-    requires { All (λ p. p.1 < length statements.now.list) of_low.now }
-    ensures { OnOk result
-        ((y j : ℕ)
-        → has_pair pairs.new.items y j
-        ≡ (has_pair pairs.old.items y j
-        || list_any (λ p. nat_eq j p.1
-        && (nat_lt low y && is_member (formula_at statements.now.list p.1) y)) of_low.now)) }
-{
-    for pair in of_low {
-        add_higher(statements.formula(pair.1), low, pair.1, pairs)?;
-    }
-    Ok(())
-}
-
-/// Lists in `pairs` the higher symbols with which a narrow `$d` has the symbol `low`, each paired
-/// with the `$d`, in ascending order. What the lists had before is removed.
-fn list_higher<A: Allocator>(
-    statements: &Statements<A>,
+/// Lists in `pairs` those whose indices the symbol's chain has. What the lists had before is
+/// removed.
+fn list_chained<A: Allocator>(
     chains: &Chains<A>,
-    low: u32,
-    of_low: &mut Vec<(u32, u32), A>,
+    symbol: u32,
+    by_symbol: &[(u32, u32)],
+    indices: &mut Vec<(u32, u32), A>,
     pairs: &mut Vec<(u32, u32), A>,
 ) -> Result<(), AllocError>
-    requires low_lt_count { low < length chains.now.heads.items }
+    requires symbol_lt_count { symbol < length chains.now.heads.items }
     requires are_linked { AreLinked chains.now.heads.items chains.now.links.items }
-    requires are_chains { AreChains (has_symbol_by_width statements.now.list true) 0
-        chains.now.heads.items
-        chains.now.links.items }
-    ensures rising { OnOk result (AreRising pairs.new.items) }
-    ensures pairs_are { OnOk result
-        ((y j : ℕ)
-        → has_pair pairs.new.items y j ≡ has_narrow_pair statements.now.list low y j) }
+    requires have_indices { (chained : List ℕ) × IsChainOf chains.now symbol chained
+        × All (λ i. i < length by_symbol.now) chained }
+    ensures { OnOk result
+        ((chained : List ℕ) → IsChainOf chains.now symbol chained
+        → pairs.new.items ≡ map (λ i. get_or by_symbol.now i (0, 0)) chained) }
 {
-    of_low.clear();
-    add_chain(chains, low, of_low)?;
+    indices.clear();
+    add_chain(chains, symbol, indices)?;
     pairs.clear();
-    add_all_higher(statements, low, of_low, pairs)?;
-    sort_and_dedup_pairs(pairs);
-    Ok(())
+    add_indexed(by_symbol, indices, pairs)
 }
 
 /// Whether the last pair of a row, if there is one, covers the pair.
@@ -204,13 +174,15 @@ fn rows_of<A: Allocator + Copy>(
         (λ r. (x : ℕ) → IsRow statements.now.blocks (row_of r x)
         × IsRowOf statements.now.blocks (has_narrow_pair statements.now.list x) (row_of r x)) }
 {
-    let chains = chains_of(alloc, statements, true)?;
-    let mut of_symbol = Vec::new(alloc);
+    let by_symbol = pairs_by_symbol(alloc, statements, true)?;
+    let by_symbol = by_symbol.as_slice();
+    let chains = lower_chains(alloc, statements, by_symbol)?;
+    let mut indices = Vec::new(alloc);
     let mut pairs = Vec::new(alloc);
     let mut row = Vec::new(alloc);
     let mut rows = Lists::new(alloc);
     for symbol in 0..statements.symbol_count() {
-        list_higher(statements, &chains, symbol, &mut of_symbol, &mut pairs)?;
+        list_chained(&chains, symbol, by_symbol, &mut indices, &mut pairs)?;
         list_uncovered(statements.blocks(), &pairs, &mut row)?;
         rows.push(&row)?;
     }

@@ -28,9 +28,10 @@ use Rattle.mm_spec.specs.declared.Code.{Code}
 use Rattle.mm_spec.specs.Lexed.{LexedText, lexed_of}
 use Rattle.mm_spec.specs.Output.{TextFault, StopsReading, IsRead, ProofFault, proof_end}
 use Rattle.mm_spec.specs.Output.{is_theorem_at, AllAreValid, FirstProofFault, FirstFault}
-use Rattle.mm_spec.specs.Output.{HasNoFault, theorems, columns, open_theorem_count, label_at}
+use Rattle.mm_spec.specs.Assertion.{label_at}
+use Rattle.mm_spec.specs.Output.{HasNoFault, theorems, columns, open_theorem_count}
 use Rattle.mm_spec.specs.Output.{IsRowOf}
-use Rattle.mm_spec.specs.Output.{AreCited, IsCitingRowOf, IsReportOf, IsOutput}
+use Rattle.mm_spec.specs.Output.{AreCited, IsCitingRowOf, told, IsReportOf, IsOutput}
 use Rattle.mm_spec.specs.Laws.Stack.{IsCompleteReferent}
 use Rattle.mm_laws.proofs.ExactLaw.{step_stops_if_fails}
 use Rattle.mm_spec.specs.Laws.Complete.{HasCompleteFrame, AreComplete}
@@ -591,11 +592,13 @@ citing_rows_are_unique db request (n ∷ ts) (x ∷ a) (y ∷ b) are_rows_a are_
     (citing_rows_are_unique db request ts a b are_rows_a.1 are_rows_b.1)
 
 -- a database has one report
-report_is_unique : (db : List Statement) (opened : Option ℕ) (request : Request) (a b : List ℕ)
-    → IsReportOf db opened request a → IsReportOf db opened request b → a ≡ b
-report_is_unique db opened request a b is_report_a is_report_b =
+report_is_unique : (db : List Statement) (opened : Option ℕ) (lines : List ℕ)
+    → (request : Request) (a b : List ℕ) → IsReportOf db opened lines request a
+    → IsReportOf db opened lines request b → a ≡ b
+report_is_unique db opened lines request a b is_report_a is_report_b =
     is_report_a.bytes_are
-    ∙ ap₂ (report request opened (map (label_at db) (columns db request.only)))
+    ∙ ap₂ (λ (rows : List Row) (citing : List CitingRow). report request opened
+    (map (label_at db) (columns db request.only)) rows citing lines)
     (rows_are_unique db request (theorems db) is_report_a.rows is_report_b.rows is_report_a.are_rows
     is_report_b.are_rows)
     (citing_rows_are_unique db request (theorems db) is_report_a.citing_rows is_report_b.citing_rows
@@ -622,6 +625,6 @@ output_is_unique_for_text text request a b (inr is_output_a) (inr is_output_b) =
     (reading_is_unique (length text) (lexed_of text) is_output_a.0 is_output_b.0 None None
     is_output_a.1.0 is_output_b.1.0).0 in
     report_is_unique (counted request.with_open is_output_b.0)
-    (open_theorem_count is_output_b.0 request) request a b
-    (subst (λ d. IsReportOf (counted request.with_open d) (open_theorem_count d request) request a)
-    databases_equal is_output_a.2) is_output_b.2
+    (open_theorem_count is_output_b.0 request) (told is_output_b.0 request) request a b
+    (subst (λ d. IsReportOf (counted request.with_open d) (open_theorem_count d request)
+    (told d request) request a) databases_equal is_output_a.2) is_output_b.2

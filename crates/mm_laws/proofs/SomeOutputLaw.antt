@@ -5,7 +5,7 @@ use Rattle.mm_spec.specs.Statement.{Statement}
 use Rattle.mm_spec.specs.Laws.Complete.{AreComplete}
 use Rattle.mm_spec.specs.Request.{Request}
 use Rattle.mm_spec.specs.Lexed.{LexedText, lexed_of}
-use Rattle.mm_spec.specs.Output.{theorems, AllAreValid, open_theorem_count}
+use Rattle.mm_spec.specs.Output.{theorems, AllAreValid, open_theorem_count, told}
 use Rattle.mm_spec.specs.Output.{IsReportOf, IsOutput}
 use Rattle.mm_laws.specs.Laws.FirstFaults.{IsSoundOrFaulty}
 use Rattle.mm_laws.specs.Laws.Cells.{AreDecided}
@@ -23,9 +23,10 @@ cells_are_decided len x with_open db has_no_fault by_essential t a =
     (counted_complete with_open db (reads_complete len x db None has_no_fault.0)) has_no_fault.1 t a
 
 -- a database without faults has a report
-report_exists : (db : List Statement) (opened : Option ℕ) (request : Request) → AreComplete db
-    → AllAreValid db → (bytes : List ℕ) × IsReportOf db opened request bytes
-report_exists db opened request all_complete are_valid =
+report_exists : (db : List Statement) (opened : Option ℕ) (lines : List ℕ) (request : Request)
+    → AreComplete db → AllAreValid db
+    → (bytes : List ℕ) × IsReportOf db opened lines request bytes
+report_exists db opened lines request all_complete are_valid =
     let rows = rows_of db request all_complete are_valid (theorems db) in
     let citing_rows = citing_rows_of db request all_complete are_valid (theorems db) in (
       _,
@@ -59,5 +60,6 @@ output_exists_for_text text request =
         (reads_complete (length text) (lexed_of text) has_no_fault.0 None has_no_fault.1.0) in
         let report =
         report_exists (counted request.with_open has_no_fault.0)
-        (open_theorem_count has_no_fault.0 request) request all_complete has_no_fault.1.1 in
+        (open_theorem_count has_no_fault.0 request) (told has_no_fault.0 request) request
+        all_complete has_no_fault.1.1 in
         (report.0, inr (has_no_fault.0, has_no_fault.1, report.1))

@@ -1,11 +1,9 @@
 -- The words of a proof name no other steps than those that it has.
-use Rattle.std.proofs.Common.{◌≡◌, ℕ, zero, suc, ◌+◌, ◌-◌, ◌<◌, Bool}
+use Rattle.std.proofs.Common.{◌≡◌, ℕ, zero, suc, ◌<◌, Bool}
 use Rattle.std.proofs.Common.{inl, inr, List, [], ◌∷◌, ◌++◌, length}
 use Rattle.std.proofs.Common.{count_by, Some, slice_get}
 use Rattle.std.proofs.Common.{refl, sym, ap, ap₂, ◌∙◌, subst, arith}
-use Rattle.mm_spec.specs.Lawful as lawful
 use Rattle.mm_spec.specs.Steps.{Step, label, marked}
-use Rattle.mm_spec.specs.Proof.{steps}
 use Rattle.mm_laws.specs.Spelling.{Item, number, mark, is_number, is_mark_item}
 use Rattle.mm_laws.specs.Spelling.{IsMark, NamesStep}
 use Rattle.mm_laws.specs.Laws.NamedSteps.{NamedStepsAreUnique}

@@ -16,3 +16,4 @@ pub mod WellFormed
 pub mod Meaning
 pub mod Numerals
 pub mod LongTexts
+pub mod Told

@@ -11,7 +11,7 @@
 //! edit, named after the mistake. The statements of the laws are in files of their own
 //! (`specs/Laws`), so that a change of one is tried without the others being read again. Small
 //! texts for which the definitions are worked out are in `proofs/` (`ExamplesLaw`, `VectorsLaw`,
-//! `OutputsLaw`).
+//! `OutputsLaw`, `LinesLaw`).
 //!
 //! A law of what is read (`WhereRead`) holds of the statements as they count: with open theorems as
 //! axioms, and without.
@@ -22,6 +22,7 @@ mod citations;
 mod derivations;
 mod frames;
 mod letters;
+mod lines;
 mod meaning;
 mod outputs;
 mod readings;
@@ -35,6 +36,7 @@ pub use citations::essential_citations_are_citations;
 pub use derivations::labels_determine_a_derivation;
 pub use frames::lawful_statements_have_complete_frames;
 pub use letters::{letters_spell_one_list, numbers_have_one_spelling};
+pub use lines::lines_tell_assertions;
 pub use meaning::{valid_theorems_are_those_proved, well_formed_proofs_are_read};
 pub use outputs::{long_texts_have_one_output, output_exists, output_is_unique};
 pub use readings::{every_text_is_read, texts_are_sound_or_faulty};

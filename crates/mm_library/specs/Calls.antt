@@ -1,7 +1,7 @@
 -- What a call of the library requests by its arguments, and how it ends (this project's own).
 use Rattle.std.specs.Prelude.{◌≡◌, ◌≢◌, ℕ, Bool, ◌==◌, ◌||◌, ◌/◌, ◌%◌, nat_le, if◌then◌else◌, List}
 use Rattle.std.specs.Prelude.{◌≤◌, ◌<◌, ◌⊎◌, drop, length, Option, None, Some, ⊤}
-use Rattle.std.specs.Prelude.{MatchResult, Result}
+use Rattle.std.specs.Prelude.{MatchResult, Result, false}
 use Rattle.std.specs.Str.{IsUtf8}
 use Rattle.mm_spec.specs.Text.{Bytes}
 use Rattle.mm_spec.specs.Request.{Request}
@@ -47,15 +47,17 @@ call_of has_only only sections form essential with_open =
       with_open = with_open;
     }
 
--- the sections that a number has as bits: 1 the matrix, 2 the counts, 4 the usage, 8 the citations
+-- the sections that a number has as bits: 1 the matrix, 2 the counts, 4 the usage, 8 the citations,
+-- 16 the statements
 abbrev pub sections_of : ℕ → Option Sections
 sections_of n =
-    if n == 0 || nat_le 16 n then None
+    if n == 0 || nat_le 32 n then None
     else Some (record {
       matrix = n % 2 == 1;
       counts = n / 2 % 2 == 1;
       usage = n / 4 % 2 == 1;
       citations = n / 8 % 2 == 1;
+      statements = n / 16 % 2 == 1;
     })
 
 -- the form with a number

@@ -10,7 +10,7 @@ use mm_spec::{Form, Request, Sections};
 fn sections(bits: u32) -> Option<Sections>
     ensures { result ≡ sections_of bits }
 {
-    if bits == 0 || 16 <= bits {
+    if bits == 0 || 32 <= bits {
         return None;
     }
     Some(Sections {
@@ -18,6 +18,7 @@ fn sections(bits: u32) -> Option<Sections>
         counts: bits / 2 % 2 == 1,
         usage: bits / 4 % 2 == 1,
         citations: bits / 8 % 2 == 1,
+        statements: bits / 16 % 2 == 1,
     })
 }
 

@@ -20,6 +20,10 @@ const MATRIX_AND_CITATIONS: &[u8] =
 /// The report on axioms of the typecode `|-`, and its part with the counts alone.
 const LOGICAL_COUNTS: &[u8] = b"mmdepend 1\naxioms 1\ntheorems 1\ncounts\nwi2:0\nend\n";
 
+/// The lines of the syntax of that database alone.
+const SYNTAX_STATEMENTS: &[u8] =
+    b"mmdepend 1\naxioms 1\ntheorems 1\nstatements\nwi:a:60:83: $f wp wff p $f wq wff q $a wff ( p -> q )\nwi2:p:118:169: $f wp wff p $f wq wff q $p wff ( p -> ( q -> p ) )\nend\n";
+
 /// A text whose first statement has a bad byte, and what is written for it.
 const FAULTY: &[u8] = b"$c wff \x80 $.\n";
 
@@ -34,7 +38,9 @@ const MATRIX_WITH_CITATIONS: u32 = 9;
 
 const NO_SECTION: u32 = 0;
 
-const UNKNOWN_BIT: u32 = 17;
+const STATEMENTS: u32 = 16;
+
+const UNKNOWN_BIT: u32 = 33;
 
 const FORM_1: u32 = 1;
 
@@ -138,6 +144,7 @@ fn each_status_comes_with_its_output(rt: HostRuntime) {
             MATRIX_AND_CITATIONS,
         )
     );
+    assert!(&rt; answers(memory, TEXT, b"wff", STATEMENTS, ACCEPTED, SYNTAX_STATEMENTS));
     assert!(&rt; answers(memory, TEXT, b"", NO_SECTION, NO_SUCH_REQUEST, b""));
     assert!(&rt; answers(memory, TEXT, b"", UNKNOWN_BIT, NO_SUCH_REQUEST, b""));
 }

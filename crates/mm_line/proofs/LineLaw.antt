@@ -1,7 +1,7 @@
 -- What the words of a command line come to.
 use Rattle.std.proofs.Common.{◌≡◌, ◌∙◌, ◌⊎◌, ◌<◌, ◌≤◌, ◌+◌, ◌==◌, eqb-true, eq-eqb, option_map, inl}
 use Rattle.std.proofs.Common.{inr, ℕ, zero, suc, Bool, true, false, true≢false, ◌&&◌, ◌||◌, refl}
-use Rattle.std.proofs.Common.{sym, ap, ap₂, subst, arith, codes, map, length, slice_index_or, List}
+use Rattle.std.proofs.Common.{sym, ap, subst, arith, codes, map, length, slice_index_or, List}
 use Rattle.std.proofs.Common.{[], ◌∷◌, Some, None}
 use Rattle.std.proofs.lemmas.Bool.{and_parts, or_cases, or_left, or_right}
 use Rattle.std.proofs.lemmas.List.{length-map}

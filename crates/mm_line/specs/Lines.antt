@@ -35,7 +35,8 @@ names_in text = slice_split (λ b. b == 44) text
 -- the names that `--report` takes
 abbrev pub section_names : List Text
 section_names =
-    codes "all" ∷ codes "matrix" ∷ codes "counts" ∷ codes "usage" ∷ codes "citations" ∷ []
+    codes "all" ∷ codes "matrix" ∷ codes "counts" ∷ codes "usage" ∷ codes "citations"
+    ∷ codes "statements" ∷ []
 
 -- whether each name of the entry of `--report` is one of these, if there is an entry
 abbrev pub has_known_names : Option Text → Bool
@@ -50,6 +51,7 @@ sections_named names = let default = is_in (codes "all") names in
       counts = default || is_in (codes "counts") names;
       usage = default || is_in (codes "usage") names;
       citations = is_in (codes "citations") names;
+      statements = is_in (codes "statements") names;
     }
 
 -- the sections that the entry of `--report` names, or if there is none, those of a report by default

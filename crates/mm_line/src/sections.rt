@@ -10,7 +10,12 @@ use mm_spec::Sections;
 fn is_known(name: &str) -> bool
     ensures { result ≡ is_in name.now section_names }
 {
-    name == "all" || name == "matrix" || name == "counts" || name == "usage" || name == "citations"
+    name == "all"
+        || name == "matrix"
+        || name == "counts"
+        || name == "usage"
+        || name == "citations"
+        || name == "statements"
 }
 
 /// The first name of the text that no section has.
@@ -38,5 +43,6 @@ pub(crate) fn sections_named_in(text: &str) -> Sections
         counts: default || has_name(text, "counts"),
         usage: default || has_name(text, "usage"),
         citations: has_name(text, "citations"),
+        statements: has_name(text, "statements"),
     }
 }

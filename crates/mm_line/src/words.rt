@@ -22,7 +22,14 @@ use mm_version::VERSION;
 use std::alloc::{AllocError, Global};
 use std::convert::AsStr;
 
-static SECTION_NAMES: [&str; 5] = ["all", "matrix", "counts", "usage", "citations"];
+static SECTION_NAMES: [&str; 6] = [
+    "all",
+    "matrix",
+    "counts",
+    "usage",
+    "citations",
+    "statements",
+];
 
 static FORMS: [&str; 2] = ["1", "2"];
 
@@ -67,7 +74,7 @@ fn report_option<'a>(alloc: Global) -> Arg<'a>
         .value_name("PART")
         .help(
             "Write these parts of the report, with commas between them: \
-               matrix, counts, usage, citations, or all, which is the first three [default: all]",
+               matrix, counts, usage, citations, statements, or all, which is the first three [default: all]",
         )
 }
 

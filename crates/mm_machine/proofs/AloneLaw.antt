@@ -18,7 +18,7 @@ use Rattle.mm_spec.specs.Laws.Stack.{apply, label_entries}
 use Rattle.mm_rule.specs.declared.rule.RulePart.TheVariants.{Constant, Variable}
 use Rattle.mm_rule.specs.Rule.{floating_index, parts_of, IsVariableBelow, CompiledRule, IsCompiled}
 use Rattle.mm_machine.specs.State.{applied}
-use Rattle.mm_machine.proofs.RuleTestLaw.{length_all_parts}
+use Rattle.mm_machine.proofs.EntryRuleLaw.{length_all_parts}
 
 empty_of_length_0 : {X : Type 0} (xs : List X) → length xs ≡ 0 → xs ≡ []
 empty_of_length_0 [] length_is_0 = refl

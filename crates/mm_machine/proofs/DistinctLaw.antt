@@ -2,7 +2,7 @@
 use Rattle.std.proofs.Common.{◌≡◌, ℕ, zero, suc, ◌+◌, ◌-◌, ◌<◌, ◌≤◌, Bool, true, false, ◌&&◌, ◌||◌}
 use Rattle.std.proofs.Common.{◌==◌, not, ◌⊎◌, inl, inr, List, [], ◌∷◌, ◌++◌, length, take, drop}
 use Rattle.std.proofs.Common.{get_or, All, refl, sym, ap, ap₂, ◌∙◌, subst, arith, append_assoc}
-use Rattle.std.proofs.Common.{length-append, length-drop}
+use Rattle.std.proofs.Common.{length-append, length-drop, slice_range}
 use Rattle.std.proofs.Math.Bool.{and-true, and-false, and_assoc}
 use Rattle.std.proofs.Math.Seq.{get_or-append_seam}
 use Rattle.std.specs.List.{list_all, Contains, AllByRecursion}
@@ -14,19 +14,15 @@ use Rattle.std.proofs.lemmas.List.Elements.{recursion_from_All}
 use Rattle.mm_spec.specs.Statement.{Statement}
 use Rattle.mm_spec.specs.Derivation.{Formula, are_disjoint, is_disjoint_from, are_all_disjoint}
 use Rattle.mm_spec.specs.Frame.{is_variable_number, symbol_names}
-use Rattle.mm_spec.specs.Laws.Stack.{tail}
 use Rattle.mm_spec.specs.Citation.{context_at}
-use Rattle.mm_machine.specs.declared.arena.Span.{Span}
-use Rattle.mm_machine.specs.declared.arena.Store.TheVariants.{Unmarked}
-use Rattle.mm_machine.specs.Arena.{Arena, arena, symbols_of, span, no_symbols, span_formula, IsIn}
-use Rattle.mm_machine.specs.Arena.{without_first}
-use Rattle.mm_machine.specs.Replaced.{replacement}
-use Rattle.mm_machine.specs.State.{appended_span}
-use Rattle.mm_machine.specs.Distinct.{HaveSameVariables, AppendsIfNew, AppendsVariables}
-use Rattle.mm_machine.specs.Distinct.{AppendsEntry, AreReduced}
-use Rattle.mm_machine.proofs.GrowLaw.{stays_with_more_unmarked, replacement_is_in}
-use Rattle.mm_machine.proofs.GrowLaw.{formula_of_appended, appended_is_in}
-use Rattle.mm_machine.proofs.StretchLaw.{formula_tail}
+use Rattle.mm_nodes.specs.Strings.{string_of}
+use Rattle.mm_nodes.proofs.StoreLaw.{range_of_front, range_behind}
+use Rattle.mm_machine.specs.declared.distinct.Stretch.{Stretch}
+use Rattle.mm_machine.specs.declared.entry.Entry.{Entry}
+use Rattle.mm_machine.specs.Entries.{no_entry}
+use Rattle.mm_machine.specs.Filled.{body_string_at}
+use Rattle.mm_machine.specs.Distinct.{stretch, stretch_at, IsStretch, HaveSameVariables}
+use Rattle.mm_machine.specs.Distinct.{AppendsIfNew, AppendsVariables, AppendsStretch, AreReduced}
 
 list_all_equal : (p q : ℕ → Bool) → ((s : ℕ) → p s ≡ q s) → (u : List ℕ)
     → list_all p u ≡ list_all q u
@@ -106,7 +102,7 @@ module _ (db : List Statement) (f : Formula) (i s : ℕ) (i_lt_length : i < leng
         (are_symbols i s i_lt_length));
   }
 
--- ---- an entry after the others
+-- ---- a stretch after the others
 
 have_same_at : (db : List Statement) (u u' v v' : List ℕ) → u ≡ u' → v ≡ v'
     → HaveSameVariables db u' v' → HaveSameVariables db u v
@@ -114,100 +110,92 @@ have_same_at db u u' v v' u_is v_is have_same =
     subst (λ z. HaveSameVariables db z v) (sym u_is)
     (subst (λ z. HaveSameVariables db u' z) (sym v_is) have_same)
 
-module _ (db : List Statement) (a : Arena) (es : List Span) (xs : List ℕ) (fs : List Span)
-    (e : Span) (is_in : IsIn a e) (so_far : AreReduced db a es (arena xs []) fs)
-    (formula : Formula)
-    (have_same : HaveSameVariables db (tail (span_formula a e)) (tail formula))
-    (are_symbols : All (λ s. s < length (symbol_names db)) formula) where
-  old_replacement : replacement a (es ++ e ∷ []) (length es) ≡ tail (span_formula a e)
-  old_replacement =
-      ap (λ z. span_formula a (without_first z)) (get_or-append_seam es e [] no_symbols)
-      ∙ formula_tail (symbols_of a e.store) e.start e.end is_in.start_le_end
+module _ (db : List Statement) (nodes : List (List ℕ)) (es : List Entry) (xs : List ℕ)
+    (ss : List Stretch) (e : Entry) (so_far : AreReduced db nodes es xs ss) (variables : List ℕ)
+    (have_same : HaveSameVariables db (string_of nodes e.body) variables)
+    (are_symbols : All (λ s. s < length (symbol_names db)) variables) where
+  abbrev added : Stretch
+  added = stretch (length xs) (length (xs ++ variables))
 
-  new_replacement : replacement (arena (xs ++ formula) []) (fs ++ appended_span xs formula ∷ [])
-      (length fs) ≡ tail formula
-  new_replacement =
-      ap (λ z. span_formula (arena (xs ++ formula) []) (without_first z))
-      (get_or-append_seam fs (appended_span xs formula) [] no_symbols)
-      ∙ formula_tail (xs ++ formula) (length xs) (length (xs ++ formula))
-      (omega (arith, length-append xs formula))
-      ∙ ap tail (formula_of_appended xs [] formula)
+  old_string : body_string_at nodes (es ++ e ∷ []) (length es) ≡ string_of nodes e.body
+  old_string = ap (λ z. string_of nodes z.body) (get_or-append_seam es e [] no_entry)
 
-  replacement_stays : (j : ℕ) → j < length fs
-      → replacement (arena (xs ++ formula) []) (fs ++ appended_span xs formula ∷ []) j
-      ≡ replacement (arena xs []) fs j
-  replacement_stays j j_lt_length =
-      ap (λ z. span_formula (arena (xs ++ formula) []) (without_first z))
-      (get_or_append_left fs (appended_span xs formula ∷ []) no_symbols j j_lt_length)
-      ∙ (stays_with_more_unmarked xs [] formula (without_first (get_or fs j no_symbols))
-      (replacement_is_in (arena xs []) fs j (without_first (get_or fs j no_symbols))
-      so_far.are_entries.entries_in_arena j_lt_length refl)).formulas_equal
+  new_stretch : stretch_at (xs ++ variables) (ss ++ added ∷ []) (length ss) ≡ variables
+  new_stretch =
+      ap (λ z. slice_range (xs ++ variables) z.start z.end)
+      (get_or-append_seam ss added [] (stretch 0 0))
+      ∙ range_behind xs variables (length xs) (length (xs ++ variables)) refl refl
 
-  have_same_with_entry : (j : ℕ) → (j < length es) ⊎ (length es ≤ j)
+  stretch_stays : (j : ℕ) → j < length ss
+      → stretch_at (xs ++ variables) (ss ++ added ∷ []) j ≡ stretch_at xs ss j
+  stretch_stays j j_lt_length =
+      let is_stretch = All-get_or (IsStretch (length xs)) ss j (stretch 0 0) j_lt_length
+      so_far.are_stretches in
+      ap (λ z. slice_range (xs ++ variables) z.start z.end)
+      (get_or_append_left ss (added ∷ []) (stretch 0 0) j j_lt_length)
+      ∙ range_of_front xs variables (get_or ss j (stretch 0 0)).start
+      (get_or ss j (stretch 0 0)).end is_stretch.end_le
+
+  have_same_with_stretch : (j : ℕ) → (j < length es) ⊎ (length es ≤ j)
       → j < length (es ++ e ∷ [])
-      → HaveSameVariables db (replacement a (es ++ e ∷ []) j)
-      (replacement (arena (xs ++ formula) []) (fs ++ appended_span xs formula ∷ []) j)
-  have_same_with_entry j (inl j_lt_es) j_lt_length =
-      have_same_at db _ (replacement a es j) _ (replacement (arena xs []) fs j)
-      (ap (λ z. span_formula a (without_first z))
-      (get_or_append_left es (e ∷ []) no_symbols j j_lt_es))
-      (replacement_stays j (omega (arith, so_far.counts_equal, j_lt_es)))
+      → HaveSameVariables db (body_string_at nodes (es ++ e ∷ []) j)
+      (stretch_at (xs ++ variables) (ss ++ added ∷ []) j)
+  have_same_with_stretch j (inl j_lt_es) j_lt_length =
+      have_same_at db _ (body_string_at nodes es j) _ (stretch_at xs ss j)
+      (ap (λ z. string_of nodes z.body) (get_or_append_left es (e ∷ []) no_entry j j_lt_es))
+      (stretch_stays j (omega (arith, so_far.counts_equal, j_lt_es)))
       (so_far.have_same_variables j j_lt_es)
-  have_same_with_entry j (inr es_le_j) j_lt_length =
+  have_same_with_stretch j (inr es_le_j) j_lt_length =
       let j_is_es : j ≡ length es = omega (arith, length-append es (e ∷ []), es_le_j) in
-      let j_is_fs : j ≡ length fs = omega (arith, j_is_es, so_far.counts_equal) in
-      have_same_at db _ (tail (span_formula a e)) _ (tail formula)
-      (ap (replacement a (es ++ e ∷ [])) j_is_es ∙ old_replacement)
-      (ap (replacement (arena (xs ++ formula) []) (fs ++ appended_span xs formula ∷ [])) j_is_fs
-      ∙ new_replacement) have_same
+      let j_is_ss : j ≡ length ss = omega (arith, j_is_es, so_far.counts_equal) in
+      have_same_at db _ (string_of nodes e.body) _ variables
+      (ap (body_string_at nodes (es ++ e ∷ [])) j_is_es ∙ old_string)
+      (ap (stretch_at (xs ++ variables) (ss ++ added ∷ [])) j_is_ss ∙ new_stretch) have_same
 
-  reduced : AreReduced db a (es ++ e ∷ []) (arena (xs ++ formula) [])
-      (fs ++ appended_span xs formula ∷ [])
+  reduced : AreReduced db nodes (es ++ e ∷ []) (xs ++ variables) (ss ++ added ∷ [])
   reduced = record {
-    are_entries = record {
-      arena_in_range = record {
-        unmarked_in_range = All-append (λ s. s < length (symbol_names db)) xs formula
-            so_far.are_entries.arena_in_range.unmarked_in_range are_symbols;
-        marked_in_range = All-nil (λ s. s < length (symbol_names db));
-      };
-      entries_in_arena = All-push (IsIn (arena (xs ++ formula) [])) fs (appended_span xs formula)
-          (All-weaker (IsIn (arena xs [])) (IsIn (arena (xs ++ formula) []))
-          (λ z z_is_in. (stays_with_more_unmarked xs [] formula z z_is_in).is_in) fs
-          so_far.are_entries.entries_in_arena) (appended_is_in xs [] formula);
-    };
+    are_symbols = All-append (λ s. s < length (symbol_names db)) xs variables so_far.are_symbols
+        are_symbols;
+    are_stretches =
+        All-push (IsStretch (length (xs ++ variables))) ss added
+        (All-weaker (IsStretch (length xs)) (IsStretch (length (xs ++ variables)))
+        (λ s is_stretch. let end_le = is_stretch.end_le in record {
+          start_le_end = is_stretch.start_le_end;
+          end_le = omega (arith, end_le, length-append xs variables);
+        }) ss so_far.are_stretches)
+        (record {
+          start_le_end = omega (arith, length-append xs variables);
+          end_le = omega arith;
+        });
     counts_equal = omega (
       arith,
       so_far.counts_equal,
       length-append es (e ∷ []),
-      length-append fs (appended_span xs formula ∷ []),
+      length-append ss (added ∷ []),
     );
-    have_same_variables = λ j. have_same_with_entry j (cases_lt j (length es));
+    have_same_variables = λ j. have_same_with_stretch j (cases_lt j (length es));
   }
 
-pub next_entry : (db : List Statement) (a : Arena) (es : List Span) (i : ℕ) (xs ys : List ℕ)
-    (fs gs : List Span)
-    → i < length es → All (IsIn a) es → AreReduced db a (take i es) (arena xs []) fs
-    → AppendsEntry db (span_formula a (get_or es i no_symbols)) xs ys fs gs
-    → AreReduced db a (take (i + 1) es) (arena ys []) gs
-next_entry db a es i xs ys fs gs i_lt_length entries_in so_far appended =
-    let e = get_or es i no_symbols in
-    subst (λ z. AreReduced db a z (arena ys []) gs) (sym (take_more es i no_symbols i_lt_length))
-    (subst (λ z. AreReduced db a (take i es ++ e ∷ []) (arena ys []) z) (sym appended.entries_are)
-    (subst (λ z. AreReduced db a (take i es ++ e ∷ []) (arena z [])
-    (fs ++ span Unmarked (length xs) (length z) ∷ [])) (sym appended.list_is)
-    (reduced db a (take i es) xs fs e (All-get_or (IsIn a) es i no_symbols i_lt_length entries_in)
-    so_far appended.formula appended.have_same_variables appended.are_symbols)))
+pub next_stretch : (db : List Statement) (nodes : List (List ℕ)) (es : List Entry) (i : ℕ)
+    (xs ys : List ℕ) (ss ts : List Stretch) → i < length es
+    → AreReduced db nodes (take i es) xs ss
+    → AppendsStretch db (string_of nodes (get_or es i no_entry).body) xs ys ss ts
+    → AreReduced db nodes (take (i + 1) es) ys ts
+next_stretch db nodes es i xs ys ss ts i_lt_length so_far appended =
+    let e = get_or es i no_entry in
+    let variables = appended.appends_variables.variables in
+    subst (λ z. AreReduced db nodes z ys ts) (sym (take_more es i no_entry i_lt_length))
+    (subst (λ z. AreReduced db nodes (take i es ++ e ∷ []) ys z) (sym appended.stretches_are)
+    (subst (λ z. AreReduced db nodes (take i es ++ e ∷ []) z
+    (ss ++ stretch (length xs) (length z) ∷ [])) (sym appended.appends_variables.list_is)
+    (reduced db nodes (take i es) xs ss e so_far variables
+    appended.appends_variables.have_same_variables appended.appends_variables.are_symbols)))
 
-pub no_entries : (db : List Statement) (a : Arena) (es : List Span)
-    → AreReduced db a (take 0 es) (arena [] []) []
-no_entries db a es = record {
-  are_entries = record {
-    arena_in_range = record {
-      unmarked_in_range = All-nil (λ s. s < length (symbol_names db));
-      marked_in_range = All-nil (λ s. s < length (symbol_names db));
-    };
-    entries_in_arena = All-nil (IsIn (arena [] []));
-  };
+pub no_stretches : (db : List Statement) (nodes : List (List ℕ)) (es : List Entry)
+    → AreReduced db nodes (take 0 es) [] []
+no_stretches db nodes es = record {
+  are_symbols = All-nil (λ s. s < length (symbol_names db));
+  are_stretches = All-nil (IsStretch 0);
   counts_equal = refl;
   have_same_variables = λ j j_lt_0. absurd (omega arith);
 }
@@ -239,24 +227,32 @@ disjoint_by_variables db t u u' v v' first_same second_same =
     (λ s. second_same (are_disjoint (context_at db t) s)
     (λ r. is_disjoint_from_constant db t s r)) u'
 
-module _ (db : List Statement) (t : ℕ) (a b : Arena) (es fs : List Span)
-    (reduced : AreReduced db a es b fs) where
-  abbrev pub keeps : Arena → List Span → ℕ × ℕ → Bool
-  keeps z gs p = are_all_disjoint (context_at db t) (replacement z gs p.0) (replacement z gs p.1)
+module _ (db : List Statement) (t : ℕ) (nodes : List (List ℕ)) (es : List Entry) (xs : List ℕ)
+    (ss : List Stretch) (reduced : AreReduced db nodes es xs ss) where
+  abbrev keep : ℕ × ℕ → Bool
+  keep p = are_all_disjoint (context_at db t) (body_string_at nodes es p.0)
+      (body_string_at nodes es p.1)
+
+  abbrev keep_by_variables : ℕ × ℕ → Bool
+  keep_by_variables p = are_all_disjoint (context_at db t) (stretch_at xs ss p.0)
+      (stretch_at xs ss p.1)
 
   each_pair : (ps : List (ℕ × ℕ))
       → AllByRecursion (λ (p : ℕ × ℕ). (p.0 < length es) × (p.1 < length es)) ps
-      → list_all (keeps b fs) ps ≡ list_all (keeps a es) ps
+      → list_all keep_by_variables ps ≡ list_all keep ps
   each_pair [] in_range = refl
   each_pair (p ∷ ps) in_range = ap₂ (λ x y. x && y)
-      (sym (disjoint_by_variables db t (replacement a es p.0) (replacement b fs p.0)
-      (replacement a es p.1) (replacement b fs p.1)
+      (sym (disjoint_by_variables db t (body_string_at nodes es p.0) (stretch_at xs ss p.0)
+      (body_string_at nodes es p.1) (stretch_at xs ss p.1)
       (reduced.have_same_variables p.0 in_range.0.0)
       (reduced.have_same_variables p.1 in_range.0.1)))
       (each_pair ps in_range.1)
 
   pub pairs_by_variables : (ps : List (ℕ × ℕ))
       → All (λ (p : ℕ × ℕ). (p.0 < length es) × (p.1 < length es)) ps
-      → list_all (keeps b fs) ps ≡ list_all (keeps a es) ps
+      → list_all (λ (p : ℕ × ℕ). are_all_disjoint (context_at db t) (stretch_at xs ss p.0)
+      (stretch_at xs ss p.1)) ps
+      ≡ list_all (λ (p : ℕ × ℕ). are_all_disjoint (context_at db t) (body_string_at nodes es p.0)
+      (body_string_at nodes es p.1)) ps
   pairs_by_variables ps in_range = each_pair ps (recursion_from_All
       (λ (p : ℕ × ℕ). (p.0 < length es) × (p.1 < length es)) ps in_range)

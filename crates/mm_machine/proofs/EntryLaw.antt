@@ -1,17 +1,17 @@
 -- Entries stay as nodes are added or given up.
 use Rattle.std.proofs.Common.{◌≡◌, ℕ, zero, suc, ◌+◌, ◌<◌, ◌≤◌, ◌⊎◌, inl, inr, List, [], ◌∷◌, ◌++◌}
-use Rattle.std.proofs.Common.{length, take, drop, map, refl, sym, ap, ap₂, ◌∙◌, subst, arith, All}
+use Rattle.std.proofs.Common.{length, take, refl, sym, ap, ap₂, ◌∙◌, arith, All}
 use Rattle.std.proofs.Common.{length-append}
 use Rattle.std.specs.List.{AllByRecursion}
 use Rattle.std.proofs.lemmas.List.{length-take-le}
-use Rattle.std.proofs.lemmas.List.Elements.{recursion_from_All, All-from_recursion, All-push}
+use Rattle.std.proofs.lemmas.List.Elements.{recursion_from_All, All-from_recursion}
 use Rattle.std.proofs.lemmas.Bool.{cases_lt}
 use Rattle.mm_spec.specs.Limits.{formula_limit}
 use Rattle.mm_nodes.specs.Strings.{first_node, no_body, string_of, joined_string_of, IsMade}
-use Rattle.mm_nodes.specs.Strings.{Extends}
-use Rattle.mm_nodes.proofs.StoreLaw.{no_string, string_with_more, string_when_cut, joined_when_cut}
+use Rattle.mm_nodes.proofs.StoreLaw.{no_string, string_with_more, string_when_cut}
 use Rattle.mm_machine.specs.declared.entry.Entry.{Entry}
-use Rattle.mm_machine.specs.Entries.{IsEntry, HasNoSymbols, entry_formula, entry_formulas}
+use Rattle.mm_machine.specs.Entries.{entry, IsAmong, IsEntry, HasNoSymbols, entry_formula}
+use Rattle.mm_machine.specs.Entries.{entry_formulas}
 use Rattle.mm_machine.proofs.FilledLaw.{symbol_string_is, nil_if_no_length}
 
 -- the entry is one over the other nodes too, with the same formula
@@ -47,7 +47,7 @@ module _ (nodes nodes' : List (List ℕ)) (e : Entry) (is_entry : IsEntry nodes 
             body_is_among = is_entry.body_is_among;
             needed_le_count = needed_le;
             length_is = is_entry.length_is ∙ ap length (sym body_stays);
-            length_le_limit = is_entry.length_le_limit;
+            length_lt_limit = is_entry.length_lt_limit;
           };
           formulas_equal = ap₂ (λ u v. u ++ v) typecode_stays body_stays;
         }
@@ -129,7 +129,7 @@ module _ (nodes kept nodes' : List (List ℕ)) (bodies : List ℕ) (e : Entry)
     (strings_are : joined_string_of kept bodies ≡ joined_string_of nodes bodies)
     (is_symbol : e.typecode < first_node)
     (length_is : e.length ≡ length (joined_string_of nodes bodies))
-    (length_le : e.length ≤ formula_limit) (needed_is : e.needed ≡ length nodes') where
+    (length_lt : e.length < formula_limit) (needed_is : e.needed ≡ length nodes') where
   pub made_formula : entry_formula nodes' e ≡ e.typecode ∷ joined_string_of nodes bodies
   made_formula =
       ap₂ (λ u v. u ++ v) (symbol_string_is nodes' e.typecode is_symbol)
@@ -141,7 +141,7 @@ module _ (nodes kept nodes' : List (List ℕ)) (bodies : List ℕ) (e : Entry)
     body_is_among = by_case (cases_lt 0 (length bodies));
     needed_le_count = omega (arith, needed_is);
     length_is = length_is ∙ ap length (sym (made.string_is ∙ strings_are));
-    length_le_limit = length_le;
+    length_lt_limit = length_lt;
   }
     where
       by_case : (0 < length bodies) ⊎ (length bodies ≤ 0)
@@ -157,3 +157,37 @@ module _ (nodes kept nodes' : List (List ℕ)) (bodies : List ℕ) (e : Entry)
               → length (joined_string_of nodes bodies) ≡ 0
           no_strings [] no_length = refl
           no_strings (b ∷ bodies) no_length = absurd (omega (arith, no_length))
+
+-- the entry, with another number of nodes that are needed
+pub entry_with_needed : (nodes : List (List ℕ)) (e : Entry) (n : ℕ) → IsEntry nodes e
+    → n ≤ length nodes → (e.body < first_node + e.needed → e.body < first_node + n)
+    → IsEntry nodes (entry e.typecode e.body e.length n)
+entry_with_needed nodes e n is_entry n_le body_lt = record {
+  has_typecode = is_entry.has_typecode;
+  body_is_among = by_case is_entry.body_is_among;
+  needed_le_count = n_le;
+  length_is = is_entry.length_is;
+  length_lt_limit = is_entry.length_lt_limit;
+}
+  where
+    by_case : IsAmong e.needed e.body e.length → IsAmong n e.body e.length
+    by_case (inl among) = inl (body_lt among)
+    by_case (inr none) = inr none
+
+-- an entry without symbols
+module _ (nodes : List (List ℕ)) (n : ℕ) (count_lt : length nodes < first_node)
+    (n_le : n ≤ length nodes) where
+  no_body_string : string_of nodes no_body ≡ []
+  no_body_string = no_string nodes no_body 2147483647 refl (omega (arith, count_lt))
+
+  pub nothing_is_entry : IsEntry nodes (entry no_body no_body 0 n)
+  nothing_is_entry = record {
+    has_typecode = inr (refl, no_body_string, no_body_string);
+    body_is_among = inr (refl, refl);
+    needed_le_count = n_le;
+    length_is = ap length (sym no_body_string);
+    length_lt_limit = omega arith;
+  }
+
+  pub nothing_formula : entry_formula nodes (entry no_body no_body 0 n) ≡ []
+  nothing_formula = ap₂ (λ u v. u ++ v) no_body_string no_body_string

@@ -28,7 +28,7 @@ use Rattle.mm_machine.specs.State.{applied}
 use Rattle.mm_rule.proofs.FirstLaw.{floating_index_lt_length, substitution_is_tail_at_index}
 use Rattle.mm_machine.proofs.FilledLaw.{symbol_string_is}
 
-entry_formula_is_at : (nodes : List (List ℕ)) (es : List Entry) (j : ℕ) → j < length es
+pub entry_formula_is_at : (nodes : List (List ℕ)) (es : List Entry) (j : ℕ) → j < length es
     → entry_formula nodes (get_or es j no_entry) ≡ get_or (entry_formulas nodes es) j []
 entry_formula_is_at nodes [] j j_lt_length = absurd (omega arith)
 entry_formula_is_at nodes (e ∷ es) zero j_lt_length = refl

@@ -1,7 +1,7 @@
 -- Whether an entry is what a hypothesis requires.
 use Rattle.std.proofs.Common.{◌≡◌, ℕ, ◌<◌, ◌≤◌, ◌⊎◌, inl, inr, Bool, true, false, ◌&&◌, List, [], ◌∷◌}
-use Rattle.std.proofs.Common.{◌++◌, length, take, drop, get_or, refl, sym, ap, ap₂, ◌∙◌, arith, nat_lt, nat_eq}
-use Rattle.std.proofs.Common.{bytes_eq, eq-eqb, eqb-true, All, not}
+use Rattle.std.proofs.Common.{◌++◌, length, drop, get_or, refl, sym, ap, ap₂, ◌∙◌, arith, nat_lt, nat_eq}
+use Rattle.std.proofs.Common.{bytes_eq, eq-eqb, eqb-true, not}
 use Rattle.std.proofs.Math.Bool.{and-true, and-false}
 use Rattle.std.proofs.lemmas.Slice.Eq.{bytes_eq-Decides}
 use Rattle.std.proofs.lemmas.Bool.Decides.{nat_tests}
@@ -9,9 +9,6 @@ use Rattle.mm_spec.specs.Limits.{formula_limit}
 use Rattle.mm_nodes.specs.Strings.{first_node, string_of}
 use Rattle.mm_machine.specs.declared.entry.Entry.{Entry}
 use Rattle.mm_machine.specs.Entries.{IsEntry, HasNoSymbols, entry_formula}
-use Rattle.mm_rule.specs.declared.rule.RulePart.{RulePart}
-use Rattle.mm_rule.specs.declared.rule.RulePart.TheVariants.{Constant}
-use Rattle.mm_machine.specs.Filled.{filled_part, filled_parts}
 use Rattle.mm_machine.proofs.FilledLaw.{symbol_string_is}
 
 eq_self : (x : ℕ) → nat_eq x x ≡ true
@@ -99,6 +96,26 @@ module _ (nodes : List (List ℕ)) (e : Entry) (is_entry : IsEntry nodes e) wher
       sym (ap (λ u. bytes_eq u (t ∷ rest)) formula_is
       ∙ ap (λ b. b && bytes_eq (string_of nodes e.body) rest) (eq_self t))
 
+  -- no formula of an entry is too long
+  pub formula_le_limit : length (entry_formula nodes e) ≤ formula_limit
+  formula_le_limit = by_case is_entry.has_typecode
+    where
+      by_case : (e.typecode < first_node) ⊎ HasNoSymbols nodes e
+          → length (entry_formula nodes e) ≤ formula_limit
+      by_case (inl is_symbol) =
+          let formula_length = ap length (formula_if_symbol is_symbol) in
+          let body_length = is_entry.length_is in
+          let length_lt = is_entry.length_lt_limit in
+          omega (arith, formula_length, body_length, length_lt)
+      by_case (inr none) =
+          let formula_length = ap length (formula_if_none none) in omega (arith, formula_length)
+
+  pub too_long_differs : (u : List ℕ) → formula_limit < length u
+      → false ≡ bytes_eq (entry_formula nodes e) u
+  too_long_differs u limit_lt =
+      let le = formula_le_limit in
+      different_if_longer (entry_formula nodes e) u (omega (arith, le, limit_lt))
+
 pub not_equal_test : (a b : ℕ) → (a ≡ b → ⊥) → nat_eq a b ≡ false
 not_equal_test a b differ = by_test (nat_eq a b) refl
   where
@@ -106,9 +123,7 @@ not_equal_test a b differ = by_test (nat_eq a b) refl
     by_test false is = refl
     by_test true is = absurd (differ (eqb-true a b is))
 
-pub first_part_splits : (nodes : List (List ℕ)) (es : List Entry) (parts : List RulePart)
-    (p : RulePart) (t : ℕ) → 0 < length parts → p ≡ get_or parts 0 p → p ≡ Constant t
-    → filled_parts nodes es parts ≡ t ∷ filled_parts nodes es (drop 1 parts)
-first_part_splits nodes es [] p t some p_is p_is_constant = absurd (omega arith)
-first_part_splits nodes es (q ∷ parts) p t some p_is p_is_constant =
-    ap (λ x. filled_part nodes es x ++ filled_parts nodes es parts) (sym p_is ∙ p_is_constant)
+pub begins_with : {X : Type 0} (xs : List X) (x : X) → 0 < length xs → x ≡ get_or xs 0 x
+    → xs ≡ x ∷ drop 1 xs
+begins_with [] x some x_is = absurd (omega arith)
+begins_with (y ∷ xs) x some x_is = ap (λ z. z ∷ xs) (sym x_is)

@@ -1,20 +1,22 @@
 -- A formula with its variables replaced by the bodies of entries.
 use Rattle.std.proofs.Common.{◌≡◌, ℕ, zero, suc, ◌+◌, ◌<◌, ◌≤◌, ◌⊎◌, inl, inr, List, [], ◌∷◌, ◌++◌}
-use Rattle.std.proofs.Common.{length, take, get_or, refl, sym, ap, ap₂, ◌∙◌, subst, arith, All, max}
-use Rattle.std.proofs.Common.{length-append, append-nil, nat_lt, true, take_all}
+use Rattle.std.proofs.Common.{length, take, get_or, refl, sym, ap, ap₂, ◌∙◌, subst, arith, All}
+use Rattle.std.proofs.Common.{length-append, append-nil, nat_lt, true}
 use Rattle.std.proofs.lemmas.List.{take_more}
-use Rattle.std.proofs.lemmas.List.Elements.{All-push, All-weaker, All-nil, All-get_or}
+use Rattle.std.proofs.lemmas.List.Elements.{All-push, All-weaker, All-nil}
+use Rattle.std.proofs.lemmas.List.Elements.{All-append, All-from_recursion}
 use Rattle.std.proofs.lemmas.Grind.{flat_map-append}
 use Rattle.std.proofs.lemmas.Bool.Decides.{nat_tests}
 use Rattle.std.proofs.lemmas.Bool.{cases_lt}
 use Rattle.mm_spec.specs.Limits.{formula_limit}
-use Rattle.mm_nodes.specs.Strings.{first_node, no_body, body_string, string_of, joined_string_of}
-use Rattle.mm_nodes.specs.Strings.{strings_of}
+use Rattle.mm_nodes.specs.Strings.{first_node, string_of, joined_string_of}
+use Rattle.mm_nodes.proofs.StringLaw.{string_has_symbols}
+use Rattle.mm_rule.specs.Rule.{IsConstantBelow}
 use Rattle.mm_rule.specs.declared.rule.RulePart.{RulePart}
 use Rattle.mm_rule.specs.declared.rule.RulePart.TheVariants.{Constant, Variable}
 use Rattle.mm_machine.specs.declared.entry.Entry.{Entry}
 use Rattle.mm_machine.specs.Entries.{no_entry, IsEntry, IsAmong}
-use Rattle.mm_machine.specs.Filled.{filled_part, filled_parts, body_string_at}
+use Rattle.mm_machine.specs.Filled.{filled_part, filled_parts, IsListed}
 
 pub filled_take : (nodes : List (List ℕ)) (es : List Entry) (parts : List RulePart) (i : ℕ)
     (p : RulePart) → i < length parts → p ≡ get_or parts i p
@@ -150,3 +152,47 @@ body_is_needed nodes e needed is_entry some if_node if_symbol =
         let needed_is = if_node is_node in
         let needed_le = is_entry.needed_le_count in
         (omega (arith, needed_is), omega (arith, needed_is, among, needed_le))
+
+-- ---- the symbols, listed
+
+pub part_has_symbols : (nodes : List (List ℕ)) (es : List Entry) (p : RulePart)
+    → IsConstantBelow first_node p → All (λ s. s < first_node) (filled_part nodes es p)
+part_has_symbols nodes es (Constant s) is_below =
+    All-from_recursion (λ s. s < first_node) (s ∷ []) (is_below, tt)
+part_has_symbols nodes es (Variable j) is_below =
+    string_has_symbols nodes (get_or es j no_entry).body
+
+pub nothing_listed : (nodes : List (List ℕ)) (es : List Entry) (parts : List RulePart)
+    → IsListed nodes es (take 0 parts) []
+nothing_listed nodes es parts = record {
+  symbols_are = refl;
+  are_symbols = All-nil (λ s. s < first_node);
+  length_le_limit = omega arith;
+}
+
+pub listed_more : (nodes : List (List ℕ)) (es : List Entry) (parts : List RulePart) (i : ℕ)
+    (p : RulePart) (symbols symbols' : List ℕ) → i < length parts → p ≡ get_or parts i p
+    → IsListed nodes es (take i parts) symbols
+    → symbols' ≡ symbols ++ filled_part nodes es p
+    → All (λ s. s < first_node) (filled_part nodes es p) → length symbols' ≤ formula_limit
+    → IsListed nodes es (take (i + 1) parts) symbols'
+listed_more nodes es parts i p symbols symbols' i_lt p_is listed symbols_are have_symbols length_le =
+    record {
+      symbols_are =
+          symbols_are ∙ ap (λ u. u ++ filled_part nodes es p) listed.symbols_are
+          ∙ sym (filled_take nodes es parts i p i_lt p_is);
+      are_symbols =
+          rw symbols_are (All-append (λ s. s < first_node) symbols (filled_part nodes es p)
+          listed.are_symbols have_symbols);
+      length_le_limit = length_le;
+    }
+
+pub listed_too_long : (nodes : List (List ℕ)) (es : List Entry) (parts : List RulePart) (i : ℕ)
+    (p : RulePart) (symbols symbols' : List ℕ) → i < length parts → p ≡ get_or parts i p
+    → IsListed nodes es (take i parts) symbols
+    → symbols' ≡ symbols ++ filled_part nodes es p → formula_limit < length symbols'
+    → formula_limit < length (filled_parts nodes es parts)
+listed_too_long nodes es parts i p symbols symbols' i_lt p_is listed symbols_are limit_lt =
+    too_long_if_front_is nodes es parts (i + 1) (length symbols')
+    (ap length (symbols_are ∙ ap (λ u. u ++ filled_part nodes es p) listed.symbols_are
+    ∙ sym (filled_take nodes es parts i p i_lt p_is))) limit_lt

@@ -1,15 +1,25 @@
--- Entries that have the variables of others.
-use Rattle.std.specs.Prelude.{ℕ, ◌≡◌, ◌<◌, ◌++◌, ◌∷◌, ◌⊎◌, Bool, true, false, All, List, []}
-use Rattle.std.specs.Prelude.{length, drop}
+-- Variables of formulas, each once.
+use Rattle.std.specs.Prelude.{ℕ, ◌≡◌, ◌≤◌, ◌<◌, ◌++◌, ◌∷◌, ◌⊎◌, Bool, true, false, All, List, []}
+use Rattle.std.specs.Prelude.{length, drop, get_or, slice_range}
 use Rattle.std.specs.List.{list_all, Contains}
 use Rattle.mm_spec.specs.Statement.{Statement}
 use Rattle.mm_spec.specs.Derivation.{Formula}
 use Rattle.mm_spec.specs.Frame.{is_variable_number, symbol_names}
-use Rattle.mm_spec.specs.Laws.Stack.{tail}
-use Rattle.mm_machine.specs.declared.arena.Span.{Span}
-use Rattle.mm_machine.specs.declared.arena.Store.TheVariants.{Unmarked}
-use Rattle.mm_machine.specs.Arena.{Arena, span, AreEntries}
-use Rattle.mm_machine.specs.Replaced.{replacement}
+use Rattle.mm_machine.specs.declared.distinct.Stretch.{Stretch}
+use Rattle.mm_machine.specs.declared.entry.Entry.{Entry}
+use Rattle.mm_machine.specs.Filled.{body_string_at}
+
+abbrev pub stretch : ℕ → ℕ → Stretch
+stretch start end = record { start = start; end = end }
+
+-- the symbols of stretch `j` of a list
+abbrev pub stretch_at : List ℕ → List Stretch → ℕ → List ℕ
+stretch_at list ss j = slice_range list (get_or ss j (stretch 0 0)).start (get_or ss j (stretch 0 0)).end
+
+-- it is a stretch of a list of `n` symbols
+pub record IsStretch (n : ℕ) (s : Stretch) : Type 0 where
+  pub start_le_end : s.start ≤ s.end
+  pub end_le : s.end ≤ n
 
 -- The two lists have the same variables: each test that constants pass is one that both lists pass,
 -- or neither.
@@ -32,20 +42,17 @@ pub record AppendsVariables (db : List Statement) (f : Formula) (xs ys : List �
   pub have_same_variables : HaveSameVariables db f variables
   pub are_symbols : All (λ s. s < length (symbol_names db)) variables
 
--- an entry was appended whose formula has the variables of `f`, the first symbol aside
-pub record AppendsEntry (db : List Statement) (f : Formula) (xs ys : List ℕ) (es fs : List Span)
-    : Type 0 where
-  pub formula : Formula
-  pub list_is : ys ≡ xs ++ formula
-  pub entries_are : fs ≡ es ++ span Unmarked (length xs) (length ys) ∷ []
-  pub have_same_variables : HaveSameVariables db (tail f) (tail formula)
-  pub are_symbols : All (λ s. s < length (symbol_names db)) formula
+-- the variables of the formula were appended, and the stretch of them
+pub record AppendsStretch (db : List Statement) (f : Formula) (xs ys : List ℕ)
+    (ss ts : List Stretch) : Type 0 where
+  pub appends_variables : AppendsVariables db f xs ys
+  pub stretches_are : ts ≡ ss ++ stretch (length xs) (length ys) ∷ []
 
--- The entries `fs` have the variables of the entries `es`: what replaces a variable by the ones has
--- the variables of what replaces it by the others.
-pub record AreReduced (db : List Statement) (a : Arena) (es : List Span) (b : Arena)
-    (fs : List Span) : Type 0 where
-  pub are_entries : AreEntries (length (symbol_names db)) b fs
-  pub counts_equal : length fs ≡ length es
+-- the stretches of the list have the variables of what replaces a variable by the entries
+pub record AreReduced (db : List Statement) (nodes : List (List ℕ)) (es : List Entry)
+    (list : List ℕ) (ss : List Stretch) : Type 0 where
+  pub are_symbols : All (λ s. s < length (symbol_names db)) list
+  pub are_stretches : All (IsStretch (length list)) ss
+  pub counts_equal : length ss ≡ length es
   pub have_same_variables : (j : ℕ) → j < length es
-      → HaveSameVariables db (replacement a es j) (replacement b fs j)
+      → HaveSameVariables db (body_string_at nodes es j) (stretch_at list ss j)

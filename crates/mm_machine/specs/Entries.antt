@@ -1,5 +1,5 @@
 -- The entries of the stack, whose formulas are strings of nodes.
-use Rattle.std.specs.Prelude.{ℕ, ◌+◌, ◌≤◌, ◌<◌, ◌≡◌, ◌⊎◌, ◌++◌, List, [], length, map}
+use Rattle.std.specs.Prelude.{ℕ, ◌+◌, ◌≤◌, ◌<◌, ◌≡◌, ◌⊎◌, ◌++◌, List, [], length, map, All, get_or}
 use Rattle.mm_spec.specs.Derivation.{Formula}
 use Rattle.mm_spec.specs.Limits.{formula_limit}
 use Rattle.mm_nodes.specs.Strings.{first_node, no_body, string_of}
@@ -36,4 +36,15 @@ pub record IsEntry (nodes : List (List ℕ)) (e : Entry) : Type 0 where
   pub body_is_among : IsAmong e.needed e.body e.length
   pub needed_le_count : e.needed ≤ length nodes
   pub length_is : e.length ≡ length (string_of nodes e.body)
-  pub length_le_limit : e.length ≤ formula_limit
+  pub length_lt_limit : e.length < formula_limit
+
+-- the entries of a stack over the nodes: none needs more nodes than one above it
+pub record IsStack (nodes : List (List ℕ)) (es : List Entry) : Type 0 where
+  pub count_lt : length nodes < first_node
+  pub are_entries : All (IsEntry nodes) es
+  pub needed_rises : (i j : ℕ) → i ≤ j → j < length es
+      → (get_or es i no_entry).needed ≤ (get_or es j no_entry).needed
+
+-- each symbol of the formulas is less than `symbol_count`
+abbrev pub AreInRange : ℕ → List Formula → Type 0
+AreInRange symbol_count fs = All (λ f. All (λ s. s < symbol_count) f) fs

@@ -31,3 +31,10 @@ pub record IsFilled (nodes : List (List ℕ)) (es : List Entry) (parts : List Ru
   pub length_le_limit : f.length ≤ formula_limit
   pub bodies_needed : All (λ b. b < first_node + f.needed) (take f.count list)
   pub needed_le_count : f.needed ≤ length nodes
+
+-- the symbols are the parts with each variable replaced, and there are no more than the limit
+pub record IsListed (nodes : List (List ℕ)) (es : List Entry) (parts : List RulePart)
+    (symbols : List ℕ) : Type 0 where
+  pub symbols_are : symbols ≡ filled_parts nodes es parts
+  pub are_symbols : All (λ s. s < first_node) symbols
+  pub length_le_limit : length symbols ≤ formula_limit

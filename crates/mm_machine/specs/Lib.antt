@@ -1,9 +1,7 @@
-pub mod Arena
 pub mod Entries
 pub mod Filled
 pub mod FlagRows
 pub mod DisjointCache
 pub mod Distinct
-pub mod Replaced
 pub mod State
 pub mod Applied

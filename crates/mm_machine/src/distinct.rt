@@ -3,23 +3,31 @@
 ghost use Rattle.std.specs.Prelude.{◌≡◌, ◌<◌, ◌++◌, ◌∷◌, [], All, length, drop, true, OnOk};
 ghost use Rattle.std.specs.List.{Contains};
 ghost use Rattle.mm_spec.specs.Frame.{symbol_names};
-ghost use Rattle.mm_machine.specs.Arena.{arena, span, AreEntries};
-ghost use Rattle.mm_machine.specs.declared.arena.Store.TheVariants.{Unmarked};
-ghost use Rattle.mm_machine.specs.Distinct.{AppendsIfNew, AppendsVariables, AppendsEntry};
+ghost use Rattle.mm_nodes.specs.Strings.{string_of};
+ghost use Rattle.mm_machine.specs.Entries.{AreInRange, entry_formulas};
+ghost use Rattle.mm_machine.specs.Distinct.{AppendsIfNew, AppendsVariables, AppendsStretch};
 ghost use Rattle.mm_machine.specs.Distinct.{AreReduced};
 
-use crate::arena::{Span, Store, Symbols};
+use crate::entry::Entry;
 use mm_database::{Database, Sym};
+use mm_nodes::{Body, Nodes};
 use mm_rule::{empty, put_number};
 use std::alloc::{AllocError, Allocator};
 
-/// Entries that have the variables of others, each once in an entry. It is kept from step to step,
-/// so that its memory is reused.
+/// A stretch of a list of symbols: from index `start` up to, but not including, `end`.
+#[derive(Clone, Copy, Drop)]
+pub struct Stretch {
+    pub start: usize,
+    pub end: usize,
+}
+
+/// The variables of what replaces variables, each once for a premise. They are kept from step to
+/// step, so that their memory is reused.
 pub struct DistinctVariables<A: Allocator> {
-    /// The formulas of the entries, one after the other.
+    /// The variables of the premises, those of one after those of the other.
     pub symbols: Vec<Sym, A>,
-    /// The entries, which are stretches of `symbols`.
-    pub entries: Vec<Span, A>,
+    /// For each premise the stretch of its variables in `symbols`.
+    pub stretches: Vec<Stretch, A>,
     /// The columns of a list of symbols in the rows of a `DisjointCache`.
     pub columns: Vec<usize, A>,
     /// For each symbol the index at which it may be in `symbols`.
@@ -31,7 +39,7 @@ impl<A: Allocator> Drop for DistinctVariables<A> {
     fn drop(self) {
         let Self {
             symbols: _,
-            entries: _,
+            stretches: _,
             columns: _,
             slots: _,
         } = self;
@@ -39,114 +47,117 @@ impl<A: Allocator> Drop for DistinctVariables<A> {
 }
 
 impl<A: Allocator> DistinctVariables<A> {
-    /// No entries, with slots for `symbol_count` symbols.
+    /// No variables, with slots for `symbol_count` symbols.
     pub fn new(alloc: A, symbol_count: usize) -> Result<Self, AllocError>
     where
         A: Copy,
     {
         Ok(DistinctVariables {
             symbols: Vec::new(alloc),
-            entries: Vec::new(alloc),
+            stretches: Vec::new(alloc),
             columns: Vec::new(alloc),
             slots: vec![in alloc; 0; symbol_count]?,
         })
     }
 
-    /// Removes all entries, and frees the memory of long lists.
+    /// Removes all variables, and frees the memory of long lists.
     pub fn empty(&mut self) {
         empty(&mut self.symbols);
-        empty(&mut self.entries);
+        empty(&mut self.stretches);
         empty(&mut self.columns);
     }
 
-    /// Replaces the entries by one for each of the premises, with the same variables.
+    /// Replaces the variables by those of the premises. The symbols of each are listed in `bodies`
+    /// first.
     pub fn collect(
         &mut self,
         database: &Database<A>,
-        symbols: &Symbols,
-        premises: &[Span],
+        nodes: &mut Nodes<A>,
+        premises: &[Entry],
+        bodies: &mut Vec<Body, A>,
     ) -> Result<(), AllocError>
-        requires { AreEntries (length (symbol_names database.now.statements)) symbols.now
-            premises.now }
-        ensures { OnOk result
-            (AreReduced database.now.statements symbols.now premises.now
-            (arena self.new.symbols.items []) self.new.entries.items) }
+        requires { AreInRange (length (symbol_names database.now.statements))
+            (entry_formulas nodes.old premises.now) }
+        ensures nodes_unchanged { nodes.new ≡ nodes.old }
+        ensures are_reduced { OnOk result
+            (AreReduced database.now.statements nodes.old premises.now self.new.symbols.items
+            self.new.stretches.items) }
     {
-        collect_entries(
+        collect_variables(
             database,
-            symbols,
+            nodes,
             premises,
+            bodies,
             &mut self.symbols,
-            &mut self.entries,
+            &mut self.stretches,
             &mut self.slots,
         )
     }
 }
 
-/// Replaces the entries by one for each of the premises, with the same variables.
-fn collect_entries<A: Allocator>(
+/// Replaces a list by the variables of what replaces variables by the premises.
+fn collect_variables<A: Allocator>(
     database: &Database<A>,
-    symbols: &Symbols,
-    premises: &[Span],
+    nodes: &mut Nodes<A>,
+    premises: &[Entry],
+    bodies: &mut Vec<Body, A>,
     list: &mut Vec<Sym, A>,
-    entries: &mut Vec<Span, A>,
+    stretches: &mut Vec<Stretch, A>,
     slots: &mut [u32],
 ) -> Result<(), AllocError>
-    requires { AreEntries (length (symbol_names database.now.statements)) symbols.now premises.now }
-    ensures { OnOk result
-        (AreReduced database.now.statements symbols.now premises.now
-        (arena list.new.items []) entries.new.items) }
+    requires { AreInRange (length (symbol_names database.now.statements))
+        (entry_formulas nodes.old premises.now) }
+    ensures nodes_unchanged { nodes.new ≡ nodes.old }
+    ensures are_reduced { OnOk result
+        (AreReduced database.now.statements nodes.old premises.now list.new.items
+        stretches.new.items) }
 {
     list.clear();
-    entries.clear();
+    stretches.clear();
     for premise in premises {
-        append_entry(database, symbols.formula(*premise), list, entries, slots)?;
+        append_stretch(
+            database,
+            nodes,
+            premise.body,
+            bodies,
+            list,
+            stretches,
+            slots,
+        )?;
     }
     Ok(())
 }
 
-/// Appends an entry for a formula: its first symbol, and then the variables of the others.
-fn append_entry<A: Allocator>(
+/// Appends the variables of a body, each once, and the stretch of them.
+fn append_stretch<A: Allocator>(
     database: &Database<A>,
-    formula: &[Sym],
+    nodes: &mut Nodes<A>,
+    body: Body,
+    bodies: &mut Vec<Body, A>,
     list: &mut Vec<Sym, A>,
-    entries: &mut Vec<Span, A>,
+    stretches: &mut Vec<Stretch, A>,
     slots: &mut [u32],
 ) -> Result<(), AllocError>
-    requires { All (λ symbol. symbol < length (symbol_names database.now.statements)) formula.now }
-    ensures { OnOk result
-        (AppendsEntry database.now.statements formula.now list.old.items list.new.items
-        entries.old.items entries.new.items) }
+    requires { All (λ symbol. symbol < length (symbol_names database.now.statements))
+        (string_of nodes.old body) }
+    ensures nodes_unchanged { nodes.new ≡ nodes.old }
+    ensures appends_stretch { OnOk result
+        (AppendsStretch database.now.statements (string_of nodes.old body) list.old.items
+        list.new.items stretches.old.items stretches.new.items) }
 {
+    bodies.clear();
+    nodes.append_symbols(body, bodies)?;
     let start = list.len();
-    if formula.is_empty() {
-        return push_entry(start, start, entries);
-    }
-    list.push(formula[0])?;
-    append_variables(database, &formula[1..], list, slots)?;
-    push_entry(start, list.len(), entries)
-}
-
-/// Appends the entry that is a stretch of the list.
-fn push_entry<A: Allocator>(
-    start: usize,
-    end: usize,
-    entries: &mut Vec<Span, A>,
-) -> Result<(), AllocError>
-    ensures { OnOk result (entries.new.items ≡ entries.old.items ++ span Unmarked start end ∷ []) }
-{
-    entries.push(Span {
-        store: Store::Unmarked,
-        start,
-        end,
-    })?;
+    append_variables(database, bodies, list, slots)?;
+    let end = list.len();
+    stretches.push(Stretch { start, end })?;
     Ok(())
 }
 
 /// Appends the variables of a formula, each once, to a list.
 fn append_variables<A: Allocator>(
     database: &Database<A>,
-    formula: &[Sym],
+    formula: &[Body],
     list: &mut Vec<Sym, A>,
     slots: &mut [u32],
 ) -> Result<(), AllocError>
@@ -156,7 +167,7 @@ fn append_variables<A: Allocator>(
 {
     let start = list.len();
     for symbol in formula {
-        append_variable(database, start, *symbol, list, slots)?;
+        append_variable(database, start, Sym::new(symbol.number()), list, slots)?;
     }
     Ok(())
 }

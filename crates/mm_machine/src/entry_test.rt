@@ -1,13 +1,17 @@
 //! The test that entries are what the hypotheses of a rule require.
 
-ghost use Rattle.std.specs.Prelude.{◌≡◌, ◌≤◌, ◌∷◌, [], All, length, map, IfOk, bytes_eq};
+ghost use Rattle.std.specs.Prelude.{◌≡◌, ◌≤◌, ◌<◌, ◌∷◌, [], All, length, map, IfOk, bytes_eq};
+ghost use Rattle.std.specs.Prelude.{IfSome, drop};
+ghost use Rattle.mm_spec.specs.Limits.{formula_limit};
 ghost use Rattle.mm_spec.specs.Laws.Stack.{are_equal};
-ghost use Rattle.mm_nodes.specs.Strings.{string_of};
+ghost use Rattle.mm_nodes.specs.Strings.{first_node, string_of};
+ghost use Rattle.mm_rule.specs.declared.rule.RulePart.TheVariants.{Constant};
 ghost use Rattle.mm_rule.specs.Rule.{IsVariableBelow, all_parts, total_stored_part_count};
 ghost use Rattle.mm_machine.specs.Entries.{IsEntry, entry_formula};
 ghost use Rattle.mm_machine.specs.Filled.{filled_parts};
 
 use crate::entry::{Entry, fill};
+use crate::flat::list_parts;
 use mm_database::Sym;
 use mm_nodes::{Body, Nodes};
 use mm_rule::{Hypothesis, PackedPart, Rule, RulePart};
@@ -41,6 +45,72 @@ fn is_body_of<A: Allocator>(
     }
 }
 
+/// The constant with which parts begin; `None` if they begin with a variable, or there are none.
+#[inline(always)]
+pub fn first_constant(parts: &[PackedPart]) -> Option<Sym>
+    ensures is_first { IfSome result (λ s. parts.now ≡ Constant s ∷ drop 1 parts.now) }
+    ensures is_symbol { IfSome result (λ s. s < first_node) }
+{
+    if parts.is_empty() {
+        return None;
+    }
+    let first = parts[0];
+    match first.to_part() {
+        RulePart::Variable(_) => None,
+        RulePart::Constant(symbol) => Some(symbol),
+    }
+}
+
+/// Whether the formula of an entry is these symbols.
+pub fn has_symbols<A: Allocator>(
+    nodes: &mut Nodes<A>,
+    premise: &Entry,
+    symbols: &[Body],
+) -> Result<bool, AllocError>
+    requires is_entry { IsEntry nodes.old premise.now }
+    requires are_symbols { All (λ s. s < first_node) symbols.now }
+    requires length_le_limit { length symbols.now ≤ formula_limit }
+    ensures nodes_unchanged { nodes.new ≡ nodes.old }
+    ensures tells_equal { IfOk result
+        (λ r. r ≡ bytes_eq (entry_formula nodes.old premise.now) symbols.now) }
+{
+    if symbols.is_empty() {
+        return Ok(is_empty(nodes, premise));
+    }
+    let first = symbols[0];
+    if !is_typed(nodes, Sym::new(first.number()), premise) {
+        return Ok(false);
+    }
+    let count = symbols.len() - 1;
+    nodes.is_equal(&symbols[1..], count as u32, premise.body)
+}
+
+/// Whether an entry is the wanted formula with its variables replaced. The formula may begin with a
+/// variable. No formula of a database does, so this needn't be fast.
+#[cold]
+#[inline(never)]
+fn is_wanted_by_symbols<A: Allocator>(
+    nodes: &mut Nodes<A>,
+    premises: &[Entry],
+    wanted: &[PackedPart],
+    premise: &Entry,
+    symbols: &mut Vec<Body, A>,
+) -> Result<bool, AllocError>
+    requires are_entries { All (IsEntry nodes.old) premises.now }
+    requires is_entry { IsEntry nodes.old premise.now }
+    requires variables_in_range { All (IsVariableBelow (length premises.now)) wanted.now }
+    ensures nodes_unchanged { nodes.new ≡ nodes.old }
+    ensures tells_equal { IfOk result
+        (λ r. r ≡ bytes_eq (entry_formula nodes.old premise.now)
+        (filled_parts nodes.old premises.now wanted.now)) }
+{
+    let is_within_limit = list_parts(nodes, premises, wanted, symbols)?;
+    if !is_within_limit {
+        return Ok(false);
+    }
+    has_symbols(nodes, premise, symbols)
+}
+
 /// Whether an entry is the wanted formula with its variables replaced.
 #[inline(always)]
 fn is_wanted_formula<A: Allocator>(
@@ -49,6 +119,7 @@ fn is_wanted_formula<A: Allocator>(
     wanted: &[PackedPart],
     premise: &Entry,
     list: &mut [Body],
+    symbols: &mut Vec<Body, A>,
 ) -> Result<bool, AllocError>
     requires are_entries { All (IsEntry nodes.old) premises.now }
     requires is_entry { IsEntry nodes.old premise.now }
@@ -60,14 +131,9 @@ fn is_wanted_formula<A: Allocator>(
         (λ r. r ≡ bytes_eq (entry_formula nodes.old premise.now)
         (filled_parts nodes.old premises.now wanted.now)) }
 {
-    if wanted.is_empty() {
-        return Ok(is_empty(nodes, premise));
-    }
-    let first = wanted[0];
-    match first.to_part() {
-        // No formula of a database begins with a variable.
-        RulePart::Variable(_) => Err(AllocError),
-        RulePart::Constant(typecode) => {
+    match first_constant(wanted) {
+        None => is_wanted_by_symbols(nodes, premises, wanted, premise, symbols),
+        Some(typecode) => {
             if !is_typed(nodes, typecode, premise) {
                 return Ok(false);
             }
@@ -102,6 +168,7 @@ pub fn premises_match<A: Allocator>(
     rule: &Rule,
     premises: &[Entry],
     list: &mut [Body],
+    symbols: &mut Vec<Body, A>,
 ) -> Result<bool, AllocError>
     requires are_entries { All (IsEntry nodes.old) premises.now }
     requires premise_count_is { length premises.now ≡ length rule.now.hypotheses }
@@ -123,7 +190,7 @@ pub fn premises_match<A: Allocator>(
                 let end = part_index + part_count as usize;
                 let wanted = &rule.parts[part_index..end];
                 part_index = end;
-                is_wanted_formula(nodes, premises, wanted, &premises[j], list)?
+                is_wanted_formula(nodes, premises, wanted, &premises[j], list, symbols)?
             }
         };
         if !is_fitting {

@@ -1,15 +1,119 @@
-//! The formulas of entries, one after the other in a list of symbols.
+//! Strings of nodes as lists of symbols.
 
-ghost use Rattle.std.specs.Prelude.{◌≡◌, ◌++◌, [], All, OnOk};
-ghost use Rattle.mm_machine.specs.Arena.{arena, IsIn};
-ghost use Rattle.mm_machine.specs.State.{span_formulas};
-ghost use Rattle.mm_machine.specs.Entries.{IsEntry, entry_formula, entry_formulas};
+ghost use Rattle.std.specs.Prelude.{◌≡◌, ◌<◌, ◌++◌, All, OnOk, IfOk, length};
+ghost use Rattle.std.specs.Prelude.{true, false};
+ghost use Rattle.mm_spec.specs.Limits.{formula_limit};
+ghost use Rattle.mm_nodes.specs.Strings.{first_node, string_of};
+ghost use Rattle.mm_rule.specs.Rule.{IsVariableBelow};
+ghost use Rattle.mm_machine.specs.Filled.{filled_part, filled_parts, IsListed};
 
-use crate::arena::{Span, Store};
 use crate::entry::Entry;
 use mm_database::Sym;
 use mm_nodes::{Body, Nodes};
+use mm_rule::{PackedPart, RulePart, empty};
+use mm_spec::FORMULA_LIMIT;
 use std::alloc::{AllocError, Allocator};
+
+/// Where the symbols of strings are listed. The lists are kept from step to step, so that their
+/// memory is reused.
+pub struct SymbolLists<A: Allocator> {
+    /// Symbols as bodies.
+    pub bodies: Vec<Body, A>,
+    pub symbols: Vec<Sym, A>,
+}
+
+/// Dropped in one call: docs/PROOFS.md, "What a check costs".
+impl<A: Allocator> Drop for SymbolLists<A> {
+    fn drop(self) {
+        let Self {
+            bodies: _,
+            symbols: _,
+        } = self;
+    }
+}
+
+impl<A: Allocator> SymbolLists<A> {
+    /// Empty lists.
+    pub fn new(alloc: A) -> Self
+    where
+        A: Copy,
+    {
+        SymbolLists {
+            bodies: Vec::new(alloc),
+            symbols: Vec::new(alloc),
+        }
+    }
+
+    /// Empties the lists, and frees the memory of long ones.
+    pub fn empty(&mut self) {
+        empty(&mut self.bodies);
+        empty(&mut self.symbols);
+    }
+}
+
+/// Lists the symbols of a formula as bodies.
+#[inline(always)]
+pub fn list_symbols<A: Allocator>(
+    formula: &[Sym],
+    symbols: &mut Vec<Body, A>,
+) -> Result<(), AllocError>
+    ensures { OnOk result (symbols.new.items ≡ formula.now) }
+{
+    symbols.clear();
+    for symbol in formula {
+        symbols.push(Body::symbol(symbol.number()))?;
+    }
+    Ok(())
+}
+
+/// Appends the symbols of a part with its variable replaced.
+fn append_part<A: Allocator>(
+    nodes: &mut Nodes<A>,
+    premises: &[Entry],
+    part: PackedPart,
+    symbols: &mut Vec<Body, A>,
+) -> Result<(), AllocError>
+    requires { IsVariableBelow (length premises.now) part }
+    ensures nodes_unchanged { nodes.new ≡ nodes.old }
+    ensures appends_part { OnOk result
+        (symbols.new.items ≡ symbols.old.items ++ filled_part nodes.old premises.now part) }
+    ensures are_symbols { All (λ s. s < first_node) (filled_part nodes.old premises.now part) }
+{
+    match part.to_part() {
+        RulePart::Constant(symbol) => {
+            symbols.push(Body::symbol(symbol.number()))?;
+            Ok(())
+        }
+        RulePart::Variable(floating_index) => {
+            nodes.append_symbols(premises[floating_index as usize].body, symbols)
+        }
+    }
+}
+
+/// Lists the symbols that parts have with their variables replaced, and returns whether they are
+/// within the limit. Only then are they complete.
+pub fn list_parts<A: Allocator>(
+    nodes: &mut Nodes<A>,
+    premises: &[Entry],
+    parts: &[PackedPart],
+    symbols: &mut Vec<Body, A>,
+) -> Result<bool, AllocError>
+    requires variables_in_range { All (IsVariableBelow (length premises.now)) parts.now }
+    ensures nodes_unchanged { nodes.new ≡ nodes.old }
+    ensures is_listed { IfOk result (λ r. r ≡ true → IsListed nodes.old premises.now parts.now
+        symbols.new.items) }
+    ensures is_too_long { IfOk result (λ r. r ≡ false
+        → formula_limit < length (filled_parts nodes.old premises.now parts.now)) }
+{
+    symbols.clear();
+    for part in parts {
+        append_part(nodes, premises, *part, symbols)?;
+        if symbols.len() > FORMULA_LIMIT {
+            return Ok(false);
+        }
+    }
+    Ok(true)
+}
 
 /// Appends the symbols that are listed as bodies.
 fn append_bodies<A: Allocator>(bodies: &[Body], symbols: &mut Vec<Sym, A>) -> Result<(), AllocError>
@@ -21,51 +125,23 @@ fn append_bodies<A: Allocator>(bodies: &[Body], symbols: &mut Vec<Sym, A>) -> Re
     Ok(())
 }
 
-/// Appends the formula of an entry. It is listed in `bodies` first.
-fn append_formula<A: Allocator>(
+/// Appends the symbols of a body's string to a list. Those of a node are listed in `bodies` first.
+#[inline(always)]
+pub fn append_body<A: Allocator>(
     nodes: &mut Nodes<A>,
-    premise: &Entry,
+    body: Body,
     bodies: &mut Vec<Body, A>,
     symbols: &mut Vec<Sym, A>,
 ) -> Result<(), AllocError>
-    requires is_entry { IsEntry nodes.old premise.now }
     ensures nodes_unchanged { nodes.new ≡ nodes.old }
-    ensures appends_formula { OnOk result
-        (symbols.new.items ≡ symbols.old.items ++ entry_formula nodes.old premise.now) }
+    ensures appends_string { OnOk result
+        (symbols.new.items ≡ symbols.old.items ++ string_of nodes.old body) }
 {
+    if body.is_symbol() {
+        symbols.push(Sym::new(body.number()))?;
+        return Ok(());
+    }
     bodies.clear();
-    if premise.typecode.is_symbol() {
-        bodies.push(premise.typecode)?;
-    }
-    nodes.append_symbols(premise.body, bodies)?;
+    nodes.append_symbols(body, bodies)?;
     append_bodies(bodies, symbols)
-}
-
-/// Replaces a list of symbols by the formulas of entries, and `spans` by the stretches of these.
-pub fn list_formulas<A: Allocator>(
-    nodes: &mut Nodes<A>,
-    premises: &[Entry],
-    bodies: &mut Vec<Body, A>,
-    symbols: &mut Vec<Sym, A>,
-    spans: &mut Vec<Span, A>,
-) -> Result<(), AllocError>
-    requires are_entries { All (IsEntry nodes.old) premises.now }
-    ensures nodes_unchanged { nodes.new ≡ nodes.old }
-    ensures spans_in_arena { OnOk result (All (IsIn (arena symbols.new.items [])) spans.new.items) }
-    ensures formulas_are { OnOk result
-        (span_formulas (arena symbols.new.items []) spans.new.items
-        ≡ entry_formulas nodes.old premises.now) }
-{
-    symbols.clear();
-    spans.clear();
-    for premise in premises {
-        let start = symbols.len();
-        append_formula(nodes, premise, bodies, symbols)?;
-        spans.push(Span {
-            store: Store::Unmarked,
-            start,
-            end: symbols.len(),
-        })?;
-    }
-    Ok(())
 }

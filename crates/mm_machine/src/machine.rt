@@ -1,30 +1,27 @@
 //! The entries of a proof in progress, and the steps on them.
 
-ghost use Rattle.std.specs.Prelude.{◌≡◌, ◌<◌, ◌≤◌, ◌++◌, ◌∷◌, ◌≢◌, [], ℕ, All, List, length};
-ghost use Rattle.std.specs.Prelude.{get_or, take, drop, true, IfOk, IfErr, IfSome, IfNone, OnOk};
-ghost use Rattle.std.specs.Prelude.{OnErr, Ok, vec_len};
+ghost use Rattle.std.specs.Prelude.{◌≡◌, ◌<◌, ◌≤◌, ◌++◌, ◌∷◌, [], All, length, get_or, true, false};
+ghost use Rattle.std.specs.Prelude.{IfOk, OnOk, ◌==◌};
 ghost use Rattle.std.specs.List.{Contains};
+ghost use Rattle.mm_spec.specs.Limits.{formula_limit};
 ghost use Rattle.mm_spec.specs.Frame.{symbol_names};
-ghost use Rattle.mm_spec.specs.Laws.Stack.{top};
-ghost use Rattle.mm_rule.specs.Rule.{IsVariableBelow, IsConstantBelow, IsCompiled};
-ghost use Rattle.mm_machine.specs.Arena.{arena, span_formula};
+ghost use Rattle.mm_nodes.specs.Strings.{first_node};
+ghost use Rattle.mm_rule.specs.Rule.{IsCompiled};
 ghost use Rattle.mm_machine.specs.DisjointCache.{AreDisjointAt};
-ghost use Rattle.mm_machine.specs.State.{machine_state, with_mark, Repeats, span_formulas};
-ghost use Rattle.mm_machine.specs.State.{first_unmarked as first_unmarked_of, appended_span};
-ghost use Rattle.mm_machine.specs.State.{entries_after};
-ghost use Rattle.mm_machine.specs.State.{IsStack, IsStackOf, IsRising, IsMarkedEntry};
-ghost use Rattle.mm_machine.specs.State.{MovesFormulas};
-ghost use Rattle.mm_machine.specs.Applied.{IsRefusalOf, IsApplied};
+ghost use Rattle.mm_machine.specs.State.{machine_state, with_mark, Repeats, IsRising};
+ghost use Rattle.mm_machine.specs.Applied.{IsApplied};
 
-use crate::arena::{Span, Store, Symbols, build};
 use crate::disjoint_cache::DisjointCache;
 use crate::distinct::DistinctVariables;
-use crate::fill::fill;
-use crate::reason::Reason;
-use crate::rule_test::test_rule;
-use crate::symbol_list::SymbolList;
+use crate::entry::Entry;
+use crate::entry_stack::{for_itself, for_top, replace_by_symbols};
+use crate::entry_test::has_symbols;
+use crate::flat::{SymbolLists, list_symbols};
+use crate::reason::{Reason, StepRefused};
+use crate::rule_step::apply_rule;
 use mm_database::{Database, Sym};
-use mm_rule::{PackedPart, Rule, empty, formula, put_number};
+use mm_nodes::{Body, Nodes};
+use mm_rule::{Rule, empty, formula, put_number};
 use mm_spec::FORMULA_LIMIT;
 use std::alloc::{AllocError, Allocator};
 use std::marker::Model;
@@ -32,36 +29,24 @@ use std::marker::Model;
 /// How many slots say where marks are. The slot of a mark is the index of its step modulo this.
 const MARK_SLOTS: usize = 4_096;
 
-/// The maximum number of symbols of a short formula.
-const MAX_SHORT_FORMULA: usize = 1_024;
-
-/// Why a step wasn't performed.
-#[derive(Drop)]
-pub enum StepRefused {
-    /// The step isn't one of a derivation, for this reason.
-    Fault(Reason),
-    /// Out of memory.
-    Memory,
-}
-
-/// The entries, and the formulas of the marked steps so far. The formula of an entry is in `marked`
-/// if it is that of a marked step. Otherwise it is in `unmarked`, and is removed with the entry. So
-/// the only symbols held are those of the stack and of the marked formulas.
+/// The entries, and the formulas of the marked steps so far. A node stays as long as a marked step,
+/// the stack or the step that is performed needs it, and all nodes before it stay as well.
 pub struct Machine<A: Allocator> {
-    unmarked: SymbolList<A>,
-    marked: SymbolList<A>,
+    nodes: Nodes<A>,
     /// The entries, from bottom to top.
-    stack: Vec<Span, A>,
+    stack: Vec<Entry, A>,
     /// The indices of the marked steps so far.
     marks: Vec<usize, A>,
-    /// For each of these steps the stretch of its formula in `marked`.
-    marked_spans: Vec<Span, A>,
+    /// For each of these steps the entry with which it ended.
+    marked: Vec<Entry, A>,
+    /// How many nodes the marked entries need.
+    floor: usize,
     /// For each slot the index at which its mark may be in `marks`.
     slots: Vec<u32, A>,
-    /// Where the formula of a step is built if it is short.
-    short: Vec<Sym, A>,
-    /// Where the formula of a step is built if it isn't short.
-    long: Vec<Sym, A>,
+    /// Where the bodies of a formula are written.
+    room: Vec<Body, A>,
+    /// Where formulas are listed.
+    lists: SymbolLists<A>,
     /// The variables of the premises of a step, if their formulas are long.
     distinct: DistinctVariables<A>,
     /// How many symbols the database has.
@@ -72,14 +57,14 @@ pub struct Machine<A: Allocator> {
 impl<A: Allocator> Drop for Machine<A> {
     fn drop(self) {
         let Self {
-            unmarked: _,
-            marked: _,
+            nodes: _,
             stack: _,
             marks: _,
-            marked_spans: _,
+            marked: _,
+            floor: _,
             slots: _,
-            short: _,
-            long: _,
+            room: _,
+            lists: _,
             distinct: _,
             symbol_count: _,
         } = self;
@@ -87,18 +72,16 @@ impl<A: Allocator> Drop for Machine<A> {
 }
 
 impl<A: Allocator> Model for Machine<A> {
-    ghost use Rattle.std.specs.Prelude.{length, []};
-    ghost use Rattle.mm_machine.specs.Arena.{arena};
-    ghost use Rattle.mm_machine.specs.State.{MachineState, machine_state, span_formulas, IsMachine};
+    ghost use Rattle.mm_machine.specs.Entries.{entry_formulas};
+    ghost use Rattle.mm_machine.specs.State.{MachineState, machine_state, IsMachine};
 
     ghost Value = { MachineState };
 
-    ghost view = { λ m. machine_state
-        (span_formulas (arena m.unmarked m.marked) m.stack.items) m.marks.items
-        (span_formulas (arena [] m.marked) m.marked_spans.items) m.symbol_count };
+    ghost view = { λ m. machine_state (entry_formulas m.nodes m.stack.items) m.marks.items
+        (entry_formulas m.nodes m.marked.items) m.symbol_count };
 
-    ghost invariant = { λ m. IsMachine m.unmarked m.marked m.stack.items m.marks.items
-        m.marked_spans.items m.symbol_count };
+    ghost invariant = { λ m. IsMachine m.nodes m.stack.items m.marks.items m.marked.items m.floor
+        m.symbol_count };
 }
 
 /// The index of `mark` among `marks`, which are in ascending order: where the slots say, or
@@ -127,20 +110,19 @@ impl<A: Allocator> Machine<A> {
     pub fn new(alloc: A, symbol_count: usize) -> Result<Self, AllocError>
     where
         A: Copy,
+        requires { symbol_count ≤ first_node }
         ensures { IfOk result (λ m. m ≡ machine_state [] [] [] symbol_count) }
     {
         let slots = vec![in alloc; 0; MARK_SLOTS]?;
-        let mut short = Vec::with_capacity(alloc, MAX_SHORT_FORMULA)?;
-        short.resize(MAX_SHORT_FORMULA, Sym::new(0))?;
         Ok(Machine {
-            unmarked: SymbolList::new(alloc),
-            marked: SymbolList::new(alloc),
+            nodes: Nodes::new(alloc),
             stack: Vec::new(alloc),
             marks: Vec::new(alloc),
-            marked_spans: Vec::new(alloc),
+            marked: Vec::new(alloc),
+            floor: 0,
             slots,
-            short,
-            long: Vec::new(alloc),
+            room: Vec::new(alloc),
+            lists: SymbolLists::new(alloc),
             distinct: DistinctVariables::new(alloc, symbol_count)?,
             symbol_count,
         })
@@ -150,26 +132,32 @@ impl<A: Allocator> Machine<A> {
     pub fn restart(&mut self)
         ensures { self.new ≡ machine_state [] [] [] self.old.symbol_count }
     {
-        self.unmarked.empty();
-        self.marked.empty();
+        self.nodes.clear();
         empty(&mut self.stack);
         empty(&mut self.marks);
-        empty(&mut self.marked_spans);
-        empty(&mut self.long);
+        empty(&mut self.marked);
+        self.floor = 0;
+        empty(&mut self.room);
+        self.lists.empty();
         self.distinct.empty();
     }
 
-    /// Pushes a formula.
+    /// Pushes a formula, which may have as many symbols as the limit.
     #[inline(always)]
     pub fn push(&mut self, formula: &[Sym]) -> Result<(), AllocError>
-        requires { All (λ s. s < self.old.symbol_count) formula.now }
+        requires in_range { All (λ s. s < self.old.symbol_count) formula.now }
+        requires length_le_limit { length formula.now ≤ formula_limit }
         ensures pushes_formula { OnOk result
             (self.new
             ≡ machine_state (self.old.stack ++ formula.now ∷ []) self.old.marks self.old.formulas
             self.old.symbol_count) }
         ensures symbol_count_stays { self.new.symbol_count ≡ self.old.symbol_count }
     {
-        push_unmarked(formula, &mut self.unmarked, &mut self.stack)
+        list_symbols(formula, &mut self.lists.bodies)?;
+        let below = self.stack.len();
+        let keep = self.nodes.count();
+        let symbols = &self.lists.bodies;
+        replace_by_symbols(&mut self.nodes, &mut self.stack, below, keep, symbols)
     }
 
     /// Pushes the formula of the earlier, marked step again.
@@ -179,7 +167,8 @@ impl<A: Allocator> Machine<A> {
         ensures symbol_count_stays { self.new.symbol_count ≡ self.old.symbol_count }
     {
         let index = index_of_mark(&self.marks, step as usize, &self.slots);
-        self.stack.push(self.marked_spans[index])?;
+        let entry = for_top(&self.nodes, self.marked[index]);
+        self.stack.push(entry)?;
         Ok(())
     }
 
@@ -190,8 +179,10 @@ impl<A: Allocator> Machine<A> {
         ensures marks_step { OnOk result (self.new ≡ with_mark true step self.old) }
         ensures symbol_count_stays { self.new.symbol_count ≡ self.old.symbol_count }
     {
-        let span = move_to_marked(&mut self.unmarked, &mut self.marked, &mut self.stack)?;
-        self.marked_spans.push(span)?;
+        let top = self.stack[self.stack.len() - 1];
+        let entry = for_itself(&self.nodes, top);
+        self.floor = self.floor.max(entry.needed as usize);
+        self.marked.push(entry)?;
         put_number(&mut self.slots, step % MARK_SLOTS, self.marks.len());
         self.marks.push(step)?;
         Ok(())
@@ -268,236 +259,41 @@ impl<A: Allocator> Machine<A> {
             self.new
             result }
     {
-        let symbols = Symbols {
-            unmarked: self.unmarked.as_slice(),
-            marked: self.marked.as_slice(),
-        };
-        let distinct = &mut self.distinct;
-        match test_rule(
+        apply_rule(
             database,
             theorem,
             rule,
-            &symbols,
-            &self.stack,
-            distinct,
+            self.floor,
+            &mut self.nodes,
+            &mut self.stack,
+            &mut self.room,
+            &mut self.lists,
+            &mut self.distinct,
             cache,
-        ) {
-            Err(reason) => Err(StepRefused::Fault(reason)),
-            Ok(below) => replace_by_formula(
-                below,
-                rule.formula(),
-                &mut self.unmarked,
-                self.marked.as_slice(),
-                &mut self.stack,
-                &mut self.short,
-                &mut self.long,
-            ),
-        }
+        )
     }
 
-    /// The formula of the only entry; `None` if there isn't exactly one.
-    pub fn only(&self) -> Option<&[Sym]>
-        ensures is_only_entry { IfSome result (λ f. self.now.stack ≡ f.now ∷ []) }
-        ensures not_one_entry { IfNone result (length self.now.stack ≢ 1) }
+    /// Whether there is exactly one entry.
+    pub fn has_one_entry(&self) -> bool
+        ensures { result ≡ (length self.now.stack == 1) }
     {
-        if self.stack.len() == 1 {
-            let symbols = Symbols {
-                unmarked: self.unmarked.as_slice(),
-                marked: self.marked.as_slice(),
-            };
-            Some(symbols.formula(self.stack[0]))
-        } else {
-            None
+        self.stack.len() == 1
+    }
+
+    /// Whether the only entry has this formula, which may have as many symbols as the limit.
+    pub fn is_only(&mut self, formula: &[Sym]) -> Result<bool, AllocError>
+        requires one_entry { length self.old.stack ≡ 1 }
+        requires in_range { All (λ s. s < self.old.symbol_count) formula.now }
+        ensures is_unchanged { self.new ≡ self.old }
+        ensures is_only_entry { IfOk result (λ r. r ≡ true → self.old.stack ≡ formula.now ∷ []) }
+        ensures is_other { IfOk result
+            (λ r. r ≡ false → self.old.stack ≡ formula.now ∷ [] → ⊥) }
+    {
+        let entry = self.stack[0];
+        if formula.len() > FORMULA_LIMIT {
+            return Ok(false);
         }
+        list_symbols(formula, &mut self.lists.bodies)?;
+        has_symbols(&mut self.nodes, &entry, &self.lists.bodies)
     }
-}
-
-/// Pushes a formula, whose symbols are appended to `unmarked`.
-#[inline(always)]
-fn push_unmarked<A: Allocator>(
-    formula: &[Sym],
-    unmarked: &mut SymbolList<A>,
-    stack: &mut Vec<Span, A>,
-) -> Result<(), AllocError>
-    ensures appends_symbols { OnOk result (unmarked.new ≡ unmarked.old ++ formula.now) }
-    ensures pushes_entry { OnOk result
-        (stack.new.items ≡ stack.old.items ++ appended_span unmarked.old formula.now ∷ []) }
-    ensures unmarked_stays_if_err { OnErr result (unmarked.new ≡ unmarked.old) }
-    ensures stack_stays_if_err { OnErr result (stack.new.items ≡ stack.old.items) }
-{
-    let start = unmarked.len();
-    unmarked.append(formula)?;
-    let span = Span {
-        store: Store::Unmarked,
-        start,
-        end: unmarked.len(),
-    };
-    match stack.push(span) {
-        Ok(()) => Ok(()),
-        Err(_) => {
-            unmarked.truncate(start);
-            Err(AllocError)
-        }
-    }
-}
-
-/// Where the first of the entries' unmarked formulas begins; `end` if there is none.
-fn first_unmarked(stack: &[Span], end: usize) -> usize
-    ensures { result ≡ first_unmarked_of stack.now end }
-{
-    for entry in stack {
-        match entry.store {
-            Store::Unmarked => return entry.start,
-            Store::Marked => {}
-        }
-    }
-    end
-}
-
-/// Removes the entries from index `below` on from the stack, and their unmarked formulas from
-/// `unmarked`.
-fn remove_from<A: Allocator>(below: usize, unmarked: &mut SymbolList<A>, stack: &mut Vec<Span, A>)
-    requires { below ≤ vec_len stack.old }
-    ensures entries_are_removed { stack.new.items ≡ take below stack.old.items }
-    ensures symbols_are_removed { unmarked.new
-        ≡ take (first_unmarked_of (drop below stack.old.items) (length unmarked.old)) unmarked.old }
-{
-    let end = first_unmarked(&stack[below..], unmarked.len());
-    stack.truncate(below);
-    unmarked.truncate(end);
-}
-
-/// Moves the top formula to the marked ones, unless it is there already, and returns its stretch.
-fn move_to_marked<A: Allocator>(
-    unmarked: &mut SymbolList<A>,
-    marked: &mut SymbolList<A>,
-    stack: &mut Vec<Span, A>,
-) -> Result<Span, AllocError>
-    requires has_entry { 0 < length stack.old.items }
-    requires is_stack { IsStack unmarked.old marked.old stack.old.items }
-    ensures is_stack { IsStack unmarked.new marked.new stack.new.items }
-    ensures formulas_stay { span_formulas (arena unmarked.new marked.new) stack.new.items
-        ≡ span_formulas (arena unmarked.old marked.old) stack.old.items }
-    ensures moves_symbols { MovesFormulas unmarked.old marked.old unmarked.new marked.new }
-    ensures returns_top_formula { IfOk result
-        (λ e. IsMarkedEntry marked.new e
-        × (span_formula (arena [] marked.new) e
-        ≡ top (span_formulas (arena unmarked.old marked.old) stack.old.items))) }
-{
-    let top_index = stack.len() - 1;
-    let entry = stack[top_index];
-    match entry.store {
-        Store::Marked => Ok(entry),
-        Store::Unmarked => {
-            let start = marked.len();
-            marked.append(&unmarked.as_slice()[entry.start..entry.end])?;
-            unmarked.truncate(entry.start);
-            let moved = Span {
-                store: Store::Marked,
-                start,
-                end: marked.len(),
-            };
-            stack[top_index] = moved;
-            Ok(moved)
-        }
-    }
-}
-
-/// Replaces the entries from index `below` on by the formula of a step that takes them as its
-/// premises. The formula is built in `short` if there is room.
-#[inline(always)]
-fn replace_by_formula<A: Allocator>(
-    below: usize,
-    formula: &[PackedPart],
-    unmarked: &mut SymbolList<A>,
-    marked: &[Sym],
-    stack: &mut Vec<Span, A>,
-    short: &mut [Sym],
-    long: &mut Vec<Sym, A>,
-) -> Result<(), StepRefused>
-    requires below_le_length { below ≤ vec_len stack.old }
-    requires variables_in_range { All (IsVariableBelow (length (drop below stack.old.items)))
-        formula.now }
-    requires is_stack { IsStack unmarked.old marked.now stack.old.items }
-    ensures stays_stack { (w : ℕ) → All (IsConstantBelow w) formula.now
-        → IsStackOf w unmarked.old marked.now stack.old.items
-        → IsStackOf w unmarked.new marked.now stack.new.items }
-    ensures entries_are { OnOk result
-        (entries_after (arena unmarked.old marked.now) stack.old.items below formula.now
-        ≡ Ok (span_formulas (arena unmarked.new marked.now) stack.new.items)) }
-    ensures refusal_is_right { IfErr result
-        (λ e. IsRefusalOf e
-        (entries_after (arena unmarked.old marked.now) stack.old.items below formula.now)) }
-{
-    let symbols = Symbols {
-        unmarked: unmarked.as_slice(),
-        marked,
-    };
-    match fill(&symbols, &stack[below..], formula, short) {
-        Some(count) => match replace_from(below, &short[..count], unmarked, stack) {
-            Err(_) => Err(StepRefused::Memory),
-            Ok(()) => Ok(()),
-        },
-        None => replace_by_long_formula(below, formula, unmarked, marked, stack, long),
-    }
-}
-
-/// Replaces the entries from index `below` on by one whose formula is built in a list that grows.
-#[inline(never)]
-fn replace_by_long_formula<A: Allocator>(
-    below: usize,
-    formula: &[PackedPart],
-    unmarked: &mut SymbolList<A>,
-    marked: &[Sym],
-    stack: &mut Vec<Span, A>,
-    long: &mut Vec<Sym, A>,
-) -> Result<(), StepRefused>
-    requires below_le_length { below ≤ vec_len stack.old }
-    requires variables_in_range { All (IsVariableBelow (length (drop below stack.old.items)))
-        formula.now }
-    requires is_stack { IsStack unmarked.old marked.now stack.old.items }
-    ensures stays_stack { (w : ℕ) → All (IsConstantBelow w) formula.now
-        → IsStackOf w unmarked.old marked.now stack.old.items
-        → IsStackOf w unmarked.new marked.now stack.new.items }
-    ensures entries_are { OnOk result
-        (entries_after (arena unmarked.old marked.now) stack.old.items below formula.now
-        ≡ Ok (span_formulas (arena unmarked.new marked.now) stack.new.items)) }
-    ensures refusal_is_right { IfErr result
-        (λ e. IsRefusalOf e
-        (entries_after (arena unmarked.old marked.now) stack.old.items below formula.now)) }
-{
-    let symbols = Symbols {
-        unmarked: unmarked.as_slice(),
-        marked,
-    };
-    match build(&symbols, &stack[below..], formula, long) {
-        Err(_) => Err(StepRefused::Memory),
-        Ok(false) => Err(StepRefused::Fault(Reason::TooLong)),
-        Ok(true) => match replace_from(below, long, unmarked, stack) {
-            Err(_) => Err(StepRefused::Memory),
-            Ok(()) => Ok(()),
-        },
-    }
-}
-
-/// Replaces the entries from index `below` on by a formula. The marked formulas, of which the
-/// clauses speak, stay as they are.
-#[inline(always)]
-fn replace_from<A: Allocator>(
-    below: usize,
-    formula: &[Sym],
-    unmarked: &mut SymbolList<A>,
-    stack: &mut Vec<Span, A>,
-) -> Result<(), AllocError>
-    requires { below ≤ vec_len stack.old }
-    ensures stays_stack { (w : ℕ) (marked : List ℕ) → All (λ s. s < w) formula.now
-        → IsStackOf w unmarked.old marked stack.old.items
-        → IsStackOf w unmarked.new marked stack.new.items }
-    ensures formulas_are { OnOk result ((marked : List ℕ) → IsStack unmarked.old marked
-        stack.old.items → span_formulas (arena unmarked.new marked) stack.new.items
-        ≡ take below (span_formulas (arena unmarked.old marked) stack.old.items)
-        ++ formula.now ∷ []) }
-{
-    remove_from(below, unmarked, stack);
-    push_unmarked(formula, unmarked, stack)
 }

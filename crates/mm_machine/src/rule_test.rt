@@ -1,129 +1,36 @@
 //! The tests of an assertion's step on the entries of the stack: that each entry is what its
 //! hypothesis requires, and that the variables that have to be disjoint are.
 
-ghost use Rattle.std.specs.Prelude.{◌≡◌, ◌<◌, ◌≤◌, ℕ, All, length, slice_range, bytes_eq, nat_eq};
-ghost use Rattle.std.specs.Prelude.{map, ◌∷◌};
-ghost use Rattle.std.specs.List.{starts_with, list_all};
+ghost use Rattle.std.specs.Prelude.{◌≡◌, ◌<◌, ◌≤◌, ℕ, All, length, IfOk};
+ghost use Rattle.std.specs.List.{list_all};
 ghost use Rattle.mm_spec.specs.Derivation.{are_all_disjoint as disjoint_lists};
 ghost use Rattle.mm_spec.specs.Derivation.{is_disjoint_from as disjoint_symbol};
 ghost use Rattle.mm_spec.specs.Derivation.{are_disjoint as disjoint_pair};
 ghost use Rattle.mm_spec.specs.Frame.{symbol_names};
 ghost use Rattle.mm_spec.specs.Citation.{context_at};
-ghost use Rattle.mm_spec.specs.Laws.Stack.{are_equal};
-ghost use Rattle.mm_machine.specs.Arena.{
-  without_first,
-  symbols_of,
-  span_formula,
-  IsIn,
-  AreEntries,
-};
 ghost use Rattle.mm_machine.specs.DisjointCache.{AreDisjointAt};
 ghost use Rattle.mm_machine.specs.FlagRows.{AreColumnsOf};
-ghost use Rattle.mm_rule.specs.Rule.{IsVariableBelow, IsCompiled, all_parts};
-ghost use Rattle.mm_rule.specs.Rule.{total_stored_part_count};
-ghost use Rattle.mm_machine.specs.Replaced.{replacement, replaced};
-ghost use Rattle.mm_machine.specs.State.{TestsRule};
+ghost use Rattle.mm_rule.specs.Rule.{IsCompiled};
+ghost use Rattle.mm_nodes.specs.Strings.{string_of};
+ghost use Rattle.mm_machine.specs.Distinct.{IsStretch, stretch_at};
+ghost use Rattle.mm_machine.specs.Entries.{IsEntry, AreInRange, entry_formulas};
+ghost use Rattle.mm_machine.specs.Filled.{body_string_at};
+ghost use Rattle.mm_machine.specs.Applied.{TestsRule};
 
-use crate::arena::{Span, Store, Symbols, replacement_of};
 use crate::disjoint_cache::DisjointCache;
-use crate::distinct::DistinctVariables;
-use crate::reason::Reason;
+use crate::distinct::{DistinctVariables, Stretch};
+use crate::entry::Entry;
+use crate::entry_test::premises_match;
+use crate::flat::{SymbolLists, append_body};
+use crate::reason::{Reason, StepRefused};
 use mm_database::{Database, Sym};
-use mm_rule::{Hypothesis, PackedPart, Rule, RulePart};
-use std::alloc::Allocator;
+use mm_nodes::{Body, Nodes};
+use mm_rule::Rule;
+use std::alloc::{AllocError, Allocator};
 
 /// How many pairs of symbols a step tests at most before it looks for the variables of its premises
 /// first, each once.
 const MAX_SYMBOL_PAIRS: usize = 4_096;
-
-/// Whether the stretch of list `store` from index `from` to index `to` begins with the formula of
-/// an entry.
-fn begins_with(symbols: &Symbols, store: Store, from: usize, to: usize, span: Span) -> bool
-    requires from_le_to { from ≤ to }
-    requires to_le_length { to ≤ length (symbols_of symbols.now store) }
-    requires span_in_arena { IsIn symbols.now span }
-    ensures { result
-        ≡ starts_with nat_eq (slice_range (symbols_of symbols.now store) from to)
-        (span_formula symbols.now span) }
-{
-    symbols.list(store)[from..to].starts_with(symbols.formula(span))
-}
-
-/// Whether an entry is the wanted formula with its variables replaced.
-#[inline(always)]
-fn is_wanted_formula(
-    symbols: &Symbols,
-    premises: &[Span],
-    wanted: &[PackedPart],
-    premise: Span,
-) -> bool
-    requires premises_in_arena { All (IsIn symbols.now) premises.now }
-    requires variables_in_range { All (IsVariableBelow (length premises.now)) wanted.now }
-    requires premise_in_arena { IsIn symbols.now premise }
-    ensures { result
-        ≡ bytes_eq (span_formula symbols.now premise)
-        (replaced symbols.now premises.now wanted.now) }
-{
-    let list = symbols.list(premise.store);
-    let mut index = premise.start;
-    for part in wanted {
-        match part.unpack() {
-            RulePart::Variable(floating_index) => {
-                let span = replacement_of(premises, floating_index);
-                if !begins_with(symbols, premise.store, index, premise.end, span) {
-                    return false;
-                }
-                index += span.end - span.start;
-            }
-            RulePart::Constant(symbol) => {
-                if index >= premise.end || list[index] != symbol {
-                    return false;
-                }
-                index += 1;
-            }
-        }
-    }
-    index == premise.end
-}
-
-/// Whether an entry begins with the typecode.
-fn is_typed(symbols: &Symbols, typecode: Sym, premise: Span) -> bool
-    requires premise_in_arena { IsIn symbols.now premise }
-    ensures { result
-        ≡ bytes_eq (span_formula symbols.now premise)
-        (typecode ∷ span_formula symbols.now (without_first premise)) }
-{
-    premise.start < premise.end && symbols.list(premise.store)[premise.start] == typecode
-}
-
-/// Whether each entry is what its hypothesis requires, with the variables replaced.
-#[inline(always)]
-fn premises_match(symbols: &Symbols, rule: &Rule, premises: &[Span]) -> bool
-    requires premises_in_arena { All (IsIn symbols.now) premises.now }
-    requires premise_count_is { length premises.now ≡ length rule.now.hypotheses }
-    requires part_count_is { total_stored_part_count rule.now.hypotheses ≡ length rule.now.parts }
-    requires variables_in_range { All (IsVariableBelow (length premises.now)) rule.now.parts }
-    ensures { result
-        ≡ are_equal (map (span_formula symbols.now) premises.now)
-        (map (replaced symbols.now premises.now) (all_parts rule.now.parts 0 rule.now.hypotheses)) }
-{
-    let mut part_index = 0;
-    for (j, hypothesis) in rule.hypotheses.iter().enumerate() {
-        let is_fitting = match *hypothesis {
-            Hypothesis::Floating(typecode) => is_typed(symbols, typecode, premises[j]),
-            Hypothesis::Essential(part_count) => {
-                let end = part_index + part_count as usize;
-                let wanted = &rule.parts[part_index..end];
-                part_index = end;
-                is_wanted_formula(symbols, premises, wanted, premises[j])
-            }
-        };
-        if !is_fitting {
-            return false;
-        }
-    }
-    true
-}
 
 /// Whether two symbols are disjoint at the theorem: they aren't both variables, or an active `$d`
 /// has both. The first pairs that are found to be disjoint are added to `cache`.
@@ -319,34 +226,44 @@ fn are_apart<A: Allocator>(
     }
 }
 
-/// Whether for each pair of variables, each variable in what replaces the first is disjoint from
-/// each variable in what replaces the second.
-#[inline(always)]
+/// The symbols of a stretch of a list.
+fn symbols_at<'a>(symbols: &'a [Sym], stretches: &[Stretch], index: u32) -> &'a [Sym]
+    requires index_lt_length { index < length stretches.now }
+    requires are_stretches { All (IsStretch (length symbols.now)) stretches.now }
+    ensures { result.now ≡ stretch_at symbols.now stretches.now index }
+{
+    let stretch = stretches[index as usize];
+    &symbols[stretch.start..stretch.end]
+}
+
+/// Whether for each pair of stretches of a list, each variable of the first is disjoint from each
+/// variable of the second.
 fn pairs_are_disjoint<A: Allocator>(
     database: &Database<A>,
     theorem: u32,
-    symbols: &Symbols,
-    premises: &[Span],
+    symbols: &[Sym],
+    stretches: &[Stretch],
     pairs: &[(u32, u32)],
     columns: &mut Vec<usize, A>,
     cache: &mut DisjointCache<A>,
 ) -> bool
     requires theorem_lt_length { theorem < length database.now.statements }
-    requires are_entries { AreEntries (length (symbol_names database.now.statements)) symbols.now
-        premises.now }
+    requires are_symbols { All (λ symbol. symbol < length (symbol_names database.now.statements))
+        symbols.now }
+    requires are_stretches { All (IsStretch (length symbols.now)) stretches.now }
     requires pairs_in_range { All
-        (λ (p : ℕ × ℕ). (p.0 < length premises.now) × (p.1 < length premises.now)) pairs.now }
+        (λ (p : ℕ × ℕ). (p.0 < length stretches.now) × (p.1 < length stretches.now)) pairs.now }
     requires cached_are_disjoint { AreDisjointAt database.now.statements theorem cache.old }
     ensures tells_disjoint { result
         ≡ list_all
         (λ (p : ℕ × ℕ). disjoint_lists (context_at database.now.statements theorem)
-        (replacement symbols.now premises.now p.0) (replacement symbols.now premises.now p.1))
+        (stretch_at symbols.now stretches.now p.0) (stretch_at symbols.now stretches.now p.1))
         pairs.now }
     ensures cached_are_disjoint { AreDisjointAt database.now.statements theorem cache.new }
 {
     for pair in pairs {
-        let first = symbols.formula(replacement_of(premises, pair.0));
-        let second = symbols.formula(replacement_of(premises, pair.1));
+        let first = symbols_at(symbols, stretches, pair.0);
+        let second = symbols_at(symbols, stretches, pair.1);
         if !are_apart(database, theorem, first, second, columns, cache) {
             return false;
         }
@@ -355,47 +272,72 @@ fn pairs_are_disjoint<A: Allocator>(
 }
 
 /// Whether for each pair of variables, each variable in what replaces the first is disjoint from
-/// each variable in what replaces the second. A variable of a formula is looked at once, if there
-/// is memory for that.
+/// each variable in what replaces the second. A variable of a formula is looked at once.
 #[cold]
 #[inline(never)]
 fn long_pairs_are_disjoint<A: Allocator>(
     database: &Database<A>,
     theorem: u32,
-    symbols: &Symbols,
-    premises: &[Span],
+    nodes: &mut Nodes<A>,
+    premises: &[Entry],
     pairs: &[(u32, u32)],
+    bodies: &mut Vec<Body, A>,
     distinct: &mut DistinctVariables<A>,
     cache: &mut DisjointCache<A>,
-) -> bool
+) -> Result<bool, AllocError>
     requires theorem_lt_length { theorem < length database.now.statements }
-    requires are_entries { AreEntries (length (symbol_names database.now.statements)) symbols.now
-        premises.now }
+    requires formulas_in_range { AreInRange (length (symbol_names database.now.statements))
+        (entry_formulas nodes.old premises.now) }
     requires pairs_in_range { All
         (λ (p : ℕ × ℕ). (p.0 < length premises.now) × (p.1 < length premises.now)) pairs.now }
     requires cached_are_disjoint { AreDisjointAt database.now.statements theorem cache.old }
-    ensures tells_disjoint { result
+    ensures nodes_unchanged { nodes.new ≡ nodes.old }
+    ensures tells_disjoint { IfOk result
+        (λ r. r
         ≡ list_all
         (λ (p : ℕ × ℕ). disjoint_lists (context_at database.now.statements theorem)
-        (replacement symbols.now premises.now p.0) (replacement symbols.now premises.now p.1))
-        pairs.now }
+        (body_string_at nodes.old premises.now p.0) (body_string_at nodes.old premises.now p.1))
+        pairs.now) }
     ensures cached_are_disjoint { AreDisjointAt database.now.statements theorem cache.new }
 {
-    match distinct.collect(database, symbols, premises) {
-        Err(_) => {
-            let columns = &mut distinct.columns;
-            pairs_are_disjoint(database, theorem, symbols, premises, pairs, columns, cache)
-        }
-        Ok(()) => {
-            let reduced = Symbols {
-                unmarked: &distinct.symbols,
-                marked: &[],
-            };
-            let entries = &distinct.entries;
-            let columns = &mut distinct.columns;
-            pairs_are_disjoint(database, theorem, &reduced, entries, pairs, columns, cache)
-        }
-    }
+    distinct.collect(database, nodes, premises, bodies)?;
+    let symbols = &distinct.symbols;
+    let stretches = &distinct.stretches;
+    let columns = &mut distinct.columns;
+    Ok(pairs_are_disjoint(database, theorem, symbols, stretches, pairs, columns, cache))
+}
+
+/// Whether each variable of a body's string is disjoint from each variable of another's.
+#[inline(always)]
+fn bodies_are_disjoint<A: Allocator>(
+    database: &Database<A>,
+    theorem: u32,
+    nodes: &mut Nodes<A>,
+    first: Body,
+    second: Body,
+    lists: &mut SymbolLists<A>,
+    cache: &mut DisjointCache<A>,
+) -> Result<bool, AllocError>
+    requires theorem_lt_length { theorem < length database.now.statements }
+    requires first_are_symbols { All (λ symbol. symbol < length (symbol_names
+        database.now.statements)) (string_of nodes.old first) }
+    requires second_are_symbols { All (λ symbol. symbol < length (symbol_names
+        database.now.statements)) (string_of nodes.old second) }
+    requires cached_are_disjoint { AreDisjointAt database.now.statements theorem cache.old }
+    ensures nodes_unchanged { nodes.new ≡ nodes.old }
+    ensures tells_disjoint { IfOk result
+        (λ r. r
+        ≡ disjoint_lists (context_at database.now.statements theorem) (string_of nodes.old first)
+        (string_of nodes.old second)) }
+    ensures cached_are_disjoint { AreDisjointAt database.now.statements theorem cache.new }
+{
+    lists.symbols.clear();
+    append_body(nodes, first, &mut lists.bodies, &mut lists.symbols)?;
+    let middle = lists.symbols.len();
+    append_body(nodes, second, &mut lists.bodies, &mut lists.symbols)?;
+    let symbols = lists.symbols.as_slice();
+    let (front, rest) = symbols.split_at(middle);
+    Ok(are_all_disjoint(database, theorem, front, rest, cache))
 }
 
 /// Whether for each pair of variables, each variable in what replaces the first is disjoint from
@@ -405,75 +347,99 @@ fn long_pairs_are_disjoint<A: Allocator>(
 fn keeps_disjoint<A: Allocator>(
     database: &Database<A>,
     theorem: u32,
-    symbols: &Symbols,
-    premises: &[Span],
+    nodes: &mut Nodes<A>,
+    premises: &[Entry],
     pairs: &[(u32, u32)],
+    lists: &mut SymbolLists<A>,
     distinct: &mut DistinctVariables<A>,
     cache: &mut DisjointCache<A>,
-) -> bool
+) -> Result<bool, AllocError>
     requires theorem_lt_length { theorem < length database.now.statements }
-    requires are_entries { AreEntries (length (symbol_names database.now.statements)) symbols.now
-        premises.now }
+    requires formulas_in_range { AreInRange (length (symbol_names database.now.statements))
+        (entry_formulas nodes.old premises.now) }
     requires pairs_in_range { All
         (λ (p : ℕ × ℕ). (p.0 < length premises.now) × (p.1 < length premises.now)) pairs.now }
     requires cached_are_disjoint { AreDisjointAt database.now.statements theorem cache.old }
-    ensures tells_disjoint { result
+    ensures nodes_unchanged { nodes.new ≡ nodes.old }
+    ensures tells_disjoint { IfOk result
+        (λ r. r
         ≡ list_all
         (λ (p : ℕ × ℕ). disjoint_lists (context_at database.now.statements theorem)
-        (replacement symbols.now premises.now p.0) (replacement symbols.now premises.now p.1))
-        pairs.now }
+        (body_string_at nodes.old premises.now p.0) (body_string_at nodes.old premises.now p.1))
+        pairs.now) }
     ensures cached_are_disjoint { AreDisjointAt database.now.statements theorem cache.new }
 {
     let mut count: usize = 0;
     for pair in pairs {
-        let first = symbols.formula(replacement_of(premises, pair.0));
-        let second = symbols.formula(replacement_of(premises, pair.1));
-        count = count.saturating_add(first.len().saturating_mul(second.len()));
+        let first = premises[pair.0 as usize];
+        let second = premises[pair.1 as usize];
+        let symbol_pairs = (first.length as usize).saturating_mul(second.length as usize);
+        count = count.saturating_add(symbol_pairs);
         if count > MAX_SYMBOL_PAIRS {
+            let bodies = &mut lists.bodies;
             return long_pairs_are_disjoint(
-                database, theorem, symbols, premises, pairs, distinct, cache,
+                database, theorem, nodes, premises, pairs, bodies, distinct, cache,
             );
         }
-        if !are_all_disjoint(database, theorem, first, second, cache) {
-            return false;
+        let are_disjoint = bodies_are_disjoint(
+            database,
+            theorem,
+            nodes,
+            first.body,
+            second.body,
+            lists,
+            cache,
+        )?;
+        if !are_disjoint {
+            return Ok(false);
         }
     }
-    true
+    Ok(true)
 }
 
 /// Tests an assertion's step on the entries of the stack, except for the length of its formula.
-/// Returns how many of the entries stay, or why the step fails.
+/// Returns how many of the entries stay.
 #[inline(always)]
 pub fn test_rule<A: Allocator>(
     database: &Database<A>,
     theorem: u32,
     rule: &Rule,
-    symbols: &Symbols,
-    stack: &[Span],
+    nodes: &mut Nodes<A>,
+    stack: &[Entry],
+    room: &mut [Body],
+    lists: &mut SymbolLists<A>,
     distinct: &mut DistinctVariables<A>,
     cache: &mut DisjointCache<A>,
-) -> Result<usize, Reason>
+) -> Result<usize, StepRefused>
     requires theorem_lt_length { theorem < length database.now.statements }
     requires is_compiled { IsCompiled database.now.statements rule.now }
-    requires are_entries { AreEntries (length (symbol_names database.now.statements)) symbols.now
-        stack.now }
+    requires are_entries { All (IsEntry nodes.old) stack.now }
+    requires formulas_in_range { AreInRange (length (symbol_names database.now.statements))
+        (entry_formulas nodes.old stack.now) }
+    requires has_room { length rule.now.parts ≤ length room.old }
     requires cached_are_disjoint { AreDisjointAt database.now.statements theorem cache.old }
+    ensures nodes_unchanged { nodes.new ≡ nodes.old }
+    ensures length_stays { length room.new ≡ length room.old }
     ensures cached_are_disjoint { AreDisjointAt database.now.statements theorem cache.new }
-    ensures tests_rule { TestsRule database.now.statements theorem rule.now
-        symbols.now stack.now result }
+    ensures tests_rule { TestsRule database.now.statements theorem rule.now nodes.old stack.now
+        result }
 {
     let hypotheses = rule.hypotheses();
     if stack.len() < hypotheses.len() {
-        return Err(Reason::TooFew);
+        return Err(StepRefused::Fault(Reason::TooFew));
     }
     let below = stack.len() - hypotheses.len();
     let premises = &stack[below..];
-    if !premises_match(symbols, rule, premises) {
-        return Err(Reason::Unmatched);
+    let is_match = premises_match(nodes, rule, premises, room, &mut lists.bodies)?;
+    if !is_match {
+        return Err(StepRefused::Fault(Reason::Unmatched));
     }
     let pairs = rule.pairs();
-    if !keeps_disjoint(database, theorem, symbols, premises, pairs, distinct, cache) {
-        return Err(Reason::NotDisjoint);
+    let is_disjoint = keeps_disjoint(
+        database, theorem, nodes, premises, pairs, lists, distinct, cache,
+    )?;
+    if !is_disjoint {
+        return Err(StepRefused::Fault(Reason::NotDisjoint));
     }
     Ok(below)
 }

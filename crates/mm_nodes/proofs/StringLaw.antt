@@ -1,11 +1,13 @@
 -- The strings of nodes stay as nodes are added or given up.
 use Rattle.std.proofs.Common.{◌≡◌, ℕ, zero, suc, ◌+◌, ◌-◌, ◌<◌, ◌≤◌, Bool, true, false, List, []}
 use Rattle.std.proofs.Common.{◌∷◌, ◌++◌, length, take, drop, get_or, nat_lt, cond, refl, sym, ap, ap₂}
-use Rattle.std.proofs.Common.{◌∙◌, subst, arith, All, length-append}
+use Rattle.std.proofs.Common.{◌∙◌, subst, arith, All, length-append, ◌⊎◌, inl, inr}
 use Rattle.std.specs.List.{AllByRecursion, flat_map}
 use Rattle.std.proofs.lemmas.List.{take-append-drop, length-take-le}
 use Rattle.std.proofs.lemmas.Bool.Decides.{nat_tests}
-use Rattle.std.proofs.lemmas.List.Elements.{recursion_from_All}
+use Rattle.std.proofs.lemmas.Bool.{cases_lt}
+use Rattle.std.proofs.lemmas.List.Elements.{recursion_from_All, All-from_recursion, All-get_or}
+use Rattle.std.proofs.lemmas.List.Elements.{All-nil, All-append, All-push}
 use Rattle.mm_nodes.specs.Strings.{first_node, body_string, joined_strings, strings_after}
 use Rattle.mm_nodes.specs.Strings.{strings_of}
 
@@ -127,3 +129,44 @@ module _ (front : List ℕ) where
   strings_take ns k =
       sym (ap (strings_after front []) (take-append-drop k ns))
       ∙ strings_append [] (take k ns) (drop k ns)
+
+-- ---- the elements of strings are symbols
+
+abbrev pub AreSymbols : List ℕ → Type 0
+AreSymbols u = All (λ s. s < first_node) u
+
+body_has_symbols : (ss : List (List ℕ)) (b : ℕ) → All AreSymbols ss → AreSymbols (body_string ss b)
+body_has_symbols ss b all_have = by_case (nat_lt b first_node) refl
+  where
+    by_index : (b - first_node < length ss) ⊎ (length ss ≤ b - first_node)
+        → AreSymbols (get_or ss (b - first_node) [])
+    by_index (inl i_lt) = All-get_or AreSymbols ss (b - first_node) [] i_lt all_have
+    by_index (inr past) =
+        subst AreSymbols (sym (get_or_past ss (b - first_node) [] past))
+        (All-nil (λ s. s < first_node))
+
+    by_case : (test : Bool) → nat_lt b first_node ≡ test → AreSymbols (body_string ss b)
+    by_case true is =
+        let b_lt : b < first_node = grind (arith, nat_tests) in
+        rw is (All-from_recursion (λ s. s < first_node) (b ∷ []) (b_lt, tt))
+    by_case false is = rw is (by_index (cases_lt (b - first_node) (length ss)))
+
+joined_have_symbols : (ss : List (List ℕ)) (bs : List ℕ) → All AreSymbols ss
+    → AreSymbols (joined_strings ss bs)
+joined_have_symbols ss [] all_have = All-nil (λ s. s < first_node)
+joined_have_symbols ss (b ∷ bs) all_have =
+    All-append (λ s. s < first_node) (body_string ss b) (joined_strings ss bs)
+    (body_has_symbols ss b all_have) (joined_have_symbols ss bs all_have)
+
+strings_have_symbols : (ss ns : List (List ℕ)) → All AreSymbols ss
+    → All AreSymbols (strings_after [] ss ns)
+unfolding strings_after
+strings_have_symbols ss [] all_have = all_have
+strings_have_symbols ss (bs ∷ ns) all_have =
+    strings_have_symbols (ss ++ joined_strings ss bs ∷ []) ns
+    (All-push AreSymbols ss (joined_strings ss bs) all_have (joined_have_symbols ss bs all_have))
+
+pub string_has_symbols : (ns : List (List ℕ)) (b : ℕ)
+    → AreSymbols (body_string (strings_of ns) b)
+string_has_symbols ns b =
+    body_has_symbols (strings_of ns) b (strings_have_symbols [] ns (All-nil AreSymbols))

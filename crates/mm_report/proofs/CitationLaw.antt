@@ -8,7 +8,7 @@ use Rattle.std.proofs.lemmas.List.{take_more, map-append}
 use Rattle.mm_spec.specs.Text.{Bytes}
 use Rattle.mm_spec.specs.Statement.{Statement}
 use Rattle.mm_spec.specs.Scope.{statement_at}
-use Rattle.mm_spec.specs.Output.{has_typecode, label_at}
+use Rattle.mm_spec.specs.Assertion.{has_typecode, label_at}
 use Rattle.mm_spec.specs.Report.{separated}
 use Rattle.mm_rows.proofs.ColumnLaw.{filter_of_appended}
 use Rattle.mm_report.specs.Rows.{listed, next_label}

@@ -6,7 +6,8 @@ use Rattle.std.proofs.lemmas.List.{length-map}
 use Rattle.std.proofs.lemmas.List.FromFn.{length-map-range_with_len}
 use Rattle.mm_spec.specs.Text.{Bytes}
 use Rattle.mm_spec.specs.Statement.{Statement}
-use Rattle.mm_spec.specs.Output.{label_at, theorems}
+use Rattle.mm_spec.specs.Assertion.{label_at}
+use Rattle.mm_spec.specs.Output.{theorems}
 use Rattle.mm_cites.specs.Citing.{Citing}
 use Rattle.mm_rows.specs.Marks.{Marks}
 use Rattle.mm_report.specs.Rows.{row_of, rows_of, AreCitationsOf}

@@ -6,17 +6,20 @@ ghost use Rattle.std.specs.Io.KnownBytes.{Appends};
 ghost use Rattle.mm_spec.specs.Report.{citation_line, separated, list_line, section};
 ghost use Rattle.mm_report.specs.Rows.{AreAssertions, AreCitationsOf, citation_report_of};
 ghost use Rattle.mm_report.specs.Rows.{citing_rows, listed, listed_labels, next_label};
-ghost use Rattle.mm_report.specs.Rows.{citing_rows_of, unmarked_report_of};
+ghost use Rattle.mm_report.specs.Rows.{citing_rows_of, unmarked_part, unmarked_report_of};
+ghost use Rattle.mm_report.specs.Told.{AreFoundFor};
 ghost use Rattle.mm_report.specs.Sent.{Sent};
 
 use crate::labels::{TheoremLabels, label_of};
 use crate::open_theorems::open_theorem_count;
 use crate::sections::{send_head, send_line};
 use crate::sink::{Sink, WriteFailed};
+use crate::statements::send_statements_section;
 use mm_cites::Citations;
 use mm_database::Database;
 use mm_rows::{Columns, has_chosen_typecode};
 use mm_spec::{Form, Request, Sections};
+use mm_tell::Dummies;
 use std::alloc::Allocator;
 use std::io::Write;
 
@@ -135,20 +138,46 @@ pub(crate) fn send_citations_section<W: Write, D: Allocator, C: Allocator>(
     }
 }
 
+/// Sends the first lines of a report that has no section of marks, and the section of the citations,
+/// if it is wanted.
+fn send_unmarked<W: Write, A: Allocator, C: Allocator, D: Allocator>(
+    sink: &mut Sink,
+    to: &mut W,
+    request: &Request<'_>,
+    database: &Database<'_, D>,
+    chosen: &Columns<A>,
+    citations: &Citations<C>,
+)
+    requires { AreCitationsOf database.now.statements citations.now }
+    ensures { Sent (W.contents to.old) (W.contents to.new) sink.old sink.new
+        (unmarked_part request.now database.now chosen.now
+        (citing_rows_of request.now database.now citations.now)) }
+{
+    let labels = TheoremLabels::new(database);
+    let axioms = chosen.len() as u64;
+    let open_theorems = open_theorem_count(database, chosen, request.with_open);
+    let theorems = citations.rows() as u64;
+    send_head(sink, to, request, axioms, open_theorems, theorems);
+    send_citations_section(sink, to, request, database, &labels, citations);
+}
+
 /// Writes the report requested of a database if it has no section of marks, for which no rows are
-/// needed: the first lines, the section of the citations if it is requested, and the last line.
-/// `chosen` has the columns of the typecode requested, and `citations` are those of this database.
-/// If open theorems count as axioms, the report says how many columns they are. It allocates no
+/// needed: the first lines, the sections of the citations and of the statements if they are
+/// requested, and the last line. `chosen` has the columns of the typecode requested, `citations` are
+/// those of this database, and `found` its dummy variables if the statements are requested. If open
+/// theorems count as axioms, the report says how many columns they are. It allocates no
 /// memory. Returns `WriteFailed` if a write failed or accepted no byte of a piece that wasn't
 /// empty; then a prefix of the report has been written.
-pub fn write_unmarked<'a, W: Write, A: Allocator, C: Allocator, D: Allocator>(
+pub fn write_unmarked<'a, W: Write, A: Allocator, C: Allocator, V: Allocator, D: Allocator>(
     to: &mut W,
     request: &Request<'_>,
     database: &Database<'a, D>,
     chosen: &Columns<A>,
     citations: &Citations<C>,
+    found: &Dummies<V>,
 ) -> Result<(), WriteFailed>
-    requires { AreCitationsOf database.now.statements citations.now }
+    requires are_citations { AreCitationsOf database.now.statements citations.now }
+    requires are_found { AreFoundFor request.now database.now found.now }
     ensures report_is_written { OnOk result
         (Appends (W.contents to.old) (W.contents to.new)
         (unmarked_report_of request.now database.now chosen.now
@@ -160,12 +189,8 @@ pub fn write_unmarked<'a, W: Write, A: Allocator, C: Allocator, D: Allocator>(
         (citing_rows_of request.now database.now citations.now)))) }
 {
     let mut sink = Sink::new();
-    let labels = TheoremLabels::new(database);
-    let axioms = chosen.len() as u64;
-    let open_theorems = open_theorem_count(database, chosen, request.with_open);
-    let theorems = citations.rows() as u64;
-    send_head(&mut sink, to, request, axioms, open_theorems, theorems);
-    send_citations_section(&mut sink, to, request, database, &labels, citations);
+    send_unmarked(&mut sink, to, request, database, chosen, citations);
+    send_statements_section(&mut sink, to, request, database, found);
     send_line(&mut sink, to, b"end");
     sink.finish(to)
 }
@@ -207,5 +232,8 @@ pub fn write_citations<'a, W: Write, A: Allocator, C: Allocator, D: Allocator>(
         with_open,
         ..Request::without_options()
     };
-    write_unmarked(to, &request, database, chosen, citations)
+    let mut sink = Sink::new();
+    send_unmarked(&mut sink, to, &request, database, chosen, citations);
+    send_line(&mut sink, to, b"end");
+    sink.finish(to)
 }

@@ -3,7 +3,8 @@
 ghost use Rattle.std.specs.Prelude.{◌≡◌, ◌<◌, ◌≤◌, ◌∷◌, ℕ, Option, List, [], All, length};
 ghost use Rattle.std.specs.Prelude.{slice_index_or, slice_range, map, flat_map};
 ghost use Rattle.mm_spec.specs.Text.{Bytes};
-ghost use Rattle.mm_spec.specs.Output.{label_at, theorems, columns};
+ghost use Rattle.mm_spec.specs.Assertion.{label_at};
+ghost use Rattle.mm_spec.specs.Output.{theorems, columns};
 
 use mm_database::Database;
 use mm_rows::Columns;
@@ -18,7 +19,8 @@ pub struct TheoremLabels<'d, 'a, D: Allocator> {
 
 impl<'d, 'a, D: Allocator> Model for TheoremLabels<'d, 'a, D> {
     ghost use Rattle.std.specs.Prelude.{List, ℕ, map};
-    ghost use Rattle.mm_spec.specs.Output.{label_at, theorems};
+    ghost use Rattle.mm_spec.specs.Assertion.{label_at};
+    ghost use Rattle.mm_spec.specs.Output.{theorems};
 
     ghost Value = { List (List ℕ) };
 
@@ -72,7 +74,7 @@ pub struct ColumnLabels<'d, 'a, D: Allocator> {
 
 impl<'d, 'a, D: Allocator> Model for ColumnLabels<'d, 'a, D> {
     ghost use Rattle.std.specs.Prelude.{List, ℕ, map, All, length, ◌<◌};
-    ghost use Rattle.mm_spec.specs.Output.{label_at};
+    ghost use Rattle.mm_spec.specs.Assertion.{label_at};
 
     ghost Value = { List (List ℕ) };
 

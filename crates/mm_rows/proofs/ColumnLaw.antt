@@ -10,7 +10,8 @@ use Rattle.mm_spec.specs.Statement.{Statement, constants, variables, disjoint, f
 use Rattle.mm_spec.specs.Statement.{axiomatic, provable, opening, closing, symbols_of}
 use Rattle.mm_spec.specs.Scope.{statement_at}
 use Rattle.mm_spec.specs.Citation.{is_assertion}
-use Rattle.mm_spec.specs.Output.{columns, has_typecode, is_column}
+use Rattle.mm_spec.specs.Assertion.{has_typecode}
+use Rattle.mm_spec.specs.Output.{columns, is_column}
 use Rattle.mm_spec.specs.Frame.{symbol_names, index_of}
 use Rattle.mm_spec.proofs.FindsLaw.{passing_statement, statement_at_place, formula_at_place}
 use Rattle.mm_spec.proofs.FaultlessLaw.{symbol_of_number_is}

@@ -6,7 +6,8 @@ ghost use Rattle.std.specs.Option.{option_map};
 ghost use Rattle.std.specs.List.{list_any};
 ghost use Rattle.mm_spec.specs.Scope.{statement_at};
 ghost use Rattle.mm_spec.specs.Citation.{is_assertion};
-ghost use Rattle.mm_spec.specs.Output.{columns, has_typecode};
+ghost use Rattle.mm_spec.specs.Assertion.{has_typecode};
+ghost use Rattle.mm_spec.specs.Output.{columns};
 ghost use Rattle.mm_cites.specs.Citing.{IsStatementList};
 
 use mm_database::Database;

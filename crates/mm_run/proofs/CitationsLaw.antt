@@ -1,5 +1,5 @@
 -- The rows of citations that are written are those of the definitions.
-use Rattle.std.proofs.Common.{◌≡◌, ℕ, ◌<◌, Bool, List, []}
+use Rattle.std.proofs.Common.{ℕ, ◌<◌, Bool, List, []}
 use Rattle.std.proofs.Common.{length, map, get_or, refl, sym, ap, subst, arith}
 use Rattle.std.specs.List.{AllZip, list_any}
 use Rattle.std.proofs.lemmas.List.Kept.{IsStrictlyIncreasing-filter}
@@ -9,7 +9,8 @@ use Rattle.mm_spec.specs.Statement.{Statement}
 use Rattle.mm_spec.specs.Scope.{statement_at}
 use Rattle.mm_spec.specs.Report.{CitingRow}
 use Rattle.mm_spec.specs.Request.{Request}
-use Rattle.mm_spec.specs.Output.{AreCited, IsCitingRowOf, theorems, has_typecode, label_at}
+use Rattle.mm_spec.specs.Assertion.{has_typecode, label_at}
+use Rattle.mm_spec.specs.Output.{AreCited, IsCitingRowOf, theorems}
 use Rattle.mm_spec.proofs.FindsLaw.{member_filter, filter_member}
 use Rattle.mm_spec.proofs.ListLaw.{element_is_member}
 use Rattle.mm_work.specs.Citing.{Citing, theorem_at, list_at}

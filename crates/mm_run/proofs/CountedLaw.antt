@@ -8,9 +8,12 @@ use Rattle.mm_spec.specs.Opened.{is_open_theorem, counted}
 use Rattle.mm_spec.specs.Scope.{statement_at}
 use Rattle.mm_spec.specs.Request.{Request}
 use Rattle.mm_spec.specs.Lexed.{lexed_of}
-use Rattle.mm_spec.specs.Output.{columns, HasNoFault, IsReportOf, IsOutput}
+use Rattle.mm_spec.specs.Statement.{Statement}
+use Rattle.mm_spec.specs.Assertion.{statement_lines}
+use Rattle.mm_spec.specs.Output.{columns, HasNoFault, is_open_at, told, IsReportOf, IsOutput}
 use Rattle.mm_database.specs.Database.{Contents}
 use Rattle.mm_report.specs.Rows.{open_theorem_count}
+use Rattle.mm_report.specs.Told.{told_of}
 use Rattle.mm_run.specs.Counted.{IsCounted}
 
 open_theorems_are : (d : Contents) (w : Bool) (only : Option Bytes) (axioms : List ℕ)
@@ -27,18 +30,29 @@ open_theorems_are d true only axioms is_counted axioms_are =
     ∙ ap (λ db. columns db only) is_counted.statements_are)
 open_theorems_are d false only axioms is_counted axioms_are = refl
 
+told_are : (d : Contents) (request : Request) → IsCounted request.with_open d
+    → told_of d request.only ≡ told d.read request
+told_are d request is_counted =
+    ap₂ (λ (b : Bool) (db : List Statement). statement_lines db (is_open_at d.read b) request.only)
+    is_counted.flag_is is_counted.statements_are
+
 pub is_output : (request : Request) (d : Contents) (axioms bytes : List ℕ)
     → IsCounted request.with_open d
     → HasNoFault (length d.text) (lexed_of d.text) request.with_open d.read
     → axioms ≡ columns d.statements request.only
-    → IsReportOf d.statements (open_theorem_count request.with_open d axioms) request bytes
+    → IsReportOf d.statements (open_theorem_count request.with_open d axioms)
+    (told_of d request.only) request bytes
     → IsOutput d.text request bytes
 is_output request d axioms bytes is_counted has_no_fault axioms_are is_report =
     inr (
       d.read,
       has_no_fault,
-      subst (λ o. IsReportOf (counted request.with_open d.read) o request bytes)
+      subst (λ o. IsReportOf (counted request.with_open d.read) o (told d.read request) request bytes)
           (open_theorems_are d request.with_open request.only axioms is_counted axioms_are)
-          (subst (λ db. IsReportOf db (open_theorem_count request.with_open d axioms) request bytes)
-          is_counted.statements_are is_report),
+          (subst (λ (t : List ℕ). IsReportOf (counted request.with_open d.read)
+          (open_theorem_count request.with_open d axioms) t request bytes)
+          (told_are d request is_counted)
+          (subst (λ db. IsReportOf db (open_theorem_count request.with_open d axioms)
+          (told_of d request.only) request bytes)
+          is_counted.statements_are is_report)),
     )

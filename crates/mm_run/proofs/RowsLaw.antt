@@ -11,7 +11,8 @@ use Rattle.mm_spec.specs.Citation as proof
 use Rattle.mm_spec.specs.Text.{Bytes}
 use Rattle.mm_spec.specs.Report.{Row, CitingRow, report, head, section, citation_line, line}
 use Rattle.mm_spec.specs.Request.{Request, has_marks}
-use Rattle.mm_spec.specs.Output.{IsRowOf, theorems, columns, label_at, IsReportOf}
+use Rattle.mm_spec.specs.Assertion.{label_at}
+use Rattle.mm_spec.specs.Output.{IsRowOf, theorems, columns, IsReportOf}
 use Rattle.mm_spec.specs.Output.{IsOutput, AllAreValid}
 use Rattle.mm_spec.specs.Laws.Complete.{AreComplete}
 use Rattle.mm_database.specs.Database.{Contents}
@@ -23,6 +24,7 @@ use Rattle.mm_work.specs.Citing.{Citing, HasCitation, theorem_at}
 use Rattle.mm_rows.specs.Marks.{Marks, mark, IsMatrix}
 use Rattle.mm_report.specs.Rows.{row_of, rows_of, marks_of, open_theorem_count, report_of}
 use Rattle.mm_report.specs.Rows.{citing_rows, citing_rows_of, unmarked_report_of}
+use Rattle.mm_report.specs.Told.{told_of}
 use Rattle.mm_run.specs.Counted.{IsJudged}
 use Rattle.mm_run.proofs.CountedLaw.{is_output}
 use Rattle.mm_run.proofs.CitationsLaw.{citing_rows_are}
@@ -98,13 +100,13 @@ module _ (db : List Statement) (request : Request) (c : Citing) (m : Marks)
       (get_or-map (label_at db) (theorems db) i 0 [] i_lt_length, marks_decide i i_lt_length))
 
 -- from the marks of the chains of citations, the report is that of the definitions
-is_report : (request : Request) (db : List Statement) (opened : Option ℕ) (c : Citing)
-    → (axioms : List ℕ) (m : Marks) → AllHaveCitations db request.essential c
+is_report : (request : Request) (db : List Statement) (opened : Option ℕ) (told : List ℕ)
+    → (c : Citing) (axioms : List ℕ) (m : Marks) → AllHaveCitations db request.essential c
     → axioms ≡ columns db request.only → IsMatrix c axioms m
-    → IsReportOf db opened request
+    → IsReportOf db opened told request
     (report request opened (map (label_at db) axioms) (rows_of m (map (label_at db) (theorems db)))
-    (citing_rows db request.only c (map (label_at db) (theorems db))))
-is_report request db opened c axioms m have_citations axioms_are is_matrix =
+    (citing_rows db request.only c (map (label_at db) (theorems db))) told)
+is_report request db opened told c axioms m have_citations axioms_are is_matrix =
     record {
       rows = rows_of m (map (label_at db) (theorems db));
       are_rows =
@@ -115,7 +117,7 @@ is_report request db opened c axioms m have_citations axioms_are is_matrix =
       bytes_are =
           ap (λ (l : List ℕ). report request opened (map (label_at db) l)
           (rows_of m (map (label_at db) (theorems db)))
-          (citing_rows db request.only c (map (label_at db) (theorems db)))) axioms_are;
+          (citing_rows db request.only c (map (label_at db) (theorems db))) told) axioms_are;
     }
 
 -- the report of a database's marks is the output of its text
@@ -125,27 +127,27 @@ pub table_is_output : (request : Request) (d : Contents) (c : Citing) (axioms : 
     → IsOutput d.text request (report_of request d axioms m (citing_rows_of request d c))
 table_is_output request d c axioms m is_judged axioms_are is_matrix =
     is_output request d axioms _ is_judged.is_counted is_judged.has_no_fault axioms_are
-    (is_report request d.statements (open_theorem_count request.with_open d axioms) c axioms m
-    is_judged.have_citations axioms_are is_matrix)
+    (is_report request d.statements (open_theorem_count request.with_open d axioms)
+    (told_of d request.only) c axioms m is_judged.have_citations axioms_are is_matrix)
 
 -- the rows of the definitions are as many as those of the citations, and without sections of marks
 -- no more is told of them
 unmarked_is_report : (request : Request) (opened : Option ℕ) (axioms : List ℕ)
-    → (names : List Bytes) (rows : List Row) (citing : List CitingRow)
+    → (names : List Bytes) (rows : List Row) (citing : List CitingRow) (told : List ℕ)
     → has_marks request.sections ≡ false → length axioms ≡ length names
     → length citing ≡ length rows
     → head request.form (length axioms) opened (length citing)
     ++ section request.sections.citations (codes "citations") (flat_map citation_line citing)
-    ++ line (codes "end")
-    ≡ report request opened names rows citing
-unmarked_is_report request opened axioms names rows citing no_marks axioms_named as_many =
+    ++ section request.sections.statements (codes "statements") told ++ line (codes "end")
+    ≡ report request opened names rows citing told
+unmarked_is_report request opened axioms names rows citing told no_marks axioms_named as_many =
     let parts = none_of_three request.sections.matrix request.sections.counts
     request.sections.usage no_marks in
     let h = head request.form (length names) opened (length rows) in
     rw (axioms_named, as_many, parts.0, parts.1, parts.2)
     (ap (λ (x : List ℕ). x
     ++ section request.sections.citations (codes "citations") (flat_map citation_line citing)
-    ++ line (codes "end"))
+    ++ section request.sections.statements (codes "statements") told ++ line (codes "end"))
     (sym (append-nil h) ∙ sym (append-nil (h ++ [])) ∙ sym (append-nil (h ++ [] ++ []))))
   where
     none_of_three : (a b c : Bool) → (a || (b || c)) ≡ false
@@ -180,7 +182,7 @@ unmarked_is_output request d c axioms is_judged axioms_are no_marks =
       are_citing_rows = are_citing;
       bytes_are =
           unmarked_is_report request opened axioms (map (label_at db) (columns db request.only))
-          rows.0 citing no_marks
+          rows.0 citing (told_of d request.only) no_marks
           (ap length axioms_are ∙ sym (length-map (columns db request.only) (label_at db)))
           (sym (zip_lengths _ (theorems db) citing are_citing)
           ∙ zip_lengths _ (theorems db) rows.0 rows.1);

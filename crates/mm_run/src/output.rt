@@ -7,6 +7,7 @@ ghost use Rattle.mm_spec.specs.Output.{FirstFault, columns};
 ghost use Rattle.mm_spec.specs.Ends.{Answers, reading_limit};
 ghost use Rattle.mm_work.specs.Judged.{IsJudgement};
 ghost use Rattle.mm_rows.specs.Marks.{IsMatrix};
+ghost use Rattle.mm_report.specs.Told.{AreFoundFor};
 ghost use Rattle.mm_run.specs.Counted.{IsJudged, IsJudgedText, IsReadFrom};
 ghost use Rattle.mm_plan.specs.Plans.{IsLawfulPlan, request_of};
 
@@ -20,6 +21,7 @@ use mm_report::{Request, write_refusal, write_requested_report, write_rows, writ
 use mm_rows::{Columns, MarkedRows, Matrix, marked_rows, matrix};
 use mm_spec::Fault;
 use mm_stmt::read_owned;
+use mm_tell::Dummies;
 use mm_work::{Citations, Judged, Open, check_all, check_alone};
 use std::alloc::{AllocError, Allocator};
 use std::io::Write;
@@ -44,16 +46,18 @@ fn report_unmarked<'a, A: Allocator, W: Write>(
     database: &Database<'a, A>,
     citations: &Citations<A>,
     chosen: &Columns<A>,
+    found: &Dummies<A>,
     to: &mut W,
 ) -> RunEnd
     requires is_judged { IsJudged request.now.essential request.now.with_open database.now
         citations.now }
     requires columns_are { chosen.now ≡ columns database.now.statements request.now.only }
     requires no_marks { has_marks request.now.sections ≡ false }
+    requires are_found { AreFoundFor request.now database.now found.now }
     ensures { Answers result database.now.text request.now (W.contents to.old)
         (W.contents to.new) }
 {
-    match write_unmarked(to, request, database, chosen, citations) {
+    match write_unmarked(to, request, database, chosen, citations, found) {
         Ok(()) => RunEnd::Accepted,
         Err(_) => RunEnd::WriteFailed,
     }
@@ -66,16 +70,18 @@ fn report_usage<'a, A: Allocator, W: Write>(
     citations: &Citations<A>,
     chosen: &Columns<A>,
     matrix: &Matrix<A>,
+    found: &Dummies<A>,
     to: &mut W,
 ) -> RunEnd
     requires is_judged { IsJudged request.now.essential request.now.with_open database.now
         citations.now }
     requires columns_are { chosen.now ≡ columns database.now.statements request.now.only }
     requires is_matrix { IsMatrix citations.now chosen.now matrix.now }
+    requires are_found { AreFoundFor request.now database.now found.now }
     ensures { Answers result database.now.text request.now (W.contents to.old)
         (W.contents to.new) }
 {
-    match write_requested_report(to, request, database, chosen, matrix, citations) {
+    match write_requested_report(to, request, database, chosen, matrix, citations, found) {
         Ok(()) => RunEnd::Accepted,
         Err(_) => RunEnd::WriteFailed,
     }
@@ -88,6 +94,7 @@ fn report_rows<'a, A: Allocator, W: Write>(
     citations: &Citations<A>,
     chosen: &Columns<A>,
     marked: &MarkedRows<A>,
+    found: &Dummies<A>,
     to: &mut W,
 ) -> RunEnd
     requires is_judged { IsJudged request.now.essential request.now.with_open database.now
@@ -95,10 +102,11 @@ fn report_rows<'a, A: Allocator, W: Write>(
     requires columns_are { chosen.now ≡ columns database.now.statements request.now.only }
     requires is_matrix { IsMatrix citations.now chosen.now marked.now }
     requires no_usage { request.now.sections.usage ≡ false }
+    requires are_found { AreFoundFor request.now database.now found.now }
     ensures { Answers result database.now.text request.now (W.contents to.old)
         (W.contents to.new) }
 {
-    match write_rows(to, request, database, chosen, marked, citations) {
+    match write_rows(to, request, database, chosen, marked, citations, found) {
         Ok(()) => RunEnd::Accepted,
         Err(_) => RunEnd::WriteFailed,
     }
@@ -111,25 +119,43 @@ fn report_marked<'a, A: Allocator + Copy, W: Write>(
     database: &Database<'a, A>,
     citations: &Citations<A>,
     chosen: &Columns<A>,
+    found: &Dummies<A>,
     to: &mut W,
 ) -> RunEnd
     requires is_judged { IsJudged request.now.essential request.now.with_open database.now
         citations.now }
     requires columns_are { chosen.now ≡ columns database.now.statements request.now.only }
+    requires are_found { AreFoundFor request.now database.now found.now }
     ensures { Answers result database.now.text request.now (W.contents to.old)
         (W.contents to.new) }
 {
     if request.sections.usage {
         // The rows are made on the calling thread, and so no runtime is lent.
         match matrix(&(), alloc, citations, chosen) {
-            Ok(matrix) => report_usage(request, database, citations, chosen, &matrix, to),
+            Ok(matrix) => report_usage(request, database, citations, chosen, &matrix, found, to),
             Err(_) => RunEnd::NoMemory,
         }
     } else {
         match marked_rows(alloc, citations, chosen) {
-            Ok(marked) => report_rows(request, database, citations, chosen, &marked, to),
+            Ok(marked) => report_rows(request, database, citations, chosen, &marked, found, to),
             Err(_) => RunEnd::NoMemory,
         }
+    }
+}
+
+/// Finds the dummy variables of a database's theorems, if the statements are requested, which tell
+/// them. Fails only if out of memory, or if there are 2^32 of them or more.
+fn found_for<'a, A: Allocator + Copy>(
+    alloc: A,
+    request: &Request<'_>,
+    database: &Database<'a, A>,
+) -> Result<Dummies<A>, AllocError>
+    ensures { IfOk result (AreFoundFor request.now database.now) }
+{
+    if request.sections.statements {
+        Dummies::new(alloc, database)
+    } else {
+        Ok(Dummies::none(alloc))
     }
 }
 
@@ -149,10 +175,13 @@ fn report<'a, A: Allocator + Copy, W: Write>(
     let Ok(chosen) = Columns::new(alloc, database, request.only) else {
         return RunEnd::NoMemory;
     };
+    let Ok(found) = found_for(alloc, request, database) else {
+        return RunEnd::NoMemory;
+    };
     if request.sections.has_marks() {
-        report_marked(alloc, request, database, citations, &chosen, to)
+        report_marked(alloc, request, database, citations, &chosen, &found, to)
     } else {
-        report_unmarked(request, database, citations, &chosen, to)
+        report_unmarked(request, database, citations, &chosen, &found, to)
     }
 }
 

@@ -27,7 +27,7 @@ use Rattle.mm_spec.specs.Frame.{mandatory_hypotheses, mandatory_pairs, disjoint_
 use Rattle.mm_spec.specs.Frame.{frame_at}
 use Rattle.mm_spec.specs.Citation.{referent_of, referent_at, context_at, is_theorem}
 use Rattle.mm_spec.specs.Laws.Complete.{HasCompleteFrame, AreComplete}
-use Rattle.mm_spec.specs.Output.{label_at}
+use Rattle.mm_spec.specs.Assertion.{label_at}
 use Rattle.mm_spec.proofs.FindsLaw.{any_map, passing_statement, statement_passes}
 
 -- ---- one statement

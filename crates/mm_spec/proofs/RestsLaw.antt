@@ -13,7 +13,8 @@ use Rattle.mm_spec.specs.Request.{Request}
 use Rattle.mm_spec.specs.Citation.{is_theorem, is_assertion, IsValid, Cites, RestsOn}
 use Rattle.mm_spec.specs.Laws.Complete.{AreComplete}
 use Rattle.mm_spec.specs.Report.{Row, CitingRow}
-use Rattle.mm_spec.specs.Output.{is_theorem_at, AreValid, columns, has_typecode, label_at, IsRowOf}
+use Rattle.mm_spec.specs.Assertion.{has_typecode, label_at}
+use Rattle.mm_spec.specs.Output.{is_theorem_at, AreValid, columns, IsRowOf}
 use Rattle.mm_spec.specs.Output.{IsCitingRowOf}
 use Rattle.mm_spec.specs.Text.{Bytes}
 use Rattle.std.specs.List.Sorted.{IsStrictlyIncreasing}

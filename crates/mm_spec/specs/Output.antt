@@ -1,20 +1,21 @@
 -- The first fault of a text, and what is written (this project's own).
 use Rattle.std.specs.Prelude.{◌≢◌, ◌++◌, ◌≡◌, ℕ, ◌<◌, Bool, true, false, List, [], ◌∷◌, length, map}
-use Rattle.std.specs.Prelude.{Option, Some, None, slice_get, flat_map, ◌⊎◌, IsTrue, Decides}
-use Rattle.std.specs.Prelude.{bytes_eq, count_by, if◌then◌else◌}
+use Rattle.std.specs.Prelude.{Option, Some, None, slice_get, ◌⊎◌, IsTrue, Decides}
+use Rattle.std.specs.Prelude.{count_by, if◌then◌else◌, ◌&&◌}
 use Rattle.std.specs.List.{list_any, range_with_len, AllZip, filter}
 use Rattle.mm_spec.specs.Text.{Bytes, Token, Fault}
 use Rattle.mm_spec.specs.Lexed.{LexedText, lexed_of}
 use Rattle.mm_spec.specs.Statement.{Statement, axiomatic, provable, AreLongestStatements}
 use Rattle.mm_spec.specs.Statement.{ShapeFault}
-use Rattle.mm_spec.specs.Statement.{FileEndFault, symbols_of}
+use Rattle.mm_spec.specs.Statement.{FileEndFault}
 use Rattle.mm_spec.specs.Opened.{is_open_theorem, counted}
-use Rattle.mm_spec.specs.Scope.{statement_at, label_words}
+use Rattle.mm_spec.specs.Scope.{statement_at}
 use Rattle.mm_spec.specs.Lawful.{least, scope_fault, IsLawful}
 use Rattle.mm_spec.specs.Frame.{formula_at}
 use Rattle.mm_spec.specs.Valid as proof
 use Rattle.mm_spec.specs.Citation.{context_at, steps_at, reading_faults_at, is_theorem, IsValid}
 use Rattle.mm_spec.specs.Citation.{Cites, RestsOn}
+use Rattle.mm_spec.specs.Assertion.{label_at, has_typecode, statement_lines}
 use Rattle.mm_spec.specs.Report.{Row, CitingRow, report, refusal}
 use Rattle.mm_spec.specs.Request.{Request}
 use Rattle.mm_spec.specs.Derivation.{is_member}
@@ -99,11 +100,6 @@ HasNoFault len lexed with_open db = IsRead len lexed db None × AllAreValid (cou
 abbrev pub theorems : List Statement → List ℕ
 theorems db = filter (λ j. list_any is_theorem (statement_at db j)) (range_with_len 0 (length db))
 
--- whether a statement has the typecode, if one is chosen
-abbrev pub has_typecode : Option Bytes → Statement → Bool
-has_typecode None s = true
-has_typecode (Some w) s = elim (symbols_of s) [ [] ↦ false | t ∷ ts ↦ bytes_eq t.word w ]
-
 -- whether a statement is a `$a` with the typecode, if one is chosen
 abbrev pub is_column : Option Bytes → Statement → Bool
 is_column only (axiomatic l k xs d) = has_typecode only (axiomatic l k xs d)
@@ -113,10 +109,6 @@ is_column only _ = false
 abbrev pub columns : List Statement → Option Bytes → List ℕ
 columns db only =
     filter (λ j. list_any (is_column only) (statement_at db j)) (range_with_len 0 (length db))
-
--- the label of statement j
-abbrev pub label_at : List Statement → ℕ → Bytes
-label_at db j = flat_map (λ w. w) (flat_map label_words (statement_at db j))
 
 -- r is the row of theorem t: its label, and for each column whether t rests on that axiom
 abbrev pub IsRowOf : List Statement → Request → ℕ → Row → Type 0
@@ -148,17 +140,27 @@ open_theorem_count db request =
     (columns (counted true db) request.only))
     else None
 
+-- whether statement j is an open theorem that counts as an axiom
+abbrev pub is_open_at : List Statement → (with_open : Bool) → ℕ → Bool
+is_open_at db with_open j = with_open && list_any is_open_theorem (statement_at db j)
+
+-- the lines of the statements, as these count
+abbrev pub told : List Statement → Request → List ℕ
+told db request =
+    statement_lines (counted request.with_open db) (is_open_at db request.with_open) request.only
+
 -- The report on a database: the theorems have these rows, by what they rest on and by what they
 -- cite, and these are its bytes. `open_theorems` says how many columns are open theorems, if these
--- count as axioms.
-pub record IsReportOf (db : List Statement) (open_theorems : Option ℕ) (request : Request)
-    (bytes : List ℕ) : Type 0 where
+-- count as axioms, and `told` are the lines of the statements.
+pub record IsReportOf (db : List Statement) (open_theorems : Option ℕ) (told : List ℕ)
+    (request : Request) (bytes : List ℕ) : Type 0 where
   pub rows : List Row
   pub are_rows : AllZip (IsRowOf db request) (theorems db) rows
   pub citing_rows : List CitingRow
   pub are_citing_rows : AllZip (IsCitingRowOf db request) (theorems db) citing_rows
   pub bytes_are : bytes
       ≡ report request open_theorems (map (label_at db) (columns db request.only)) rows citing_rows
+      told
 
 -- the output of a text: the refusal for its first fault, or if it has none, the report requested
 abbrev pub IsOutput : List ℕ → Request → List ℕ → Type 0
@@ -166,4 +168,5 @@ IsOutput text request bytes =
     ((f : Fault) × FirstFault (length text) (lexed_of text) request.with_open f
     × (bytes ≡ refusal text f))
     ⊎ ((db : List Statement) × HasNoFault (length text) (lexed_of text) request.with_open db
-    × IsReportOf (counted request.with_open db) (open_theorem_count db request) request bytes)
+    × IsReportOf (counted request.with_open db) (open_theorem_count db request) (told db request)
+    request bytes)

@@ -118,15 +118,17 @@ head form axioms open_theorems theorems =
     head_line (codes "mmdepend") (version form) ++ head_line (codes "axioms") axioms
     ++ open_line open_theorems ++ head_line (codes "theorems") theorems
 
--- the report requested, with these labels of columns, these rows, and these rows of citations
-abbrev pub report : Request → Option ℕ → List Bytes → List Row → List CitingRow → List ℕ
-report request open_theorems columns rows citing_rows =
+-- the report requested, with these labels of columns, these rows, these rows of citations, and
+-- these lines of the statements
+abbrev pub report : Request → Option ℕ → List Bytes → List Row → List CitingRow
+    → (told : List ℕ) → List ℕ
+report request open_theorems columns rows citing_rows told =
     head request.form (length columns) open_theorems (length rows)
     ++ section request.sections.matrix (codes "matrix") (flat_map (matrix_line request.form) rows)
     ++ section request.sections.counts (codes "counts") (flat_map count_line rows)
     ++ section request.sections.usage (codes "usage") (usage_lines rows 0 columns)
     ++ section request.sections.citations (codes "citations") (flat_map citation_line citing_rows)
-    ++ line (codes "end")
+    ++ section request.sections.statements (codes "statements") told ++ line (codes "end")
 
 -- how many bytes there are after the last line feed, with n before these bytes
 abbrev pub bytes_after_line_feed_from : ℕ → List ℕ → ℕ

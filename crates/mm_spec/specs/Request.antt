@@ -6,7 +6,13 @@ use Rattle.mm_spec.specs.declared.Form.{Form}
 use Rattle.mm_spec.specs.declared.Form.TheVariants.{One}
 
 abbrev pub no_sections : Sections
-no_sections = record { matrix = false; counts = false; usage = false; citations = false }
+no_sections = record {
+  matrix = false;
+  counts = false;
+  usage = false;
+  citations = false;
+  statements = false;
+}
 
 -- the sections that a report has where none is chosen
 abbrev pub default_sections : Sections

@@ -69,6 +69,9 @@ pub struct Sections {
     /// A line for each theorem: its label, the number of assertions that its own proof cites, and
     /// their labels.
     pub citations: bool,
+    /// A line for each assertion: its label, its kind, its place, its mandatory hypotheses, which
+    /// variables have to be distinct, and its formula.
+    pub statements: bool,
 }
 
 impl Sections {
@@ -81,6 +84,7 @@ impl Sections {
             counts: false,
             usage: false,
             citations: false,
+            statements: false,
         }
     }
 
@@ -93,6 +97,7 @@ impl Sections {
             counts: true,
             usage: true,
             citations: false,
+            statements: false,
         }
     }
 

@@ -1,7 +1,8 @@
 //! The labels of the theorems, each after a space, side by side in one list.
 
 ghost use Rattle.std.specs.Prelude.{◌≡◌, ◌<◌, ◌-◌, ◌∷◌, All, IfOk, IsTrue, length, map};
-ghost use Rattle.mm_spec.specs.Output.{is_theorem_at, label_at};
+ghost use Rattle.mm_spec.specs.Assertion.{label_at};
+ghost use Rattle.mm_spec.specs.Output.{is_theorem_at};
 ghost use Rattle.mm_outline.specs.Parts.{AreWithin, IsOutline};
 ghost use Rattle.mm_outline.specs.Statements.{statements};
 

@@ -1,6 +1,6 @@
 -- The labels in the brackets of a compressed proof.
 use Rattle.std.proofs.Common.{◌≡◌, ◌∙◌, ℕ, ◌<◌, ◌≤◌, true, false, List, [], ◌∷◌, ◌++◌, length}
-use Rattle.std.proofs.Common.{take, drop, map, get_or, refl, sym, ap, arith, append-nil, suc, zero}
+use Rattle.std.proofs.Common.{take, drop, map, get_or, refl, ap, arith, append-nil, suc, zero}
 use Rattle.std.specs.Prelude.{bytes_eq, codes}
 use Rattle.mm_spec.specs.Text.{Token}
 use Rattle.mm_spec.specs.CompressedProof.{bracketed}

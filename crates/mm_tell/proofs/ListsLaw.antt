@@ -1,8 +1,8 @@
 -- Rising lists of numbers.
-use Rattle.std.proofs.Common.{◌≡◌, ◌∙◌, ℕ, ◌+◌, ◌<◌, ◌⊎◌, inl, inr, Bool, true, false, ◌&&◌, ◌||◌}
+use Rattle.std.proofs.Common.{◌≡◌, ◌∙◌, ℕ, ◌+◌, ◌<◌, ◌⊎◌, inl, inr, Bool, true, false, ◌&&◌}
 use Rattle.std.proofs.Common.{List, [], ◌∷◌, length, get_or, ap, sym, refl, arith, true≢false, All}
-use Rattle.std.proofs.Common.{eqb-true, ◌==◌, suc, nat_lt}
-use Rattle.std.specs.List.{filter, range_with_len, list_any}
+use Rattle.std.proofs.Common.{eqb-true, ◌==◌}
+use Rattle.std.specs.List.{filter, range_with_len}
 use Rattle.std.specs.List.Sorted.{IsStrictlyIncreasing}
 use Rattle.std.proofs.lemmas.Bool.{or_cases, lt-ltb, ltb-true}
 use Rattle.std.proofs.lemmas.List.Elements.{All-tail}

@@ -122,7 +122,9 @@ impl<A: Allocator> Scratch<A> {
 
 impl<A: Allocator + Copy> Dummies<A> {
     /// Those of no statement.
-    pub fn none(alloc: A) -> Dummies<A> {
+    pub fn none(alloc: A) -> Dummies<A>
+        ensures { result ≡ found_before [] 0 }
+    {
         Dummies {
             variables: Lists::new(alloc),
             pairs: Lists::new(alloc),

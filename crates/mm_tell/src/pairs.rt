@@ -1,8 +1,10 @@
 //! The pairs of distinct variables of which one is a dummy.
 
 ghost use Rattle.std.specs.Prelude.{◌≡◌, ◌<◌, ◌≤◌, ◌++◌, ℕ, OnOk, length, map, flat_map};
+ghost use Rattle.std.specs.Prelude.{if◌then◌else◌};
 ghost use Rattle.std.specs.List.{filter};
-ghost use Rattle.mm_spec.specs.Derivation.{pair};
+ghost use Rattle.std.specs.List.Sorted.{IsStrictlyIncreasing};
+ghost use Rattle.mm_spec.specs.Derivation.{pair, is_member};
 ghost use Rattle.mm_spec.specs.Assertion.{dummies, used, is_with_dummy, dummy_pairs};
 
 use crate::lists::has_number;
@@ -27,13 +29,13 @@ fn is_with_dummy<D: Allocator>(
         && database.disjoint_at(theorem, Sym::new(low), Sym::new(high))
 }
 
-/// Appends the pairs with this lower variable.
+/// Appends the pairs of this lower variable with these others.
 fn add_pairs_with<A: Allocator, D: Allocator>(
     database: &Database<'_, D>,
     theorem: u32,
     dummy_variables: &[u32],
     low: u32,
-    used_variables: &[u32],
+    others: &[u32],
     into: &mut Vec<(Sym, Sym), A>,
 ) -> Result<(), AllocError>
     requires theorem_le_length { theorem ≤ length database.now.statements }
@@ -42,9 +44,9 @@ fn add_pairs_with<A: Allocator, D: Allocator>(
         (map (λ p. pair p.0 p.1) into.new.items
         ≡ map (λ p. pair p.0 p.1) into.old.items
         ++ filter (is_with_dummy database.now.statements theorem)
-        (map (pair low) used_variables.now)) }
+        (map (pair low) others.now)) }
 {
-    for high in used_variables {
+    for high in others {
         if is_with_dummy(database, theorem, dummy_variables, low, *high) {
             into.push((Sym::new(low), Sym::new(*high)))?;
         }
@@ -52,9 +54,24 @@ fn add_pairs_with<A: Allocator, D: Allocator>(
     Ok(())
 }
 
+/// Returns the variables with which a variable can make pairs: a dummy with all that are used, any
+/// other variable with the dummies.
+fn partners<'v>(dummy_variables: &'v [u32], used_variables: &'v [u32], variable: u32) -> &'v [u32]
+    requires { IsStrictlyIncreasing dummy_variables.now }
+    ensures { result.now
+        ≡ (if is_member dummy_variables.now variable then used_variables.now
+        else dummy_variables.now) }
+{
+    if has_number(dummy_variables, variable) {
+        used_variables
+    } else {
+        dummy_variables
+    }
+}
+
 /// Lists the pairs of variables that a theorem uses and of which one is a dummy, if an active `$d`
-/// has both: the lower first, in ascending order. Replaces what `into` has. The cost is a step for
-/// each two of these variables.
+/// has both: the lower first, in ascending order. Replaces what `into` has. An active `$d` is looked
+/// for at most twice for each dummy and each variable that is used.
 pub(crate) fn list_pairs<A: Allocator, D: Allocator>(
     database: &Database<'_, D>,
     theorem: u32,
@@ -70,14 +87,8 @@ pub(crate) fn list_pairs<A: Allocator, D: Allocator>(
 {
     into.clear();
     for low in used_variables {
-        add_pairs_with(
-            database,
-            theorem,
-            dummy_variables,
-            *low,
-            used_variables,
-            into,
-        )?;
+        let others = partners(dummy_variables, used_variables, *low);
+        add_pairs_with(database, theorem, dummy_variables, *low, others, into)?;
     }
     Ok(())
 }

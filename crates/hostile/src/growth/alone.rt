@@ -7,7 +7,7 @@ use super::proofs::{are_cited, database_of, is_judged};
 use super::words::is_lexed;
 use super::{MOST_GROWTHS, WITHOUT_OPEN, was_refused};
 use crate::heap::Refusing;
-use crate::texts::{CITED_TWICE, CITED_TWICE_REPORT, FIRST_TEXT};
+use crate::texts::{CITED_TWICE, CITED_TWICE_REPORT, CITED_TWICE_STATEMENTS, FIRST_TEXT};
 use mm_lex::lex_alone;
 use mm_run::{JudgedText, RunEnd, judge_alone, write_judged};
 use mm_spec::{Request, Sections, TEXT_LIMIT};
@@ -188,6 +188,13 @@ fn outputs_of_a_judged_text_written_without_memory(rt: HostRuntime) {
                 ..Sections::none()
             },
             USAGE_AND_CITATIONS,
+        ),
+        (
+            Sections {
+                statements: true,
+                ..Sections::none()
+            },
+            CITED_TWICE_STATEMENTS,
         ),
     ];
     for (sections, output) in rows {

@@ -97,11 +97,12 @@ fn pairs_without_memory(rt: HostRuntime) {
 /// Whether a formula that is marked and repeated is then one of two entries.
 fn is_repeated(heap: &Refusing<Global>) -> Result<bool, AllocError> {
     let mut machine = Machine::new(heap, 3)?;
-    machine.push(&[Sym::new(0), Sym::new(2)])?;
+    let formula = [Sym::new(0), Sym::new(2), Sym::new(1)];
+    machine.push(&formula)?;
     machine.mark(0)?;
-    let alone = machine.only().is_some();
+    let alone = machine.has_one_entry() && machine.is_only(&formula)?;
     machine.repeat(0)?;
-    Ok(alone && machine.only().is_none())
+    Ok(alone && !machine.has_one_entry())
 }
 
 /// Whether `is_repeated` says so, or `None` if the machine ran out of memory.
@@ -120,7 +121,7 @@ fn entries_without_memory(rt: HostRuntime) {
         let refused = was_refused(&rt, &heap, repeated(&heap));
         assert!(&rt; repeated(&heap) == Some(true));
         if !refused {
-            assert!(&rt; growth > 7);
+            assert!(&rt; growth > 8);
             return;
         }
     }

@@ -5,9 +5,9 @@ use crate::calls::{ended, plan_of};
 use crate::ends::GrowthWatching;
 use crate::heap::Refusing;
 use crate::texts::{
-    BEGINNING, CITED_TWICE, CITED_TWICE_REPORT, COMPRESSED, COMPRESSED_REPORT, DISJOINT,
-    DISJOINT_REPORT, FIRST_REPORT, FIRST_TEXT, NOT_DISJOINT, NOT_DISJOINT_REFUSAL, TWO_FAULTS,
-    TWO_FAULTS_REFUSAL,
+    BEGINNING, CITED_TWICE, CITED_TWICE_REPORT, CITED_TWICE_STATEMENTS, COMPRESSED,
+    COMPRESSED_REPORT, DISJOINT, DISJOINT_REPORT, DUMMIES, DUMMIES_STATEMENTS, FIRST_REPORT,
+    FIRST_TEXT, NOT_DISJOINT, NOT_DISJOINT_REFUSAL, TWO_FAULTS, TWO_FAULTS_REFUSAL,
 };
 use mm_plan::Cutting;
 use mm_run::RunEnd;
@@ -113,6 +113,21 @@ fn a_run_without_memory_writes_nothing(rt: HostRuntime) {
     ];
     for (text, output) in rows {
         assert_right_with_each_refusal(&rt, rt.alloc(), Sections::by_default(), text, output, 1);
+    }
+}
+
+#[test]
+fn statements_are_not_begun_without_memory(rt: HostRuntime) {
+    let sections = Sections {
+        statements: true,
+        ..Sections::none()
+    };
+    let rows = [
+        (CITED_TWICE, CITED_TWICE_STATEMENTS),
+        (DUMMIES, DUMMIES_STATEMENTS),
+    ];
+    for (text, output) in rows {
+        assert_right_with_each_refusal(&rt, rt.alloc(), sections, text, output, 1);
     }
 }
 

@@ -167,6 +167,23 @@ fn assert_sections<R: Abort + Threads + Wait + Sync>(
     }
 }
 
+/// Asserts that two runs write the same statements.
+fn assert_statements<R: Abort + Threads + Wait + Sync>(
+    rt: &R,
+    alloc: Global,
+    text: &[u8],
+    chance: &mut Chance,
+) {
+    let statements = Sections {
+        statements: true,
+        ..Sections::none()
+    };
+    let (_, report) = run_randomly(rt, alloc, text, statements, chance);
+    let (_, other_report) = run_randomly(rt, alloc, text, statements, chance);
+    assert!(rt; report.as_slice() == other_report.as_slice());
+    assert!(rt; section_of(&report).starts_with(b"statements\n"));
+}
+
 /// Runs a text in several ways, asserts that all write the same, and returns how they end.
 fn end_of_all_runs<R: Abort + Threads + Wait + Sync>(
     rt: &R,
@@ -179,6 +196,7 @@ fn end_of_all_runs<R: Abort + Threads + Wait + Sync>(
     assert!(rt; other_end == end && other_written.as_slice() == written.as_slice());
     if end == Some(RunEnd::Accepted) {
         assert_sections(rt, alloc, text, &written, chance);
+        assert_statements(rt, alloc, text, chance);
     } else {
         let (_, refusal) = run_randomly(
             rt,

@@ -1,5 +1,5 @@
 //! What reports show: the chosen sections and columns, citations by essential nodes, open theorems,
-//! the second form, and direct citations.
+//! the second form, direct citations, and statements.
 
 use super::{Case, NO_OPTIONS, assert_all_write, writes};
 use crate::texts::{
@@ -250,6 +250,61 @@ const CITATIONS_CASES: [Case<'static>; 8] = [
 #[test]
 fn direct_citations(rt: HostRuntime) -> Result<(), AllocError> {
     assert_all_write(&rt, rt.alloc(), &CITATIONS_CASES)
+}
+
+/// Two blocks with `$f` of their own for the same variables. The formula of `one` is empty behind its
+/// typecode. The proofs of `p` and `q` have the dummy variable `z`, and `o` is an open theorem.
+const TWO_BLOCKS: &[u8] =
+    b"$c wff |- $. $v x y z $.\n${ fx $f wff x $. fy $f wff y $. fz $f wff z $. $d x y z $. e $e |- x y $. ax $a |- y $. $}\n${ gx $f wff x $. gz $f wff z $. $d x z $. one $a wff $. two $a |- x $.\n${ m $e |- z $. cut $a |- x $. $}\np $p |- x $= gx gz gz two cut $.\nq $p |- x $= ( gz two cut ) ABBCD $.\no $p |- x $= ? $. $}\n";
+
+/// Runs that report what the assertions say.
+const STATEMENTS_CASES: [Case<'static>; 5] = [
+    Case {
+        words: &["mmdepend", "--report", "statements"],
+        parts: &[],
+        output: b"mmdepend 1\naxioms 0\ntheorems 0\nstatements\nend\n",
+    },
+    Case {
+        words: &["mmdepend", "--report", "statements"],
+        parts: TWO_THEOREMS,
+        output: b"mmdepend 1\naxioms 3\ntheorems 2\nstatements\nwi:a:60:83: $f wp wff p $f wq wff q $a wff ( p -> q )\nax-1:a:84:117: $f wp wff p $f wq wff q $a |- ( p -> ( q -> p ) )\nax-mp:a:160:176: $f wp wff p $f wq wff q $e min |- p $e maj |- ( p -> q ) $a |- q\na1i:p:196:253: $f wp wff p $f wq wff q $e h |- p $p |- ( q -> p )\na2:p:273:335: $f wp wff p $f wq wff q $e g |- p $p |- ( q -> ( q -> p ) )\nend\n",
+    },
+    Case {
+        words: &["mmdepend", "--open", "--report", "statements"],
+        parts: &[TWO_BLOCKS],
+        output: b"mmdepend 1\naxioms 5\nopen 1\ntheorems 2\nstatements\nax:a:100:113: $f fx wff x $f fy wff y $e e |- x y $d x y $a |- y\none:a:160:173: $a wff\ntwo:a:174:188: $f gx wff x $a |- x\ncut:a:205:219: $f gx wff x $f gz wff z $e m |- z $d x z $a |- x\np:p:223:255: $f gx wff x $v z $d x z $p |- x\nq:p:256:292: $f gx wff x $v z $d x z $p |- x\no:o:293:310: $f gx wff x $p |- x\nend\n",
+    },
+    Case {
+        words: &[
+            "mmdepend",
+            "--open",
+            "--only",
+            "wff",
+            "--report",
+            "statements",
+        ],
+        parts: &[TWO_BLOCKS],
+        output: b"mmdepend 1\naxioms 1\nopen 0\ntheorems 2\nstatements\none:a:160:173: $a wff\nend\n",
+    },
+    Case {
+        words: &[
+            "mmdepend",
+            "--open",
+            "--only",
+            "wff",
+            "--form",
+            "2",
+            "--report",
+            "statements,citations,matrix",
+        ],
+        parts: &[TWO_BLOCKS],
+        output: b"mmdepend 2\naxioms 1\nopen 0\ntheorems 2\nmatrix\np:0\nq:0\ncitations\np:0:\nq:0:\nstatements\none:a:160:173: $a wff\nend\n",
+    },
+];
+
+#[test]
+fn statements_are_told(rt: HostRuntime) -> Result<(), AllocError> {
+    assert_all_write(&rt, rt.alloc(), &STATEMENTS_CASES)
 }
 
 /// An open theorem, `o`, and one that cites it, `u`.

@@ -1,20 +1,21 @@
-use Rattle.std.proofs.Common.{ap, sym, ◌∙◌, refl, ◌∷◌, [], true≢false}
-use Rattle.std.proofs.lemmas.Slice.Eq.{slice_eq-Decides}
-use Rattle.std.proofs.lemmas.Bool.Decides.{Decides-eqb}
+use Rattle.std.proofs.Common.{◌∷◌, [], ap, sym, ◌∙◌}
+use Rattle.mm_check.proofs.EndLaw.{many_entries_code, other_formula_code}
 use Rattle.mm_check.proofs.checker.test_end.Goals as goal
 
-pub returns-then-eq-clause-is_only_entry : goal.returns-then-eq-clause-is_only_entry
-returns-then-eq-clause-is_only_entry g c =
-    c.in-Some.ensures.is_only_entry
-    ∙ ap (λ f. f ∷ [])
-    ((slice_eq-Decides Decides-eqb _ _ _ c.eq.ensures).0 c.if-eq.true ∙ c.formula.ensures.formula)
+pub returns-then-not-has_one_entry-clause-is_end_refusal :
+    goal.returns-then-not-has_one_entry-clause-is_end_refusal
+returns-then-not-has_one_entry-clause-is_end_refusal g c = (
+  c.end_at-at.ensures,
+  many_entries_code c.args.machine.now.stack _ (sym c.has_one_entry.ensures
+      ∙ c.if-not-has_one_entry.true),
+)
 
-pub returns-else-eq-clause-has_end_code : goal.returns-else-eq-clause-has_end_code
-returns-else-eq-clause-has_end_code g c =
-    rw c.in-Some.ensures.is_only_entry (
-      (λ formula_is. true≢false
-          (sym ((slice_eq-Decides Decides-eqb _ _ _ c.eq.ensures).1
-          (formula_is ∙ sym c.formula.ensures.formula))
-          ∙ c.if-eq.false)),
-      refl,
-    )
+pub returns-then-not-is_only-clause-is_end_refusal :
+    goal.returns-then-not-is_only-clause-is_end_refusal
+returns-then-not-is_only-clause-is_end_refusal g c = (
+  c.end_at-at.ensures,
+  other_formula_code c.args.machine.now.stack _ (sym c.has_one_entry.ensures
+      ∙ c.if-not-has_one_entry.false)
+      (λ is_only. c.in_ok-is_only.ensures.is_other c.if-not-is_only.true
+      (is_only ∙ ap (λ f. f ∷ []) (sym c.formula.ensures.formula))),
+)

@@ -4,6 +4,11 @@ use Rattle.std.proofs.lemmas.List.{length-replicate, get_or-replicate}
 use Rattle.mm_frame.proofs.ChainsLaw.{no_chains_at_start, no_links_are_linked}
 use Rattle.mm_frame.proofs.ChainsLaw.{chains_for_equal_tests, has_symbol_with_disjoint}
 use Rattle.mm_frame.proofs.ChainsLaw.{has_symbol_without_disjoint, symbol_lt_symbol_count}
+use Rattle.mm_frame.proofs.ChainsLaw.{has_symbol_lt_length, members_below}
+use Rattle.mm_spec.specs.Derivation.{is_member}
+use Rattle.mm_spec.specs.Frame.{symbol_names}
+use Rattle.mm_database.specs.DisjointIndex.{has_symbol_by_width}
+use Rattle.std.proofs.Common.{nat_le, nat_lt, nat_eq, ◌&&◌, ◌||◌}
 use Rattle.mm_frame.proofs.chains.chains_of.Goals as goal
 
 pub loop-statement-init : goal.loop-statement-init
@@ -23,7 +28,8 @@ loop-statement-init g c =
       count = length_heads_is_n ∙ c.symbol_count.ensures.count_is;
       linked = rw c.new.ensures.items (no_links_are_linked heads heads_are_0);
       chains = rw (c.new.ensures.items, c.len-statement.ensures.len)
-          (no_chains_at_start db c.args.narrow heads heads_are_0);
+          (no_chains_at_start (length db) (has_symbol_by_width db c.args.narrow) heads
+          (has_symbol_lt_length db c.args.narrow) heads_are_0);
     }
 
 pub loop-statement-preserved-in-Continue-branch-2 :
@@ -41,7 +47,11 @@ loop-statement-preserved-in-Continue-branch-2 g c =
       linked = c.in_ok-add_links.ensures.are_linked;
       chains =
           chains_for_equal_tests _ _ (statement - 1) (statement - 1) _ _ (omega arith)
-          (λ x j. has_symbol_with_disjoint db c.args.narrow (statement - 1) x j statement c.formula.result.now
+          (λ x j. ap (λ b. (nat_le statement j && has_symbol_by_width db c.args.narrow x j)
+          || (b && nat_eq j (statement - 1)))
+          (ap (λ n. nat_lt x n && is_member c.formula.result.now x) c.symbol_count-end.ensures.count_is
+          ∙ members_below (length (symbol_names db)) x c.formula.result.now c.formula.ensures.symbols_lt_count)
+          ∙ has_symbol_with_disjoint db c.args.narrow (statement - 1) x j statement c.formula.result.now
           statement_is_next
           c.formula.ensures.formula (sym c.is_disjoint_by_width.ensures ∙ c.if-is_disjoint_by_width.true))
           (c.in_ok-add_links.ensures.adds_in_front _

@@ -1,7 +1,7 @@
 use Rattle.std.proofs.Common.{◌≡◌, ◌∙◌, Some, codes, option_map, sym, ap}
 use Rattle.clap.specs.Words.{first_value, found_of}
 use Rattle.mm_spec.specs.Text.{is_in}
-use Rattle.mm_line.specs.Lines.{names_in, section_names, sections_in}
+use Rattle.mm_line.specs.Lines.{names_in, section_names}
 use Rattle.mm_line.proofs.NamesLaw.{all_pass, one_fails}
 use Rattle.mm_line.proofs.words.sections_in.Goals as goal
 

@@ -1,4 +1,5 @@
-use Rattle.std.proofs.Common.{◌≡◌, length, arith}
+use Rattle.std.proofs.Common.{◌≡◌, ◌∙◌, length, subst, arith}
+use Rattle.mm_machine.specs.Distinct.{AppendsIfNew}
 use Rattle.mm_machine.proofs.DistinctLaw.{next_variable}
 use Rattle.mm_machine.proofs.distinct.append_variables.Goals as goal
 
@@ -12,4 +13,7 @@ loop-symbol-preserved g c =
     next_variable c.args.database.now.statements c.args.formula.now c.loop-symbol.symbol-index
     c.symbol-item.result c.loop-symbol-test.true c.symbol-item.is c.args.list.now.items
     c.loop-symbol.list.items c.loop-symbol.invariant c.len-start.result
-    c.append_variable.new.list.items start_is c.requires c.in_ok-append_variable.ensures
+    c.append_variable.new.list.items start_is c.requires
+    (subst (λ s. AppendsIfNew c.args.database.now.statements c.len-start.result s
+    c.loop-symbol.list.items c.append_variable.new.list.items) (c.new.ensures ∙ c.number.ensures)
+    c.in_ok-append_variable.ensures)

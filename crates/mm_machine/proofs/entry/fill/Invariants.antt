@@ -1,4 +1,4 @@
-use Rattle.std.proofs.Common.{◌≤◌, length}
+use Rattle.std.proofs.Common.{◌≤◌}
 use Rattle.mm_spec.specs.Limits.{formula_limit}
 use Rattle.mm_machine.proofs.FilledLaw.{IsWritten}
 use Rattle.mm_machine.proofs.entry.fill.Given as goal

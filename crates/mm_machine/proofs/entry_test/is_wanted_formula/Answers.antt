@@ -1,12 +1,11 @@
-use Rattle.std.proofs.Common.{◌≡◌, ◌∙◌, Bool, IfOk, ap, sym, subst, length, drop, bytes_eq, arith}
+use Rattle.std.proofs.Common.{◌≡◌, ◌∙◌, Bool, IfOk, ap, sym, subst, length, drop, bytes_eq}
 use Rattle.std.proofs.lemmas.List.{take_rest}
-use Rattle.std.proofs.lemmas.Bool.Decides.{nat_tests}
+use Rattle.std.proofs.lemmas.List.Elements.{All-take, All-drop}
 use Rattle.mm_nodes.specs.Strings.{string_of}
+use Rattle.mm_rule.specs.Rule.{IsVariableBelow}
 use Rattle.mm_machine.specs.Entries.{entry_formula}
 use Rattle.mm_machine.specs.Filled.{filled_parts}
-use Rattle.std.proofs.lemmas.List.Elements.{All-take, All-drop}
-use Rattle.mm_rule.specs.Rule.{IsVariableBelow}
-use Rattle.mm_machine.proofs.EntryTestLaw.{not_wanted_if_not_typed, wanted_if_typed, first_part_splits}
+use Rattle.mm_machine.proofs.EntryTestLaw.{not_wanted_if_not_typed, wanted_if_typed}
 use Rattle.mm_machine.proofs.entry_test.is_wanted_formula.Goals as goal
 
 pub is_body_of-requires-clause-variables_in_range :
@@ -22,12 +21,10 @@ returns-then-not-is_typed-clause-tells_equal g c =
     let nodes = c.args.nodes.now in
     let es = c.args.premises.now in
     let wanted = c.args.wanted.now in
-    let t = c.in-Constant.typecode in
-    not_wanted_if_not_typed nodes c.args.premise.now c.requires.is_entry t
+    not_wanted_if_not_typed nodes c.args.premise.now c.requires.is_entry c.in-Some.typecode
     (filled_parts nodes es (drop 1 wanted)) (sym c.if-not-is_typed.true ∙ c.is_typed.ensures)
     ∙ ap (bytes_eq (entry_formula nodes c.args.premise.now))
-    (sym (first_part_splits nodes es wanted c.index-wanted-0.result t (grind (arith, nat_tests))
-    c.index-wanted-0.is (sym c.to_part.ensures.part_is ∙ c.in-Constant.is)))
+    (sym (ap (filled_parts nodes es) c.in-Some.ensures.is_first))
 
 pub returns-else-not-is_typed-clause-tells_equal :
     goal.returns-else-not-is_typed-clause-tells_equal
@@ -35,13 +32,11 @@ returns-else-not-is_typed-clause-tells_equal g c =
     let nodes = c.args.nodes.now in
     let es = c.args.premises.now in
     let wanted = c.args.wanted.now in
-    let t = c.in-Constant.typecode in
     subst (λ (b : Bool). IfOk c.is_body_of.result (λ r. r ≡ b))
     (ap (λ ps. bytes_eq (string_of nodes c.args.premise.now.body) (filled_parts nodes es ps))
     (take_rest wanted 1)
-    ∙ wanted_if_typed nodes c.args.premise.now c.requires.is_entry t
+    ∙ wanted_if_typed nodes c.args.premise.now c.requires.is_entry c.in-Some.typecode
     (filled_parts nodes es (drop 1 wanted)) (sym c.if-not-is_typed.false ∙ c.is_typed.ensures)
     ∙ ap (bytes_eq (entry_formula nodes c.args.premise.now))
-    (sym (first_part_splits nodes es wanted c.index-wanted-0.result t (grind (arith, nat_tests))
-    c.index-wanted-0.is (sym c.to_part.ensures.part_is ∙ c.in-Constant.is))))
+    (sym (ap (filled_parts nodes es) c.in-Some.ensures.is_first)))
     c.is_body_of.ensures.tells_equal

@@ -1,78 +1,76 @@
-use Rattle.std.proofs.Common.{◌≡◌, ℕ, ◌<◌, false, All, length}
-use Rattle.std.proofs.Common.{subst, ap, ap₂, sym, ◌∙◌, arith, get_or}
+use Rattle.std.proofs.Common.{◌≡◌, ℕ, ◌<◌, ◌∙◌, IfOk, List, All, false, length, get_or, sym, ap₂, subst}
 use Rattle.std.specs.List.{list_all}
-use Rattle.std.proofs.lemmas.Grind.{common_steps}
-use Rattle.std.proofs.lemmas.List.{take_all}
+use Rattle.std.proofs.lemmas.List.{get_or_default}
 use Rattle.std.proofs.lemmas.List.Folds.{list_all_at}
 use Rattle.mm_spec.specs.Derivation.{are_all_disjoint}
 use Rattle.mm_spec.specs.Citation.{context_at}
 use Rattle.mm_spec.specs.Frame.{symbol_names}
-use Rattle.mm_machine.specs.Arena.{span_formula}
-use Rattle.mm_machine.specs.Replaced.{replacement}
-use Rattle.mm_machine.proofs.GrowLaw.{formula_in_range, replacement_is_in}
+use Rattle.mm_nodes.specs.Strings.{string_of}
+use Rattle.mm_machine.specs.Entries.{no_entry}
+use Rattle.mm_machine.specs.Filled.{body_string_at}
+use Rattle.mm_machine.proofs.StepLaw.{body_in_range}
 use Rattle.mm_machine.proofs.rule_test.keeps_disjoint.Goals as goal
 
-pub returns-then-not-are_all_disjoint-clause-tells_disjoint :
-    goal.returns-then-not-are_all_disjoint-clause-tells_disjoint
-returns-then-not-are_all_disjoint-clause-tells_disjoint g c =
+pub bodies_are_disjoint-requires-clause-first_are_symbols :
+    goal.bodies_are_disjoint-requires-clause-first_are_symbols
+bodies_are_disjoint-requires-clause-first_are_symbols g c =
+    let w = length (symbol_names c.args.database.now.statements) in
+    let es = c.args.premises.now in
+    let j = (get_or c.args.pairs.now c.loop-pair.pair-index (0, 0)).0 in
+    let j_lt = (c.requires.pairs_in_range c.loop-pair.pair-index (0, 0) c.loop-pair-test.true).0 in
+    let e = c.index-premises-pair.result in
+    let e_is : e ≡ get_or es j no_entry =
+    c.index-premises-pair.is ∙ get_or_default es j e no_entry j_lt in
+    subst (λ (u : List ℕ). All (λ s. s < w) u)
+    (sym (ap₂ (λ ns x. string_of ns x.body) c.loop-pair.invariant.nodes_stay e_is))
+    (body_in_range w c.args.nodes.now es j c.requires.formulas_in_range j_lt)
+
+pub bodies_are_disjoint-requires-clause-second_are_symbols :
+    goal.bodies_are_disjoint-requires-clause-second_are_symbols
+bodies_are_disjoint-requires-clause-second_are_symbols g c =
+    let w = length (symbol_names c.args.database.now.statements) in
+    let es = c.args.premises.now in
+    let j = (get_or c.args.pairs.now c.loop-pair.pair-index (0, 0)).1 in
+    let j_lt = (c.requires.pairs_in_range c.loop-pair.pair-index (0, 0) c.loop-pair-test.true).1 in
+    let e = c.index-premises-pair-in-loop-pair.result in
+    let e_is : e ≡ get_or es j no_entry =
+    c.index-premises-pair-in-loop-pair.is ∙ get_or_default es j e no_entry j_lt in
+    subst (λ (u : List ℕ). All (λ s. s < w) u)
+    (sym (ap₂ (λ ns x. string_of ns x.body) c.loop-pair.invariant.nodes_stay e_is))
+    (body_in_range w c.args.nodes.now es j c.requires.formulas_in_range j_lt)
+
+pub returns-then-count-gt-MAX_SYMBOL_PAIRS-clause-tells_disjoint :
+    goal.returns-then-count-gt-MAX_SYMBOL_PAIRS-clause-tells_disjoint
+returns-then-count-gt-MAX_SYMBOL_PAIRS-clause-tells_disjoint g c =
     let context = context_at c.args.database.now.statements c.args.theorem in
-    let xs = c.args.symbols.now in
+    let es = c.args.premises.now in
+    subst (λ (ns : List (List ℕ)). IfOk c.long_pairs_are_disjoint.result
+    (λ r. r ≡ list_all (λ (p : ℕ × ℕ). are_all_disjoint context (body_string_at ns es p.0)
+    (body_string_at ns es p.1)) c.args.pairs.now))
+    c.loop-pair.invariant.nodes_stay c.long_pairs_are_disjoint.ensures.tells_disjoint
+
+pub returns-then-not-are_disjoint-clause-tells_disjoint :
+    goal.returns-then-not-are_disjoint-clause-tells_disjoint
+returns-then-not-are_disjoint-clause-tells_disjoint g c =
+    let context = context_at c.args.database.now.statements c.args.theorem in
+    let nodes = c.args.nodes.now in
     let es = c.args.premises.now in
     let p = get_or c.args.pairs.now c.loop-pair.pair-index (0, 0) in
-    let pair_fails : are_all_disjoint context (replacement xs es p.0) (replacement xs es p.1)
-    ≡ false =
+    let in_range = c.requires.pairs_in_range c.loop-pair.pair-index (0, 0) c.loop-pair-test.true in
+    let stay = c.loop-pair.invariant.nodes_stay in
+    let e = c.index-premises-pair.result in
+    let f = c.index-premises-pair-in-loop-pair.result in
+    let e_is : e ≡ get_or es p.0 no_entry =
+    c.index-premises-pair.is ∙ get_or_default es p.0 e no_entry in_range.0 in
+    let f_is : f ≡ get_or es p.1 no_entry =
+    c.index-premises-pair-in-loop-pair.is ∙ get_or_default es p.1 f no_entry in_range.1 in
+    let pair_fails : are_all_disjoint context (body_string_at nodes es p.0)
+    (body_string_at nodes es p.1) ≡ false =
     ap₂ (are_all_disjoint context)
-    (sym (c.formula-first.ensures ∙ ap (span_formula xs) c.replacement_of.ensures))
-    (sym (c.formula-second.ensures ∙ ap (span_formula xs) c.replacement_of-in-loop-pair.ensures))
-    ∙ sym c.are_all_disjoint.ensures.tells_disjoint ∙ c.if-not-are_all_disjoint.true in
+    (sym (ap₂ (λ ns x. string_of ns x.body) stay e_is))
+    (sym (ap₂ (λ ns x. string_of ns x.body) stay f_is))
+    ∙ sym c.in_ok-are_disjoint.ensures.tells_disjoint ∙ c.if-not-are_disjoint.true in
     sym (list_all_at
-    (λ (q : ℕ × ℕ). are_all_disjoint context (replacement xs es q.0) (replacement xs es q.1))
-    c.args.pairs.now
-    c.loop-pair.pair-index (0, 0) c.loop-pair-test.true pair_fails)
-
-pub are_all_disjoint-requires-clause-second_are_symbols :
-    goal.are_all_disjoint-requires-clause-second_are_symbols
-are_all_disjoint-requires-clause-second_are_symbols g c =
-    let n = length (symbol_names c.args.database.now.statements) in
-    subst (All (λ s. s < n)) (sym c.formula-second.ensures)
-    (formula_in_range n c.args.symbols.now c.replacement_of-in-loop-pair.result
-    c.requires.are_entries.arena_in_range.unmarked_in_range
-    c.requires.are_entries.arena_in_range.marked_in_range)
-
-pub formula-first-requires : goal.formula-first-requires
-formula-first-requires g c =
-    replacement_is_in c.args.symbols.now c.args.premises.now _ c.replacement_of.result
-    c.requires.are_entries.entries_in_arena
-    (c.requires.pairs_in_range c.loop-pair.pair-index (0, 0) c.loop-pair-test.true).0
-    c.replacement_of.ensures
-
-pub formula-second-requires : goal.formula-second-requires
-formula-second-requires g c =
-    replacement_is_in c.args.symbols.now c.args.premises.now _ c.replacement_of-in-loop-pair.result
-    c.requires.are_entries.entries_in_arena
-    (c.requires.pairs_in_range c.loop-pair.pair-index (0, 0) c.loop-pair-test.true).1
-    c.replacement_of-in-loop-pair.ensures
-
-pub are_all_disjoint-requires-clause-first_are_symbols :
-    goal.are_all_disjoint-requires-clause-first_are_symbols
-are_all_disjoint-requires-clause-first_are_symbols g c = let n = length
-    (symbol_names c.args.database.now.statements)
-    in
-    subst (All (λ s. s < n)) (sym c.formula-first.ensures)
-    (formula_in_range n c.args.symbols.now c.replacement_of.result
-    c.requires.are_entries.arena_in_range.unmarked_in_range
-    c.requires.are_entries.arena_in_range.marked_in_range)
-
-pub loop-pair-preserved : goal.loop-pair-preserved
-loop-pair-preserved g c = grind (arith, common_steps)
-
-pub returns-clause-tells_disjoint : goal.returns-clause-tells_disjoint
-returns-clause-tells_disjoint g c = let context = context_at c.args.database.now.statements
-    c.args.theorem in
-    let xs = c.args.symbols.now in
-    let es = c.args.premises.now in
-    sym (ap
-    (list_all (λ (q : ℕ × ℕ). are_all_disjoint context (replacement xs es q.0)
-    (replacement xs es q.1)))
-    (sym (take_all c.loop-pair.pair-index c.args.pairs.now c.loop-pair-test.false))
-    ∙ c.loop-pair.invariant.so_far)
+    (λ (q : ℕ × ℕ). are_all_disjoint context (body_string_at nodes es q.0)
+    (body_string_at nodes es q.1))
+    c.args.pairs.now c.loop-pair.pair-index (0, 0) c.loop-pair-test.true pair_fails)

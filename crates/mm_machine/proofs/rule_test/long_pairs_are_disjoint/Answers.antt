@@ -1,19 +1,19 @@
-use Rattle.std.proofs.Common.{[], ap₂, ◌∙◌}
+use Rattle.std.proofs.Common.{ℕ, ap₂, ◌∙◌}
 use Rattle.std.specs.List.{list_all}
-use Rattle.mm_machine.specs.Arena.{arena}
-use Rattle.mm_machine.proofs.DistinctLaw.{keeps, pairs_by_variables}
+use Rattle.mm_spec.specs.Derivation.{are_all_disjoint}
+use Rattle.mm_spec.specs.Citation.{context_at}
+use Rattle.mm_machine.specs.Distinct.{stretch_at}
+use Rattle.mm_machine.proofs.DistinctLaw.{pairs_by_variables}
 use Rattle.mm_machine.proofs.rule_test.long_pairs_are_disjoint.Goals as goal
 
-pub returns-in-Ok-clause-tells_disjoint : goal.returns-in-Ok-clause-tells_disjoint
-returns-in-Ok-clause-tells_disjoint g c =
+pub returns-clause-tells_disjoint : goal.returns-clause-tells_disjoint
+returns-clause-tells_disjoint g c =
     let db = c.args.database.now.statements in
     let t = c.args.theorem in
-    let a = c.args.symbols.now in
-    let es = c.args.premises.now in
-    let list = c.collect.new.self.symbols.items in
-    let entries = c.collect.new.self.entries.items in
-    c.pairs_are_disjoint-in-Ok.ensures.tells_disjoint
-    ∙ ap₂ (λ z gs. list_all (keeps db t a (arena list []) es entries c.in-Ok.ensures (arena z []) gs)
-    c.args.pairs.now) c.deref.ensures.value c.deref-in-Ok.ensures.value
-    ∙ pairs_by_variables db t a (arena list []) es entries c.in-Ok.ensures c.args.pairs.now
-    c.requires.pairs_in_range
+    c.pairs_are_disjoint.ensures.tells_disjoint
+    ∙ ap₂ (λ xs ss. list_all
+    (λ (p : ℕ × ℕ). are_all_disjoint (context_at db t) (stretch_at xs ss p.0) (stretch_at xs ss p.1))
+    c.args.pairs.now) c.deref.ensures.value c.deref-2.ensures.value
+    ∙ pairs_by_variables db t c.args.nodes.now c.args.premises.now
+    c.collect.new.self.symbols.items c.collect.new.self.stretches.items
+    c.in_ok-collect.ensures.are_reduced c.args.pairs.now c.requires.pairs_in_range

@@ -2,7 +2,7 @@ use Rattle.std.proofs.Common.{ℕ, ◌∙◌, map, sym, ap}
 use Rattle.std.proofs.Common.{decimal}
 use Rattle.std.specs.Option.{option_map}
 use Rattle.std.proofs.lemmas.List.{length-map}
-use Rattle.mm_spec.specs.Output.{label_at}
+use Rattle.mm_spec.specs.Assertion.{label_at}
 use Rattle.mm_spec.specs.Report.{separated}
 use Rattle.mm_report.specs.Rows.{listed}
 use Rattle.mm_report.proofs.SentLaw.{sent_both, sent_equal_text, list_line_regrouped}

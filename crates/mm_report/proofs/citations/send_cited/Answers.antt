@@ -4,7 +4,7 @@ use Rattle.std.specs.Option.{option_map}
 use Rattle.std.proofs.lemmas.List.{take_all}
 use Rattle.mm_spec.specs.Text.{Bytes}
 use Rattle.mm_spec.specs.Report.{separated}
-use Rattle.mm_spec.specs.Output.{label_at}
+use Rattle.mm_spec.specs.Assertion.{label_at}
 use Rattle.mm_report.specs.Rows.{listed, next_label}
 use Rattle.mm_report.proofs.SentLaw.{sent_both, sent_equal_text}
 use Rattle.mm_report.proofs.CitationLaw.{labels, listed_before_unchanged, labels_with_listed}

@@ -1,9 +1,9 @@
-use Rattle.std.proofs.Common.{◌≡◌, ◌∙◌, ◌++◌, ℕ, List, ap, ap₂, length, map, subst}
+use Rattle.std.proofs.Common.{◌≡◌, ◌∙◌, ◌++◌, ℕ, List, ap, ap₂, length, subst}
 use Rattle.std.specs.Prelude.{codes, flat_map, Option}
 use Rattle.std.proofs.lemmas.List.{length-map}
 use Rattle.mm_spec.specs.Text.{Bytes}
 use Rattle.mm_spec.specs.Request.{Request}
-use Rattle.mm_spec.specs.Output.{label_at}
+use Rattle.mm_spec.specs.Assertion.{label_at}
 use Rattle.mm_spec.specs.Report.{section, head, matrix_line, count_line, usage_lines}
 use Rattle.mm_rows.specs.Marks.{Marks}
 use Rattle.mm_report.specs.Rows.{rows_of, open_theorem_count, marked_part}

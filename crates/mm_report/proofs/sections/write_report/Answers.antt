@@ -1,13 +1,12 @@
-use Rattle.std.proofs.Common.{◌≡◌, ◌∙◌, ◌++◌, List, ℕ, [], Bool, false, None, ap, map, refl, sym, rules}
-use Rattle.std.proofs.Common.{append-nil}
+use Rattle.std.proofs.Common.{◌≡◌, ◌∙◌, ◌++◌, List, ℕ, [], None, ap, map, refl, sym, rules}
+use Rattle.std.proofs.Common.{append-nil, append_assoc}
 use Rattle.std.specs.Prelude.{codes}
 use Rattle.mm_spec.specs.Text.{Bytes}
-use Rattle.mm_spec.specs.Output.{label_at}
+use Rattle.mm_spec.specs.Assertion.{label_at}
 use Rattle.mm_spec.specs.Report.{report, section, line}
-use Rattle.mm_spec.specs.Request.{Request}
-use Rattle.mm_spec.specs.declared.Sections.{Sections}
 use Rattle.mm_report.specs.Rows.{rows_of, marked_part, open_theorem_count, sections_of}
 use Rattle.mm_report.specs.Rows.{text_request}
+use Rattle.mm_report.specs.Told.{told_of}
 use Rattle.mm_report.specs.Sent.{Sent}
 use Rattle.mm_report.specs.declared.choices.Choice.{Choice}
 use Rattle.mm_report.specs.declared.choices.Choice.TheVariants.{All, Matrix, Counts, Usage}
@@ -17,12 +16,16 @@ use Rattle.mm_report.proofs.SentLaw.{prefix_written_if_failed}
 use Rattle.mm_report.proofs.TextLaw.{labels_as_many_as_rows}
 use Rattle.mm_report.proofs.sections.write_report.Goals as goal
 
-no_citations : (choice : Choice) → (sections_of choice).citations ≡ false
-no_citations All = refl
-no_citations Matrix = refl
-no_citations Counts = refl
-no_citations Usage = refl
-no_citations Citations = refl
+-- a choice has neither of the sections that come after those of marks
+marks_alone : (choice : Choice) (citing told : List ℕ)
+    → section (sections_of choice).citations (codes "citations") citing
+    ++ section (sections_of choice).statements (codes "statements") told
+    ≡ []
+marks_alone All citing told = refl
+marks_alone Matrix citing told = refl
+marks_alone Counts citing told = refl
+marks_alone Usage citing told = refl
+marks_alone Citations citing told = refl
 
 pub send_marked-requires-clause-as_many_labels : goal.send_marked-requires-clause-as_many_labels
 send_marked-requires-clause-as_many_labels g c =
@@ -39,15 +42,18 @@ returns g c =
     let names = map (label_at db) columns in
     let m = c.args.matrix.now in
     let marked = marked_part request opened names (rows_of m c.new-labels.result) in
-    let nothing : section request.sections.citations (codes "citations") [] ≡ [] =
-    ap (λ (b : Bool). section b (codes "citations") []) (no_citations c.args.choice) in
+    let told = told_of d request.only in
+    let citing_section = section request.sections.citations (codes "citations") [] in
+    let told_section = section request.sections.statements (codes "statements") told in
     let marked_sent : Sent (g.W.Write.contents c.args.to.now) (g.W.Write.contents c.send_marked.new.to)
     c.new-sink.result c.send_marked.new.sink marked = search rules in
     let report_sent =
     sent_equal_text _
     (ap (λ (x : List ℕ). x ++ line (codes "end"))
-    (sym (append-nil marked) ∙ ap (λ (x : List ℕ). marked ++ x) (sym nothing))
-    ∙ ap (λ (ls : List Bytes). report request opened names (rows_of m ls) [])
+    (sym (append-nil marked)
+    ∙ ap (λ (x : List ℕ). marked ++ x) (sym (marks_alone c.args.choice [] told))
+    ∙ sym (append_assoc marked citing_section told_section))
+    ∙ ap (λ (ls : List Bytes). report request opened names (rows_of m ls) [] told)
     c.new-labels.ensures)
     (sent_both marked_sent c.send_line.ensures) in
     record {

@@ -1,8 +1,9 @@
 use Rattle.std.proofs.Common.{ap, List, map}
 use Rattle.mm_spec.specs.Text.{Bytes}
-use Rattle.mm_spec.specs.Output.{label_at}
+use Rattle.mm_spec.specs.Assertion.{label_at}
 use Rattle.mm_spec.specs.Report.{report}
 use Rattle.mm_report.specs.Rows.{rows_of, citing_rows, open_theorem_count}
+use Rattle.mm_report.specs.Told.{told_of}
 use Rattle.mm_report.proofs.SentLaw.{sent_both, sent_equal_text, written_if_finished}
 use Rattle.mm_report.proofs.SentLaw.{prefix_written_if_failed}
 use Rattle.mm_report.proofs.TextLaw.{labels_as_many_as_rows, labels_as_many_as_citing}
@@ -29,8 +30,11 @@ returns g c =
     sent_equal_text _
     (ap (λ (ls : List Bytes). report request (open_theorem_count request.with_open d columns)
     (map (label_at db) columns) (rows_of c.args.matrix.now ls)
-    (citing_rows db request.only c.args.citations.now ls)) c.new-labels.ensures)
+    (citing_rows db request.only c.args.citations.now ls) (told_of d request.only))
+    c.new-labels.ensures)
+    (sent_both
     (sent_both (sent_both c.send_marked.ensures c.send_citations_section.ensures)
+    c.send_statements_section.ensures)
     c.send_line.ensures) in
     record {
       report_is_written =

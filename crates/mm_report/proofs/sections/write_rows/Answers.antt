@@ -2,11 +2,12 @@ use Rattle.std.proofs.Common.{◌≡◌, ◌∙◌, ◌++◌, ℕ, List, [], Boo
 use Rattle.std.specs.Prelude.{codes, flat_map, Option}
 use Rattle.std.proofs.lemmas.List.{length-map}
 use Rattle.mm_spec.specs.Text.{Bytes}
-use Rattle.mm_spec.specs.Output.{label_at}
+use Rattle.mm_spec.specs.Assertion.{label_at}
 use Rattle.mm_spec.specs.Request.{Request}
 use Rattle.mm_spec.specs.Report.{report, section, head, line, matrix_line, count_line, usage_lines}
 use Rattle.mm_spec.specs.Report.{citation_line}
 use Rattle.mm_report.specs.Rows.{rows_of, citing_rows, open_theorem_count}
+use Rattle.mm_report.specs.Told.{told_of}
 use Rattle.mm_report.proofs.SentLaw.{sent_both, sent_equal_text, written_if_finished}
 use Rattle.mm_report.proofs.SentLaw.{prefix_written_if_failed}
 use Rattle.mm_report.proofs.TextLaw.{count_is_rows, labels_as_many_as_rows, without_usage}
@@ -55,14 +56,18 @@ returns g c =
     (section request.sections.counts (codes "counts") (flat_map count_line rows)) _ no_usage in
     let citing_section =
     section request.sections.citations (codes "citations") (flat_map citation_line citing) in
+    let told = told_of d request.only in
+    let told_section = section request.sections.statements (codes "statements") told in
     let report_sent =
     sent_equal_text _
-    (ap (λ (x : List ℕ). x ++ citing_section ++ line (codes "end")) marked_is
+    (ap (λ (x : List ℕ). x ++ citing_section ++ told_section ++ line (codes "end")) marked_is
     ∙ ap₂ (λ (o : Option ℕ) (ls : List Bytes). report request o column_labels (rows_of m ls)
-    (citing_rows db request.only c.args.citations.now ls)) opened_is c.new-labels.ensures)
+    (citing_rows db request.only c.args.citations.now ls) told) opened_is c.new-labels.ensures)
+    (sent_both
     (sent_both
     (sent_both (sent_both (sent_equal_text _ head_is c.send_head.ensures) c.send_rows.ensures)
     c.send_citations_section.ensures)
+    c.send_statements_section.ensures)
     c.send_line.ensures) in
     record {
       report_is_written =

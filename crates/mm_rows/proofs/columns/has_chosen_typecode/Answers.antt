@@ -2,7 +2,7 @@ use Rattle.std.proofs.Common.{◌∙◌, sym, ap}
 use Rattle.std.specs.Option.{option_map}
 use Rattle.std.specs.List.{list_any}
 use Rattle.mm_spec.specs.Scope.{statement_at}
-use Rattle.mm_spec.specs.Output.{has_typecode}
+use Rattle.mm_spec.specs.Assertion.{has_typecode}
 use Rattle.mm_rows.proofs.ColumnLaw.{typecode_is_compared}
 use Rattle.mm_rows.proofs.columns.has_chosen_typecode.Goals as goal
 

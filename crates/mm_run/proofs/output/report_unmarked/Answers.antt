@@ -3,8 +3,8 @@ use Rattle.mm_run.proofs.RowsLaw.{unmarked_is_output}
 use Rattle.mm_run.proofs.CitationsLaw.{are_citations_of}
 use Rattle.mm_run.proofs.output.report_unmarked.Goals as goal
 
-pub write_unmarked-requires : goal.write_unmarked-requires
-write_unmarked-requires g c =
+pub write_unmarked-requires-clause-are_citations : goal.write_unmarked-requires-clause-are_citations
+write_unmarked-requires-clause-are_citations g c =
     are_citations_of c.args.database.now.statements c.args.request.now c.args.citations.now
     c.requires.is_judged.have_citations
 

@@ -1,7 +1,7 @@
 use Rattle.std.proofs.Common.{◌≡◌, ◌∙◌, ◌+◌, ◌++◌, ◌∷◌, ℕ, List, [], map, take, get_or, ap}
 use Rattle.std.proofs.Common.{append_assoc, arith}
 use Rattle.std.proofs.lemmas.List.{take_more, map-append}
-use Rattle.mm_spec.specs.Output.{label_at}
+use Rattle.mm_spec.specs.Assertion.{label_at}
 use Rattle.mm_outline.specs.Statements.{statements}
 use Rattle.mm_lists.proofs.ListsLaw.{taken_joined_are_all_joined, joined_with_one_more, none_joined}
 use Rattle.mm_stmt.proofs.spaced_labels.spaced_labels_of.Goals as goal

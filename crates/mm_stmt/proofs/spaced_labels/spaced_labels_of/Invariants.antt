@@ -1,5 +1,5 @@
 use Rattle.std.proofs.Common.{◌∷◌, map, take}
-use Rattle.mm_spec.specs.Output.{label_at}
+use Rattle.mm_spec.specs.Assertion.{label_at}
 use Rattle.mm_outline.specs.Statements.{statements}
 use Rattle.mm_lists.specs.Lists.{AreJoined}
 use Rattle.mm_stmt.proofs.spaced_labels.spaced_labels_of.Given as goal

@@ -1,5 +1,6 @@
 use Rattle.std.proofs.Common.{◌≡◌, ◌∙◌, ◌∷◌, ℕ, List, All, IsTrue, map, sym, ap, subst}
-use Rattle.mm_spec.specs.Output.{theorems, is_theorem_at, label_at}
+use Rattle.mm_spec.specs.Assertion.{label_at}
+use Rattle.mm_spec.specs.Output.{theorems, is_theorem_at}
 use Rattle.mm_spec.specs.Opened.{counted}
 use Rattle.mm_spec.proofs.OpenedLaw.{counted_label, counted_theorem_is_theorem}
 use Rattle.mm_outline.specs.Statements.{statements}

@@ -1,4 +1,4 @@
-use Rattle.std.proofs.Common.{◌≡◌, ◌∙◌, true, ap, ap₂, take, length, sym, get_or, bytes_eq, codes, arith}
+use Rattle.std.proofs.Common.{◌≡◌, ◌∙◌, true, ap, ap₂, length, sym, get_or, bytes_eq, codes, arith}
 use Rattle.std.proofs.lemmas.List.{take_all}
 use Rattle.mm_spec.specs.declared.Word.{Word}
 use Rattle.mm_outline.specs.Parts.{token_of, as_tokens}

@@ -9,4 +9,4 @@ invariant-loop-high g l =
     map (λ p. pair p.0 p.1) l.into.items
     ≡ map (λ p. pair p.0 p.1) l.initial.into.items
     ++ filter (is_with_dummy l.database.statements l.theorem)
-    (map (pair l.low) (take l.high-index l.used_variables))
+    (map (pair l.low) (take l.high-index l.others))

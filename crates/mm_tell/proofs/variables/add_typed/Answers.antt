@@ -1,10 +1,10 @@
 use Rattle.std.proofs.Common.{◌≡◌, ◌∙◌, ◌++◌, ◌+◌, ℕ, List, [], ◌∷◌, ◌<◌, All}
 use Rattle.std.proofs.Common.{ap, sym, take, length, get_or, append-nil, subst}
-use Rattle.std.specs.Prelude.{flat_map, Some}
+use Rattle.std.specs.Prelude.{flat_map}
 use Rattle.std.proofs.lemmas.List.{flat_map_more, take_more}
 use Rattle.std.proofs.lemmas.List.Elements.{All-push}
 use Rattle.mm_spec.specs.Frame.{symbol_names}
-use Rattle.mm_tell.specs.Named.{float_variable, as_list}
+use Rattle.mm_tell.specs.Named.{float_variable}
 use Rattle.mm_tell.proofs.variables.add_typed.Goals as goal
 use Rattle.mm_tell.proofs.variables.add_typed.Goals.{in-Some+in_ok-push, in_default}
 

@@ -1,4 +1,4 @@
-use Rattle.std.proofs.Common.{◌≡◌, ℕ, ◌<◌, ◌++◌, All, length, take}
+use Rattle.std.proofs.Common.{◌≡◌, ◌<◌, ◌++◌, All, length, take}
 use Rattle.std.specs.Prelude.{flat_map}
 use Rattle.mm_spec.specs.Frame.{symbol_names}
 use Rattle.mm_tell.specs.Named.{float_variable}

@@ -1,8 +1,8 @@
-use Rattle.std.proofs.Common.{◌∙◌, ◌<◌, ◌++◌, ℕ, List, [], All, ap, sym, subst, length}
+use Rattle.std.proofs.Common.{◌∙◌, ◌<◌, ◌++◌, ℕ, List, All, ap, sym, subst, length}
 use Rattle.std.specs.Prelude.{flat_map}
 use Rattle.std.proofs.lemmas.List.Elements.{All-append}
 use Rattle.mm_spec.specs.Derivation.{is_member}
-use Rattle.mm_spec.specs.Frame.{symbol_names, mandatory_hypotheses}
+use Rattle.mm_spec.specs.Frame.{symbol_names}
 use Rattle.mm_spec.specs.Assertion.{is_used}
 use Rattle.mm_tell.specs.Named.{float_variable}
 use Rattle.mm_tell.proofs.ListsLaw.{hypotheses_bounded, is_filtered_range, bounded_by_members}

@@ -1,12 +1,11 @@
 use Rattle.std.proofs.Common.{refl}
-use Rattle.mm_check.proofs.EndLaw.{is_proof, noted_are_cited, is_checked, end_is_refused}
+use Rattle.mm_check.proofs.EndLaw.{is_proof, noted_are_cited, is_checked, end_refusal_is_right}
 use Rattle.mm_check.proofs.checker.Checker.finish.Goals as goal
 
 pub returns-in-Err-clause-refusal_is_right : goal.returns-in-Err-clause-refusal_is_right
 returns-in-Err-clause-refusal_is_right g c =
-    end_is_refused c.args.database.now.statements c.args.theorem c.args.steps.now.steps _ _
-    c.self.view_is
-    c.requires c.end_at.result c.in-Err.code c.end_at.ensures c.in-Err.ensures.has_end_code
+    end_refusal_is_right c.args.database.now.statements c.args.theorem c.args.steps.now.steps _ _
+    c.self.view_is c.requires c.in-Err.refused c.in-Err.ensures.is_end_refusal
 
 pub retain_cited-requires-clause-has_proof : goal.retain_cited-requires-clause-has_proof
 retain_cited-requires-clause-has_proof g c =

@@ -1,6 +1,7 @@
 use Rattle.std.proofs.Common.{length, slice_range, ◌∷◌, ◌∙◌, ap, arith}
 use Rattle.std.proofs.lemmas.List.{length-map}
-use Rattle.mm_spec.specs.Output.{theorems, label_at}
+use Rattle.mm_spec.specs.Assertion.{label_at}
+use Rattle.mm_spec.specs.Output.{theorems}
 use Rattle.mm_lists.specs.Lists.{joined}
 use Rattle.mm_database.specs.Database.{spaced_labels, Contents}
 use Rattle.mm_database.proofs.SpacedLaw.{spaced_slice}

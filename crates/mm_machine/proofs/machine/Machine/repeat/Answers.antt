@@ -1,38 +1,42 @@
-use Rattle.std.proofs.Common.{◌<◌, length, ap, sym, subst, arith}
-use Rattle.std.proofs.lemmas.Grind.{common_steps}
-use Rattle.std.proofs.lemmas.List.Elements.{All-get_or}
-use Rattle.mm_machine.specs.State.{IsMarkedEntry}
-use Rattle.mm_machine.proofs.FollowLaw.{repeated_is_stack}
+use Rattle.std.proofs.Common.{◌≡◌, ◌<◌, ◌∙◌, length, get_or, ap, sym, arith}
+use Rattle.std.proofs.lemmas.List.{get_or_default}
+use Rattle.mm_machine.specs.Entries.{no_entry}
+use Rattle.mm_machine.proofs.MachineLaw.{repeated_machine, repeated_state}
 use Rattle.mm_machine.proofs.machine.Machine.repeat.Goals as goal
 
 pub invariant_of-self-2 : goal.invariant_of-self-2
 invariant_of-self-2 g c =
-    let is_machine = c.self.invariant in
-    let e = c.index.result.now in
-    let index_lt_length : c.index_of_mark-index.result < length c.self.inside.marked_spans.items =
-    let lengths_equal = ap length c.deref.ensures.value in omega
-    (arith, c.index_of_mark-index.ensures.index_lt_length, is_machine.enough_spans, lengths_equal)
-    in
-    let e_is_marked : IsMarkedEntry c.self.inside.marked e =
-    subst (IsMarkedEntry c.self.inside.marked) (sym c.index.ensures)
-    (All-get_or
-    (IsMarkedEntry c.self.inside.marked) c.self.inside.marked_spans.items
-    c.index_of_mark-index.result e index_lt_length
-    is_machine.spans_are_marked) in
-    record {
-      stack =
-          record {
-            arena_in_range = is_machine.stack.arena_in_range;
-            is_stack =
-                rw c.in_ok-push.ensures.items
-                (repeated_is_stack c.self.inside.unmarked c.self.inside.marked
-                c.self.inside.stack.items
-                is_machine.stack.is_stack e e_is_marked);
-          };
-      spans_are_marked = is_machine.spans_are_marked;
-      marks_rise = is_machine.marks_rise;
-      enough_spans = is_machine.enough_spans;
-    }
+    let i = c.self.inside in
+    let index = c.index_of_mark-index.result in
+    let enough = c.self.invariant.enough_marked in
+    let index_lt : index < length i.marked.items =
+    let lengths_equal = ap length c.deref.ensures.value in
+    omega (arith, c.index_of_mark-index.ensures.index_lt_length, enough, lengths_equal) in
+    let m = c.index.result.now in
+    let m_is : m ≡ get_or i.marked.items index no_entry =
+    c.index.ensures ∙ get_or_default i.marked.items index m no_entry index_lt in
+    rw c.in_ok-push.ensures.items
+    (repeated_machine i.nodes i.stack.items i.marks.items i.marked.items i.floor i.symbol_count
+    c.self.invariant index m c.for_top-entry.result index_lt m_is
+    c.for_top-entry.ensures.is_entry c.for_top-entry.ensures.formula_stays
+    c.for_top-entry.ensures.needs_all)
 
 pub returns-clause-repeats_step : goal.returns-clause-repeats_step
-returns-clause-repeats_step g c = grind (arith, common_steps)
+returns-clause-repeats_step g c =
+    let i = c.self.inside in
+    let index = c.index_of_mark-index.result in
+    let enough = c.self.invariant.enough_marked in
+    let index_lt_marks : index < length i.marks.items =
+    let lengths_equal = ap length c.deref.ensures.value in
+    omega (arith, c.index_of_mark-index.ensures.index_lt_length, lengths_equal) in
+    let index_lt : index < length i.marked.items = omega (arith, index_lt_marks, enough) in
+    let m = c.index.result.now in
+    let m_is : m ≡ get_or i.marked.items index no_entry =
+    c.index.ensures ∙ get_or_default i.marked.items index m no_entry index_lt in
+    rw c.in_ok-push.ensures.items
+    (repeated_state i.nodes i.stack.items i.marks.items i.marked.items i.floor i.symbol_count
+    c.self.invariant index m c.for_top-entry.result index_lt m_is
+    c.for_top-entry.ensures.is_entry c.for_top-entry.ensures.formula_stays
+    c.for_top-entry.ensures.needs_all c.args.step c.args.self.now c.self.view_is index_lt_marks
+    (ap (λ ms. get_or ms index 0) (sym c.deref.ensures.value)
+    ∙ c.index_of_mark-index.ensures.finds_mark))

@@ -4,7 +4,8 @@ use Rattle.mm_report.proofs.LabelLaw.{selected_lt_bound}
 use Rattle.std.specs.List.{list_any}
 use Rattle.mm_spec.specs.Scope.{statement_at}
 use Rattle.mm_spec.specs.Citation.{is_theorem}
-use Rattle.mm_spec.specs.Output.{label_at, theorems}
+use Rattle.mm_spec.specs.Assertion.{label_at}
+use Rattle.mm_spec.specs.Output.{theorems}
 use Rattle.mm_report.proofs.labels.TheoremLabels.label.Goals as goal
 
 pub label_of-requires : goal.label_of-requires

@@ -1,7 +1,8 @@
 use Rattle.std.proofs.Common.{List, ℕ, ◌<◌, ◌∷◌, length, sym, ap, subst, ◌∙◌}
 use Rattle.std.specs.Prelude.{flat_map, slice_range}
 use Rattle.mm_spec.specs.Text.{Bytes}
-use Rattle.mm_spec.specs.Output.{label_at, theorems}
+use Rattle.mm_spec.specs.Assertion.{label_at}
+use Rattle.mm_spec.specs.Output.{theorems}
 use Rattle.mm_report.proofs.LabelLaw.{spaced_of_mapped, spaced_has_bytes}
 use Rattle.mm_report.proofs.labels.TheoremLabels.spaced.Goals as goal
 

@@ -4,7 +4,8 @@ use Rattle.std.specs.Option.{option_map}
 use Rattle.std.specs.List.{list_any, range_with_len, filter}
 use Rattle.std.proofs.lemmas.List.{take_all, take_more}
 use Rattle.mm_spec.specs.Scope.{statement_at}
-use Rattle.mm_spec.specs.Output.{columns, has_typecode, is_column}
+use Rattle.mm_spec.specs.Assertion.{has_typecode}
+use Rattle.mm_spec.specs.Output.{columns, is_column}
 use Rattle.mm_cites.specs.Citing.{IsStatementList}
 use Rattle.mm_cites.proofs.RisingLaw.{filtered_passes, filtered_range_is_statement_list}
 use Rattle.mm_rows.proofs.ColumnLaw.{filter_of_appended, columns_are_chosen_axioms}

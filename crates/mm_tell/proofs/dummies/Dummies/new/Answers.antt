@@ -4,7 +4,7 @@ use Rattle.std.proofs.lemmas.List.{map-append}
 use Rattle.std.proofs.lemmas.List.FromFn.{map-range_with_len_more}
 use Rattle.mm_spec.specs.Derivation.{Pair, pair}
 use Rattle.mm_spec.specs.Assertion.{dummies, dummy_pairs}
-use Rattle.mm_tell.specs.Dummies.{Found, found_before}
+use Rattle.mm_tell.specs.Dummies.{Found}
 use Rattle.mm_tell.proofs.dummies.Dummies.new.Goals as goal
 
 -- a list with one element more

@@ -1,4 +1,4 @@
-use Rattle.std.proofs.Common.{◌≡◌, ◌∙◌, ◌<◌, ℕ, List, [], ap, sym, map, length, arith, eqb-true}
+use Rattle.std.proofs.Common.{◌≡◌, ◌∙◌, [], ap, sym, map, arith, eqb-true}
 use Rattle.std.specs.Prelude.{vec_len}
 use Rattle.std.proofs.lemmas.List.{nil_from_length}
 use Rattle.mm_spec.specs.Citation.{is_assertion}

@@ -1,0 +1,329 @@
+-- What a machine holds, after its entries changed.
+use Rattle.std.proofs.Common.{◌≡◌, ℕ, ◌<◌, ◌≤◌, List, [], ◌∷◌, ◌++◌, length, take, drop, get_or, refl, sym}
+use Rattle.std.proofs.Common.{ap, ap₂, ◌∙◌, subst, arith, All, length-append, take_all, Result, OnOk, OnErr}
+use Rattle.std.proofs.Common.{Ok, Err, IfOk, IfErr, zero, suc, ◌+◌, max, Bool, true, false, true≢false, bytes_eq}
+use Rattle.std.proofs.lemmas.List.{length-take-le, length-map, take-append-drop}
+use Rattle.std.proofs.lemmas.List.Elements.{All-push, All-weaker, All-nil, All-head}
+use Rattle.std.proofs.lemmas.Slice.Eq.{bytes_eq-Decides}
+use Rattle.mm_spec.specs.Limits.{formula_limit}
+use Rattle.mm_spec.specs.Statement.{Statement}
+use Rattle.mm_spec.specs.Derivation.{Formula}
+use Rattle.mm_spec.specs.Laws.Stack.{top}
+use Rattle.mm_nodes.specs.Strings.{first_node, Extends}
+use Rattle.mm_machine.specs.declared.entry.Entry.{Entry}
+use Rattle.mm_machine.specs.Entries.{no_entry, IsEntry, IsStack, AreInRange, entry_formula}
+use Rattle.mm_machine.specs.Entries.{entry_formulas}
+use Rattle.mm_machine.specs.State.{MachineState, machine_state, with_mark, Repeats, IsMachine, applied}
+use Rattle.mm_machine.specs.declared.reason.StepRefused.{StepRefused}
+use Rattle.mm_machine.specs.Applied.{IsRefusalOf, IsApplied}
+use Rattle.mm_machine.proofs.EntryLaw.{entries_are_kept, formulas_are_kept, entry_formulas_push}
+use Rattle.mm_machine.proofs.EntryTestLaw.{formula_le_limit}
+use Rattle.mm_machine.proofs.MarksLaw.{rising_push}
+use Rattle.mm_machine.proofs.StackLaw.{no_stack, stack_pushed, extends_less}
+use Rattle.mm_machine.proofs.StepLaw.{formula_at_in_range, replaced_in_range}
+use Rattle.mm_machine.proofs.EntryRuleLaw.{entry_formula_is_at}
+
+pub empty_machine : (nodes : List (List ℕ)) (stack : List Entry) (marks : List ℕ)
+    (marked : List Entry) (symbol_count : ℕ) → nodes ≡ [] → stack ≡ [] → marks ≡ [] → marked ≡ []
+    → symbol_count ≤ first_node → IsMachine nodes stack marks marked 0 symbol_count
+empty_machine nodes stack marks marked symbol_count nodes_are stack_is marks_are marked_are
+    count_le =
+    rw (nodes_are, stack_is, marks_are, marked_are) (record {
+      is_stack = no_stack [] (omega arith);
+      stack_in_range = All-nil (λ f. All (λ s. s < symbol_count) f);
+      marked_are_entries = All-nil (IsEntry []);
+      marked_are_kept = All-nil (λ e. e.needed ≤ 0);
+      marked_in_range = All-nil (λ f. All (λ s. s < symbol_count) f);
+      floor_le_count = omega arith;
+      symbol_count_le = count_le;
+      marks_rise = λ i j i_le_j j_lt. absurd (omega (arith, j_lt));
+      enough_marked = omega arith;
+    })
+
+module _ (nodes : List (List ℕ)) (stack : List Entry) (marks : List ℕ) (marked : List Entry)
+    (floor symbol_count : ℕ) (is_machine : IsMachine nodes stack marks marked floor symbol_count)
+  where
+    -- with another stack, where the marked entries have what they need
+    module _ (nodes' : List (List ℕ)) (stack' : List Entry) (is_stack' : IsStack nodes' stack')
+        (nodes_are_kept : Extends (take floor nodes) nodes') where
+      pub marked_formulas_stay : entry_formulas nodes' marked ≡ entry_formulas nodes marked
+      marked_formulas_stay =
+          formulas_are_kept nodes nodes_are_kept.0 nodes' floor marked nodes_are_kept.1
+          is_machine.floor_le_count is_stack'.count_lt is_machine.marked_are_entries
+          is_machine.marked_are_kept
+
+      pub machine_with_stack : AreInRange symbol_count (entry_formulas nodes' stack')
+          → IsMachine nodes' stack' marks marked floor symbol_count
+      machine_with_stack in_range =
+          let taken = length-take-le floor nodes is_machine.floor_le_count in
+          let count = ap length nodes_are_kept.1 in
+          record {
+            is_stack = is_stack';
+            stack_in_range = in_range;
+            marked_are_entries =
+                entries_are_kept nodes nodes_are_kept.0 nodes' floor marked nodes_are_kept.1
+                is_machine.floor_le_count is_stack'.count_lt is_machine.marked_are_entries
+                is_machine.marked_are_kept;
+            marked_are_kept = is_machine.marked_are_kept;
+            marked_in_range =
+                subst (AreInRange symbol_count) (sym marked_formulas_stay)
+                is_machine.marked_in_range;
+            floor_le_count =
+                omega (arith, taken, count, length-append (take floor nodes) nodes_are_kept.0);
+            symbol_count_le = is_machine.symbol_count_le;
+            marks_rise = is_machine.marks_rise;
+            enough_marked = is_machine.enough_marked;
+          }
+
+    -- with a greater floor
+    pub machine_with_floor : (floor' : ℕ) → floor ≤ floor' → floor' ≤ length nodes
+        → IsMachine nodes stack marks marked floor' symbol_count
+    machine_with_floor floor' floor_le le_count = record {
+      is_stack = is_machine.is_stack;
+      stack_in_range = is_machine.stack_in_range;
+      marked_are_entries = is_machine.marked_are_entries;
+      marked_are_kept =
+          All-weaker (λ e. e.needed ≤ floor) (λ e. e.needed ≤ floor')
+          (λ e le. omega (arith, le, floor_le)) marked is_machine.marked_are_kept;
+      marked_in_range = is_machine.marked_in_range;
+      floor_le_count = le_count;
+      symbol_count_le = is_machine.symbol_count_le;
+      marks_rise = is_machine.marks_rise;
+      enough_marked = is_machine.enough_marked;
+    }
+
+    -- with a marked entry more
+    pub machine_with_marked : (e : Entry) → IsEntry nodes e → e.needed ≤ floor
+        → All (λ s. s < symbol_count) (entry_formula nodes e)
+        → IsMachine nodes stack marks (marked ++ e ∷ []) floor symbol_count
+    machine_with_marked e is_entry is_kept in_range = record {
+      is_stack = is_machine.is_stack;
+      stack_in_range = is_machine.stack_in_range;
+      marked_are_entries = All-push (IsEntry nodes) marked e is_machine.marked_are_entries is_entry;
+      marked_are_kept =
+          All-push (λ x. x.needed ≤ floor) marked e is_machine.marked_are_kept is_kept;
+      marked_in_range =
+          subst (AreInRange symbol_count) (sym (entry_formulas_push nodes marked e))
+          (All-push (λ f. All (λ s. s < symbol_count) f) (entry_formulas nodes marked)
+          (entry_formula nodes e) is_machine.marked_in_range in_range);
+      floor_le_count = is_machine.floor_le_count;
+      symbol_count_le = is_machine.symbol_count_le;
+      marks_rise = is_machine.marks_rise;
+      enough_marked =
+          let enough = is_machine.enough_marked in
+          omega (arith, enough, length-append marked (e ∷ []));
+    }
+
+    -- with a mark more
+    pub machine_with_mark : (step : ℕ) → length marks < length marked → All (λ j. j < step) marks
+        → IsMachine nodes stack (marks ++ step ∷ []) marked floor symbol_count
+    machine_with_mark step has_entry marks_lt = record {
+      is_stack = is_machine.is_stack;
+      stack_in_range = is_machine.stack_in_range;
+      marked_are_entries = is_machine.marked_are_entries;
+      marked_are_kept = is_machine.marked_are_kept;
+      marked_in_range = is_machine.marked_in_range;
+      floor_le_count = is_machine.floor_le_count;
+      symbol_count_le = is_machine.symbol_count_le;
+      marks_rise = rising_push marks step is_machine.marks_rise marks_lt;
+      enough_marked = omega (arith, has_entry, length-append marks (step ∷ []));
+    }
+
+    -- after a formula was pushed
+    module _ {T E : Type 0} (r : Result T E) (nodes' : List (List ℕ)) (stack' : List Entry)
+        (is_stack' : IsStack nodes' stack') (below keep : ℕ) (symbols f : Formula)
+        (below_is : below ≡ length stack) (keep_is : keep ≡ length nodes) (symbols_are : symbols ≡ f)
+        (nodes_are_kept : Extends (take keep nodes) nodes')
+        (formulas_if_ok : OnOk r (entry_formulas nodes' stack'
+        ≡ take below (entry_formulas nodes stack) ++ symbols ∷ [])) where
+      kept : Extends (take floor nodes) nodes'
+      kept =
+          extends_less nodes nodes' floor keep
+          (let le = is_machine.floor_le_count in omega (arith, le, keep_is)) nodes_are_kept
+
+      pub pushed_machine : OnErr r (entry_formulas nodes' stack'
+          ≡ take below (entry_formulas nodes stack)) → All (λ s. s < symbol_count) f
+          → IsMachine nodes' stack' marks marked floor symbol_count
+      pushed_machine formulas_if_err f_in_range =
+          machine_with_stack nodes' stack' is_stack' kept
+          (replaced_in_range symbol_count r (entry_formulas nodes stack)
+          (entry_formulas nodes' stack') below symbols is_machine.stack_in_range
+          (subst (All (λ s. s < symbol_count)) (sym symbols_are) f_in_range) formulas_if_ok
+          formulas_if_err)
+
+      pub pushed_state : (s : MachineState)
+          → machine_state (entry_formulas nodes stack) marks (entry_formulas nodes marked)
+          symbol_count ≡ s
+          → OnOk r (machine_state (entry_formulas nodes' stack') marks
+          (entry_formulas nodes' marked) symbol_count
+          ≡ machine_state (s.stack ++ f ∷ []) s.marks s.formulas s.symbol_count)
+      pushed_state s s_is = by_answer r formulas_if_ok
+        where
+          all_taken : take below (entry_formulas nodes stack) ≡ entry_formulas nodes stack
+          all_taken =
+              let count = length-map stack (entry_formula nodes) in
+              take_all below (entry_formulas nodes stack) (omega (arith, count, below_is))
+
+          by_answer : (r : Result T E) → OnOk r (entry_formulas nodes' stack'
+              ≡ take below (entry_formulas nodes stack) ++ symbols ∷ [])
+              → OnOk r (machine_state (entry_formulas nodes' stack') marks
+              (entry_formulas nodes' marked) symbol_count
+              ≡ machine_state (s.stack ++ f ∷ []) s.marks s.formulas s.symbol_count)
+          by_answer (Ok x) formulas_are =
+              ap₂ (λ (fs gs : List Formula). machine_state fs marks gs symbol_count)
+              (formulas_are
+              ∙ ap₂ (λ (fs : List Formula) (g : Formula). fs ++ g ∷ []) all_taken symbols_are)
+              (marked_formulas_stay nodes' stack' is_stack' kept)
+              ∙ ap (λ s. machine_state (s.stack ++ f ∷ []) s.marks s.formulas s.symbol_count) s_is
+          by_answer (Err e) formulas_are = tt
+
+    -- after a marked formula was pushed again
+    module _ (i : ℕ) (m e : Entry) (i_lt : i < length marked) (m_is : m ≡ get_or marked i no_entry)
+        (is_entry : IsEntry nodes e)
+        (formula_stays : entry_formula nodes e ≡ entry_formula nodes m)
+        (needs_all : e.needed ≡ length nodes) where
+      formula_is : entry_formula nodes e ≡ entry_formula nodes (get_or marked i no_entry)
+      formula_is = formula_stays ∙ ap (entry_formula nodes) m_is
+
+      pub repeated_machine : IsMachine nodes (stack ++ e ∷ []) marks marked floor symbol_count
+      repeated_machine =
+          machine_with_stack nodes (stack ++ e ∷ [])
+          (stack_pushed nodes stack e is_machine.is_stack is_entry needs_all)
+          (drop floor nodes, sym (take-append-drop floor nodes))
+          (subst (AreInRange symbol_count) (sym (entry_formulas_push nodes stack e))
+          (All-push (λ f. All (λ s. s < symbol_count) f) (entry_formulas nodes stack)
+          (entry_formula nodes e) is_machine.stack_in_range
+          (subst (All (λ s. s < symbol_count)) (sym formula_is)
+          (formula_at_in_range symbol_count nodes marked i is_machine.marked_in_range i_lt))))
+
+      pub repeated_state : (step : ℕ) (s : MachineState)
+          → machine_state (entry_formulas nodes stack) marks (entry_formulas nodes marked)
+          symbol_count ≡ s → i < length marks → get_or marks i 0 ≡ step
+          → Repeats step s (machine_state (entry_formulas nodes (stack ++ e ∷ [])) marks
+          (entry_formulas nodes marked) symbol_count)
+      repeated_state step s s_is i_lt_marks is_mark =
+          subst (λ z. Repeats step z (machine_state (entry_formulas nodes (stack ++ e ∷ [])) marks
+          (entry_formulas nodes marked) symbol_count)) s_is (
+            i,
+            (let count = length-map marked (entry_formula nodes) in omega (arith, count, i_lt)),
+            i_lt_marks,
+            is_mark,
+            ap (λ fs. machine_state fs marks (entry_formulas nodes marked) symbol_count)
+                (entry_formulas_push nodes stack e
+                ∙ ap (λ f. entry_formulas nodes stack ++ f ∷ [])
+                (formula_is ∙ entry_formula_is_at nodes marked i i_lt)),
+          )
+
+pub top_is_last : (fs : List Formula) (i : ℕ) → length fs ≡ i + 1 → top fs ≡ get_or fs i []
+top_is_last [] i count_is = absurd (omega arith)
+top_is_last (f ∷ []) zero count_is = refl
+top_is_last (f ∷ []) (suc i) count_is = absurd (omega arith)
+top_is_last (f ∷ g ∷ fs) zero count_is = absurd (omega arith)
+top_is_last (f ∷ g ∷ fs) (suc i) count_is = top_is_last (g ∷ fs) i (omega arith)
+
+-- the state after a mark more
+pub marked_state : (nodes : List (List ℕ)) (stack : List Entry) (marks : List ℕ)
+    (marked : List Entry) (symbol_count : ℕ) (i step : ℕ) (m e : Entry) (s : MachineState)
+    → machine_state (entry_formulas nodes stack) marks (entry_formulas nodes marked) symbol_count ≡ s
+    → length stack ≡ i + 1 → m ≡ get_or stack i no_entry
+    → entry_formula nodes e ≡ entry_formula nodes m
+    → machine_state (entry_formulas nodes stack) (marks ++ step ∷ [])
+    (entry_formulas nodes (marked ++ e ∷ [])) symbol_count ≡ with_mark true step s
+marked_state nodes stack marks marked symbol_count i step m e s s_is count_is m_is formula_stays =
+    let count = length-map stack (entry_formula nodes) in
+    let formula_is : entry_formula nodes e ≡ top (entry_formulas nodes stack) =
+    formula_stays ∙ ap (entry_formula nodes) m_is
+    ∙ entry_formula_is_at nodes stack i (omega (arith, count_is))
+    ∙ sym (top_is_last (entry_formulas nodes stack) i (omega (arith, count, count_is))) in
+    ap (λ fs. machine_state (entry_formulas nodes stack) (marks ++ step ∷ []) fs symbol_count)
+    (entry_formulas_push nodes marked e ∙ ap (λ f. entry_formulas nodes marked ++ f ∷ []) formula_is)
+    ∙ ap (λ s. machine_state s.stack (s.marks ++ step ∷ []) (s.formulas ++ top s.stack ∷ [])
+    s.symbol_count) s_is
+
+-- there is one entry
+pub one_formula : (nodes : List (List ℕ)) (stack : List Entry) (e : Entry)
+    → length (entry_formulas nodes stack) ≡ 1 → e ≡ get_or stack 0 e
+    → entry_formulas nodes stack ≡ entry_formula nodes e ∷ []
+one_formula nodes [] e count_is e_is = absurd (omega (arith, count_is))
+one_formula nodes (x ∷ []) e count_is e_is = ap (λ x. entry_formula nodes x ∷ []) (sym e_is)
+one_formula nodes (x ∷ y ∷ stack) e count_is e_is = absurd (omega (arith, count_is))
+
+-- the answer of a step that changes the entries alone
+pub is_applied_if_kept : {T : Type 0} (db : List Statement) (t a : ℕ) (s s' : MachineState)
+    → (r : Result T StepRefused) → OnOk r (applied db t a s.stack ≡ Ok s'.stack)
+    → OnOk r (0 < length s'.stack) → IfErr r (λ e. IsRefusalOf e (applied db t a s.stack))
+    → s'.marks ≡ s.marks → s'.formulas ≡ s.formulas → s'.symbol_count ≡ s.symbol_count
+    → IsApplied db t a s s' r
+is_applied_if_kept db t a s s' (Ok x) entries_are has_entry refusal_is_right marks_stay
+    formulas_stay symbol_count_stays = record {
+      applies_if_ok = record {
+        entries_are = entries_are;
+        has_entry = has_entry;
+        marks_stay = marks_stay;
+        formulas_stay = formulas_stay;
+      };
+      refusal_is_right = refusal_is_right;
+      symbol_count_stays = symbol_count_stays;
+    }
+is_applied_if_kept db t a s s' (Err e) entries_are has_entry refusal_is_right marks_stay
+    formulas_stay symbol_count_stays = record {
+      applies_if_ok = entries_are;
+      refusal_is_right = refusal_is_right;
+      symbol_count_stays = symbol_count_stays;
+    }
+
+-- ---- the only entry
+
+module _ {E : Type 0} (stack : List Formula) (u v f : Formula) (stack_is : stack ≡ u ∷ [])
+    (v_is : v ≡ f) where
+  pub only_entry : (r : Result Bool E) → IfOk r (λ b. b ≡ bytes_eq u v)
+      → IfOk r (λ b. b ≡ true → stack ≡ f ∷ [])
+  only_entry (Ok b) b_is = λ is_true.
+      stack_is ∙ ap (λ z. z ∷ []) ((bytes_eq-Decides u v).0 (sym b_is ∙ is_true) ∙ v_is)
+  only_entry (Err e) b_is = tt
+
+  pub other_entry : (r : Result Bool E) → IfOk r (λ b. b ≡ bytes_eq u v)
+      → IfOk r (λ b. b ≡ false → stack ≡ f ∷ [] → ⊥)
+  other_entry (Ok b) b_is = λ is_false is_only.
+      let same : u ∷ [] ≡ f ∷ [] = sym stack_is ∙ is_only in
+      let u_is : u ≡ f = cc in
+      true≢false (sym ((bytes_eq-Decides u v).1 (u_is ∙ sym v_is)) ∙ sym b_is ∙ is_false)
+  other_entry (Err e) b_is = tt
+
+-- no formula of the stack is too long
+pub no_long_entry : (nodes : List (List ℕ)) (stack : List Entry) (f : Formula)
+    → All (IsEntry nodes) stack → formula_limit < length f
+    → entry_formulas nodes stack ≡ f ∷ [] → ⊥
+no_long_entry nodes [] f are_entries limit_lt is_only =
+    let count = ap length is_only in absurd (omega (arith, count))
+no_long_entry nodes (e ∷ stack) f are_entries limit_lt is_only =
+    let f_is : entry_formula nodes e ≡ f = cc in
+    let same = ap length f_is in
+    let le = formula_le_limit nodes e (All-head (IsEntry nodes) e stack are_entries) in
+    omega (arith, same, le, limit_lt)
+
+-- ---- a mark more
+
+module _ (nodes : List (List ℕ)) (stack : List Entry) (marks : List ℕ) (marked : List Entry)
+    (floor symbol_count : ℕ) (is_machine : IsMachine nodes stack marks marked floor symbol_count)
+    (n floor' : ℕ) (m e : Entry) (n_lt : n < length stack) (m_is : m ≡ get_or stack n no_entry)
+    (is_entry : IsEntry nodes e) (formula_stays : entry_formula nodes e ≡ entry_formula nodes m)
+    (floor_is : floor' ≡ max floor e.needed) where
+  pub marked_machine : IsMachine nodes stack marks (marked ++ e ∷ []) floor' symbol_count
+  marked_machine =
+      let le_count = is_entry.needed_le_count in
+      let floor_le = is_machine.floor_le_count in
+      machine_with_marked nodes stack marks marked floor' symbol_count
+      (machine_with_floor nodes stack marks marked floor symbol_count is_machine floor'
+      (omega (arith, floor_is)) (omega (arith, floor_is, le_count, floor_le)))
+      e is_entry (omega (arith, floor_is))
+      (subst (All (λ s. s < symbol_count))
+      (sym (formula_stays ∙ ap (entry_formula nodes) m_is))
+      (formula_at_in_range symbol_count nodes stack n is_machine.stack_in_range n_lt))
+
+  pub machine_after_mark : (step : ℕ) → All (λ j. j < step) marks
+      → IsMachine nodes stack (marks ++ step ∷ []) (marked ++ e ∷ []) floor' symbol_count
+  machine_after_mark step marks_lt =
+      let enough = is_machine.enough_marked in
+      machine_with_mark nodes stack marks (marked ++ e ∷ []) floor' symbol_count marked_machine step
+      (omega (arith, enough, length-append marked (e ∷ []))) marks_lt

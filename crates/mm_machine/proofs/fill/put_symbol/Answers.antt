@@ -1,6 +1,0 @@
-use Rattle.std.proofs.Common.{arith}
-use Rattle.std.proofs.lemmas.Grind.{common_steps}
-use Rattle.mm_machine.proofs.fill.put_symbol.Goals as goal
-
-pub returns-clause-is_written : goal.returns-clause-is_written
-returns-clause-is_written c = grind (arith, common_steps)

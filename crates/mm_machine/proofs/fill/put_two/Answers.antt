@@ -1,6 +1,0 @@
-use Rattle.std.proofs.Common.{arith}
-use Rattle.std.proofs.lemmas.Grind.{common_steps}
-use Rattle.mm_machine.proofs.fill.put_two.Goals as goal
-
-pub returns-clause-are_written : goal.returns-clause-are_written
-returns-clause-are_written c = grind (arith, common_steps)

@@ -1,0 +1,80 @@
+use Rattle.std.proofs.Common.{List, Ok, subst, refl, arith}
+use Rattle.mm_machine.specs.declared.entry.Entry.{Entry}
+use Rattle.mm_machine.specs.Applied.{TestsRule, IsRefusalOf}
+use Rattle.mm_machine.specs.State.{applied}
+use Rattle.mm_machine.specs.Entries.{entry_formulas}
+use Rattle.mm_machine.proofs.StackLaw.{extends_unchanged, extends_by_value}
+use Rattle.mm_machine.proofs.StepLaw.{step_if_ok, step_has_entry, step_refusal_is_right}
+use Rattle.mm_machine.proofs.StepLaw.{step_in_range}
+use Rattle.mm_machine.proofs.rule_step.apply_rule.Goals as goal
+
+pub returns-in_err-make_room-clause-nodes_are_kept :
+    goal.returns-in_err-make_room-clause-nodes_are_kept
+returns-in_err-make_room-clause-nodes_are_kept g c =
+    extends_unchanged c.args.nodes.now c.args.nodes.now c.args.floor refl
+
+pub returns-in-Err-clause-nodes_are_kept : goal.returns-in-Err-clause-nodes_are_kept
+returns-in-Err-clause-nodes_are_kept g c =
+    extends_unchanged c.args.nodes.now c.test_rule.new.nodes c.args.floor
+    c.test_rule.ensures.nodes_unchanged
+
+pub returns-in-Err-clause-refusal_is_right : goal.returns-in-Err-clause-refusal_is_right
+returns-in-Err-clause-refusal_is_right g c =
+    subst (λ (es : List Entry). IsRefusalOf c.in-Err.refused (applied c.args.database.now.statements
+    c.args.theorem c.args.rule.now.assertion (entry_formulas c.args.nodes.now es)))
+    c.deref.ensures.value c.in-Err.ensures.tests_rule
+
+pub returns-in-Ok-clause-entries_are : goal.returns-in-Ok-clause-entries_are
+returns-in-Ok-clause-entries_are g c =
+    let db = c.args.database.now.statements in
+    let tested = subst (λ (es : List Entry). TestsRule db c.args.theorem c.args.rule.now
+    c.args.nodes.now es (Ok c.in-Ok.below)) c.deref.ensures.value
+    c.in-Ok.ensures.tests_rule in
+    step_if_ok db c.args.theorem c.args.rule.now c.args.nodes.now c.test_rule.new.nodes
+    c.args.stack.now.items c.in-Ok.below c.formula-formula.result.now
+    c.test_rule.ensures.nodes_unchanged c.formula-formula.ensures tested c.replace_by_formula.result
+    c.replace_by_formula.new.nodes c.replace_by_formula.new.stack.items
+    c.replace_by_formula.ensures.entries_are
+
+pub returns-in-Ok-clause-has_entry : goal.returns-in-Ok-clause-has_entry
+returns-in-Ok-clause-has_entry g c =
+    let db = c.args.database.now.statements in
+    let tested = subst (λ (es : List Entry). TestsRule db c.args.theorem c.args.rule.now
+    c.args.nodes.now es (Ok c.in-Ok.below)) c.deref.ensures.value
+    c.in-Ok.ensures.tests_rule in
+    step_has_entry db c.args.theorem c.args.rule.now c.args.nodes.now c.test_rule.new.nodes
+    c.args.stack.now.items c.in-Ok.below c.formula-formula.result.now
+    c.test_rule.ensures.nodes_unchanged c.formula-formula.ensures tested c.replace_by_formula.result
+    c.replace_by_formula.new.nodes c.replace_by_formula.new.stack.items
+    c.replace_by_formula.ensures.entries_are
+
+pub returns-in-Ok-clause-refusal_is_right : goal.returns-in-Ok-clause-refusal_is_right
+returns-in-Ok-clause-refusal_is_right g c =
+    let db = c.args.database.now.statements in
+    let tested = subst (λ (es : List Entry). TestsRule db c.args.theorem c.args.rule.now
+    c.args.nodes.now es (Ok c.in-Ok.below)) c.deref.ensures.value
+    c.in-Ok.ensures.tests_rule in
+    step_refusal_is_right db c.args.theorem c.args.rule.now c.args.nodes.now c.test_rule.new.nodes
+    c.args.stack.now.items c.in-Ok.below c.formula-formula.result.now
+    c.test_rule.ensures.nodes_unchanged c.formula-formula.ensures tested c.replace_by_formula.result
+    c.replace_by_formula.new.nodes c.replace_by_formula.new.stack.items
+    c.replace_by_formula.ensures.refusal_is_right
+
+pub returns-in-Ok-clause-formulas_in_range : goal.returns-in-Ok-clause-formulas_in_range
+returns-in-Ok-clause-formulas_in_range g c =
+    let db = c.args.database.now.statements in
+    let tested = subst (λ (es : List Entry). TestsRule db c.args.theorem c.args.rule.now
+    c.args.nodes.now es (Ok c.in-Ok.below)) c.deref.ensures.value
+    c.in-Ok.ensures.tests_rule in
+    step_in_range db c.args.theorem c.args.rule.now c.args.nodes.now c.test_rule.new.nodes
+    c.args.stack.now.items c.in-Ok.below c.formula-formula.result.now
+    c.test_rule.ensures.nodes_unchanged c.formula-formula.ensures tested c.replace_by_formula.result
+    c.replace_by_formula.new.nodes c.replace_by_formula.new.stack.items c.requires.is_compiled
+    c.requires.formulas_in_range c.replace_by_formula.ensures.entries_are
+    c.replace_by_formula.ensures.stay_in_range
+
+pub returns-in-Ok-clause-nodes_are_kept : goal.returns-in-Ok-clause-nodes_are_kept
+returns-in-Ok-clause-nodes_are_kept g c =
+    extends_by_value c.args.nodes.now c.test_rule.new.nodes c.replace_by_formula.new.nodes
+    c.args.floor c.args.floor c.test_rule.ensures.nodes_unchanged (omega arith)
+    c.replace_by_formula.ensures.nodes_are_kept

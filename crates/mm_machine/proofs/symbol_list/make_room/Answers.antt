@@ -1,6 +1,0 @@
-use Rattle.std.proofs.Common.{arith}
-use Rattle.std.proofs.lemmas.Grind.{common_steps}
-use Rattle.mm_machine.proofs.symbol_list.make_room.Goals as goal
-
-pub returns-else-least-len-clause-symbols_stay : goal.returns-else-least-len-clause-symbols_stay
-returns-else-least-len-clause-symbols_stay g c = grind (arith, common_steps)
