@@ -11,14 +11,14 @@ from collections.abc import Iterator
 from dataclasses import dataclass
 from functools import cached_property, partial
 
-from query import cache, progress
+from query import cache, progress, secret
 from query.database import Database, Dependence, from_parts, to_parts
 from query.errors import NoAnswer
 from query.graph import Graph
 from query.parallel import Task
 from query.program import Refused
 from query.statements import Pairer, Pairing
-from query.text import Text, UnreadableText
+from query.text import Text
 
 
 class Side:
@@ -48,14 +48,6 @@ class Side:
         return [] if column is None else [theorems[row] for row in self.dependence.users(column)]
 
 
-def text_of(database: Database) -> Text:
-    """The text of a database that the program accepts."""
-    try:
-        return database.read()
-    except UnreadableText as error:
-        raise NoAnswer(f"{database.name}: {error}") from None
-
-
 def text_of_side(side: Side) -> Text:
     """The text of a side. NoAnswer where it is a report."""
     if side.text is None:
@@ -64,9 +56,9 @@ def text_of_side(side: Side) -> Text:
 
 
 def prepare(database: Database) -> bytes:
-    """What of a database takes time to find, as bytes for `take`; a refusal too."""
+    """What the program says of a database, as bytes for `take`; a refusal too."""
     try:
-        return b"+" + cache.packed(to_parts(database.prepared(database.options.only)))
+        return b"+" + cache.packed(to_parts(database.prepared))
     except Refused as refused:
         return f"{refused.line} {refused.column} {refused.code}".encode()
 
@@ -76,17 +68,18 @@ def take(database: Database, prepared: bytes) -> None:
     if prepared[:1] != b"+":
         line, column, code = prepared.decode().split(" ")
         raise Refused(database.source, int(line), int(column), code)
-    database.known[database.options.only] = from_parts(cache.unpacked(prepared, 1))
+    database.known = from_parts(cache.unpacked(prepared, 1))
 
 
 def sides(old: Database, new: Database) -> tuple[Side, Side]:
-    """Both databases, verified at the same time as their texts are read. Refused where one of them
-    is refused: if both are, OLD."""
+    """Both databases, verified at the same time. Refused where one of them is refused: if both are,
+    OLD."""
     both = (old, new)
     progress.now(f"verifying {old.name} and {new.name}")
+    if any(each.uses_cache and not each.is_report for each in both):
+        secret.made()  # here, since a process of its own may be ended while it makes one
     tasks = [None if each.is_report else Task(partial(prepare, each)) for each in both]
     try:
-        texts = [None if each.is_report else read_or_not(each) for each in both]
         for each, task in zip(both, tasks):
             if task is not None:
                 take(each, task.result())
@@ -95,21 +88,10 @@ def sides(old: Database, new: Database) -> tuple[Side, Side]:
             if task is not None:
                 task.stop()
     progress.now(f"comparing {old.name} and {new.name}")
-    found = []
-    for each, text in zip(both, texts):
-        dependence = each.dependence()
-        if text is None and not each.is_report:
-            text = text_of(each)
-        found.append(Side(dependence, text))
-    return found[0], found[1]
-
-
-def read_or_not(database: Database) -> Text | None:
-    """The text; None where it can't be read, so that the program is asked why."""
-    try:
-        return database.read()
-    except UnreadableText:
-        return None
+    first, second = (
+        Side(each.dependence(), None if each.is_report else each.text) for each in both
+    )
+    return first, second
 
 
 @dataclass(frozen=True)

@@ -14,6 +14,7 @@ from query import progress, signals
 from query.commands import Command, command, names, summaries
 from query.context import Context
 from query.errors import NoAnswer, nearest, shown, tell
+from query.filters import Filters, add_filters, filters_of
 from query.output import Output, reason, write_all
 
 # Before a word that begins with `-`, so that argparse takes it as a word. No argument has this
@@ -99,6 +100,8 @@ def parser_of(chosen: Command) -> Parser:
             default=chosen.formats[0],
             help=f"the form of the answer (else: {chosen.formats[0]})",
         )
+    if chosen.lists:
+        add_filters(parser)
     parser.add_argument(
         "--no-cache", action="store_true", help="keep no result, and use none that was kept"
     )
@@ -152,7 +155,8 @@ def run(words: list[str]) -> int:
     out = Output(getattr(arguments, "format", "text"))
     progress.begin()
     try:
-        status = chosen.run(Context(out, not arguments.no_cache), arguments)
+        filters = filters_of(arguments) if chosen.lists else Filters()
+        status = chosen.run(Context(out, not arguments.no_cache, filters), arguments)
     finally:
         progress.end()
     out.flush()

@@ -1,10 +1,11 @@
-"""What a command is given besides its words: where its answer goes, and databases."""
+"""What a command is given besides its words: where its answer goes, databases, and filters."""
 
 from collections.abc import Iterable, Sequence
 from dataclasses import dataclass, field
 
 from query.database import Database
 from query.errors import tell
+from query.filters import Filters, Test
 from query.options import Options
 from query.output import Output, Value
 
@@ -14,23 +15,53 @@ class Context:
     """The surroundings of one command.
 
     `out` takes the answer. `uses_cache` is whether results may be kept and taken from the cache.
+    `filters` say what of a list is wanted.
     """
 
     out: Output = field(default_factory=Output)
     uses_cache: bool = True
+    filters: Filters = Filters()
+    asked: Database | None = None
+    """The first database that was asked for, of which the filters speak."""
 
     def database(self, word: str, options: Options = Options()) -> Database:
         """The database or report that the word DATABASE names: a file, also one compressed by gzip,
         bzip2 or xz, `-`, `REV:PATH` of git, or a report. It isn't verified yet: that is done when
         its dependence or its graph is asked for. NoAnswer where it can't be read.
         """
-        return Database.opened(word, options, self.uses_cache)
+        found = Database.opened(word, options, self.uses_cache)
+        self.asked = self.asked or found
+        return found
 
-    def table(self, columns: Sequence[str], rows: Iterable[Sequence[Value]], empty: str) -> None:
-        """Answers with a table. Where it has no row, standard error says why, by `empty`."""
+    def keeps(self) -> Test:
+        """Whether a label passes the filters. NoAnswer where these name what isn't there."""
+        if self.asked is None or not self.filters.are_given:
+            return lambda label: True
+        return self.filters.test(self.asked)
+
+    def kept(self, rows: Iterable[Sequence[Value]], column: int = 0) -> list[Sequence[Value]]:
+        """The rows whose label in a column passes the filters."""
+        rows = list(rows)
+        keeps = self.keeps()
+        left = [row for row in rows if keeps(str(row[column]))]
+        if rows and not left:
+            self.tell(f"none of the {len(rows)} that there are passes the filters")
+        return left
+
+    def table(
+        self,
+        columns: Sequence[str],
+        rows: Iterable[Sequence[Value]],
+        empty: str,
+        listed: str | None = None,
+    ) -> None:
+        """Answers with a table. Where it has no row, standard error says why, by `empty`. Of a list
+        `listed` is the column of the labels to which the filters apply."""
         rows = list(rows)
         if not rows:
             self.tell(empty)
+        if listed is not None:
+            rows = self.kept(rows, columns.index(listed))
         self.out.table(columns, rows)
 
     def tell(self, text: str) -> None:

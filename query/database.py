@@ -4,30 +4,31 @@ import hashlib
 import json
 from array import array
 from collections.abc import Callable, Sequence
-from dataclasses import dataclass, field
+from dataclasses import dataclass
 from functools import cached_property
 from typing import TYPE_CHECKING
 
-from query import cache, progress
+from query import cache, program, progress
+from query.assertions import Damaged
 from query.errors import NoAnswer, nearest, shown
 from query.graph import Graph, Lists
 from query.marks import Marks, columns_of, mask
 from query.options import Options
+from query.program import REFUSAL, Program, Refused
 from query.report import Prepared, checked
 from query.source import Source, opened
+from query.told import COUNTS, SECTIONS, counted, told
 
 if TYPE_CHECKING:
     from query.text import Text
 
-# Count the forms in which results, and what was read of texts, are kept. A change of what they hold
-# has to change them.
-FORM = 1
-TEXT_FORM = 3
+# Counts the forms in which results are kept. A change of what they hold has to change it.
+FORM = 2
 
 
 @dataclass
 class Dependence:
-    """On which axioms each theorem rests, checked against the citations.
+    """On which axioms each theorem rests.
 
     `axioms` are the labels of the columns, the axioms chosen by the options; `theorems` those of
     the rows. Both are in file order. Rows and columns are counted from 0. `name` is how messages
@@ -128,7 +129,7 @@ class Database:
     source: Source
     options: Options
     uses_cache: bool
-    known: dict[str | None, Prepared] = field(default_factory=dict)
+    known: Prepared | None = None
 
     @classmethod
     def opened(cls, word: str, options: Options, uses_cache: bool) -> "Database":
@@ -151,94 +152,96 @@ class Database:
         """Whether it is a report or a refusal."""
         return self.source.is_report()
 
-    def text(self) -> bytes:
+    def data(self) -> bytes:
         """The bytes of the database, not compressed. NoAnswer where DATABASE is a report."""
         if self.is_report:
             raise NoAnswer(f"{self.name}: a report, where the database is wanted")
         return self.source.data
 
-    def read(self) -> "Text":
-        """What stands in the text, kept or new. NoAnswer where DATABASE is a report, UnreadableText
-        where it is nothing that the program would accept.
-        """
-        from query import outline
-        from query.text import read_text
+    @cached_property
+    def text(self) -> "Text":
+        """What stands in the text. NoAnswer where DATABASE is a report, or is refused."""
+        from query.text import Text
 
-        data = self.text()
-        if not self.uses_cache or len(data) >= outline.MOST:
-            return read_text(data)
-        key = key_of("text", TEXT_FORM, self.sum)
-        kept = cache.load(key)
-        if kept is not None:
-            return outline.from_parts(data, kept)
-        text = read_text(data)
-        cache.store(key, outline.to_parts(text))
-        return text
+        return Text(self.data(), self.prepared.statements)
 
     @cached_property
     def sum(self) -> str:
         """The sum of the bytes, in hexadecimal."""
         return hashlib.blake2b(self.source.data, digest_size=16).hexdigest()
 
-    def prepared(self, only: str | None) -> Prepared:
-        """Marks for the axioms of a typecode, and the citations."""
-        if only not in self.known:
-            if self.is_report:
-                self.known[only] = of_report(self.source)
-            else:
-                self.known[only] = self.of_program(only)
-        return self.known[only]
+    @property
+    def prepared(self) -> Prepared:
+        """Marks, citations and, of a database, statements. Refused where it is refused."""
+        if self.known is None:
+            self.known = (
+                of_report(self.source) if self.is_report else self.kept or self.of_program()
+            )
+        return self.known
 
-    def of_program(self, only: str | None) -> Prepared:
-        """What the program says of the database, kept or new."""
-        from query import program
+    @cached_property
+    def program(self) -> Program:
+        """What judges it."""
+        return program.ready()
 
-        mmdepend = program.found()
+    @cached_property
+    def key(self) -> str:
+        """Under which key the result of the program is kept."""
         options = self.options
-        key = ""
-        if self.uses_cache:
-            mmdepend.prepare()
-            key = key_of(FORM, self.sum, mmdepend.sum, only, options.essential, options.open)
-            kept = cache.load(key)
-            if kept is not None:
-                return from_parts(kept)
+        return key_of(FORM, self.sum, self.program.sum, options.essential, options.open)
+
+    @property
+    def kept(self) -> Prepared | None:
+        """What was kept."""
+        kept = cache.load(self.key) if self.uses_cache else None
+        return None if kept is None else from_parts(kept)
+
+    def said(self, *words: str) -> bytes:
+        """What the program says with these options. Refused where it refuses the database."""
         progress.now(f"verifying {self.name}")
-        common = ["--essential"] * options.essential + ["--open"] * options.open
-        marks = common + ["--form=2"] + ([] if only is None else [f"--only={only}"])
-        answers = program.reports(mmdepend, self.source, [marks, common + ["--report=citations"]])
-        progress.now(f"checking the report of {self.name}")
-        found = checked(f"{self.name}: report of the program", b"".join(answers), True)
+        flags = ["--essential"] * self.options.essential + ["--open"] * self.options.open
+        return program.report(self.program, self.source, [*flags, *words])
+
+    def of_program(self) -> Prepared:
+        """What the program says."""
+        data = self.said("--form=2", SECTIONS)
+        progress.now(f"reading the report of {self.name}")
+        try:
+            found = told(data)
+        except Damaged as why:
+            raise NoAnswer(f"{self.name}: {why}") from None
         if self.uses_cache:
-            cache.store(key, to_parts(found))
+            cache.store(self.key, to_parts(found))
         return found
 
-    def other_axioms(self) -> list[str]:
-        """The labels of all axioms."""
-        if self.is_report:
-            return []
-        return self.prepared(None).columns
+    def counts(self) -> tuple[int, int]:
+        """How many axioms and how many theorems it has. Refused where it is refused."""
+        found = self.prepared if self.is_report or self.known else self.kept
+        if found is None:
+            return counted(self.said(COUNTS))
+        return found.axioms, len(found.theorems)
 
     def graph(self) -> Graph:
         """The citations alone, which need no marks. NoAnswer where the database is refused, or the
         report is damaged or lacks them.
         """
-        found = self.prepared(self.options.only)
+        found = self.prepared
         if found.cites is None:
             raise NoAnswer(f"{self.name}: the report has no section 'citations'")
         return self.graph_of(found, found.cites)
 
     def graph_of(self, found: Prepared, cites: Lists) -> Graph:
         """The graph of what was found."""
-        if not found.theorems and not found.columns and not self.other_axioms():
-            raise NoAnswer(f"{self.name}: has neither axioms nor theorems")
         labels = found.theorems + found.columns + found.others
-        return Graph(self.name, labels, len(found.theorems), cites, self.other_axioms)
+        if not found.theorems and not found.columns:
+            raise NoAnswer(f"{self.name}: has neither axioms nor theorems")
+        return Graph(self.name, labels, len(found.theorems), cites)
 
     def dependence(self) -> Dependence:
         """Marks and citations together. NoAnswer where the database is refused, the report is
         damaged or lacks marks, or no axiom is chosen.
         """
-        found = self.prepared(self.options.only)
+        found = self.prepared
         if found.marks is None:
             raise NoAnswer(
                 f"{self.name}: the report has to have the section 'usage', and one of 'matrix',"
@@ -258,12 +261,24 @@ class Database:
             self.left_out,
         )
 
+    def of_typecode(self) -> Sequence[int]:
+        """The columns of the axioms of the typecode that the options choose."""
+        only, typecodes = self.options.only, self.prepared.typecodes
+        if self.is_report or only is None:
+            return range(len(self.prepared.columns))
+        return [number for number, typecode in enumerate(typecodes) if typecode == only]
+
+    def axioms(self) -> list[str]:
+        """The labels of these axioms."""
+        columns = self.prepared.columns
+        return [columns[number] for number in self.of_typecode()]
+
     def left_out(self, label: str) -> str:
         """Which option left an axiom out, as the end of a sentence; empty where none did."""
-        if label in self.prepared(self.options.only).columns:
+        if label in self.axioms():
             begins = self.options.ignore_definitions and label.startswith("df-")
             return f"; {'--ignore-definitions' if begins else '--axioms'} leaves it out"
-        if self.options.only is not None and label in self.other_axioms():
+        if label in self.prepared.columns:
             return "; it is one of another typecode, and --all takes every axiom"
         return ""
 
@@ -275,17 +290,17 @@ class Database:
 
     def chosen_columns(self, found: Prepared) -> Sequence[int]:
         """The columns of the axioms that the options choose. NoAnswer where there are none."""
-        options = self.options
-        if not found.columns:
+        options, columns = self.options, self.of_typecode()
+        if not columns:
             raise NoAnswer(f"{self.name}: has no axiom{self.which()}")
         if not options.axioms and not options.ignore_definitions:
-            return range(len(found.columns))
+            return columns
         for word in options.axioms:
-            if not any(label.startswith(word) for label in found.columns):
+            if not any(found.columns[number].startswith(word) for number in columns):
                 raise NoAnswer(
                     f"{self.name}: has no axiom{self.which()} that begins with '{shown(word)}'"
                 )
-        chosen = [i for i, label in enumerate(found.columns) if options.has_axiom(label)]
+        chosen = [number for number in columns if options.has_axiom(found.columns[number])]
         if not chosen:
             raise NoAnswer(f"{self.name}: has no axiom{self.which()} that is no definition")
         return chosen
@@ -298,8 +313,6 @@ def key_of(*words: str | int | None) -> str:
 
 def of_report(source: Source) -> Prepared:
     """What a report says."""
-    from query.program import REFUSAL, Refused
-
     if source.data.startswith(b"refused"):
         refusal = REFUSAL.fullmatch(source.data)
         if not refusal:
@@ -309,29 +322,33 @@ def of_report(source: Source) -> Prepared:
 
 
 def to_parts(found: Prepared) -> dict[str, bytes]:
-    """What was found, in the form in which it is kept."""
+    """What the program said, in the form in which it is kept."""
     assert found.marks is not None and found.cites is not None
     return {
         "theorems": "\n".join(found.theorems).encode(),
         "columns": "\n".join(found.columns).encode(),
-        "others": "\n".join(found.others).encode(),
+        "typecodes": "\n".join(found.typecodes).encode(),
         "marks": found.marks.data,
-        "axioms": str(found.axioms).encode(),
         "places": found.cites.places.tobytes(),
         "targets": found.cites.targets.tobytes(),
+        "statements": found.statements,
     }
 
 
 def from_parts(parts: dict[str, bytes]) -> Prepared:
     """What was kept."""
-    theorems, columns, others = (
+    theorems, columns, typecodes = (
         parts[name].decode().split("\n") if parts[name] else []
-        for name in ("theorems", "columns", "others")
+        for name in ("theorems", "columns", "typecodes")
     )
-    places = array("I")
-    places.frombytes(parts["places"])
-    targets = array("I")
-    targets.frombytes(parts["targets"])
+    cites = Lists(numbers_of(parts["places"]), numbers_of(parts["targets"]))
     marks = Marks(len(theorems), len(columns), parts["marks"])
-    axioms = int(parts["axioms"])
-    return Prepared(theorems, columns, others, marks, Lists(places, targets), axioms)
+    statements = parts["statements"]
+    return Prepared(theorems, columns, [], marks, cites, len(columns), typecodes, statements)
+
+
+def numbers_of(kept: bytes) -> "array[int]":
+    """Numbers that were kept."""
+    numbers = array("I")
+    numbers.frombytes(kept)
+    return numbers

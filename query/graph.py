@@ -6,7 +6,7 @@ row; then the axioms. A theorem cites only theorems before it.
 
 from array import array
 from bisect import bisect_right
-from collections.abc import Callable, Iterable
+from collections.abc import Iterable
 from functools import cached_property
 
 from query.errors import NoAnswer, nearest, shown
@@ -32,40 +32,20 @@ class Lists:
         return self.targets[self.places[number] : self.places[number + 1]]
 
 
-def put_together(lists: Iterable[Iterable[int]]) -> Lists:
-    """The lists in two arrays."""
-    places = array("I", [0])
-    targets = array("I")
-    for each in lists:
-        targets.extend(each)
-        places.append(len(targets))
-    return Lists(places, targets)
-
-
 class Graph:
     """The citations of a database.
 
     `labels` has the label of each node: those of `theorems` theorems, in file order, and then
-    those of axioms (with `--open` also of open theorems). Axioms of the chosen typecode are there
-    even where nothing cites them, others only where something does or `node` has asked for one.
-    `cites[i]` is what node `i` cites, in file order; for an axiom nothing. `name` is how messages
-    call the database. `other_axioms` gives the labels of all axioms; it is called where a label is
-    unknown.
+    those of axioms (with `--open` also of open theorems). Of a report these are its columns and
+    what is cited. `cites[i]` is what node `i` cites, in file order; for an axiom nothing. `name` is
+    how messages call the database.
     """
 
-    def __init__(
-        self,
-        name: str,
-        labels: list[str],
-        theorems: int,
-        cites: Lists,
-        other_axioms: Callable[[], Iterable[str]] = lambda: (),
-    ) -> None:
+    def __init__(self, name: str, labels: list[str], theorems: int, cites: Lists) -> None:
         self.name = name
         self.labels = labels
         self.theorems = theorems
         self.cites = cites
-        self.other_axioms = other_axioms
 
     @cached_property
     def index(self) -> dict[str, int]:
@@ -87,10 +67,6 @@ class Graph:
 
     def node(self, label: str) -> int:
         """The node of a label. NoAnswer where there is neither an axiom nor a theorem of it."""
-        if label not in self.index and label in self.other_axioms():
-            self.cited_by.append([])
-            self.index[label] = len(self.labels)
-            self.labels.append(label)
         if label not in self.index:
             meant = nearest(label, self.index, 0.8)
             raise NoAnswer(

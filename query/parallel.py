@@ -2,13 +2,16 @@
 
 from __future__ import annotations
 
+import fcntl
 import os
 import signal
 from collections.abc import Callable
+from contextlib import suppress
 from typing import NoReturn
 
 from query import signals
 from query.errors import NoAnswer
+from query.program import PIPE
 
 DONE, WITHOUT_ANSWER = b"+", b"-"
 
@@ -20,15 +23,17 @@ class Task:
     """
 
     def __init__(self, work: Callable[[], bytes]) -> None:
-        reading, writing = os.pipe()
-        self.process = os.fork()
-        if self.process == 0:
-            os.close(reading)
-            _do(work, writing)
-        os.close(writing)
-        self.reading = reading
+        self.reading, writing = os.pipe()
+        with suppress(OSError):  # a smaller one will do
+            fcntl.fcntl(writing, fcntl.F_SETPIPE_SZ, PIPE)
         self.is_over = False
-        self.number = signals.at_stop(self.kill)
+        with signals.held():
+            self.process = os.fork()
+            if self.process == 0:
+                os.close(self.reading)
+                _do(work, writing)
+            self.number = signals.at_stop(self.kill)
+        os.close(writing)
 
     def result(self) -> bytes:
         """Waits for what the work returns. NoAnswer where it raised that, or ended otherwise."""

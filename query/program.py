@@ -15,6 +15,8 @@ from query.source import Source
 
 REFUSAL = re.compile(rb"refused ([1-9][0-9]{0,9}):([1-9][0-9]{0,9}) (E[0-9]{2})\n")
 PIPE = 1 << 20  # bytes that wait in a pipe
+MOST = 2_000_000_000
+"""Bytes that are read of what the program says. Of set.mm it says 47 million."""
 HOME = os.path.dirname(os.path.dirname(os.path.realpath(__file__)))
 
 
@@ -42,39 +44,58 @@ class Refused(NoAnswer):
 
 class Running:
     """The program while it runs. A signal that ends the command ends it too. It gets the open files
-    `passed`, and the variables `surroundings` in place of ours."""
+    `passed`, and the variables `surroundings` in place of ours. Its standard error is ours, or kept
+    where that `is_kept`."""
 
     def __init__(
         self,
         path: str,
         words: list[str],
         given: int,
-        errors: int | None,
+        is_kept: bool,
         passed: Sequence[int] = (),
         surroundings: Mapping[str, str] | None = None,
     ) -> None:
         import subprocess
 
-        try:
-            self.process = subprocess.Popen(
-                [path, *words],
-                stdin=given,
-                stdout=subprocess.PIPE,
-                stderr=errors,
-                pipesize=PIPE,
-                pass_fds=passed,
-                env=surroundings,
-            )
-        except OSError as error:
-            raise NoAnswer(f"{shown(path)} can't be run: {reason(error)}") from None
-        self.number = signals.at_stop(self.process.kill)
+        self.errors = os.memfd_create("mmquery", os.MFD_CLOEXEC) if is_kept else None
+        with signals.held():
+            try:
+                self.process = subprocess.Popen(
+                    [path, *words],
+                    stdin=given,
+                    stdout=subprocess.PIPE,
+                    stderr=self.errors,
+                    pipesize=PIPE,
+                    pass_fds=passed,
+                    env=surroundings,
+                )
+            except OSError as error:
+                raise NoAnswer(f"{shown(path)} can't be run: {reason(error)}") from None
+            self.number = signals.at_stop(self.process.kill)
 
     def ended(self) -> tuple[bytes, bytes, int]:
         """What it wrote to standard output and to standard error, and its status, once it has
-        ended."""
-        out, errors = self.process.communicate()
+        ended. It is ended where it writes too much."""
+        assert self.process.stdout is not None
+        out = bytearray()
+        while chunk := os.read(self.process.stdout.fileno(), PIPE):
+            out += chunk
+            if len(out) > MOST:
+                self.process.kill()
+                break
+        self.process.stdout.close()
+        self.process.wait()
         signals.forget(self.number)
-        return out, errors or b"", self.process.returncode
+        return out, self.said(), self.process.returncode
+
+    def said(self) -> bytes:
+        """What it wrote to standard error, where that is kept."""
+        if self.errors is None:
+            return b""
+        with open(self.errors, "rb") as file:
+            file.seek(0)
+            return file.read()
 
     def stop(self) -> None:
         """Ends it where it still runs."""
@@ -99,7 +120,7 @@ class Program:
         goes to standard error. NoAnswer where it can't be run."""
         if self._file.startswith(b"\x7fELF"):
             return
-        running = Running(self.path, ["--version"], devnull(), None)
+        running = Running(self.path, ["--version"], devnull(), False)
         if running.ended()[2] != 0:
             raise NoAnswer(f"{shown(self.path)} can't be run")
 
@@ -143,35 +164,36 @@ def found() -> Program:
 def version() -> str:
     """What the program says of its version. NoAnswer where it can't be run."""
     path = found().path
-    out, _, status = Running(path, ["--version"], devnull(), None).ended()
+    out, _, status = Running(path, ["--version"], devnull(), False).ended()
     if status != 0:
         raise NoAnswer(f"{shown(path)} can't be run")
     return out.decode("latin-1").strip()
 
 
-def reports(program: Program, source: Source, requests: list[list[str]]) -> list[bytes]:
-    """The reports that the program writes over a source for each of these options, all at the same
-    time. Refused where it refuses the source, NoAnswer where it has no answer."""
+def ready() -> Program:
+    """The same, built where it is a script that does so."""
+    program = found()
     program.prepare()
-    running: list[Running] = []
+    return program
+
+
+def report(program: Program, source: Source, words: list[str]) -> bytes:
+    """The report that the program writes over a source with these options. Refused where it refuses
+    the source, NoAnswer where it has no answer."""
+    running = over(program, source, words)
     try:
-        for words in requests:
-            running.append(over(program, source, words))
-        answers = [judged(source, each) for each in running]
+        answer = judged(source, running)
     finally:
-        for each in running:
-            each.stop()
+        running.stop()
     source.see_unchanged()
-    return answers
+    return answer
 
 
 def over(program: Program, source: Source, words: list[str]) -> Running:
     """The program running over a source."""
-    import subprocess
-
     descriptor = source.opened()
     try:
-        return Running(program.path, words, descriptor, subprocess.PIPE)
+        return Running(program.path, words, descriptor, True)
     finally:
         os.close(descriptor)
 
@@ -179,6 +201,8 @@ def over(program: Program, source: Source, words: list[str]) -> Running:
 def judged(source: Source, running: Running) -> bytes:
     """The report of a running program."""
     out, errors, status = running.ended()
+    if len(out) > MOST:
+        raise NoAnswer(f"{source.name}: what the program says of it takes more than 2 GB")
     if status == 0:
         return out
     refusal = REFUSAL.fullmatch(out)

@@ -1,11 +1,19 @@
 """What a proof proves, where the program found that it isn't the theorem's formula (fault E38).
 
-The steps are carried out without being judged: the program did that, and refused the end alone.
+The program tells all assertions up to the theorem once no proof is given any more. Then the steps
+are carried out without being judged: the program did that, and refused the end alone.
 """
 
-from bisect import bisect_right
+from __future__ import annotations
 
-from query.text import Assertion, Hypothesis, Text
+from collections.abc import Callable
+
+from query import program
+from query.assertions import Assertion, Hypothesis, assertions_of
+from query.bare import bare, floating, without_proofs
+from query.errors import NoAnswer
+from query.source import Source
+from query.told import statements_of
 
 FIRST_LETTER = ord("A")
 MOST = 10_000_000
@@ -19,14 +27,11 @@ class TooLong(Exception):
 class Replay:
     """The stack of a proof while its steps are carried out. An entry is a formula's symbols."""
 
-    def __init__(self, text: Text, theorem: Assertion) -> None:
-        self.text = text
-        self.theorem = theorem
-        self.hypotheses = {each.label: each for each in text.hypotheses}
-        self.floating: dict[str, list[Hypothesis]] = {}
-        for each in text.hypotheses:
-            if each.kind == "f":
-                self.floating.setdefault(text.symbols(each)[1], []).append(each)
+    def __init__(self, told: list[Assertion], floating: Callable[[str], list[str]]) -> None:
+        self.told = {each.label: each for each in told}
+        self.floating = floating
+        self.given = told[-1].frame().hypotheses()
+        self.named = {each.label: each.formula.split(" ") for each in self.given}
         self.left = MOST
         self.stack: list[list[str]] = []
         self.marked: list[list[str]] = []
@@ -35,33 +40,27 @@ class Replay:
     def frame(self, assertion: Assertion) -> list[Hypothesis]:
         """The mandatory hypotheses of an assertion, in order of appearance."""
         if assertion.label not in self.frames:
-            variables = self.text.mandatory(assertion)
-            found = [self.floating_before(variable, assertion.place) for variable in variables]
-            found += [self.text.hypotheses[number] for number in assertion.essential]
-            self.frames[assertion.label] = sorted(found, key=lambda each: each.place)
+            self.frames[assertion.label] = assertion.frame().hypotheses()
         return self.frames[assertion.label]
-
-    def floating_before(self, variable: str, place: int) -> Hypothesis:
-        """The last `$f` of a variable before a place."""
-        known = self.floating[variable]
-        return known[bisect_right(known, place, key=lambda each: each.place) - 1]
 
     def step(self, label: str) -> None:
         """Carries out a step with a label."""
-        assertion = self.text.find(label)
+        assertion = self.told.get(label)
         if assertion is None:
-            self.stack.append(self.text.symbols(self.hypotheses[label]))
+            if label not in self.named:
+                self.named[label] = self.floating(label)
+            self.stack.append(self.named[label])
             return
         frame = self.frame(assertion)
         entries = self.stack[len(self.stack) - len(frame) :]
         del self.stack[len(self.stack) - len(frame) :]
         values = {
-            self.text.symbols(each)[1]: entry[1:]
+            each.formula.partition(" ")[2]: entry[1:]
             for each, entry in zip(frame, entries)
             if each.kind == "f"
         }
         result: list[str] = []
-        symbols = self.text.symbols(assertion)
+        symbols = assertion.formula.split(" ")
         for symbol in symbols:
             result += values.get(symbol, [symbol])
         self.left -= len(symbols) + len(result)
@@ -86,12 +85,11 @@ class Replay:
             else:
                 number = 5 * number + value - 19
 
-    def carried_out(self) -> list[str]:
+    def carried_out(self, words: list[str]) -> list[str]:
         """The last entry."""
-        words = self.text.proof(self.theorem)
         if words[0] == "(":
             end = words.index(")")
-            labels = [each.label for each in self.frame(self.theorem)] + words[1:end]
+            labels = [each.label for each in self.given] + words[1:end]
             self.letters("".join(words[end + 1 :]), labels)
         else:
             for word in words:
@@ -99,10 +97,16 @@ class Replay:
         return self.stack[-1]
 
 
-def proved(text: Text, theorem: Assertion) -> str | None:
-    """The formula that a theorem's proof proves, its symbols apart by spaces; None where the proof
-    isn't one whose end alone was refused, or its formulas are too long."""
+def proved(source: Source, end: int) -> tuple[str, str] | None:
+    """The formula that a proof proves and that of its theorem, whose `$.` ends at a place; None
+    where the proof isn't one whose end alone was refused, or its formulas are too long."""
+    text = bare(source.data[:end])
+    words = text[text.rindex(b"$=") + 2 : -2].decode("latin-1").split()
+    before = Source(source.name, without_proofs(text))
     try:
-        return " ".join(Replay(text, theorem).carried_out())
-    except (IndexError, KeyError, ValueError, TooLong):
+        said = program.report(program.ready(), before, ["--open", "--report=statements"])
+        told = assertions_of(statements_of(said), before.data)
+        found = Replay(told, lambda label: floating(text, label)).carried_out(words)
+    except (IndexError, KeyError, ValueError, TooLong, NoAnswer):
         return None
+    return " ".join(found), told[-1].formula

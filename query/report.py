@@ -1,4 +1,4 @@
-"""Reports of the program, read and checked.
+"""Reports that people hand in, read and checked.
 
 A text may hold several reports, one after the other, such as one with the marks and one with the
 citations. Nothing of it is believed alone: counts are checked against lists, sections against one
@@ -14,11 +14,12 @@ from itertools import compress
 from operator import or_
 from typing import NoReturn
 
+from query.assertions import LINE
 from query.errors import NoAnswer, shown
 from query.graph import Lists
 from query.marks import Marks, bit, mask, packed, width_of
 
-SECTIONS = ("matrix", "counts", "usage", "citations")
+SECTIONS = ("matrix", "counts", "usage", "citations", "statements")
 LABELS = re.compile(r"[A-Za-z0-9._-]+(?:\n[A-Za-z0-9._-]+)*")
 WRONG_COUNT = "the number isn't that of the labels after it"
 NUMBER = re.compile(r"0|[1-9][0-9]{0,9}")
@@ -28,10 +29,12 @@ MANY = 8192
 
 @dataclass(frozen=True)
 class Section:
-    """A section: the number of its first line, counted from 0, and what its report's head says."""
+    """A section: the number of its first line, counted from 0, how many lines it has, and what its
+    report's head says."""
 
     name: str
     first: int
+    lines: int
     form: int
     axioms: int
     theorems: int
@@ -39,12 +42,13 @@ class Section:
 
 @dataclass
 class Prepared:
-    """What reports say, checked.
+    """What the program or reports say.
 
     `theorems` are the labels of rows and `columns` those of axioms with marks, in file order.
     Where there are no marks or no citations, `marks` or `cites` is None. `others` are the labels
     of axioms that aren't columns and are cited. In `cites` a node is the number of a theorem, or
-    of an axiom of `columns` and `others`, in this order, after the theorems.
+    of an axiom of `columns` and `others`, in this order, after the theorems. Of a database,
+    `typecodes` has that of each column, and `statements` the lines of the section.
     """
 
     theorems: list[str] = field(default_factory=list)
@@ -53,6 +57,8 @@ class Prepared:
     marks: Marks | None = None
     cites: Lists | None = None
     axioms: int = 0  # how many the heads say, the most of them
+    typecodes: list[str] = field(default_factory=list)
+    statements: bytes = b""
 
 
 class Report:
@@ -113,21 +119,23 @@ class Report:
                 self.damaged(place, "a section or 'end' has to begin here")
             if word in self.sections:
                 self.damaged(place, f"the section '{word}' is there twice")
-            self.sections[word] = Section(word, place + 1, form, axioms, theorems)
-            place += 1 + (axioms if word == "usage" else theorems)
+            lines = self.length(word, place + 1, axioms, theorems)
+            self.sections[word] = Section(word, place + 1, lines, form, axioms, theorems)
+            place += 1 + lines
+
+    def length(self, name: str, first: int, axioms: int, theorems: int) -> int:
+        """How many lines a section has. Those of `statements` aren't counted in the head: where a
+        typecode is chosen, theorems of others aren't told."""
+        if name == "statements":
+            return self.lines.index("end", first) - first
+        return axioms if name == "usage" else theorems
 
 
 class Checker:
-    """Reads the sections of a report, each checked against those read before.
+    """Reads the sections of a report, each checked against those read before."""
 
-    `has_one_source` is whether the reports come from the program just now: then the lists and
-    counts of a report say what its matrix says, and comparing the matrix with the citations is
-    enough.
-    """
-
-    def __init__(self, report: Report, has_one_source: bool) -> None:
+    def __init__(self, report: Report) -> None:
         self.report = report
-        self.has_one_source = has_one_source
         self.sections = report.sections
         self.found = Prepared()
         self.rows: dict[str, int] = {}
@@ -144,6 +152,8 @@ class Checker:
         self.read_columns()
         known = CitationReader(self).read() if "citations" in self.sections else None
         self.read_marks(known if "usage" in self.sections else None)
+        if "statements" in self.sections:
+            self.check_statements()
         return self.found
 
     def differ(self, what: str) -> NoReturn:
@@ -154,8 +164,7 @@ class Checker:
     def lines(self, name: str) -> list[str]:
         """The lines of a section."""
         section = self.sections[name]
-        number = section.axioms if name == "usage" else section.theorems
-        return self.report.lines[section.first : section.first + number]
+        return self.report.lines[section.first : section.first + section.lines]
 
     def damaged(self, name: str, number: int, why: str) -> NoReturn:
         """Raises NoAnswer about a line of a section, counted from 0 in it."""
@@ -211,8 +220,6 @@ class Checker:
             marks = self.check_matrix(columns, marks)
         if "usage" in self.sections:
             self.found.marks = marks = marks or self.marks_by_usage(columns)
-        if self.has_one_source and self.found.cites is not None and "matrix" in self.sections:
-            return
         if "usage" in self.sections and marks is not None:
             self.check_usage(marks)
         if "counts" in self.sections and marks is not None:
@@ -281,6 +288,29 @@ class Checker:
             if line.partition(":")[2] != str(marks.row(number).bit_count()):
                 self.damaged("counts", number, "another number than that of the marks")
 
+    def check_statements(self) -> None:
+        """Compares the section `statements` with the labels of the others, and with the head."""
+        axioms: list[str] = []
+        row = -1
+        for number, line in enumerate(self.lines("statements")):
+            match = LINE.fullmatch(line)
+            if match is None:
+                self.damaged("statements", number, "no assertion is told here")
+            label = match["label"]
+            if match["letter"] != "p":
+                axioms.append(label)
+            elif self.has_theorems:
+                before, row = row, self.rows.get(label, -1)
+                if row <= before:
+                    self.damaged("statements", number, "another section hasn't this theorem here")
+        section = self.sections["statements"]
+        if (
+            len(axioms) != section.axioms
+            or "usage" in self.sections
+            and axioms != self.found.columns
+        ):
+            self.damaged("statements", -1, "its axioms aren't those of the head, or of `usage`")
+
 
 class CitationReader:
     """Reads the section `citations`, and gives the marks that follow from it: of each theorem
@@ -311,8 +341,7 @@ class CitationReader:
                 cited = list(map(node_of, words))
             except KeyError:
                 cited = [self.known(number, word) for word in words]
-            if not self.checker.has_one_source:
-                self.check_order(number, cited)
+            self.check_order(number, cited)
             targets.extend(cited)
             places.append(len(targets))
             bits[number] = reduce(or_, map(bits_of, cited), self.own_bits(cited))
@@ -403,6 +432,6 @@ def of_digits(rows: list[str], form: int) -> bytes | None:
     return data if data.hex() == text else None
 
 
-def checked(name: str, data: bytes, has_one_source: bool = False) -> Prepared:
+def checked(name: str, data: bytes) -> Prepared:
     """What a text of reports says. NoAnswer where it is damaged or its parts don't fit together."""
-    return Checker(Report(name, data), has_one_source).check()
+    return Checker(Report(name, data)).check()

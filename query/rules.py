@@ -8,19 +8,22 @@ from __future__ import annotations
 
 import os
 import re
+from bisect import bisect_right
 from collections.abc import Callable, Iterable, Iterator
 from dataclasses import dataclass
 from functools import cached_property
 
+from query.assertions import Assertion
 from query.boxes import exposed
 from query.changes import Comparison, Side, text_of_side
 from query.config import RULES, Claim, Config, Labels, is_meant
 from query.graph import Graph
 from query.remarks import tokens
 from query.statements import difference, statement_of
-from query.text import Assertion, Text
+from query.text import Text
 
 DISCOURAGED = re.compile(r"\(New\s+usage\s+is\s+discouraged\.\)")
+MENTIONED = re.compile(DISCOURAGED.pattern.encode())
 DISCOURAGED_PROOF = re.compile(r"\(Proof\s+modification\s+is\s+discouraged\.\)")
 MARKED = re.compile(rb"\$\(\s+\$j(?=\s)")
 TOKEN = re.compile(r"'([^']*)'|\"([^\"]*)\"|(;)|([^\s;'\"]+)")
@@ -93,15 +96,12 @@ class Case:
     @cached_property
     def open(self) -> frozenset[str]:
         """The theorems of NEW that are left open."""
-        by_label = self.text.by_label
-        return frozenset(
-            label for label in self.new.dependence.axioms if by_label[label].kind == "p"
-        )
+        return frozenset(one.label for one in self.text.assertions if one.is_open)
 
 
-def shown_formula(text: Text, assertion: Assertion) -> str:
+def shown_formula(assertion: Assertion) -> str:
     """A formula, cut where it is long."""
-    formula = text.formula(assertion)
+    formula = assertion.formula
     return formula if len(formula) <= LONGEST else formula[:LONGEST] + " .."
 
 
@@ -133,7 +133,7 @@ def axioms_now(case: Case) -> Iterator[tuple[str, str]]:
     new = {*pairing.new, *pairing.renamed}
     changed = set(pairing.changed)
     for one in case.text.assertions:
-        if one.label in new and case.is_judged(case.text.typecode(one)):
+        if one.label in new and case.is_judged(one.typecode):
             yield one.label, reason_of_new(case, one)
         elif one.label in changed and (reason := reason_of_changed(case, one)):
             yield one.label, reason
@@ -145,17 +145,13 @@ def axioms_gone(case: Case) -> Iterator[tuple[str, str]]:
     pairing = case.comparison.axioms
     kept = set(pairing.origin) - set(pairing.renamed)
     for one in case.old_text.assertions:
-        if (
-            one.kind == "a"
-            and one.label not in kept
-            and case.is_judged(case.old_text.typecode(one))
-        ):
+        if one.kind == "a" and one.label not in kept and case.is_judged(one.typecode):
             yield one.label, reason_of_gone(case, one.label)
 
 
 def reason_of_new(case: Case, axiom: Assertion) -> str:
     """Why an axiom is a new one."""
-    formula = shown_formula(case.text, axiom)
+    formula = shown_formula(axiom)
     was = case.comparison.axioms.renamed.get(axiom.label)
     if was:
         return f"a new label of the axiom {was}: {formula}"
@@ -173,12 +169,12 @@ def was_theorem(case: Case, label: str) -> bool:
 def reason_of_changed(case: Case, axiom: Assertion) -> str:
     """How an axiom was changed; "" where it isn't of the typecode, in neither database."""
     before = case.old_text.by_label[axiom.label]
-    if not any(map(case.is_judged, (case.text.typecode(axiom), case.old_text.typecode(before)))):
+    if not any(map(case.is_judged, (axiom.typecode, before.typecode))):
         return ""
-    parts = difference(statement_of(case.old_text, before), statement_of(case.text, axiom))
+    parts = difference(statement_of(before), statement_of(axiom))
     if "formula" not in parts:
         return f"a changed axiom: {parts} changed"
-    was, now = shown_change(case.old_text.formula(before), case.text.formula(axiom))
+    was, now = shown_change(before.formula, axiom.formula)
     return f"a changed axiom: {parts} changed, from {was} to {now}"
 
 
@@ -497,8 +493,12 @@ def mathboxes(case: Case) -> Iterator[Finding]:
 
 
 def discouraged_labels(text: Text) -> list[str]:
-    """The assertions whose comment says that new usage is discouraged."""
-    return [one.label for one in text.assertions if is_discouraged(text, one)]
+    """The assertions whose comment says that new usage is discouraged, in file order. Where the
+    text says it, the assertion comes next."""
+    places = (match.start() for match in MENTIONED.finditer(text.data))
+    numbers = sorted({bisect_right(text.places, place) for place in places})
+    found = [text.assertions[number] for number in numbers if number < len(text.assertions)]
+    return [one.label for one in found if is_discouraged(text, one)]
 
 
 def is_discouraged(text: Text, assertion: Assertion) -> bool:

@@ -6,13 +6,16 @@ by `at_stop`. Nothing of an answer was written then, or not all of it.
 
 import os
 import signal
-from collections.abc import Callable
+from collections.abc import Callable, Iterator
+from contextlib import contextmanager
 from types import FrameType
 
 STOPPING = (signal.SIGINT, signal.SIGTERM, signal.SIGHUP)
 
 _to_do: dict[int, Callable[[], None]] = {}
 _count = 0
+_is_held = False
+_came: int | None = None
 
 
 def at_stop(action: Callable[[], None]) -> int:
@@ -31,9 +34,32 @@ def forget(number: int) -> None:
 def forget_all() -> None:
     """Takes back all that was registered: in a copy of the process, what the first one does."""
     _to_do.clear()
+    _release()
+
+
+@contextmanager
+def held() -> Iterator[None]:
+    """Holds signals back while something begins that is to be ended by one, up to `at_stop`."""
+    global _is_held
+    _is_held = True
+    try:
+        yield
+    finally:
+        _release()
+
+
+def _release() -> None:
+    global _is_held
+    _is_held = False
+    if _came is not None:
+        _stop(_came, None)
 
 
 def _stop(number: int, _: FrameType | None) -> None:
+    global _came
+    if _is_held:
+        _came = number
+        return
     for other in STOPPING:
         signal.signal(other, signal.SIG_IGN)
     for action in list(_to_do.values()):

@@ -14,7 +14,6 @@ from query.database import Dependence
 from query.errors import NoAnswer, shown
 from query.output import reason
 from query.rules import is_discouraged, is_proof_discouraged
-from query.statements import distinct_pairs
 from query.text import Text
 
 APPLICATION = 0x6D6D7175
@@ -116,17 +115,17 @@ class Content:
     def statements(self) -> Iterator[Row]:
         """The rows of `statement`."""
         text = self.text
-        theorems = set(self.dependence.theorems)
         for one in text.assertions:
-            kind = "axiom" if one.kind == "a" else "theorem" if one.label in theorems else "open"
+            kind = "open" if one.is_open else "axiom" if one.kind == "a" else "theorem"
+            header = text.header(one)
             yield (
                 one.number + 1,
                 one.label,
                 kind,
-                text.typecode(one),
-                text.formula(one),
+                one.typecode,
+                one.formula,
                 text.line(one.place),
-                one.header + 1 if one.header >= 0 else None,
+                None if header is None else header + 1,
                 text.mathbox(one),
                 is_discouraged(text, one),
                 is_proof_discouraged(text, one),
@@ -135,18 +134,16 @@ class Content:
 
     def hypotheses(self) -> Iterator[Row]:
         """The rows of `hypothesis`."""
-        text = self.text
-        for one in text.assertions:
-            for position, number in enumerate(one.essential, 1):
-                hypothesis = text.hypotheses[number]
-                yield one.number + 1, position, hypothesis.label, text.formula(hypothesis)
+        for one in self.text.assertions:
+            given = [each for each in one.frame().hypotheses() if each.kind == "e"]
+            for position, each in enumerate(given, 1):
+                yield one.number + 1, position, each.label, each.formula
 
     def disjoint(self) -> Iterator[Row]:
         """The rows of `disjoint`: what binds who cites the statement."""
         for one in self.text.assertions:
-            if one.disjoint:
-                for first, second in distinct_pairs(self.text, one):
-                    yield one.number + 1, first, second
+            for first, second in one.frame().pairs():
+                yield one.number + 1, first, second
 
     def citations(self) -> Iterator[Row]:
         """The rows of `citation`."""

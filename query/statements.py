@@ -8,15 +8,16 @@ only the proof has, aren't part of it.
 
 from __future__ import annotations
 
+from array import array
 from collections import deque
-from collections.abc import Callable, Iterator
+from collections.abc import Callable, Iterable, Iterator
 from dataclasses import dataclass, field
-from functools import cached_property, partial
+from functools import cached_property
+from hashlib import blake2b
 from typing import NamedTuple
 
-from query.active import Active
-from query.distinct import Pair, pairs_of, sum_of
-from query.text import Assertion, Stretch, Text
+from query.assertions import Assertion, Pair
+from query.text import Text
 
 Cites = Callable[[str], frozenset[str]]
 """For a theorem's label the labels that it cites."""
@@ -33,21 +34,47 @@ class Statement(NamedTuple):
     """Each variable with its typecode."""
 
 
-def statement_of(text: Text, assertion: Assertion) -> Statement:
+def statement_of(assertion: Assertion) -> Statement:
     """The statement of an assertion."""
-    variables = text.mandatory(assertion)
-    typecodes = text.variables
+    frame = assertion.frame()
+    hypotheses = frame.hypotheses()
+    given = [each.formula for each in hypotheses if each.kind == "e"]
+    floating = [each.formula.split(" ") for each in hypotheses if each.kind == "f"]
     return Statement(
-        text.formula(assertion),
-        text.sum_of_hypotheses(assertion),
-        sum_of(text.groups(assertion, variables)),
-        frozenset((variable, typecodes[variable]) for variable in variables),
+        assertion.formula,
+        sum_of("\n".join(given).encode()),
+        sum_of_pairs(frame.pairs()),
+        frozenset((variable, typecode) for typecode, variable in floating),
     )
 
 
-def distinct_pairs(text: Text, assertion: Assertion) -> Iterator[Pair]:
-    """The pairs of an assertion's variables that must be distinct, in order."""
-    return pairs_of(text.groups(assertion, text.mandatory(assertion)))
+def sum_of(*parts: bytes) -> bytes:
+    """A sum of bytes."""
+    total = blake2b(digest_size=20)
+    for part in parts:
+        total.update(part)
+    return total.digest()
+
+
+def sum_of_pairs(pairs: Iterable[Pair]) -> bytes:
+    """What is the same for pairs exactly where they are the same, in whatever order. A pair takes
+    four bytes, since there may be millions of them."""
+    numbers: dict[str, int] = {}
+    others: dict[str, array[int]] = {}
+    for one, other in pairs:
+        others.setdefault(one, array("I")).append(numbers.setdefault(other, len(numbers)))
+    names = sorted(numbers)
+    ranks = {numbers[name]: rank for rank, name in enumerate(names)}
+    total = [sum_of("\n".join(names).encode())]
+    for one in sorted(others):
+        ranked = array("I", sorted(ranks[number] for number in others[one]))
+        total += [sum_of(one.encode()), sum_of(ranked.tobytes())]
+    return sum_of(*total)
+
+
+def is_same(old: Assertion, new: Assertion) -> bool:
+    """Whether two assertions have the same statement. Most are told by the same line."""
+    return old.said == new.said or statement_of(old) == statement_of(new)
 
 
 def difference(old: Statement, new: Statement) -> str:
@@ -90,52 +117,6 @@ class Pairing:
         return {old: new for new, old in self.renamed.items()}
 
 
-class Written:
-    """Whether what is active at places of two texts is written alike. `old` and `new` give what
-    each number stands for, as it is written."""
-
-    def __init__(self, old: Callable[[int], bytes], new: Callable[[int], bytes]) -> None:
-        self.old = old
-        self.new = new
-        self.known: dict[tuple[int, int], bool] = {(-1, -1): True}
-
-    def is_alike(self, old: Active, new: Active) -> bool:
-        """Whether as many are active, each written as the other. What was compared once with those
-        before it isn't compared again."""
-        if old.size != new.size:
-            return False
-        passed = []
-        answer = True
-        for one, other in zip(old.upwards(), new.upwards()):
-            pair = one.last, other.last
-            known = self.known.get(pair)
-            if known is not None:
-                answer = known
-                break
-            passed.append(pair)
-            if self.old(one.last) != self.new(other.last):
-                answer = False
-                break
-        for pair in passed:
-            self.known[pair] = answer
-        return answer
-
-
-def stretch_of(text: Text, stretch: Stretch) -> bytes:
-    """A stretch as it is written."""
-    return text.data[stretch[0] : stretch[1]]
-
-
-def hypothesis_of(text: Text, number: int) -> bytes:
-    """The formula of a hypothesis, as it is written."""
-    return stretch_of(text, text.hypotheses[number].formula)
-
-
-def condition_of(text: Text, number: int) -> bytes:
-    """The variables of a `$d`, as they are written."""
-    return stretch_of(text, text.disjoint[number])
-
-
 class Candidates:
     """Assertions by their statements and by what they cite, those of each in file order."""
 
@@ -167,48 +148,6 @@ class Pairer:
     def __init__(self, old: Text, new: Text) -> None:
         self.old = old
         self.new = new
-        changed = set(old.variables.items()) ^ set(new.variables.items())
-        self.other_variables = {variable for variable, _ in changed}
-        self.untouched: dict[int, bool] = {}
-        """Of hypotheses of NEW whether they and those before them have no other variable."""
-        self.given = Written(partial(hypothesis_of, old), partial(hypothesis_of, new))
-        self.distinct = Written(partial(condition_of, old), partial(condition_of, new))
-
-    def is_same(self, old: Assertion, new: Assertion) -> bool:
-        """Whether two assertions have the same statement. Most are written alike."""
-        if self.is_written_alike(old, new) and self.has_same_variables(new):
-            return True
-        return statement_of(self.old, old) == statement_of(self.new, new)
-
-    def is_written_alike(self, old: Assertion, new: Assertion) -> bool:
-        """Whether formula, hypotheses and `$d` stand in both texts by the same bytes."""
-        return (
-            stretch_of(self.old, old.formula) == stretch_of(self.new, new.formula)
-            and self.given.is_alike(old.essential, new.essential)
-            and self.distinct.is_alike(old.disjoint, new.disjoint)
-        )
-
-    def has_same_variables(self, new: Assertion) -> bool:
-        """Whether what formula and hypotheses of NEW are written with has the same typecodes in
-        OLD."""
-        if not self.other_variables:
-            return True
-        passed = []
-        answer = self.is_untouched(new.formula)
-        for each in new.essential.upwards() if answer else ():
-            known = self.untouched.get(each.last)
-            if known is not None:
-                answer = known
-                break
-            passed.append(each.last)
-        for number in reversed(passed):
-            answer = answer and self.is_untouched(self.new.hypotheses[number].formula)
-            self.untouched[number] = answer
-        return answer
-
-    def is_untouched(self, stretch: Stretch) -> bool:
-        """Whether no word of a stretch of NEW is a variable of another typecode in OLD."""
-        return self.other_variables.isdisjoint(self.new.raw(stretch).split())
 
     def pair(self, kind: str, old_cites: Cites, new_cites: Cites) -> Pairing:
         """Pairs the axioms (`a`) or the theorems (`p`)."""
@@ -216,7 +155,7 @@ class Pairer:
         old = {one.label: one for one in self.old.assertions if one.kind == kind}
         new = {one.label: one for one in self.new.assertions if one.kind == kind}
         for label, assertion in new.items():
-            if label in old and self.is_same(old[label], assertion):
+            if label in old and is_same(old[label], assertion):
                 pairing.origin[label] = label
         kept = set(pairing.origin)
         freed = [one for label, one in old.items() if label not in kept]
@@ -246,10 +185,10 @@ class Pairer:
         cite the same, then the others in file order."""
         candidates = Candidates()
         for one in old:
-            candidates.add(statement_of(self.old, one), old_cites(one.label), one.label)
+            candidates.add(statement_of(one), old_cites(one.label), one.label)
         left = []
         for one in new:
-            statement = statement_of(self.new, one)
+            statement = statement_of(one)
             same = candidates.take(statement, new_cites(one.label))
             if same is None:
                 left.append((one.label, statement))
@@ -268,16 +207,16 @@ class Pairer:
         wanted: dict[tuple[Statement, frozenset[str]], list[str]] = {}
         formulas = set()
         for label in new:
-            statement = statement_of(self.new, self.new.by_label[label])
+            statement = statement_of(self.new.by_label[label])
             wanted.setdefault((statement, new_cites(label)), []).append(label)
             formulas.add(statement.formula)
         found: dict[str, str] = {}
         for one in stayed if wanted else ():
-            if self.old.formula(one) not in formulas:
+            if one.formula not in formulas:
                 continue
             cites = old_cites(one.label)
             if cites == new_cites(one.label):
                 continue
-            for label in wanted.pop((statement_of(self.old, one), cites), ()):
+            for label in wanted.pop((statement_of(one), cites), ()):
                 found[label] = one.label
         return found

@@ -21,7 +21,7 @@ class Command:
     column means, an example. `configure` adds its words and options; `--format`, `--no-cache` and
     `--help` are there already. `run` returns the status, 0 or 1, and raises `NoAnswer` for status
     2. `formats` are the words that `--format` takes, the first of them the default; with none there
-    is no such option.
+    is no such option. `lists` is whether it lists labels, so that it takes the filters.
     """
 
     name: str
@@ -29,6 +29,7 @@ class Command:
     configure: Callable[[argparse.ArgumentParser], None]
     run: Callable[[Context, argparse.Namespace], int]
     formats: tuple[str, ...] = TABLE_FORMATS
+    lists: bool = False
 
 
 # Each module with its commands and what each answers, in the order in which they are listed.
@@ -60,6 +61,9 @@ MODULES: dict[str, dict[str, str]] = {
             "what is new, gone, renamed, and what came to rest on an axiom or no longer does"
         ),
     },
+    "review": {
+        "review": "what a change does to the theorems, one line for each, or as a comment",
+    },
     "gate": {
         "gate": "the check of a pull request: what the base and its mmdepend.toml ask for",
     },
@@ -69,6 +73,9 @@ MODULES: dict[str, dict[str, str]] = {
         "unfinished": "theorems that are left open, and what rests on them",
         "discouraged": "which theorems use one whose new usage is discouraged",
         "mathboxes": "citations of a mathbox from outside it",
+    },
+    "moving": {
+        "move": "what has to go along where THEOREM is moved",
     },
     "graphs": {
         "graph": "the citations as DOT, GraphML or a list of edges",

@@ -172,7 +172,8 @@ def run_way_out(context: Context, arguments: argparse.Namespace) -> int:
         if pair:
             rows.append([labels[node], *(labels[each] for edge in pair for each in edge)])
     why = f"{graph.name}: no theorem rests on {labels[end]} by way of a single citation"
-    context.table(["theorem", "first", "first_cited", "last", "last_cited"], rows, why)
+    columns = ["theorem", "first", "first_cited", "last", "last_cited"]
+    context.table(columns, rows, why, "theorem")
     return 0
 
 
@@ -200,11 +201,13 @@ def run_frees(context: Context, arguments: argparse.Namespace) -> int:
     if arguments.theorems:
         again = {graph.theorem(label) for label in arguments.theorems}
         rows = [[graph.labels[node]] for node in cuts.freed(graph, end, again, kept)]
-        context.table(["theorem"], rows, nothing_rests(graph, end, "of these "))
+        context.table(["theorem"], rows, nothing_rests(graph, end, "of these "), "theorem")
         return 0
-    most = sorted(cuts.freeing(graph, end, kept), key=lambda pair: -pair[0])[: arguments.most]
-    found: list[list[Value]] = [[freed, graph.labels[node]] for freed, node in most]
-    context.table(["freed", "theorem"], found, nothing_rests(graph, end))
+    freeing = sorted(cuts.freeing(graph, end, kept), key=lambda pair: -pair[0])
+    if not freeing:
+        context.tell(nothing_rests(graph, end))
+    found: list[list[Value]] = [[freed, graph.labels[node]] for freed, node in freeing]
+    context.out.table(["freed", "theorem"], context.kept(found, 1)[: arguments.most])
     return 0
 
 
@@ -215,6 +218,6 @@ def nothing_rests(graph: Graph, end: int, which: str = "") -> str:
 
 COMMANDS = [
     Command("why", WHY_PAGE, configure_why, run_why),
-    Command("way-out", WAY_OUT_PAGE, configure_way_out, run_way_out),
-    Command("frees", FREES_PAGE, configure_frees, run_frees),
+    Command("way-out", WAY_OUT_PAGE, configure_way_out, run_way_out, lists=True),
+    Command("frees", FREES_PAGE, configure_frees, run_frees, lists=True),
 ]

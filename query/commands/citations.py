@@ -76,9 +76,9 @@ def put_pairs(
 ) -> None:
     """Answers with pairs, or where one LABEL was given with their wanted half."""
     if labels == 1:
-        context.table([columns[wanted]], [[row[wanted]] for row in rows], empty)
-    else:
-        context.table(columns, rows, empty)
+        columns, rows = [columns[wanted]], [[row[wanted]] for row in rows]
+        wanted = 0
+    context.table(columns, rows, empty, columns[wanted])
 
 
 def configure_cited_by(parser: argparse.ArgumentParser) -> None:
@@ -111,12 +111,13 @@ def run_uncited(context: Context, arguments: argparse.Namespace) -> int:
     graph = context.database(arguments.database, options_of(arguments)).graph()
     cited = set(graph.cites.targets)
     rows = [[graph.labels[node]] for node in range(graph.theorems) if node not in cited]
-    context.table(["theorem"], rows, f"{graph.name}: there is no theorem that nobody cites")
+    why = f"{graph.name}: there is no theorem that nobody cites"
+    context.table(["theorem"], rows, why, "theorem")
     return 0
 
 
 COMMANDS = [
-    Command("cites", CITES_PAGE, configure_cites, run_cites),
-    Command("cited-by", CITED_BY_PAGE, configure_cited_by, run_cited_by),
-    Command("uncited", UNCITED_PAGE, configure_uncited, run_uncited),
+    Command("cites", CITES_PAGE, configure_cites, run_cites, lists=True),
+    Command("cited-by", CITED_BY_PAGE, configure_cited_by, run_cited_by, lists=True),
+    Command("uncited", UNCITED_PAGE, configure_uncited, run_uncited, lists=True),
 ]

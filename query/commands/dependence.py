@@ -76,14 +76,15 @@ def run_rests(context: Context, arguments: argparse.Namespace) -> int:
         found = [graph.labels[node] for node in sorted(below) if graph.is_theorem(node)]
         names = shown(" ".join(arguments.labels))
         rows = [[label] for label in found]
-        context.table(["theorem"], rows, f"{database.name}: {names}: rests on no theorem")
+        why = f"{database.name}: {names}: rests on no theorem"
+        context.table(["theorem"], rows, why, "theorem")
     elif arguments.apart:
         put_apart(context, database, arguments.labels)
     else:
         axioms = axioms_of(database, arguments.labels)
         names = shown(" ".join(arguments.labels))
         why = f"{database.name}: {names}: rests on no axiom{chosen_of(database)}"
-        context.table(["axiom"], [[label] for label in axioms], why)
+        context.table(["axiom"], [[label] for label in axioms], why, "axiom")
     return 0
 
 
@@ -108,13 +109,11 @@ def axioms_of(database: Database, labels: Sequence[str]) -> list[str]:
 def put_apart(context: Context, database: Database, labels: Sequence[str]) -> None:
     """Answers `rests --apart`."""
     logic = set(database.dependence().axioms)
-    database.text()  # NoAnswer where it is a report, whose axioms can't be told apart
-    every = Database(
-        database.source, replace(database.options, only=None), database.uses_cache, database.known
-    )
+    database.data()  # NoAnswer where it is a report, whose axioms can't be told apart
+    every = replace(database, options=replace(database.options, only=None))
     rows = [["logic" if each in logic else "syntax", each] for each in axioms_of(every, labels)]
     why = f"{database.name}: {shown(' '.join(labels))}: rests on no axiom"
-    context.table(["kind", "axiom"], rows, why)
+    context.table(["kind", "axiom"], rows, why, "axiom")
 
 
 def rested_on(database: Database, dependence: Dependence, label: str) -> Sequence[int]:
@@ -123,8 +122,7 @@ def rested_on(database: Database, dependence: Dependence, label: str) -> Sequenc
         return dependence.rests(dependence.rows[label])
     if label in dependence.columns:
         return [dependence.columns[label]]
-    if label not in database.prepared(database.options.only).columns:
-        database.graph().node(label)  # NoAnswer where it isn't an axiom that isn't chosen
+    database.graph().node(label)  # NoAnswer where it isn't an axiom that isn't chosen
     return []
 
 
@@ -150,26 +148,27 @@ def run_falls(context: Context, arguments: argparse.Namespace) -> int:
     database = context.database(arguments.database, options_of(arguments))
     if arguments.only is not None or arguments.axioms or arguments.ignore_definitions:
         for label in arguments.labels:
-            if label not in database.prepared(database.options.only).theorems:
+            if label not in database.prepared.theorems:
                 database.dependence().column(label)  # NoAnswer where it isn't chosen
     sets = [users_of(database, label) for label in arguments.labels]
     found = set.intersection(*sets) if arguments.all_of else set.union(*sets)
     for label in arguments.without:
         found -= users_of(database, label)
-    theorems = database.prepared(database.options.only).theorems
+    theorems = database.prepared.theorems
     rows = [[theorems[row]] for row in sorted(found)]
     word = "each" if arguments.all_of else "any"
     names = shown(", ".join(arguments.labels))
     which = names if len(sets) == 1 else f"{word} of {names}"
     without = " that the options leave" if arguments.without else ""
-    context.table(["theorem"], rows, f"{database.name}: no theorem{without} rests on {which}")
+    why = f"{database.name}: no theorem{without} rests on {which}"
+    context.table(["theorem"], rows, why, "theorem")
     return 0
 
 
 def users_of(database: Database, label: str) -> set[int]:
     """The rows of the theorems that rest on an axiom or a theorem. NoAnswer where there is neither
     of this label."""
-    found = database.prepared(database.options.only)
+    found = database.prepared
     if found.marks is not None and label in found.columns:
         return set(found.marks.users(found.columns.index(label)))
     graph: Graph = database.graph()
@@ -178,6 +177,6 @@ def users_of(database: Database, label: str) -> set[int]:
 
 
 COMMANDS = [
-    Command("rests", RESTS_PAGE, configure_rests, run_rests),
-    Command("falls", FALLS_PAGE, configure_falls, run_falls),
+    Command("rests", RESTS_PAGE, configure_rests, run_rests, lists=True),
+    Command("falls", FALLS_PAGE, configure_falls, run_falls, lists=True),
 ]

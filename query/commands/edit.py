@@ -2,13 +2,12 @@
 
 import argparse
 
-from query.changes import text_of
+from query.bare import Stretch, bare, proof_of
 from query.commands import Command
 from query.context import Context
 from query.errors import NoAnswer, shown
 from query.options import Options, add_database
 from query.program import Refused
-from query.text import Stretch, Text
 
 PAGE = """
 Writes the database with the proof of OTHER in place of that of THEOREM, or with ? where OTHER is ?.
@@ -27,28 +26,28 @@ def configure(parser: argparse.ArgumentParser) -> None:
     parser.add_argument("other", metavar="OTHER")
 
 
-def proof_of(text: Text, name: str, label: str) -> Stretch:
+def found_proof(text: bytes, name: str, label: str) -> Stretch:
     """Where the proof of a theorem stands. NoAnswer where there is no such theorem."""
-    found = text.find(label)
-    if found is None or found.proof is None:
+    found = proof_of(text, label)
+    if found is None:
         raise NoAnswer(f"{name}: has no theorem '{shown(label)}'")
-    return found.proof
+    return found
 
 
 def run(context: Context, arguments: argparse.Namespace) -> int:
     """Answers."""
     database = context.database(arguments.database, Options(only=None, open=True))
-    data = database.text()
+    data = database.data()
     try:
-        database.graph()
+        database.counts()
     except Refused as refused:
         if not refused.is_of_proof:
             raise
-    text = text_of(database)
-    start, end = proof_of(text, database.name, arguments.theorem)
+    text = bare(data)
+    start, end = found_proof(text, database.name, arguments.theorem)
     given = b" ? "
     if arguments.other != "?":
-        first, last = proof_of(text, database.name, arguments.other)
+        first, last = found_proof(text, database.name, arguments.other)
         given = data[first:last]
     context.out.write(data[:start] + given + data[end:])
     return 0

@@ -4,7 +4,6 @@ import argparse
 import hashlib
 
 from query import progress
-from query.changes import text_of
 from query.commands import Command
 from query.context import Context
 from query.errors import shown
@@ -36,13 +35,13 @@ def run(context: Context, arguments: argparse.Namespace) -> int:
 
     options = options_of(arguments)
     database = context.database(arguments.database, options)
-    database.text()
+    data = database.data()
     dependence = database.dependence()
     about = {
         "program": version(),
         "schema": str(SCHEMA),
         "database": database.name,
-        "sha256": hashlib.sha256(database.text()).hexdigest(),
+        "sha256": hashlib.sha256(data).hexdigest(),
         "axioms of typecode": "all" if options.only is None else options.only,
         "axioms that begin with": " ".join(options.axioms),
         "ignore definitions": str(options.ignore_definitions).lower(),
@@ -50,7 +49,7 @@ def run(context: Context, arguments: argparse.Namespace) -> int:
         "open": str(options.open).lower(),
     }
     progress.now(f"writing {shown(arguments.sqlite)}")
-    counts = export(Content(about, text_of(database), dependence), arguments.sqlite)
+    counts = export(Content(about, database.text, dependence), arguments.sqlite)
     rows: list[list[Value]] = [[table, count] for table, count in counts]
     context.out.table(["table", "rows"], rows)
     return 0

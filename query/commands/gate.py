@@ -7,7 +7,7 @@ from dataclasses import dataclass, field
 from pathlib import Path
 
 from query.branch import Asked, Wish, branch_of, brought, compared, read
-from query.changes import Comparison, Side, sides, text_of_side
+from query.changes import Comparison, sides
 from query.commands import Command
 from query.config import FILE_NAME, RULES, find_config, load_config
 from query.context import Context
@@ -147,17 +147,7 @@ def judged(request: Request) -> list[Finding]:
         if refused.source is not request.new.source:
             raise
         return [refusal_of(refused)]
-    for side in (old, new):
-        see_agreement(side)
     return judge(Case(Comparison(old, new), request.asked.config, request.asked.findings))
-
-
-def see_agreement(side: Side) -> None:
-    """NoAnswer where other statements were read in a text than the program verified."""
-    kinds = {one.label: one.kind for one in text_of_side(side).assertions}
-    axioms, theorems = side.dependence.axioms, side.dependence.theorems
-    if kinds.keys() != {*axioms, *theorems} or any(kinds[each] != "p" for each in theorems):
-        raise NoAnswer(f"{side.name}: other statements were read than verified")
 
 
 def refusal_of(refused: Refused) -> Finding:

@@ -169,7 +169,7 @@ def names_down(database: Database, theorems: list[str]) -> list[tuple[int, str]]
     """Names on the axis of theorems, the most important first: the row, and the name."""
     found = []
     if not database.is_report:
-        text = database.read()
+        text = database.text
         rows = {label: row for row, label in enumerate(theorems)}
         first_row = [len(theorems)] * (len(text.assertions) + 1)
         for number in range(len(text.assertions) - 1, -1, -1):

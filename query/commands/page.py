@@ -81,8 +81,6 @@ def node() -> str:
 def made(databases: list[Database], words: list[str]) -> bytes:
     """The page that the program makes of the database, beside an older one where there are two.
     NoAnswer where it makes none."""
-    import subprocess
-
     from query.program import Running, devnull
 
     with ExitStack() as opened:
@@ -96,7 +94,7 @@ def made(databases: list[Database], words: list[str]) -> bytes:
         surroundings = {
             name: value for name, value in os.environ.items() if not name.startswith("NODE_")
         }
-        running = Running(node(), line, devnull(), subprocess.PIPE, tuple(places), surroundings)
+        running = Running(node(), line, devnull(), True, tuple(places), surroundings)
         out, errors, status = running.ended()
     for database in databases:
         database.source.see_unchanged()
@@ -128,7 +126,7 @@ def run(context: Context, arguments: argparse.Namespace) -> int:
         databases.append(context.database(arguments.against, options))
         words.append(f"--against-name={name_of(arguments.against)}")
     for database in databases:
-        database.text()  # no report has one
+        database.data()  # no report has one
     progress.now(f"verifying {databases[0].name}")
     context.out.write(made(databases, words))
     return 0

@@ -76,7 +76,7 @@ def run_top(context: Context, arguments: argparse.Namespace) -> int:
             raise NoAnswer("a report beside a database; both have to be one or the other")
         rows = differences(old.dependence(), dependence)
         why = f"on each axiom as many theorems rest in {old.name} as in {database.name}"
-        context.table(["was", "theorems", "axiom"], rows, why)
+        context.table(["was", "theorems", "axiom"], rows, why, "axiom")
         return 0
     put_ranking(context, arguments, dependence)
     return 0
@@ -106,9 +106,12 @@ def put_ranking(context: Context, arguments: argparse.Namespace, dependence: Dep
     if arguments.below is not None:
         rows = [row for row in rows if int(str(row[0])) < arguments.below]
         why = f"{dependence.name}: on each axiom{dependence.which} {arguments.below} or more rest"
+    if not rows:
+        context.tell(why)
+    kept = context.kept(rows, 1)
     if arguments.below is None or arguments.number is not None:
-        rows = sorted(rows, key=lambda row: -int(str(row[0])))[: arguments.number or 10]
-    context.table(columns, rows, why)
+        kept = sorted(kept, key=lambda row: -int(str(row[0])))[: arguments.number or 10]
+    context.out.table(columns, kept)
 
 
 def configure_within(parser: argparse.ArgumentParser) -> None:
@@ -131,7 +134,8 @@ def run_within(context: Context, arguments: argparse.Namespace) -> int:
         for row, label in enumerate(dependence.theorems)
         if not dependence.bits(row) & ~allowed
     ]
-    context.table(["theorem"], rows, f"{dependence.name}: each theorem rests on other axioms too")
+    why = f"{dependence.name}: each theorem rests on other axioms too"
+    context.table(["theorem"], rows, why, "theorem")
     return 0
 
 
@@ -153,12 +157,12 @@ def run_same(context: Context, arguments: argparse.Namespace) -> int:
         if row != wanted and dependence.bits(row) == bits
     ]
     why = f"{dependence.name}: no other theorem rests on just the axioms of {arguments.theorem}"
-    context.table(["theorem"], rows, why)
+    context.table(["theorem"], rows, why, "theorem")
     return 0
 
 
 COMMANDS = [
-    Command("top", TOP_PAGE, configure_top, run_top),
-    Command("within", WITHIN_PAGE, configure_within, run_within),
-    Command("same", SAME_PAGE, configure_same, run_same),
+    Command("top", TOP_PAGE, configure_top, run_top, lists=True),
+    Command("within", WITHIN_PAGE, configure_within, run_within, lists=True),
+    Command("same", SAME_PAGE, configure_same, run_same, lists=True),
 ]

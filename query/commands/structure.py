@@ -3,8 +3,9 @@ its parts, beside what rests on what."""
 
 import argparse
 from bisect import bisect_left
+from collections.abc import Sequence
 
-from query.changes import text_of
+from query.assertions import Assertion
 from query.commands import Command
 from query.context import Context
 from query.database import Dependence
@@ -18,7 +19,7 @@ from query.options import (
 )
 from query.output import Value
 from query.rules import across_mathboxes, citations, discouraged_labels, is_proof_discouraged
-from query.text import Assertion, Text
+from query.text import Text
 
 CHAPTERS_PAGE = """
 Lists the headers of a database. A header is a comment whose title stands between lines of ####,
@@ -116,7 +117,7 @@ def run_chapters(context: Context, arguments: argparse.Namespace) -> int:
     database = context.database(arguments.database, options_of(arguments))
     dependence = database.dependence()
     columns = [dependence.column(label) for label in arguments.axiom]
-    text = text_of(database)
+    text = database.text
     theorems = dependence.theorems
     counted = [Numbers(text, theorems)]
     for column in columns:
@@ -145,16 +146,16 @@ def run_order(context: Context, arguments: argparse.Namespace) -> int:
     """Answers `order`."""
     database = context.database(arguments.database, options_of(arguments))
     dependence = database.dependence()
-    text = text_of(database)
+    text = database.text
     counts = dict(zip(dependence.axioms, dependence.sizes()))
     for row, label in enumerate(dependence.theorems):
         counts[label] = dependence.bits(row).bit_count()
     rows: list[list[Value]] = []
     for one in text.assertions:
-        kind = "axiom" if one.kind == "a" else "open" if text.is_open(one) else "theorem"
+        kind = "open" if one.is_open else "axiom" if one.kind == "a" else "theorem"
         line = text.line(one.place)
-        rows.append([line, kind, text.typecode(one), counts.get(one.label), one.label])
-    context.out.table(["line", "kind", "typecode", "count", "label"], rows)
+        rows.append([line, kind, one.typecode, counts.get(one.label), one.label])
+    context.out.table(["line", "kind", "typecode", "count", "label"], context.kept(rows, 4))
     return 0
 
 
@@ -167,7 +168,7 @@ def configure_unfinished(parser: argparse.ArgumentParser) -> None:
 
 def open_theorems(dependence: Dependence, text: Text) -> list[str]:
     """The theorems that are left open, which are among the axioms."""
-    return [label for label in dependence.axioms if text.by_label[label].kind == "p"]
+    return [label for label in dependence.axioms if text.by_label[label].is_open]
 
 
 def run_unfinished(context: Context, arguments: argparse.Namespace) -> int:
@@ -177,18 +178,20 @@ def run_unfinished(context: Context, arguments: argparse.Namespace) -> int:
     if database.is_report:
         raise NoAnswer(f"{database.name}: a report, where the database is wanted")
     dependence = database.dependence()
-    found = open_theorems(dependence, text_of(database))
+    found = open_theorems(dependence, database.text)
     if arguments.theorem is None:
         rows: list[list[Value]] = []
         for label in found:
             rows.append([len(dependence.users(dependence.column(label))), label])
-        context.table(["theorems", "theorem"], rows, f"{database.name}: no theorem is left open")
+        why = f"{database.name}: no theorem is left open"
+        context.table(["theorems", "theorem"], rows, why, "theorem")
         return 0
     if arguments.theorem not in found:
         raise NoAnswer(f"{database.name}: has no open theorem '{shown(arguments.theorem)}'")
     users = dependence.users(dependence.column(arguments.theorem))
     named = [[dependence.theorems[row]] for row in users]
-    context.table(["theorem"], named, f"{database.name}: nothing rests on {arguments.theorem}")
+    why = f"{database.name}: nothing rests on {arguments.theorem}"
+    context.table(["theorem"], named, why, "theorem")
     return 0
 
 
@@ -208,7 +211,7 @@ def steps(text: Text, assertion: Assertion) -> int:
     return sum(1 for letter in letters if "A" <= letter <= "T" or letter == "?")
 
 
-def discouraged_line(row: list[Value]) -> str:
+def discouraged_line(row: Sequence[Value]) -> str:
     """A line of set.mm's file `discouraged`."""
     what, label, user, count = row
     if what == "use":
@@ -222,7 +225,7 @@ def run_discouraged(context: Context, arguments: argparse.Namespace) -> int:
     """Answers `discouraged`."""
     database = context.database(arguments.database, options_of(arguments))
     graph = database.graph()
-    text = text_of(database)
+    text = database.text
     labels = discouraged_labels(text)
     counts = dict.fromkeys(labels, 0)
     rows: list[list[Value]] = []
@@ -235,10 +238,11 @@ def run_discouraged(context: Context, arguments: argparse.Namespace) -> int:
             rows.append(["proof", one.label, None, steps(text, one)])
     if not rows:
         context.tell(f"{database.name}: no comment says that something is discouraged")
+    kept = context.kept(rows, 1)
     if context.out.format != "text":
-        context.out.table(["what", "label", "by", "count"], rows)
+        context.out.table(["what", "label", "by", "count"], kept)
         return 0
-    for line in sorted(map(discouraged_line, rows)):
+    for line in sorted(map(discouraged_line, kept)):
         context.out.line(line)
     return 0
 
@@ -247,19 +251,20 @@ def run_mathboxes(context: Context, arguments: argparse.Namespace) -> int:
     """Answers `mathboxes`."""
     database = context.database(arguments.database, options_of(arguments))
     graph = database.graph()
-    rows = across_mathboxes(graph, text_of(database))
+    rows = across_mathboxes(graph, database.text)
     context.table(
         ["theorem", "mathbox", "cited", "of"],
         [[user, box, cited, other] for user, cited, box, other in rows],
         f"{database.name}: nothing cites a statement of another mathbox",
+        "theorem",
     )
     return 0
 
 
 COMMANDS = [
     Command("chapters", CHAPTERS_PAGE, configure_with_axioms, run_chapters),
-    Command("order", ORDER_PAGE, configure_order, run_order),
-    Command("unfinished", UNFINISHED_PAGE, configure_unfinished, run_unfinished),
-    Command("discouraged", DISCOURAGED_PAGE, configure_citations, run_discouraged),
-    Command("mathboxes", MATHBOXES_PAGE, configure_citations, run_mathboxes),
+    Command("order", ORDER_PAGE, configure_order, run_order, lists=True),
+    Command("unfinished", UNFINISHED_PAGE, configure_unfinished, run_unfinished, lists=True),
+    Command("discouraged", DISCOURAGED_PAGE, configure_citations, run_discouraged, lists=True),
+    Command("mathboxes", MATHBOXES_PAGE, configure_citations, run_mathboxes, lists=True),
 ]

@@ -1,12 +1,10 @@
 """`verify`: whether a database is valid, or what is wrong with it."""
 
 import argparse
-import re
-from bisect import bisect_right
 from collections.abc import Iterator
 
-from query import progress
-from query.changes import text_of
+from query import program, progress
+from query.bare import bare, declared_at, leave_open
 from query.commands import Command
 from query.context import Context
 from query.database import Database
@@ -15,7 +13,6 @@ from query.options import add_choice_of_citations, add_database, count, options_
 from query.output import Value
 from query.program import Refused
 from query.source import Source
-from query.text import Assertion, Text
 
 PAGE = """
 Tells whether every proof is valid (status 0), or the first fault (status 1) as compilers write it:
@@ -37,7 +34,8 @@ other proofs are judged on. --most N ends with the Nth fault.
   $ mmquery verify --each broken.mm
 """
 
-NO_NEWLINE = re.compile(rb"[^\n]")
+NOTHING = ["--report=citations", "--only="]
+"""The report of the axioms of no typecode, in which nothing is listed."""
 FIELDS = ["line", "column", "code", "statement", "meaning", "advice"]
 FIELDS += ["proved", "wanted", "word", "declared"]
 COLUMNS = ["valid", "axioms", "theorems", *FIELDS]
@@ -57,7 +55,7 @@ def run(context: Context, arguments: argparse.Namespace) -> int:
     """Answers `verify`."""
     database = context.database(arguments.database, options_of(arguments))
     try:
-        found = database.prepared(database.options.only)
+        axioms, theorems = database.counts()
     except Refused as refusal:
         refusals = [refusal]
         if arguments.each and not database.is_report:
@@ -67,51 +65,30 @@ def run(context: Context, arguments: argparse.Namespace) -> int:
             context.tell(f"{database.name}: there may be more faults than these {arguments.most}")
         return 1
     if context.out.format == "text":
-        context.out.line(
-            f"{database.name}: valid, {found.axioms} axioms and {len(found.theorems)} theorems"
-        )
+        context.out.line(f"{database.name}: valid, {axioms} axioms and {theorems} theorems")
     else:
-        row: list[Value] = [True, found.axioms, len(found.theorems)]
+        row: list[Value] = [True, axioms, theorems]
         context.out.table(COLUMNS, [row + [None] * len(FIELDS)])
     return 0
 
 
 def others(database: Database, first: Refused, most: int) -> Iterator[Refused]:
     """The faults of other proofs than the first that has one, in file order; so many at most."""
-    from query import program
-
-    if not first.is_of_proof:
-        return
-    text = text_of(database)
-    data = bytearray(database.text())
+    text = bare(database.data())
+    data = bytearray(database.data())
     refusal = first
     for number in range(most):
-        leave_open(text, data, refusal)
+        if not refusal.is_of_proof:
+            return
+        leave_open(text, data, place_of(data, refusal.line, refusal.column))
         progress.now(f"verifying {database.name} without {number + 1} proofs")
         source = Source(database.name, bytes(data))
-        words = ["--report=counts", "--only="] + ["--open"] * database.options.open
         try:
-            program.reports(program.found(), source, [words])
+            program.report(database.program, source, NOTHING + ["--open"] * database.options.open)
             return
         except Refused as found:
             refusal = Refused(database.source, found.line, found.column, found.code)
         yield refusal
-
-
-def leave_open(text: Text, data: bytearray, refusal: Refused) -> None:
-    """Makes an axiom of the theorem whose proof has a fault. No place changes by that."""
-    theorem = theorem_at(text, place_of(text.data, refusal.line, refusal.column))
-    assert theorem.proof is not None
-    start, end = theorem.proof
-    keyword = data.rindex(b"$p", theorem.place, theorem.formula[0])
-    data[keyword : keyword + 2] = b"$a"
-    data[start - 2 : end] = NO_NEWLINE.sub(b" ", data[start - 2 : end])
-
-
-def theorem_at(text: Text, place: int) -> Assertion:
-    """The theorem in which a place is."""
-    places = [one.place for one in text.assertions]
-    return text.assertions[bisect_right(places, place) - 1]
 
 
 def put_refusals(context: Context, refusals: list[Refused]) -> None:
@@ -155,48 +132,27 @@ def statement_of(refusal: Refused) -> str:
     return statement_at(source.data, refusal.line, refusal.column, refusal.code)
 
 
-def text_up_to(refusal: Refused, end: int | None) -> Text | None:
-    """The text of a refused database up to a place, or all of it; None where it can't be read."""
-    from query.text import UnreadableText, read_text
-
-    if refusal.source.is_report():
-        return None
-    try:
-        return read_text(refusal.source.data[:end])
-    except UnreadableText:
-        return None
-
-
 def formulas(refusal: Refused) -> tuple[str | None, str | None]:
     """What the proof proves and what its theorem says; None where that can't be told."""
     from query.proof import proved
 
-    if refusal.code != "E38":
+    source = refusal.source
+    if refusal.code != "E38" or source.is_report():
         return None, None
-    end = place_of(refusal.source.data, refusal.line, refusal.column) + len(b"$.")
-    text = text_up_to(refusal, end)
-    if text is None:
-        return None, None
-    theorem = text.assertions[-1]
-    found = proved(text, theorem)
-    return (None, None) if found is None else (found, text.formula(theorem))
+    end = place_of(source.data, refusal.line, refusal.column) + len(b"$.")
+    return proved(source, end) or (None, None)
 
 
 def word_of(refusal: Refused) -> tuple[str | None, int | None]:
     """The word of a proof that can't be cited, and the line on which something of this name is
     declared; None where that can't be told."""
-    text = text_up_to(refusal, None) if refusal.code == "E33" else None
-    if text is None:
+    data = refusal.source.data
+    if refusal.code != "E33" or refusal.source.is_report():
         return None, None
-    place = place_of(text.data, refusal.line, refusal.column)
-    word = text.data[place : place + LONGEST].split(None, 1)[0].decode("latin-1")
-    found = text.find(word)
-    if found is not None:
-        return word, text.line(found.place)
-    for hypothesis in text.hypotheses:
-        if hypothesis.label == word:
-            return word, text.line(hypothesis.place)
-    return word, None
+    place = place_of(data, refusal.line, refusal.column)
+    word = data[place : place + LONGEST].split(None, 1)[0].decode("latin-1")
+    found = declared_at(bare(data), word)
+    return word, None if found is None else data.count(b"\n", 0, found) + 1
 
 
 LONGEST = 1000

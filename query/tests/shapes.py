@@ -29,8 +29,8 @@ wi $a wff ( p -> q ) $.
 @dataclass(frozen=True)
 class Shape:
     """What is made for a size, and the commands that are run beside it. `size` is that of the
-    benchmark, and `small` the one of the test. `is_answer` is whether the answer itself has the
-    square of the size."""
+    benchmark, and `small` the one of the test. `is_answer` is whether the answer itself, or what
+    the program says, has the square of the size."""
 
     name: str
     make: Callable[[int], Files]
@@ -331,8 +331,8 @@ SHAPES = [
     Shape("a `$d` before each", many_distinct, 4_000, 3_000,
           ("chapters a.mm", "compare a.mm b.mm", "gate a.mm b.mm", "page a.mm",
            "export --sqlite out.db a.mm")),
-    Shape("a `$e` before each", many_hypotheses, 4_000, 8_000,
-          ("chapters a.mm", "compare a.mm b.mm", "gate a.mm b.mm")),
+    Shape("a `$e` before each", many_hypotheses, 2_000, 3_000,
+          ("chapters a.mm", "compare a.mm b.mm", "gate a.mm b.mm"), is_answer=True),
     Shape("deep blocks", deep_blocks, 200_000, 100_000, ("gate a.mm b.mm", "page b.mm")),
     Shape("axioms", many_axioms, 100_000, 100_000,
           ("rests b.mm more", "falls b.mm a0", "top b.mm", "compare a.mm b.mm", "gate a.mm b.mm",

@@ -71,6 +71,14 @@ class Answers(World):
         self.write("early.mm", SMALL + "x $a nothing $.\n" + text)
         (row,) = self.query("verify", "early.mm", "--each", "--format=json").rows()
         self.assertEqual(row["code"], "E17")
+        self.write("late.mm", text.replace("good $p", "$( x $) x $a nothing $. good $p"))
+        came = self.query("verify", "late.mm", "--each", "--format=json")
+        found = [(row["code"], row["statement"]) for row in came.rows()]
+        self.assertEqual(found, [("E37", "bad1"), ("E33", "bad2"), ("E17", "x")])
+        self.assertEqual((came.status, came.err), (1, ""))
+        self.write("late.mm", text + "$( never closed")
+        came = self.query("verify", "late.mm", "--each", "--format=json")
+        self.assertEqual([row["code"] for row in came.rows()], ["E37", "E33", "E33", "E03"])
         self.assertEqual(self.query("verify", "--each", "small.mm").status, 0)
 
     def test_verify_tells_both_formulas(self) -> None:

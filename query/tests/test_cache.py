@@ -9,10 +9,9 @@ from pathlib import Path
 from unittest import mock
 
 from query import cache
-from query.database import Database
-from query.options import Options
 from query.tests.world import MMQUERY, SMALL, Came, World, program
-from query.text import read_text
+
+CHAPTERS = ("chapters", "small.mm")
 
 
 class Cache(World):
@@ -58,25 +57,41 @@ class Cache(World):
         self.assertEqual(self.runs(), first)
         self.answers("rests", "small.mm", "a2", "--no-cache", MMDEPEND=counted)
         self.assertGreater(self.runs(), first)
-        for option in ("--essential", "--open", "--all", "--only=wff"):
+        for option, more in (("--essential", 1), ("--open", 1), ("--all", 0), ("--only=wff", 0)):
             before = self.runs()
             self.answers("rests", "small.mm", "wi2", option, MMDEPEND=counted)
-            self.assertGreater(self.runs(), before, option)
+            self.assertEqual(self.runs(), before + more, option)
 
-    def test_what_was_read_of_a_text_is_kept_too(self) -> None:
-        wanted = self.answers("chapters", "small.mm")
-        kept = {path: path.read_bytes() for path in self.files()}
-        self.assertEqual(len(kept), 2)
-        with mock.patch.dict(os.environ, self.places()):
-            with mock.patch("query.text.read_text") as reading:
-                found = Database.opened(str(self.room / "small.mm"), Options(), True).read()
-            reading.assert_not_called()
-        self.assertEqual(vars(found), vars(read_text(SMALL.encode())))
-        for path, whole in kept.items():
-            path.write_bytes(whole[:-1] + bytes([whole[-1] ^ 1]))
-            self.assertEqual(self.answers("chapters", "small.mm"), wanted)
-            self.assertEqual(path.read_bytes(), whole)
-        self.assertEqual(self.answers("chapters", "small.mm", "--no-cache"), wanted)
+    def test_one_result_answers_all(self) -> None:
+        counted = self.counted()
+        wanted = {}
+        for words in (
+            ("rests", "wi2", "--all"),
+            ("rests", "a2", "--only=wff"),
+            ("rests", "a2", "--apart"),
+            ("chapters",),
+            ("order", "--format=tsv"),
+            ("discouraged", "--format=json"),
+            ("compare", "small.mm"),
+            ("verify",),
+        ):
+            given = (words[0], "small.mm", *words[1:])
+            wanted[given] = self.answers(*given, MMDEPEND=counted)
+        self.assertEqual((self.runs(), len(self.files())), (1, 1))
+        for given, answer in wanted.items():
+            self.assertEqual(self.answers(*given, "--no-cache"), answer)
+        (path,) = self.files()
+        whole = path.read_bytes()
+        path.write_bytes(whole[:-1] + bytes([whole[-1] ^ 1]))
+        self.assertEqual(self.answers("chapters", "small.mm", MMDEPEND=counted), wanted[CHAPTERS])
+        self.assertEqual(path.read_bytes(), whole)
+        self.assertEqual(self.runs(), 2)
+
+    def test_a_check_keeps_nothing(self) -> None:
+        counted = self.counted()
+        self.answers("verify", "small.mm", MMDEPEND=counted)
+        self.answers("verify", "small.mm", MMDEPEND=counted)
+        self.assertEqual((self.runs(), self.files()), (2, []))
 
     def test_another_database_or_program_has_its_own(self) -> None:
         self.answers("rests", "small.mm", "a2")

@@ -238,7 +238,7 @@ class Places(World):
             "exit 3": "status 3",
             "echo 'mmdepend: out of memory' >&2; exit 4": "small.mm: out of memory",
             "kill -9 $$": "signal 9",
-            "echo nonsense": "the report is cut off",
+            "echo nonsense": "small.mm: the program said something that isn't understood",
             "exit 1": "status 1",
         }.items():
             (self.room / "fake").write_text(

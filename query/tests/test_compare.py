@@ -2,13 +2,11 @@
 
 import os
 import random
-import unittest
 from unittest import mock
 
 from query.statements import difference, statement_of
 from query.tests.generations import Generation, generation, next_generation
-from query.tests.world import SMALL, World, asked, program
-from query.text import read_text
+from query.tests.world import SMALL, World, asked, program, told_of
 
 Row = dict[str, str]
 COLUMNS = ("change", "kind", "label", "was", "axiom", "citing", "cited")
@@ -178,7 +176,7 @@ class Comparisons(World):
         }
 
 
-class Statements(unittest.TestCase):
+class Statements(World):
     """When two statements are the same."""
 
     HEAD = "$c |- wff a ( ) -> $. $v p q x $. wp $f wff p $. wq $f wff q $. vx $f a x $.\n"
@@ -186,8 +184,8 @@ class Statements(unittest.TestCase):
 
     def compared(self, first: str, second: str) -> str:
         """In what two assertions differ."""
-        texts = [read_text((self.HEAD + each).encode()) for each in (first, second)]
-        one, other = (statement_of(text, text.assertions[-1]) for text in texts)
+        texts = [told_of((self.HEAD + each).encode()) for each in (first, second)]
+        one, other = (statement_of(text.assertions[-1]) for text in texts)
         self.assertEqual(one == other, not difference(one, other))
         return difference(one, other)
 

@@ -5,10 +5,10 @@ import unittest
 from pathlib import Path
 
 from query import rules
+from query.bare import bare, declared_at, proof_of
 from query.remarks import tokens
 from query.tests import shapes
 from query.tests.world import World
-from query.text import UnreadableText, read_text
 
 SECONDS = 20
 MEMORY = 500_000_000
@@ -31,7 +31,7 @@ class Shapes(World):
 
 
 class Refused(unittest.TestCase):
-    """Texts that the program refuses are read while it does."""
+    """Texts that may be anything after a wrong proof are searched for its word all the same."""
 
     def test_they_end(self) -> None:
         many = 1_000_000
@@ -45,9 +45,10 @@ class Refused(unittest.TestCase):
             b"$" * many,
             b"${ " * many + b"x",
             b"x" * many,
+            b"x $p " * many,
         ):
-            with self.assertRaises(UnreadableText):
-                read_text(text)
+            self.assertIsNone(proof_of(bare(text), "x"))
+            self.assertIsNone(declared_at(bare(text), "y"))
 
 
 class Parts(unittest.TestCase):

@@ -13,7 +13,7 @@ from unittest import mock
 from query import cache, secret
 from query.tests.world import MMQUERY, SMALL, World
 
-LIE = {"theorems": b"a2", "columns": b"", "others": b"", "marks": b"\0", "axioms": b"0"}
+LIE = {"theorems": b"a2", "columns": b"", "typecodes": b"", "marks": b"\0", "statements": b""}
 LIE |= {"places": bytes(8), "targets": b""}
 
 
@@ -77,9 +77,9 @@ class Kept(World):
 
     def test_a_result_of_something_else(self) -> None:
         for words in (
-            ("rests", "small.mm", "wi2", "--all"),
+            ("rests", "small.mm", "a2", "--open"),
             ("rests", "small.mm", "a2", "--essential"),
-            ("chapters", "small.mm"),
+            ("chapters", "small.mm", "--open", "--essential"),
         ):
             before = set(self.folder.iterdir())
             self.answers(*words)

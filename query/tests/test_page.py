@@ -3,6 +3,7 @@
 import hashlib
 import json
 import random
+import re
 import shutil
 import unittest
 from pathlib import Path
@@ -11,8 +12,7 @@ from typing import Any
 from query.tests.blocks import Blocks, blocks_in, lines_in
 from query.tests.browser import databases
 from query.tests.repositories import Repositories
-from query.tests.world import PROGRAM_FOR_NODE, SMALL, World, invented
-from query.text import read_text
+from query.tests.world import PROGRAM_FOR_NODE, SMALL, World, invented, told_of
 
 TYPESET = databases.EVIL + databases.EVIL_TYPESETTING
 FORBIDDEN = ("innerHTML", "outerHTML", "insertAdjacentHTML", "document.write", "eval(", "Function(")
@@ -130,7 +130,7 @@ class Releases(Repositories):
 
 @unittest.skipUnless(PROGRAM_FOR_NODE.exists(), "web/build wasn't run")
 class Readers(World):
-    """The page has what mmquery's own reader finds in a text."""
+    """The page has what the program's lines tell of a text."""
 
     def test_they_agree(self) -> None:
         chance = random.Random(5)
@@ -144,23 +144,33 @@ class Readers(World):
 
     def compare(self, blocks: Blocks, text: str) -> None:
         """The blocks are those of the text."""
-        read = read_text(text.encode("latin-1"))
+        read = told_of(text.encode("latin-1"))
         facts = json.loads(blocks["facts"])
         self.assertEqual(lines_in(blocks, "labels"), [one.label for one in read.assertions])
-        self.assertEqual(
-            lines_in(blocks, "formulas"), [read.formula(one) for one in read.assertions]
-        )
-        essential = [one for one in read.hypotheses if one.kind == "e"]
+        self.assertEqual(lines_in(blocks, "formulas"), [one.formula for one in read.assertions])
+        given = [one.frame().hypotheses() for one in read.assertions]
+        essential = {each.label: each.formula for all in given for each in all if each.kind == "e"}
         self.assertEqual(facts["hypotheses"], len(essential))
-        given = [read.formula(one) for one in essential] or [""]
-        self.assertEqual(lines_in(blocks, "hypothesis-formulas"), given)
-        self.assertEqual(facts["variables"], [list(pair) for pair in read.variables.items()])
+        self.assertEqual(lines_in(blocks, "hypothesis-labels"), [*essential] or [""])
+        self.assertEqual(lines_in(blocks, "hypothesis-formulas"), [*essential.values()] or [""])
+        floating = [[each.formula.split() for each in all if each.kind == "f"] for all in given]
+        variables = {variable: code for all in floating for code, variable in all}
+        self.assertEqual(dict(facts["variables"]), variables)
+        order = [variable for variable, _ in facts["variables"]]
+        for all in floating if len(set(order)) == len(order) else ():
+            places = [order.index(variable) for _, variable in all]
+            self.assertEqual(places, sorted(places), text)
         self.assertEqual([row[0] for row in facts["chapters"]], [one.level for one in read.headers])
-        conditions = [read.conditions(one) for one in read.assertions]
         dummies = [(line.split("\t") + [""])[1] for line in lines_in(blocks, "conditions")]
-        self.assertEqual(dummies, [" ".join(one.dummies) for one in conditions])
+        told = [(re.findall(r" \$v([^$]*) \$", one.said) or [""])[0] for one in read.assertions]
+        self.assertEqual([*map(words_of, dummies)], [*map(words_of, told)])
         marks = [bool(read.comment(one).strip()) for one in read.assertions]
         self.assertEqual([bool(flag & 4) for flag in blocks["flags"]], marks)
+
+
+def words_of(line: str) -> list[str]:
+    """The words of a line, in alphabetical order."""
+    return sorted(line.split())
 
 
 if __name__ == "__main__":

@@ -1,6 +1,7 @@
 """The examples of the pages: each command of docs/COOKBOOK.md is run, and shows what stands
 there; and what other pages show of texts, reports and faults is what the program gives."""
 
+import ast
 import os
 import re
 import shutil
@@ -98,7 +99,7 @@ class Manual(World):
         script = f""". {TOP}/completions/mmquery.bash
         COMP_WORDS=("$@"); COMP_CWORD=$(($# - 1)); _mmquery; printf '%s\\n' "${{COMPREPLY[@]}}" """
         for words, wanted in {
-            ("re",): ["rests"],
+            ("rest",): ["rests"],
             ("rests", "--ess"): ["--essential"],
             ("rests", "--format", "j"): ["json"],
             ("gate", "--format", "=", "g"): ["github"],
@@ -141,6 +142,16 @@ class Faults(World):
             self.assertIn(FAULTS[code][0], came.out)
             self.assertIn(advice, came.out)
             self.refuses("rests", "example.mm", "x", why=f"example.mm:{place}: refused {code}")
+
+    def test_the_module_for_python(self) -> None:
+        """It says of each fault what mmquery says."""
+        tree = ast.parse((TOP / "python" / "mmdepend.py").read_text())
+        tables = [
+            ast.literal_eval(each.value)
+            for each in tree.body
+            if isinstance(each, ast.Assign) and ast.unparse(each.targets[0]) == "FAULTS"
+        ]
+        self.assertEqual(tables, [{code: meaning for code, (meaning, _) in FAULTS.items()}])
 
     def test_the_commands(self) -> None:
         text = (TOP / "docs" / "FAULTS.md").read_text()
@@ -248,15 +259,16 @@ class ReportPage(World):
     def test_the_examples(self) -> None:
         text = (TOP / "docs" / "REPORT.md").read_text()
         shown = re.findall(r"^```\n(.*?)^```", text, re.S | re.M)
-        self.assertEqual(len(shown), 8)
+        self.assertEqual(len(shown), 9)
         self.write("page.mm", shown[0])
-        self.write("open.mm", shown[0] + shown[6])
+        self.write("open.mm", shown[0] + shown[7])
         self.assertEqual(self.report("page.mm"), shown[1])
         self.assertEqual(self.report("page.mm", "--only", "|-", "--report", "counts"), shown[2])
         self.assertIn(shown[3], self.report("page.mm", "--form", "2"))
         self.assertEqual(self.report("page.mm", "--essential"), shown[4])
         self.assertEqual(self.report("page.mm", "--report", "citations"), shown[5])
-        self.assertEqual(self.report("open.mm", "--open", "--report", "counts"), shown[7])
+        self.assertEqual(self.report("page.mm", "--report", "statements"), shown[6])
+        self.assertEqual(self.report("open.mm", "--open", "--report", "counts"), shown[8])
 
 
 if __name__ == "__main__":

@@ -84,6 +84,29 @@ class Reports(World):
         with self.assertRaises(NoAnswer):
             checked("report", twice.encode())
 
+    def test_statements(self) -> None:
+        """A report may have them. Nothing is answered from them, but they are checked."""
+        told = self.report("small.mm", "--report=matrix,usage,statements")
+        for text in (told, self.report("small.mm", "--only=|-", "--report=all,statements")):
+            self.write("report", text)
+            self.assertEqual(self.answers("rests", "report", "a2")[-1], "ax-mp")
+        start = told.index("\nstatements\n")
+        line = told[:start].count("\n") + 3
+        for old, new, more in (
+            ("wi:a:", "wi:x:", 0),
+            ("wi:a:", "wi:a", 0),
+            ("$f wp wff p", "$f wp wff", 0),
+            ("ax1:p:", "ax2:p:", 4),
+            ("ax1:p:", "wi2:p:", 4),
+            ("wi2:p:", "a2:p:", 4),
+            ("ax-1:a:", "ax-2:a:", -1),
+            ("ax-1:a:", "ax1:p:", 3),
+            ("wi2:p:", "wi2:o:", -1),
+        ):
+            self.assertIn(old, told[start:])
+            changed = told[:start] + told[start:].replace(old, new, 1)
+            self.damaged(changed, "the report is damaged", line + more)
+
     def test_what_a_report_lacks(self) -> None:
         self.write("marks", self.marks)
         self.write("cites", self.cites)

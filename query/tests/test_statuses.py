@@ -243,7 +243,7 @@ class Interrupts(World):
                 stdout=subprocess.PIPE,
                 stderr=subprocess.PIPE,
             )
-            wait_for(lambda: pids.exists() and pids.read_text().count("\n") == 2)
+            wait_for(lambda: pids.exists() and pids.read_text().count("\n") == 1)
             process.send_signal(number)
             out, errors = process.communicate(timeout=20)
             self.assertEqual((process.returncode, out), (128 + number, b""))

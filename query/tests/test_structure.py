@@ -6,8 +6,8 @@ import shutil
 import subprocess
 import unittest
 
-from query.tests.world import DATABASES, SMALL, World, invented
-from query.text import read_text
+from query.assertions import Assertion
+from query.tests.world import DATABASES, SMALL, World, invented, told_of
 
 PARTS = """$c wff |- ( -> ) $.
 $v p q $. wp $f wff p $. wq $f wff q $. wi $a wff ( p -> q ) $.
@@ -174,6 +174,14 @@ class Structure(World):
         self.refuses("set-proof", "bad.mm", "ax1", "?", why="bad.mm:12:4: refused E13")
 
 
+def is_over(assertion: Assertion, known: set[str]) -> bool:
+    """Whether an assertion has only these variables, no `$e`, and no two that must be distinct."""
+    frame = assertion.frame()
+    hypotheses = frame.hypotheses()
+    is_plain = not frame.disjoint and {each.kind for each in hypotheses} <= {"f"}
+    return is_plain and known >= {each.formula.split()[1] for each in hypotheses}
+
+
 @unittest.skipUnless(
     shutil.which("metamath") and (DATABASES / "iset.mm").exists(), "no metamath.exe or no iset.mm"
 )
@@ -194,22 +202,15 @@ class BesideMetamath(World):
 
     def test_mathboxes(self) -> None:
         data = (DATABASES / "iset.mm").read_bytes()
-        text = read_text(data)
-        inside = [one for one in text.assertions if text.mathbox(one) and not one.essential]
+        text = told_of(data)
         known = {"ph", "ps", "ch", "A", "B", "x", "y"}  # with a `$f` outside of all blocks
-        fit = [one for one in inside if not one.disjoint and known.issuperset(text.mandatory(one))]
+        fit = [one for one, _, _ in text.boxed() if is_over(one, known)]
         chosen = random.Random(1).sample(fit, 3)
         line = "#*" * 39 + "#"
         added = f"\n$(\n{line}\n        Mathbox for Zed Tester\n{line}\n$)\n"
-        # Of each variable the last `$f`, which is that outside of all blocks.
-        floats = {text.symbols(h)[1]: h.label for h in text.hypotheses if h.kind == "f"}
-        places = {h.label: h.place for h in text.hypotheses}
-        order = sorted(floats, key=lambda variable: places[floats[variable]])
         for one in chosen:
-            variables = text.mandatory(one)
-            steps = [floats[variable] for variable in order if variable in variables]
-            formula = text.formula(one)
-            added += f"zz{one.label} $p {formula} $= {' '.join([*steps, one.label])} $.\n"
+            steps = [each.label for each in one.frame().hypotheses()]
+            added += f"zz{one.label} $p {one.formula} $= {' '.join([*steps, one.label])} $.\n"
         self.write("iset.mm", data + added.encode())
         told = self.metamath("iset.mm", "verify markup * / date_skip / file_skip")
         box = "in the mathbox for (.*)"

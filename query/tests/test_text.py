@@ -1,11 +1,13 @@
-"""The reader of a database's text, beside what is known of small texts and of metamath.exe."""
+"""The reader of what stands between assertions, and the lines by which these are told."""
 
 import random
+import re
 import unittest
 
-from query import outline
-from query.tests.world import DATABASES, invented
-from query.text import Text, UnreadableText, read_text
+from query.assertions import Damaged, assertions_of
+from query.bare import bare, declared_at, floating, proof_of
+from query.tests.world import DATABASES, World, invented, told_of
+from query.text import Text
 
 SMALL = b"""$( $t htmldef "p" as "P"; /* a ; in a remark */ $)
 $( A stray comment. $)
@@ -29,142 +31,216 @@ $(
   Mathbox for Ann
 =-=-
 $)
+ax $a |- ( p -> x ) $.
 ${
   $d x y z $. $d p x y $. $d q z $.
-  first.e $e |- p $.
+  first.e $e |- $(
+####
+  No header, since it stands within a statement
+####
+$) p $.
   $( Whole
-     comment of ~ first . $)
-  first $( inner $) $p |- ( $( in the formula $) p -> x ) $= ( vy $( ) $) wp ) ABC $.
+     comment of ~ first . $) $( $j in between $)
+  first $( inner $) $p |- ( $( in the formula $) p -> x ) $= ( vy $( ) $) ax ) ABE $.
   $( Gone with the next statement. $)
   $d p q $.
   second $p |- q $= ? $.
 $}
+$( Gone with the heading. $)
 $(
 #*#*
   Next
 #*#*
 $)
-third $p |- x $= ( ) ? $. fourth $a |- x $.
+third $p |- x $= ( ) ? $. $( The last one. $) fourth $a |- x $.
 """
 
 
-class Reader(unittest.TestCase):
+class Reader(World):
     """What is read of a small text."""
 
-    text: Text
-
-    @classmethod
-    def setUpClass(cls) -> None:
-        cls.text = read_text(SMALL)
+    def setUp(self) -> None:
+        super().setUp()
+        self.text = told_of(SMALL)
 
     def test_statements(self) -> None:
-        found = [(one.label, one.kind, self.text.formula(one)) for one in self.text.assertions]
+        found = [(one.label, one.kind, one.is_open, one.formula) for one in self.text.assertions]
         self.assertEqual(
             found,
             [
-                ("wi", "a", "wff ( p -> q )"),
-                ("first", "p", "|- ( p -> x )"),
-                ("second", "p", "|- q"),
-                ("third", "p", "|- x"),
-                ("fourth", "a", "|- x"),
+                ("wi", "a", False, "wff ( p -> q )"),
+                ("ax", "a", False, "|- ( p -> x )"),
+                ("first", "p", False, "|- ( p -> x )"),
+                ("second", "p", True, "|- q"),
+                ("third", "p", True, "|- x"),
+                ("fourth", "a", False, "|- x"),
             ],
         )
+        self.assertEqual(self.text.assertions[0].typecode, "wff")
 
     def test_places(self) -> None:
-        placed = [(one.place, one.label) for one in self.text.assertions]
-        placed += [(one.place, one.label) for one in self.text.hypotheses]
-        for place, label in placed:
-            self.assertTrue(SMALL[place:].startswith(label.encode() + b" "))
-            self.assertEqual(self.text.line(place), SMALL[:place].count(b"\n") + 1)
-            before = SMALL[:place].rpartition(b"\n")[2]
-            self.assertEqual(self.text.column(place), len(before) + 1)
+        for one in self.text.assertions:
+            self.assertTrue(SMALL[one.place :].startswith(one.label.encode() + b" "))
+            self.assertTrue(SMALL[: one.end].endswith(b" $."))
+            self.assertEqual(self.text.line(one.place), SMALL[: one.place].count(b"\n") + 1)
         for ending, place in enumerate(i for i, byte in enumerate(SMALL) if byte == 10):
             self.assertEqual(self.text.line(place), ending + 1)
             self.assertEqual(self.text.line(place + 1), ending + 2)
 
-    def test_hypotheses(self) -> None:
-        first = self.text.by_label["first"]
-        given = [self.text.hypotheses[number] for number in first.essential]
-        self.assertEqual([self.text.formula(one) for one in given], ["|- p"])
-        self.assertEqual(list(self.text.by_label["third"].essential), [])
-        self.assertEqual(self.text.variables["x"], "set")
-
-    def test_conditions(self) -> None:
-        first = self.text.conditions(self.text.by_label["first"])
-        self.assertEqual(first.variables, ["p", "x"])
-        self.assertEqual(first.dummies, ["y"])
-        self.assertEqual(first.groups, [["x", "y"], ["p", "x", "y"]])
-        groups = [self.text.group(one) for one in self.text.by_label["second"].disjoint]
-        self.assertEqual(groups, [["x", "y", "z"], ["p", "x", "y"], ["q", "z"], ["p", "q"]])
-        for label, found in (("second", [["p", "q"]]), ("fourth", [])):
-            self.assertEqual(self.text.conditions(self.text.by_label[label]).groups, found)
+    def test_frames(self) -> None:
+        frames = {one.label: one.frame() for one in self.text.assertions}
+        self.assertEqual(
+            frames["first"].hypotheses(),
+            [("f", "wp", "wff p"), ("f", "vx", "set x"), ("e", "first.e", "|- p")],
+        )
+        self.assertEqual(frames["fourth"].hypotheses(), [("f", "vx", "set x")])
+        pairs = {label: list(frame.pairs()) for label, frame in frames.items()}
+        self.assertEqual(pairs.pop("first"), [("p", "x")])
+        self.assertEqual(pairs.pop("second"), [("p", "q")])
+        self.assertEqual({*map(len, pairs.values())}, {0})
 
     def test_comments(self) -> None:
-        self.assertIn("Whole\n     comment", self.text.comment(self.text.by_label["first"]))
-        self.assertEqual(self.text.comment(self.text.by_label["second"]), "")
-        self.assertEqual(self.text.comment(self.text.by_label["wi"]), "")
-        self.assertEqual([one.body for one in self.text.marked], [" syntax 'wff'; "])
-        self.assertTrue(SMALL[self.text.marked[0].place :].startswith(b"$( $j"))
-        self.assertIn("a ; in a remark", self.text.typesetting or "")
+        found = {one.label: self.text.comment(one) for one in self.text.assertions}
+        self.assertIn("Whole\n     comment", found["first"])
+        self.assertEqual(found["fourth"], " The last one. ")
+        for label in ("wi", "ax", "second", "third"):
+            self.assertEqual(found[label], "", label)
+
+    def test_a_comment_behind_much_white_space(self) -> None:
+        for size in (0, 1, 63, 64, 65, 1000):
+            text = told_of(b"$c a $." + b" " * size + b" $( x $) " + b"\n" * size + b"b $a a $.")
+            self.assertEqual(text.comment(text.assertions[0]), " x ")
+            text = told_of(b"$c a $." + b" " * size + b"\nb $a a $.")
+            self.assertEqual(text.comment(text.assertions[0]), "")
 
     def test_headers(self) -> None:
         found = [(one.number, one.title, one.first, one.end) for one in self.text.headers]
         self.assertEqual(
             found,
             [
-                ("1", "THE PART", 0, 5),
-                ("1.1", "Chapter", 0, 3),
-                ("1.1.1", "Mathbox for Ann", 1, 3),
-                ("1.2", "Next", 3, 5),
+                ("1", "THE PART", 0, 6),
+                ("1.1", "Chapter", 0, 4),
+                ("1.1.1", "Mathbox for Ann", 1, 4),
+                ("1.2", "Next", 4, 6),
             ],
         )
-        self.assertEqual(self.text.below(self.text.headers[0]), "Below the part.")
         boxes = [self.text.mathbox(one) for one in self.text.assertions]
-        self.assertEqual(boxes, [None, "Ann", "Ann", None, None])
+        self.assertEqual(boxes, [None, "Ann", "Ann", "Ann", None, None])
+        self.assertEqual(list(map(self.text.header, self.text.assertions)), [1, 2, 2, 2, 3, 3])
+
+    def test_headers_within_statements(self) -> None:
+        heading = "$(\n####\n  {}\n####\n$) "
+        one, two, three = (heading.format(word) for word in ("one", "two", "three"))
+        for text, titles in (
+            (f"{one}$c a $. {two}b $a a $. {three}", ["one", "two", "three"]),
+            (f"$c {one}{two}a $. {three}b $a a $.", ["three"]),
+            (f"$c a {one}$. ${{ {two}$}} b {three}$a a $.", ["two"]),
+            (f"$c a $. b $a {one}a $. c {two}$a a $. {three}$( x $)", ["three"]),
+            (f"$c a $. $( x $) {one}$( y $) {two}$c {three}b $. c $a a $.", ["one", "two"]),
+        ):
+            self.assertEqual([each.title for each in told_of(text.encode()).headers], titles, text)
 
     def test_proofs(self) -> None:
-        is_open = [self.text.is_open(one) for one in self.text.assertions]
-        self.assertEqual(is_open, [False, False, True, True, False])
-        self.assertEqual(
-            self.text.proof(self.text.by_label["first"]), ["(", "vy", "wp", ")", "ABC"]
-        )
-        self.assertIsNone(self.text.by_label["wi"].proof)
+        found = {one.label: self.text.proof(one) for one in self.text.assertions}
+        self.assertEqual(found["first"], ["(", "vy", "ax", ")", "ABE"])
+        self.assertEqual((found["second"], found["third"]), (["?"], ["(", ")", "?"]))
+        self.assertEqual(found["wi"], [])
 
-    def test_unreadable(self) -> None:
-        for text in (b"x", b"x $a a", b"$}", b"$( ", b"$a b $.", b"x $[ y $]"):
-            with self.assertRaises(UnreadableText):
-                read_text(text)
-        self.assertEqual(read_text(b"").assertions, [])
+    def test_without_comments(self) -> None:
+        text = bare(SMALL)
+        self.assertEqual(len(text), len(SMALL))
+        self.assertEqual(re.findall(rb"\$[()]|stray|inner", text), [])
+        start, end = proof_of(text, "first") or (0, 0)
+        self.assertEqual(SMALL[start:end], b" ( vy $( ) $) ax ) ABE ")
+        self.assertEqual(floating(text, "vy"), ["set", "y"])
+        for label in ("wp", "first.e", "first", "fourth"):
+            place = declared_at(text, label)
+            self.assertIsNotNone(place)
+            self.assertTrue(SMALL[place:].startswith(label.encode() + b" "))
+        for label in ("p", "irst", "e", "x", "->", "None", "\u2192"):
+            self.assertIsNone(declared_at(text, label), label)
+        self.assertIsNone(proof_of(text, "wi"))
+        self.assertRaises(KeyError, floating, text, "first.e")
+        self.assertEqual(bare(b"a $( $( b"), b"a " + b" " * 7)
 
 
-class Kept(unittest.TestCase):
-    """What was read, kept and taken out again."""
+class Lines(World):
+    """The lines themselves, and damaged ones."""
 
-    def agree(self, data: bytes) -> None:
-        """What is taken out is what was read."""
-        read = read_text(data)
-        taken = outline.from_parts(data, outline.to_parts(read))
-        self.assertEqual(vars(taken), vars(read))
-
-    def test_small_texts(self) -> None:
-        chance = random.Random(8)
-        for data in (
-            b"",
-            b"$c a $.",
-            b"a $a b $.",
-            b"${ $}",
-            b"$( $t x $)",
-            b"\xa0 $a b $.",
-            SMALL,
-        ):
-            self.agree(data)
-        for _ in range(50):
-            self.agree(invented(chance).text.encode())
+    LINE = "t:p:9:30: $f wp wff p $e t.1 |- p $d p q $v x y $d p x $p |- p\n"
+    DATA = b"$c |- $. t $p |- p $= ( ) $. ${ $}"
 
     def test_databases(self) -> None:
-        for path in sorted(DATABASES.glob("*.mm")):
-            with self.subTest(path.name):
-                self.agree(path.read_bytes())
+        chance = random.Random(8)
+        texts = [b"", b"$c a $.", b"$c a $. a1 $a a $.", b"${ $}", b"$( $t x $)", SMALL]
+        texts += [invented(chance).text.encode() for _ in range(20)]
+        texts += [path.read_bytes() for path in sorted(DATABASES.glob("*.mm"))]
+        for data in texts:
+            self.agree(told_of(data))
+
+    def agree(self, text: Text) -> None:
+        """What the lines tell stands in the text, where they say that it does."""
+        for one in text.assertions:
+            words = bare(text.data[one.place : one.end]).decode("latin-1").split()
+            formula = words[2 : words.index("$=")] if "$=" in words else words[2:-1]
+            self.assertEqual([one.label, f"${one.kind}", "$."], words[:2] + words[-1:])
+            self.assertEqual(one.formula, " ".join(formula))
+            one.frame()
+
+    def test_what_a_line_says(self) -> None:
+        (one,) = assertions_of(self.LINE.encode(), self.DATA)
+        self.assertEqual((one.label, one.kind, one.is_open), ("t", "p", False))
+        self.assertEqual((one.formula, one.typecode), ("|- p", "|-"))
+        hypotheses = [("f", "wp", "wff p"), ("e", "t.1", "|- p")]
+        self.assertEqual(one.frame().hypotheses(), hypotheses)
+        self.assertEqual(list(one.frame().pairs()), [("p", "q")])
+
+    def test_damaged_fronts(self) -> None:
+        for line in (
+            "t:p:9:30:",
+            "t:q:9:30: $p |- p\n",
+            "t:p:9:30\n",
+            ":p:9:30: $p |- p\n",
+            "t u:p:9:30: $p |- p\n",
+            "t:p:09:30: $p |- p\n",
+            "t:p:+9:30: $p |- p\n",
+            "t:p:9:3_0: $p |- p\n",
+            "t:p:9:\u0663: $p |- p\n",
+            "t:p:8:30: $p |- p\n",
+            "t:p:9:9: $p |- p\n",
+            "t:p:9:35: $p |- p\n",
+            self.LINE + "t:p:9:30: $p |- p\n",
+            self.LINE + "\n",
+            "\n" + self.LINE,
+            self.LINE[:-1],
+        ):
+            with self.assertRaises(Damaged, msg=line):
+                assertions_of(line.encode(), self.DATA)
+
+    def test_damaged_lines(self) -> None:
+        said = self.LINE[9:-1]
+        for old, new in (
+            ("$f wp wff p", "$f wp wff"),
+            ("$f wp wff p", "$f wp wff p q"),
+            ("$e t.1 |- p", "$e t.1"),
+            ("$d p q", "$d p"),
+            ("$d p q", "$d p q r"),
+            ("$v x y", "$v"),
+            ("$v x y", "$w x y"),
+            ("$p |- p", "$p"),
+            ("$p |- p", "$p "),
+            (" $p |- p", ""),
+            ("$p |- p", "$p |-  p"),
+            ("$f", "f"),
+            (" $f", "$f"),
+            ("$e t.1", "$d a b $e t.1"),
+            ("p q", "p \u00e9"),
+        ):
+            self.assertIn(old, said)
+            line = self.LINE[:9] + said.replace(old, new, 1) + "\n"
+            with self.assertRaises(Damaged, msg=line):
+                (one,) = assertions_of(line.encode(), self.DATA)
+                self.assertEqual((one.frame(), one.formula), ())
 
 
 if __name__ == "__main__":

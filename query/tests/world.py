@@ -15,6 +15,8 @@ from query.cli import parser_of
 from query.commands import command
 from query.context import Context
 from query.output import Output
+from query.text import Text
+from query.told import statements_of
 
 TOP = Path(__file__).resolve().parent.parent.parent
 MMQUERY = TOP / "mmquery"
@@ -133,6 +135,13 @@ class World(unittest.TestCase):
             [program() or "", *words, self.room / name], capture_output=True, check=False
         )
         return done.stdout.decode()
+
+
+def told_of(data: bytes) -> Text:
+    """The text of a database, as the program tells it; theorems may be left open."""
+    words = [program() or "", "--open", "--report=statements"]
+    done = subprocess.run(words, input=data, capture_output=True, check=True)
+    return Text(data, statements_of(done.stdout))
 
 
 # The example of the pages.

@@ -1,0 +1,210 @@
+"""`review`: what a pull request does to the theorems of a database."""
+
+import argparse
+from bisect import bisect_left
+from collections.abc import Iterable, Sequence
+from dataclasses import dataclass, field
+
+from query.changes import Comparison, sides, text_of_side
+from query.commands import TABLE_FORMATS, Command
+from query.context import Context
+from query.options import add_choice_of_axioms, add_database, options_of
+from query.output import Value
+from query.text import Text
+
+COLUMNS = ("theorem", "status", "was", "axioms", "gained", "lost", "via", "bytes")
+MOST = 60
+"""Rows of a comment. A longer one isn't read."""
+
+PAGE = """
+Lists the theorems that a change from OLD to NEW is about, in file order, and last those that are
+gone.
+
+theorem  its label in NEW; of one that is gone, in OLD
+status   new:     only NEW has it
+         gone:    only OLD has it
+         renamed: it had another label
+         changed: the same label, another statement
+         moved:   it stands before or behind others than it did
+         proof:   it has another proof; one theorem may have several of these words
+was      of a renamed one the label in OLD
+axioms   of a new one, on how many axioms it rests
+gained   the axioms on which it came to rest
+lost     the axioms on which it no longer rests
+via      for each axiom gained, by what: of the first new citation on a shortest chain to the axiom
+         what the theorem cites, or, where another theorem has that citation, which one
+bytes    how much longer its text is, from the label to the end; of a new one how long
+
+Only what this change touches itself is listed: `compare` lists all theorems that came to rest on an
+axiom. With --format markdown it is a comment for the pull request, of at most 60 theorems.
+
+  $ mmquery review v1:set.mm set.mm
+  $ mmquery review v1:set.mm set.mm --format markdown
+"""
+
+STATUSES = {
+    **{word: word for word in ("new", "gone", "renamed", "changed", "moved")},
+    "proof": "with another proof",
+}
+"""How a comment calls each status."""
+
+
+@dataclass
+class Change:
+    """What became of a theorem."""
+
+    label: str
+    status: list[str] = field(default_factory=list)
+    was: str | None = None
+    axioms: int | None = None
+    gained: list[str] = field(default_factory=list)
+    lost: list[str] = field(default_factory=list)
+    via: list[str] = field(default_factory=list)
+    bytes: int = 0
+
+    def row(self) -> list[Value]:
+        """Its row of the table."""
+        lists: list[Value] = [self.gained or None, self.lost or None, self.via or None]
+        return [self.label, self.status, self.was, self.axioms, *lists, self.bytes]
+
+
+def configure(parser: argparse.ArgumentParser) -> None:
+    """Adds the words and options."""
+    add_database(parser, "OLD")
+    add_database(parser, "NEW")
+    add_choice_of_axioms(parser)
+
+
+def run(context: Context, arguments: argparse.Namespace) -> int:
+    """Answers."""
+    options = options_of(arguments)
+    old = context.database(arguments.old, options)
+    new = context.database(arguments.new, options)
+    comparison = Comparison(*sides(old, new))
+    changes = changes_of(comparison)
+    if context.out.format == "markdown":
+        context.out.text(comment(comparison, changes))
+        return 0
+    empty = f"{old.name} and {new.name} have the same theorems, with the same proofs, in one order"
+    context.table(COLUMNS, [each.row() for each in changes], empty)
+    return 0
+
+
+def changes_of(comparison: Comparison) -> list[Change]:
+    """What became of each theorem that the change is about."""
+    old, new = text_of_side(comparison.old), text_of_side(comparison.new)
+    pairing = comparison.theorems
+    changed, fresh = set(pairing.changed), set(pairing.new)
+    stands = [(one.label, pairing.origin.get(one.label)) for one in new.assertions]
+    moved = out_of_order(
+        (label, old.by_label[was].number) for label, was in stands if was is not None
+    )
+    found: dict[str, Change] = {}
+    for one in new.assertions:
+        if one.kind != "p":
+            continue
+        change = Change(one.label, bytes=one.end - one.place)
+        if one.label in fresh:
+            change.status = ["new"]
+            row = comparison.new.dependence.rows.get(one.label)
+            bits = None if row is None else comparison.new.dependence.bits(row)
+            change.axioms = None if bits is None else bits.bit_count()
+        elif one.label in pairing.origin:
+            before = old.by_label[pairing.origin[one.label]]
+            change.bytes -= before.end - before.place
+            if one.label in pairing.renamed:
+                change.was = before.label
+            for word, is_so in (
+                ("renamed", change.was is not None),
+                ("changed", one.label in changed),
+                ("moved", one.label in moved),
+                ("proof", old.proof(before) != new.proof(one)),
+            ):
+                if is_so:
+                    change.status.append(word)
+        if change.status:
+            found[one.label] = change
+    add_shifts(comparison, found)
+    gone = [Change(label, ["gone"], bytes=-length(old, label)) for label in pairing.gone]
+    return [*found.values(), *gone]
+
+
+def length(text: Text, label: str) -> int:
+    """How long the text of an assertion is."""
+    one = text.by_label[label]
+    return one.end - one.place
+
+
+def add_shifts(comparison: Comparison, found: dict[str, Change]) -> None:
+    """Adds which axioms the theorems gained and lost."""
+    for axiom in comparison.new.dependence.axioms:
+        for shift in comparison.shifts(axiom):
+            change = found.get(shift.theorem)
+            if change is not None:
+                change.gained.append(axiom)
+                is_own = shift.citing == shift.theorem
+                change.via.append(shift.cited if is_own else shift.citing)
+    for axiom in comparison.old.dependence.axioms:
+        for theorem in comparison.lost(axiom):
+            change = found.get(comparison.to_new.get(theorem, ""))
+            if change is not None:
+                change.lost.append(axiom)
+
+
+def out_of_order(numbered: Iterable[tuple[str, int]]) -> set[str]:
+    """The labels that have to be left out, so that the numbers of the others rise, as few as can
+    be."""
+    pairs = list(numbered)
+    ends: list[int] = []
+    last: list[int] = []
+    before: list[int] = []
+    for place, (_, number) in enumerate(pairs):
+        rank = bisect_left(ends, number)
+        ends[rank : rank + 1] = [number]
+        last[rank : rank + 1] = [place]
+        before.append(last[rank - 1] if rank else -1)
+    stayed = set()
+    place = last[-1] if last else -1
+    while place >= 0:
+        stayed.add(place)
+        place = before[place]
+    return {label for place, (label, _) in enumerate(pairs) if place not in stayed}
+
+
+def comment(comparison: Comparison, changes: Sequence[Change]) -> str:
+    """The comment for a pull request. Labels have no sign that Markdown would read."""
+    counts = {word: sum(word in each.status for each in changes) for word in STATUSES}
+    parts = [f"{count} {STATUSES[word]}" for word, count in counts.items() if count]
+    lines = [f"**Theorems**: {', '.join(parts) if parts else 'no change'}."]
+    gained = {axiom: len(comparison.gained(axiom)) for axiom in comparison.new.dependence.axioms}
+    lost = {axiom: len(comparison.lost(axiom)) for axiom in comparison.old.dependence.axioms}
+    for words, counts in (
+        ("came to rest on", gained),
+        ("no longer rest on", lost),
+    ):
+        told = [f"`{axiom}` ({count})" for axiom, count in counts.items() if count]
+        if told:
+            more = f" and {len(told) - MOST} more" if len(told) > MOST else ""
+            lines += ["", f"Theorems of both {words} {', '.join(told[:MOST])}{more}."]
+    if changes:
+        lines += ["", "| theorem | status | axioms | gained | lost | bytes |"]
+        lines += ["|---|---|---|---|---|---|"]
+        lines += [line_of(each) for each in changes[:MOST]]
+    if len(changes) > MOST:
+        lines += ["", f"{len(changes) - MOST} more aren't shown; `mmquery review` lists them."]
+    return "\n".join(lines) + "\n"
+
+
+def line_of(change: Change) -> str:
+    """A line of the comment's table."""
+    gained = [
+        f"`{axiom}` via `{via}`" for axiom, via in zip(change.gained, change.via, strict=True)
+    ]
+    lost = [f"`{axiom}`" for axiom in change.lost]
+    status = ", ".join(change.status) + (f" from `{change.was}`" if change.was else "")
+    axioms = "" if change.axioms is None else str(change.axioms)
+    fields = (f"`{change.label}`", status, axioms, ", ".join(gained), ", ".join(lost))
+    return f"| {' | '.join(fields)} | {change.bytes:+} |"
+
+
+COMMANDS = [Command("review", PAGE, configure, run, (*TABLE_FORMATS, "markdown"))]

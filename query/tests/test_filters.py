@@ -1,0 +1,132 @@
+"""The filters of lists: each one, all together, and on each command that lists labels."""
+
+import fnmatch
+import itertools
+
+from query.commands import command, names
+from query.filters import Test
+from query.tests.test_structure import PARTS
+from query.tests.world import World
+
+THEOREMS = ["one", "two", "three", "four", "five", "todo", "six"]
+BOXES = {"three": "Ann Other", "four": "Bo", "five": "Bo", "todo": "Bo", "six": "Bo"}
+LISTS: dict[str, list[str]] = {
+    "rests": ["six", "--all"],
+    "falls": ["wi"],
+    "cites": ["six", "two"],
+    "cited-by": ["ax-1", "three"],
+    "uncited": [],
+    "way-out": ["ax-2"],
+    "frees": ["ax-2"],
+    "top": [],
+    "within": ["ax-1"],
+    "same": ["five"],
+    "order": [],
+    "unfinished": [],
+    "discouraged": [],
+    "mathboxes": [],
+}
+"""Each command that lists labels, with words of a question."""
+COLUMNS = {"rests": "axiom", "cites": "cited", "top": "axiom", "order": "label"}
+COLUMNS["discouraged"] = "label"
+"""The column to which the filters apply, where it isn't `theorem`."""
+
+EARLY = {"wi", "ax-1", "one", "two", "ax-2"}
+TESTS: list[tuple[list[str], Test]] = [
+    (["--like", "*o*,w*"], lambda label: "o" in label or label[:1] == "w"),
+    (["--before", "three"], EARLY.__contains__),
+]
+
+
+class Filtered(World):
+    """Over a database with headers and mathboxes."""
+
+    def setUp(self) -> None:
+        super().setUp()
+        self.write("db.mm", PARTS)
+        self.write("few", "two six  # and no other\nfour\n")
+
+    def uncited(self, *filters: str) -> list[str]:
+        """The theorems that the filters leave of all."""
+        words = ("--open", "db.mm", *filters)
+        rows = [line.split("\t") for line in self.answers("order", "--format", "tsv", *words)[1:]]
+        return [label for _, kind, _, _, label in rows if kind != "axiom"]
+
+    def test_each(self) -> None:
+        for words, left in (
+            (["--like", "*"], THEOREMS),
+            (["--before", "four"], ["one", "two", "three"]),
+            (["--before", "one"], []),
+            (["--before", "ax-2"], ["one", "two"]),
+            (["--main"], ["one", "two"]),
+            (["--mathbox", "Bo"], ["four", "five", "todo", "six"]),
+            (["--mathbox", "Ann Other"], ["three"]),
+            (["--under", "0.1"], ["one", "two"]),
+            (["--under", "0.1.1"], ["two"]),
+            (["--like", "t*"], ["two", "three", "todo"]),
+            (["--like", "t*,s?x"], ["two", "three", "todo", "six"]),
+            (["--like", "one", "--like", "six"], ["one", "six"]),
+            (["--not", "t*,f*"], ["one", "six"]),
+            (["--not", "T*"], THEOREMS),
+            (["--among", "few"], ["two", "four", "six"]),
+        ):
+            self.assertEqual(self.uncited(*words), left, words)
+
+    def test_together(self) -> None:
+        """Every choice of three filters leaves what each of them leaves."""
+        each: dict[tuple[str, ...], Test] = {
+            ("--before", "five"): lambda label: THEOREMS.index(label) < THEOREMS.index("five"),
+            ("--mathbox", "Bo"): lambda label: BOXES.get(label) == "Bo",
+            ("--main",): lambda label: label not in BOXES,
+            ("--not", "*e"): lambda label: not fnmatch.fnmatchcase(label, "*e"),
+            ("--among", "few"): lambda label: label in ("two", "four", "six"),
+        }
+        for chosen in itertools.combinations(each.items(), 3):
+            words = [word for words, _ in chosen for word in words]
+            left = [label for label in THEOREMS if all(test(label) for _, test in chosen)]
+            self.assertEqual(self.uncited(*words), left, words)
+
+    def test_every_list(self) -> None:
+        """Each command with filters lists what passes, and nothing else, in the same order."""
+        self.assertEqual({name for name in names() if command(name).lists}, set(LISTS))
+        for name, words in LISTS.items():
+            flags = [] if name == "unfinished" else ["--open"]
+            asked = [name, "--format", "json", *flags, "db.mm", *words]
+            column = COLUMNS.get(name, "theorem")
+            whole = self.query(*asked).rows()
+            self.assertTrue(whole, name)
+            for filters, test in TESTS:
+                want = [row for row in whole if test(str(row[column]))]
+                came = self.query(*asked, *filters)
+                self.assertEqual((came.status, came.rows()), (0, want), (name, filters))
+                self.assertEqual(bool(want), not came.err, (name, filters))
+
+    def test_before_the_number_is_counted(self) -> None:
+        """A list that is cut off has as many as are wanted of those that pass."""
+        rows = self.query(
+            "top", "--open", "db.mm", "1", "--like", "ax-2", "--format", "json"
+        ).rows()
+        self.assertEqual([row["axiom"] for row in rows], ["ax-2"])
+        words = ["frees", "--open", "db.mm", "ax-2", "--most", "1", "--not", "three"]
+        self.assertEqual(
+            [row["theorem"] for row in self.query(*words, "--format", "json").rows()], ["four"]
+        )
+
+    def test_what_is_missing(self) -> None:
+        for words, why in (
+            (["--before", "zwei"], "has no assertion 'zwei'"),
+            (["--before", "threee"], "did you mean three?"),
+            (["--mathbox", "Cy"], "has no mathbox for 'Cy'"),
+            (["--mathbox", "bo"], "did you mean Bo?"),
+            (["--under", "7"], "has no header '7'"),
+            (["--among", "nothing"], "nothing: no such file"),
+        ):
+            self.refuses("uncited", "--open", "db.mm", *words, why=why)
+        self.write("report", self.report("db.mm", "--open", "--report=usage,citations"))
+        self.refuses("uncited", "report", "--main", why="the database is wanted")
+        self.assertEqual(self.answers("uncited", "report", "--like", "s*"), ["six"])
+
+    def test_nothing_passes(self) -> None:
+        came = self.query("uncited", "--open", "db.mm", "--like", "x*")
+        self.assertEqual((came.out, came.status), ("", 0))
+        self.assertIn("none of the 3 that there are passes the filters", came.err)

@@ -1,0 +1,112 @@
+"""What `review` says of a change, against what was changed."""
+
+import os
+import random
+from unittest import mock
+
+from query.commands.review import MOST, out_of_order
+from query.tests.world import SMALL, World, asked, invented, program
+
+A2 = "a2 $p |- ( q -> ( q -> p ) ) $= wq wp wi wq wp wq g a1i a1i $. $}\n"
+
+
+class Reviewed(World):
+    """Over changes of small databases."""
+
+    def setUp(self) -> None:
+        super().setUp()
+        patch = mock.patch.dict(os.environ, {"MMDEPEND": program() or ""})
+        patch.start()
+        self.addCleanup(patch.stop)
+        self.write("old.mm", SMALL)
+
+    def reviewed(self, new: str) -> list[list[str]]:
+        """The rows about a change of the small database."""
+        paths = [str(self.room / "old.mm"), str(self.room / self.write("new.mm", new))]
+        return asked("review", *paths)
+
+    def test_each_status(self) -> None:
+        ax1 = "ax1 $p |- ( p -> ( q -> p ) ) $= wp wq ax-1 $.\n"
+        new = "nu $p wff ( p -> p ) $= wp wp wi $.\n"
+        empty = ["-", "-", "-", "-", "-"]
+        for text, rows in (
+            (SMALL, []),
+            (SMALL + new, [["nu", "new", "-", "0", "-", "-", "-", str(len(new) - 1)]]),
+            (SMALL.replace("a2 $p", "a3 $p"), [["a3", "renamed", "a2", "-", "-", "-", "-", "0"]]),
+            (SMALL.replace(ax1, ""), [["ax1", "gone", *empty, str(1 - len(ax1))]]),
+            (SMALL.replace(ax1, "") + ax1, [["ax1", "moved", *empty, "0"]]),
+            (
+                SMALL.replace(ax1, ax1.replace("wp wq ax-1", "( ax-1 ) ABC")),
+                [["ax1", "proof", *empty, "2"]],
+            ),
+            (
+                SMALL.replace(ax1, ax1.replace("( q -> p )", "( p -> p )").replace("wq", "wp")),
+                [["ax1", "changed proof", *empty, "0"]],
+            ),
+        ):
+            self.assertEqual(self.reviewed(text), rows, text)
+
+    def test_axioms(self) -> None:
+        """A proof by another axiom brings that one, and loses the others; through a theorem too."""
+        with_axiom = SMALL.replace("${ h $e", "all $a |- p $.\n${ h $e")
+        self.write("old.mm", with_axiom)
+        a2 = with_axiom.replace("wq wp wi wq wp wq g a1i a1i $.", "wq wq wp wi wi all $.")
+        [row] = self.reviewed(a2)
+        self.assertEqual(row[:7], ["a2", "proof", "-", "-", "all", "ax-1 ax-mp", "all"])
+        a1i = with_axiom.replace("wp wq wp wi h wp wq ax-1 ax-mp $.", "wq wp wi all $.")
+        [row] = self.reviewed(a1i)
+        self.assertEqual(row[:7], ["a1i", "proof", "-", "-", "all", "ax-1 ax-mp", "all"])
+        both = a1i.replace("wq wp wi wq wp wq g a1i a1i", "wq wp wi wq wp wq g a1i  a1i")
+        self.assertEqual([row[0] for row in self.reviewed(both)], ["a1i"])
+        again = a1i.replace("wq wp wi wq wp wq g a1i a1i", "( wi a1i ) BADBABCEE")
+        rows = self.reviewed(again)
+        self.assertEqual(
+            [(row[0], row[4], row[6]) for row in rows if row[0] == "a2"], [("a2", "all", "a1i")]
+        )
+
+    def test_comment(self) -> None:
+        news = "".join(
+            f"n{number} $p wff ( p -> p ) $= wp wp wi $.\n" for number in range(MOST + 5)
+        )
+        self.write("new.mm", SMALL.replace("a2 $p", "a3 $p") + news)
+        lines = self.answers("review", "old.mm", "new.mm", "--format", "markdown")
+        self.assertEqual(lines[0], f"**Theorems**: {MOST + 5} new, 1 renamed.")
+        self.assertEqual(lines[4], "| `a3` | renamed from `a2` |  |  |  | +0 |")
+        self.assertEqual(sum(line.startswith("| `") for line in lines), MOST)
+        self.assertIn("6 more aren't shown", lines[-1])
+        same = self.answers("review", "old.mm", "old.mm", "--format", "markdown")
+        self.assertEqual(same, ["**Theorems**: no change."])
+
+    def test_by_chance(self) -> None:
+        """Of two databases made by chance: what is new and gone, and what each new one rests on."""
+        for seed in range(3):
+            old, new = (invented(random.Random(2 * seed + k), 6) for k in (0, 1))
+            self.write("a.mm", old.text)
+            self.write("b.mm", new.text)
+            rows = asked("review", str(self.room / "a.mm"), str(self.room / "b.mm"))
+            for label, status, _, axioms, *_ in rows:
+                if "new" in status:
+                    rests = [axiom for axiom in new.axioms if axiom in new.rests(label)]
+                    self.assertEqual(int(axioms), len(rests), label)
+            named = {row[0] for row in rows if "gone" not in row[1]}
+            self.assertLessEqual(named, set(new.theorems()))
+
+    def test_order(self) -> None:
+        """As few as can be are told as moved."""
+        some: list[list[int]] = [[], [1, 2, 3], [3, 1, 2], [2, 3, 1], [4, 3, 2, 1], [1, 5, 2, 3, 4]]
+        for numbers in some:
+            pairs = [(str(number), number) for number in numbers]
+            moved = out_of_order(pairs)
+            left = [number for label, number in pairs if label not in moved]
+            self.assertEqual(left, sorted(left))
+            self.assertEqual(len(left), most_rising(numbers))
+
+
+def most_rising(numbers: list[int]) -> int:
+    """The length of a longest rising selection, by trying everything."""
+    best = 0
+    for chosen in range(1 << len(numbers)):
+        some = [number for place, number in enumerate(numbers) if chosen >> place & 1]
+        if some == sorted(some):
+            best = max(best, len(some))
+    return best

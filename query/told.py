@@ -1,0 +1,145 @@
+"""What the program tells of a database in one run: marks, citations, and a line of each assertion.
+
+These are the sections `matrix`, `citations` and `statements` of a report, in which every axiom has
+a column, whatever its typecode. Their bytes are proved, so they aren't compared with one another.
+Still a line that hasn't its form is never taken for an answer.
+"""
+
+from __future__ import annotations
+
+import re
+from array import array
+from binascii import unhexlify
+
+from query.assertions import NUMBER, Damaged, typecode_of
+from query.graph import Lists
+from query.marks import Marks
+from query.report import Prepared
+
+SECTIONS = "--report=matrix,citations,statements"
+COUNTS = "--report=citations"
+"""The report whose head counts axioms and theorems, and for which no marks are made."""
+HEAD = re.compile(
+    rf"mmdepend [12]\naxioms ({NUMBER})\n(?:open {NUMBER}\n)?theorems ({NUMBER})\n".encode()
+)
+
+
+class Told:
+    """A report of these sections, by its bytes."""
+
+    def __init__(self, data: bytes) -> None:
+        self.data = data
+        self.axioms, self.theorems, self.place = head_of(data)
+
+    def section(self, name: bytes, end: bytes) -> bytes:
+        """The lines of the section that comes next, up to this line, with their line feeds."""
+        if not self.data.startswith(name + b"\n", self.place):
+            raise Damaged
+        start = self.place + len(name)
+        self.place = self.data.find(b"\n" + end + b"\n", start) + 1
+        if not self.place:
+            raise Damaged
+        return bytes(memoryview(self.data)[start + 1 : self.place])
+
+    def last(self) -> bytes:
+        """The lines of the last section, `statements`."""
+        lines = self.section(b"statements", b"end")
+        if self.data[self.place :] != b"end\n":
+            raise Damaged
+        return lines
+
+    def prepared(self) -> Prepared:
+        """What they say."""
+        matrix = self.section(b"matrix", b"citations")
+        citations = self.section(b"citations", b"statements")
+        statements = self.last()
+        theorems, axioms, typecodes = labels_of(plain(statements))
+        if (len(axioms), len(theorems)) != (self.axioms, self.theorems):
+            raise Damaged
+        marks = marks_of(matrix, theorems, len(axioms))
+        cites = cites_of(plain(citations), theorems, axioms)
+        return Prepared(theorems, axioms, [], marks, cites, len(axioms), typecodes, statements)
+
+
+def head_of(data: bytes) -> tuple[int, int, int]:
+    """The numbers of axioms and theorems that the head of a report says, and its length."""
+    match = HEAD.match(data)
+    if match is None or not data.endswith(b"\nend\n"):
+        raise Damaged
+    return int(match[1]), int(match[2]), match.end()
+
+
+def plain(data: bytes) -> str:
+    """A text in ASCII."""
+    try:
+        return data.decode("ascii")
+    except UnicodeDecodeError:
+        raise Damaged from None
+
+
+def labels_of(section: str) -> tuple[list[str], list[str], list[str]]:
+    """The labels of theorems and of axioms, and the typecodes of these, by the section
+    `statements`. What else stands on its lines is judged where it is asked for."""
+    lines = [line.split(":", 2) for line in section.split("\n")[:-1]]
+    if {*map(len, lines)} - {3} or {line[1] for line in lines} - {*"apo"}:
+        raise Damaged
+    axioms = [line for line in lines if line[1] != "p"]
+    return (
+        [line[0] for line in lines if line[1] == "p"],
+        [line[0] for line in axioms],
+        [typecode_of(letter, said) for _, letter, said in axioms],
+    )
+
+
+def marks_of(section: bytes, theorems: list[str], columns: int) -> Marks:
+    """The marks of the section `matrix` in form 2."""
+    parts = [line.partition(b":") for line in section.split(b"\n")[:-1]]
+    labels = b"\n".join([label for label, _, _ in parts])
+    rows = [row for _, _, row in parts]
+    digits = -(-columns // 4)
+    if labels != "\n".join(theorems).encode() or {*map(len, rows)} - {digits}:
+        raise Damaged
+    if not columns:
+        return Marks(len(rows), 0, bytes(len(rows)))
+    # Each row takes whole bytes.
+    joint = b"0".join([*rows, b""]) if digits % 2 else b"".join(rows)
+    if any(sign in joint for sign in b"ABCDEF"):
+        raise Damaged
+    try:
+        return Marks(len(rows), columns, unhexlify(joint))
+    except ValueError:
+        raise Damaged from None
+
+
+def cites_of(section: str, theorems: list[str], axioms: list[str]) -> Lists:
+    """What each theorem cites, by the numbers of theorems and of axioms after them."""
+    node = {label: number for number, label in enumerate([*theorems, *axioms])}.__getitem__
+    targets: list[int] = []  # quicker to fill than an array
+    places = [0]
+    try:
+        for line, theorem in zip(section.split("\n")[:-1], theorems, strict=True):
+            label, count, words = line.split(":")
+            if words:
+                targets.extend(map(node, words.split(" ")))
+            if label != theorem or count != str(len(targets) - places[-1]):
+                raise Damaged
+            places.append(len(targets))
+    except (KeyError, ValueError):
+        raise Damaged from None
+    return Lists(array("I", places), array("I", targets))
+
+
+def told(data: bytes) -> Prepared:
+    """What a report of the sections says that one run writes. Damaged where it isn't one."""
+    return Told(data).prepared()
+
+
+def counted(data: bytes) -> tuple[int, int]:
+    """How many axioms and how many theorems a report counts in its head."""
+    axioms, theorems, _ = head_of(data)
+    return axioms, theorems
+
+
+def statements_of(data: bytes) -> bytes:
+    """The lines of the section `statements`, of a report that has no other."""
+    return Told(data).last()
