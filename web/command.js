@@ -34,8 +34,8 @@ const OPTIONS = [
         value: "PART",
         among: "any",
         help:
-            "Write these parts of the report, with commas between them: matrix, counts, usage, citations, or all, " +
-            "which is the first three [default: all]",
+            "Write these parts of the report, with commas between them: matrix, counts, usage, citations, statements, " +
+            "or all, which is the first three [default: all]",
     },
     {
         name: "form",

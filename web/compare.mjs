@@ -126,7 +126,7 @@ for (const { name, text } of texts) {
         await compared(name, text, { ...plain, report: part, form: 1 });
         await compared(name, text, { ...drawn(), report: part, form: 2 });
     }
-    await compared(name, text, { ...plain, report: "matrix,citations", form: 2 });
+    await compared(name, text, { ...plain, report: "matrix,citations,statements", form: 2 });
     await compared(name, text, drawn(), { room: 65536 });
 }
 const small = texts.filter(({ text }) => text.length < SMALL);

@@ -9,7 +9,7 @@ const OUT_TOO_SHORT = 3;
 const ROOM_TOO_SMALL = 4;
 
 /** The sections of a report, each with its bit; `all` are the first three. */
-const BITS = { all: 7, matrix: 1, counts: 2, usage: 4, citations: 8 };
+const BITS = { all: 7, matrix: 1, counts: 2, usage: 4, citations: 8, statements: 16 };
 /** The names of sections, and `all`. */
 export const PARTS = /** @type {(keyof typeof BITS)[]} */ (Object.keys(BITS));
 /**

@@ -112,15 +112,15 @@ function lacking(word, lack) {
 }
 
 /**
- * Verifies a text. Returns its report with matrix and citations, of all typecodes: chains may lead over other assertions
- * than those of one typecode.
+ * Verifies a text. Returns its report with matrix, citations and statements, of all typecodes: chains may lead over other
+ * assertions than those of one typecode.
  * @param {string} word how the command line calls it
  * @param {Uint8Array} data
  * @param {Request} request
  * @param {Tools} tools
  */
 async function reportOf(word, data, request, { module, tables }) {
-    const wanted = /** @type {const} */ ({ only: null, report: "matrix,citations", form: 2 });
+    const wanted = /** @type {const} */ ({ only: null, report: "matrix,citations,statements", form: 2 });
     const answer = await report(module, data.length, (bytes) => bytes().set(data), { ...request, ...wanted });
     if (answer.status === Status.memory) throw outOfMemory();
     if (answer.status === Status.refusal) {
@@ -136,13 +136,12 @@ class Database {
     /**
      * @param {string} word how the command line calls it
      * @param {Making} making
-     * @param {Uint8Array} report
      */
-    constructor(word, making, report) {
+    constructor(word, making) {
         this.word = word;
         this.making = making;
         try {
-            this.side = making.side(report);
+            this.side = making.side();
         } catch (error) {
             throw error instanceof NoAnswer ? lacking(word, error.lack) : error;
         }
@@ -165,7 +164,7 @@ class Database {
 async function opened(word, name, request, tools) {
     const data = textOf(word);
     const report = await reportOf(word, data, request, tools);
-    return new Database(word, new Making(name, data, request), report);
+    return new Database(word, new Making(name, data, request, report));
 }
 
 /**

@@ -4,15 +4,12 @@
 // dummy variables of the proof, and for each of these itself and those from which it must be distinct; `*` instead if
 // that are all other variables. Groups are separated by `$`, variables by spaces.
 
-import { Byte, Writer, afterComment, isComment } from "./bytes.js";
+import { Byte, Cutter, Writer } from "./bytes.js";
 import { Stamps } from "./symbols.js";
 
 /** @typedef {import("./bytes.js").Rows} Rows */
 /** @typedef {import("./symbols.js").Vocabulary} Vocabulary */
 /** @typedef {import("./text.js").Text} Text */
-
-/** What two variables are to one another, in a matrix. */
-const Pair = { none: 0, apart: 1, grouped: 2 };
 
 export class Conditions {
     /**
@@ -25,32 +22,36 @@ export class Conditions {
         this.text = vocabulary.text;
         this.ofAssertions = ofAssertions;
         this.ofHypotheses = ofHypotheses;
-        this.groups = vocabulary.groups();
-        this.ranks = ranksOf(vocabulary);
+        this.cutter = new Cutter();
         this.seen = new Stamps();
         /** The place of each variable in `variables`, where `seen` has it. */
         this.places = new Uint32Array(vocabulary.size);
-        /** The variables of an assertion: `mandatory` of formula and hypotheses, then those of the proof. */
-        this.variables = new Uint32Array(64);
-        this.count = 0;
+        /** @type {number[]} The variables of an assertion: `mandatory` of formula and hypotheses, then those of the proof. */
+        this.variables = [];
         this.mandatory = 0;
-        /** Of each two of them, by their places, what they are to one another. */
-        this.matrix = new Uint8Array(64);
+        /** @type {Set<number>[]} Of each of them, by their places, those from which it must be distinct. */
+        this.others = [];
         this.pairs = 0;
         this.proofPairs = 0;
+        this.ranks = new Uint32Array(0);
     }
 
     /** The lines of all assertions. */
     lines() {
+        const { text } = this;
+        for (let number = 0; number < text.size; number++) this.words(...text.dummies.of(number));
+        this.ranks = ranksOf(this.vocabulary);
+        this.places = new Uint32Array(this.vocabulary.size);
         const writer = new Writer();
-        for (let number = 0; number < this.text.size; number++) {
+        for (let number = 0; number < text.size; number++) {
             if (number > 0) writer.push(Byte.newline);
             this.readVariables(number);
-            this.readPairs(number);
+            this.pairs = this.readPairs(...text.pairs.of(number));
+            this.proofPairs = this.readPairs(...text.dummyPairs.of(number));
             if (this.pairs > 0) this.putGroups(writer);
-            if (this.count === this.mandatory) continue;
+            if (this.variables.length === this.mandatory) continue;
             writer.push(Byte.tab);
-            this.putList(writer, Array.from({ length: this.count - this.mandatory }, (_, at) => this.mandatory + at));
+            this.putList(writer, [...this.variables.keys()].slice(this.mandatory));
             writer.push(Byte.tab);
             if (this.areAll()) writer.push(Byte.star);
             else this.putStars(writer);
@@ -59,102 +60,65 @@ export class Conditions {
     }
 
     /**
+     * The symbols of a stretch, by their numbers.
+     * @param {number} start
+     * @param {number} end
+     */
+    words(start, end) {
+        const { cutter, vocabulary } = this;
+        const size = cutter.cut(this.text.data, start, end);
+        return Array.from({ length: size }, (_, at) => vocabulary.words.add(cutter.starts[at], cutter.ends[at]));
+    }
+
+    /**
      * Finds the variables of an assertion and of its proof.
      * @param {number} number
      */
     readVariables(number) {
         this.seen.begin(this.vocabulary.size);
-        this.count = 0;
-        for (const hypothesis of this.text.essential.of(this.text.essentialOf.items[number])) {
-            this.addAll(this.ofHypotheses.of(hypothesis));
-        }
+        this.variables = [];
+        for (const hypothesis of this.text.essential.of(number)) this.addAll(this.ofHypotheses.of(hypothesis));
         this.addAll(this.ofAssertions.of(number));
-        this.mandatory = this.count;
-        if (this.text.isProved(number)) this.addNamed(number);
+        this.mandatory = this.variables.length;
+        this.addAll(this.words(...this.text.dummies.of(number)));
+        this.others = this.variables.map(() => new Set());
     }
 
-    /** @param {Uint32Array} variables */
+    /** @param {Iterable<number>} variables */
     addAll(variables) {
-        for (let at = 0; at < variables.length; at++) this.add(variables[at]);
-    }
-
-    /** @param {number} variable */
-    add(variable) {
-        if (!this.seen.isNew(variable)) return;
-        if (this.count === this.variables.length) {
-            const variables = new Uint32Array(2 * this.count);
-            variables.set(this.variables);
-            this.variables = variables;
-        }
-        this.places[variable] = this.count;
-        this.variables[this.count++] = variable;
-    }
-
-    /**
-     * Adds the variables that a proof names by their `$f`: a compressed one in its brackets.
-     * @param {number} number
-     */
-    addNamed(number) {
-        const { data, proofs, proofEnds } = this.text;
-        const { floating, variableOf } = this.vocabulary;
-        const end = proofEnds.items[number];
-        let place = proofs.items[number];
-        while (place < end) {
-            if (data[place] <= Byte.space) {
-                place++;
-                continue;
-            }
-            if (isComment(data, place)) {
-                place = afterComment(data, place);
-                continue;
-            }
-            const start = place;
-            while (place < end && data[place] > Byte.space) place++;
-            if (data[start] === Byte.close) return;
-            const label = floating.find(data, start, place);
-            if (label >= 0) this.add(variableOf.items[label]);
+        for (const variable of variables) {
+            if (!this.seen.isNew(variable)) continue;
+            this.places[variable] = this.variables.length;
+            this.variables.push(variable);
         }
     }
 
     /**
-     * Finds the pairs of an assertion's variables that an active `$d` names.
-     * @param {number} number
+     * Finds the pairs of a stretch, in which each stands behind a `$d`. Returns how many there are.
+     * @param {number} start
+     * @param {number} end
      */
-    readPairs(number) {
-        const { count, seen, places } = this;
-        const active = this.text.disjoint.of(this.text.disjointOf.items[number]);
-        this.pairs = this.proofPairs = 0;
-        if (active.length === 0) return;
-        const size = count * count;
-        if (this.matrix.length < size) this.matrix = new Uint8Array(2 * size);
-        else this.matrix.fill(Pair.none, 0, size);
-        for (const index of active) {
-            const group = this.groups.of(index);
-            for (let one = 0; one < group.length; one++) {
-                if (seen.stamps[group[one]] !== seen.turn) continue;
-                const first = places[group[one]];
-                for (let other = one + 1; other < group.length; other++) {
-                    if (seen.stamps[group[other]] === seen.turn) this.addPair(first, places[group[other]]);
-                }
-            }
+    readPairs(start, end) {
+        const { data } = this.text;
+        const { words } = this.vocabulary;
+        let count = 0;
+        for (let place = start; place < end; count++) {
+            const first = data.indexOf(Byte.space, place) + 1;
+            const gap = data.indexOf(Byte.space, first);
+            const behind = data.indexOf(Byte.space, gap + 1);
+            const last = behind < 0 ? end : Math.min(behind, end);
+            const one = this.places[words.add(first, gap)];
+            const other = this.places[words.add(gap + 1, last)];
+            this.others[one].add(other);
+            this.others[other].add(one);
+            place = last + 1;
         }
-    }
-
-    /**
-     * @param {number} first
-     * @param {number} second
-     */
-    addPair(first, second) {
-        const { matrix, count } = this;
-        if (matrix[first * count + second] !== Pair.none) return;
-        matrix[first * count + second] = matrix[second * count + first] = Pair.apart;
-        if (first < this.mandatory && second < this.mandatory) this.pairs++;
-        else this.proofPairs++;
+        return count;
     }
 
     /** Whether each dummy variable must be distinct from all other variables. */
     areAll() {
-        const dummies = this.count - this.mandatory;
+        const dummies = this.variables.length - this.mandatory;
         return this.proofPairs === dummies * this.mandatory + (dummies * (dummies - 1)) / 2;
     }
 
@@ -172,46 +136,38 @@ export class Conditions {
      * @param {Writer} writer
      */
     putGroups(writer) {
-        const { matrix, count } = this;
-        const all = [];
-        for (let place = 0; place < this.mandatory; place++) if (this.hasPair(place)) all.push(place);
-        const order = this.sorted(all);
+        const { mandatory } = this;
+        const own = this.others.slice(0, mandatory).map((others) => [...others].filter((place) => place < mandatory));
+        const order = this.sorted([...own.keys()].filter((place) => own[place].length > 0));
+        const ranked = own.map((others) => this.sorted(others));
+        const turn = new Map(order.map((place, at) => [place, at]));
+        /** @type {Set<number>[]} */
+        const grouped = own.map(() => new Set());
         let isFirst = true;
-        for (let one = 0; one < order.length; one++) {
-            for (let other = one + 1; other < order.length; other++) {
-                if (matrix[order[one] * count + order[other]] !== Pair.apart) continue;
+        for (const [at, one] of order.entries()) {
+            for (const other of ranked[one]) {
+                if ((turn.get(other) ?? 0) < at || grouped[one].has(other)) continue;
                 if (!isFirst) writer.push(Byte.dollar);
                 isFirst = false;
-                this.putList(writer, this.groupOf(order, order[one], order[other]));
+                this.putList(writer, this.groupOf(ranked[one], one, other, grouped));
             }
         }
     }
 
     /**
-     * Whether a variable of the assertion must be distinct from another one.
-     * @param {number} place
-     */
-    hasPair(place) {
-        const start = place * this.count;
-        for (let at = start; at < start + this.mandatory; at++) if (this.matrix[at] !== Pair.none) return true;
-        return false;
-    }
-
-    /**
      * The group that a pair begins: with each variable, in order, that must be distinct from all that are in it.
-     * @param {number[]} order
+     * @param {number[]} candidates those that must be distinct from the first, in order
      * @param {number} first
      * @param {number} second
+     * @param {Set<number>[]} grouped of each variable those with which it is in a group
      */
-    groupOf(order, first, second) {
-        const { matrix, count } = this;
+    groupOf(candidates, first, second, grouped) {
+        const { others } = this;
         const group = [first, second];
-        for (const place of order) {
-            if (group.every((member) => matrix[member * count + place] !== Pair.none)) group.push(place);
+        for (const place of candidates) {
+            if (group.every((member) => others[member].has(place))) group.push(place);
         }
-        for (const one of group) {
-            for (const other of group) if (one !== other) matrix[one * count + other] = Pair.grouped;
-        }
+        for (const one of group) for (const other of group) grouped[one].add(other);
         return this.sorted(group);
     }
 
@@ -220,13 +176,9 @@ export class Conditions {
      * @param {Writer} writer
      */
     putStars(writer) {
-        for (let dummy = this.mandatory; dummy < this.count; dummy++) {
-            const others = [];
-            const start = dummy * this.count;
-            if (this.proofPairs > 0) {
-                for (let place = 0; place < this.count; place++) if (this.matrix[start + place]) others.push(place);
-            }
+        for (let dummy = this.mandatory; dummy < this.variables.length; dummy++) {
             if (dummy > this.mandatory) writer.push(Byte.dollar);
+            const others = [...this.others[dummy]].sort((one, other) => one - other);
             this.putList(writer, [dummy, ...this.sorted(others)]);
         }
     }
@@ -255,7 +207,8 @@ function ranksOf(vocabulary) {
     const variables = Array.from(vocabulary.variables.taken());
     const codes = [...new Set(variables.map((variable) => vocabulary.typecodes[variable]))];
     const codeRanks = new Map(codes.map((code, at) => [code, at]));
-    const ranks = new Uint32Array(vocabulary.size);
+    // A variable that is none of any assertion has no `$f` here, and stands last.
+    const ranks = new Uint32Array(vocabulary.size).fill(variables.length);
     const rankOf = (/** @type {number} */ variable) => codeRanks.get(vocabulary.typecodes[variable]) ?? 0;
     variables.sort((one, other) => rankOf(one) - rankOf(other)).forEach((variable, at) => (ranks[variable] = at));
     return ranks;

@@ -33,32 +33,35 @@ export class NoAnswer extends Error {
  * @property {string[]} [watched] labels of axioms that each chapter speaks of first
  */
 
-/** A database while it is packed: first its text alone, then with the reports. */
+/** A database while it is packed. */
 export class Making {
     /**
      * @param {string} name how the page calls the file
      * @param {Uint8Array} data
      * @param {Request} request
+     * @param {Uint8Array} report that of the program with matrix, citations and statements, in form 2 and of all
+     *     typecodes
      */
-    constructor(name, data, request) {
+    constructor(name, data, request, report) {
         this.name = name;
         this.request = request;
+        this.report = report;
         this.sum = sumOf(data);
-        this.text = readText(data);
+        this.text = readText(data, report);
     }
 
     /**
-     * The blocks that the text alone gives.
+     * The blocks of what stands in the database.
      * @param {Wishes} wishes
      * @returns {Promise<Blocks>}
      */
     async ofText({ maker, entities, title = this.name, watched = [] }) {
-        const { data } = this.text;
+        const { source } = this.text;
         const { only, essential, open } = this.request;
         const about = {
             title: visible(title),
             file: visible(this.name),
-            bytes: data.length,
+            bytes: source.length,
             sha256: await this.sum,
             maker: visible(maker),
             only: only && visible(only),
@@ -69,12 +72,9 @@ export class Making {
         return packText(this.text, about, entities);
     }
 
-    /**
-     * The text beside what the report says of it.
-     * @param {Uint8Array} report that of the program with matrix and citations, in form 2 and of all typecodes
-     */
-    side(report) {
-        const dependence = readReport(this.text, this.request, report);
+    /** The text beside what the report says of marks and citations. */
+    side() {
+        const dependence = readReport(this.text, this.request, this.report);
         if (dependence.axioms.length === 0 && this.request.only !== null) {
             throw new NoAnswer(this.name, `has no axiom of typecode '${visible(this.request.only)}'`);
         }
@@ -83,7 +83,7 @@ export class Making {
     }
 
     /**
-     * The blocks that the reports give, and with an older release that of the comparison.
+     * The blocks of marks and citations, and with an older release that of the comparison.
      * @param {Side} side
      * @param {{ name: string, side: Side } | null} older
      * @returns {Blocks}

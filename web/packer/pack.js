@@ -174,8 +174,8 @@ function packPlaces(text) {
     const writer = new Writer();
     let place = 0;
     for (let number = 0; number < text.size; number++) {
-        const label = text.assertions.labels.items[number];
-        writer.number(newlinesIn(text.data, place, label) + (number === 0 ? 1 : 0));
+        const label = text.places.items[number];
+        writer.number(newlinesIn(text.source, place, label) + (number === 0 ? 1 : 0));
         place = label;
     }
     return writer.taken();
@@ -203,7 +203,7 @@ function packHypotheses(text) {
     const gaps = new Writer();
     let first = 0;
     for (let index = 0; index < text.size; index++) {
-        const active = text.essential.of(text.essentialOf.items[index]);
+        const active = text.essential.of(index);
         lengths.number(active.length);
         active.forEach((number, at) => {
             if (at > 0) gaps.number(number - active[at - 1] - 1);
@@ -302,7 +302,7 @@ function packStatements(text, about, entities, blocks) {
  * @param {Blocks} blocks
  */
 function packComments(text, blocks) {
-    const { data, comments, commentEnds } = text;
+    const { source: data, comments, commentEnds } = text;
     const flags = new Uint8Array(text.size);
     const writer = new Writer();
     for (let number = 0; number < text.size; number++) {

@@ -152,12 +152,11 @@ class Reader {
 
     /** Axioms, and open theorems where these count as axioms, are columns. */
     putIntoRowsAndColumns() {
-        const { text, found, request } = this;
+        const { text, found } = this;
         const theorems = new Row();
         const axioms = new Row();
         for (let number = 0; number < text.size; number++) {
-            const isTheorem = text.isProved(number) && !(request.open && this.isOpen(number));
-            if (isTheorem) {
+            if (text.isProved(number) && !text.isOpen(number)) {
                 found.rowOf[number] = theorems.size;
                 theorems.push(number);
             } else {
@@ -167,20 +166,6 @@ class Reader {
         }
         found.theorems = theorems.taken();
         found.axioms = axioms.taken();
-    }
-
-    /**
-     * Whether the proof of a theorem is left open: `?` alone, or `( ) ?`.
-     * @param {number} number
-     */
-    isOpen(number) {
-        const { data, proofs, proofEnds } = this.text;
-        const { cutter } = this;
-        const end = proofEnds.items[number];
-        const size = cutter.cut(data, proofs.items[number], end);
-        if (size !== 1 && size !== 3) return false;
-        const words = Array.from({ length: size }, (_, at) => textAt(data, cutter.starts[at], cutter.ends[at]));
-        return words.join(" ") === "?" || words.join(" ") === "( ) ?";
     }
 
     /**
@@ -402,6 +387,8 @@ export function readReport(text, request, report) {
     reader.passHead(lines);
     reader.readMatrix(lines);
     reader.readCitations(lines);
+    lines.pass("statements");
+    lines.place = text.sectionEnd;
     lines.pass("end");
     reader.checkMarks();
     const { only } = request;

@@ -55,19 +55,25 @@ export class Side {
     }
 
     /**
-     * The active `$e` of an assertion.
+     * The `$e` of an assertion.
      * @param {number} number
      */
     essential(number) {
-        return this.text.essential.of(this.text.essentialOf.items[number]);
+        return this.text.essential.of(number);
     }
 
     /**
-     * The active `$d` of an assertion.
+     * The pairs of an assertion's variables that must be distinct, sorted.
      * @param {number} number
      */
-    disjoint(number) {
-        return this.text.disjoint.of(this.text.disjointOf.items[number]);
+    pairs(number) {
+        const words = this.words(...this.text.pairs.of(number));
+        const pairs = [];
+        for (let at = 0; at < words.length; at += 3) {
+            const [, one, other] = words.slice(at, at + 3);
+            pairs.push(one < other ? `${one} ${other}` : `${other} ${one}`);
+        }
+        return pairs.sort();
     }
 
     /**
@@ -79,17 +85,9 @@ export class Side {
         const all = [this.symbols(text.assertions, number)];
         for (const hypothesis of this.essential(number)) all.push(this.symbols(text.hypotheses, hypothesis));
         const variables = new Set(all.flat().filter((symbol) => typecodes.has(symbol)));
-        const pairs = new Set();
-        for (const index of this.disjoint(number)) {
-            const group = this.words(text.groups.items[index], text.groupEnds.items[index]);
-            const own = group.filter((variable) => variables.has(variable));
-            own.forEach((one, at) => {
-                for (const other of own.slice(at + 1)) pairs.add(one < other ? `${one} ${other}` : `${other} ${one}`);
-            });
-        }
         const codes = [...variables].map((variable) => `${variable} ${typecodes.get(variable)}`);
         const formulas = all.map((symbols) => symbols.join(" "));
-        return [...formulas, "$d", ...[...pairs].sort(), "$f", ...codes.sort()].join("\n");
+        return [...formulas, "$d", ...this.pairs(number), "$f", ...codes.sort()].join("\n");
     }
 
     /**
@@ -142,7 +140,7 @@ export class Pairer {
     }
 
     /**
-     * Whether formula, hypotheses and `$d` stand in both texts by the same bytes.
+     * Whether formula, hypotheses and pairs stand in both reports by the same bytes.
      * @param {number} old
      * @param {number} now
      */
@@ -150,7 +148,6 @@ export class Pairer {
         const before = stretchesOf(this.old, old);
         const after = stretchesOf(this.now, now);
         if (before.length !== after.length) return false;
-        if (this.old.disjoint(old).length !== this.now.disjoint(now).length) return false;
         return before.every(([start, end], at) =>
             isSame(this.old.text.data, start, end, this.now.text.data, after[at][0], after[at][1]),
         );
@@ -316,18 +313,18 @@ function numbersOfKind(text, isProved) {
 }
 
 /**
- * Where formula, hypotheses and `$d` of an assertion stand.
+ * Where formula, hypotheses and pairs of an assertion stand.
  * @param {Side} side
  * @param {number} number
  * @returns {[number, number][]}
  */
 function stretchesOf(side, number) {
-    const { assertions, hypotheses, groups, groupEnds } = side.text;
+    const { assertions, hypotheses, pairs } = side.text;
     /** @type {[number, number][]} */
     const found = [[assertions.formulas.items[number], assertions.formulaEnds.items[number]]];
     for (const index of side.essential(number)) {
         found.push([hypotheses.formulas.items[index], hypotheses.formulaEnds.items[index]]);
     }
-    for (const index of side.disjoint(number)) found.push([groups.items[index], groupEnds.items[index]]);
+    found.push(pairs.of(number));
     return found;
 }

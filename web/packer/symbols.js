@@ -14,9 +14,6 @@ export class Vocabulary {
         /** The variables that have a `$f`, in order of these; and of each symbol the typecode, as a symbol, or -1. */
         this.variables = new Row();
         this.typecodes = new Int32Array(0);
-        /** The variable of each `$f`, by the number of its label in `floating`. */
-        this.floating = new Words(text.data);
-        this.variableOf = new Row();
         /** The symbols of formulas, as they first appear, the typecodes included. */
         this.used = new Row();
         this.isUsed = new Uint8Array(0);
@@ -25,7 +22,7 @@ export class Vocabulary {
 
     readFloating() {
         const { text, cutter } = this;
-        const { labels, labelEnds, formulas, formulaEnds } = text.floating;
+        const { formulas, formulaEnds } = text.floating;
         for (let number = 0; number < text.floating.size; number++) {
             cutter.cut(text.data, formulas.items[number], formulaEnds.items[number]);
             const code = this.words.add(cutter.starts[0], cutter.ends[0]);
@@ -33,8 +30,6 @@ export class Vocabulary {
             this.makeRoom();
             if (this.typecodes[variable] < 0) this.variables.push(variable);
             this.typecodes[variable] = code;
-            this.floating.add(labels.items[number], labelEnds.items[number]);
-            this.variableOf.push(variable);
         }
     }
 
@@ -92,23 +87,6 @@ export class Vocabulary {
         if (this.isUsed[symbol]) return;
         this.isUsed[symbol] = 1;
         this.used.push(symbol);
-    }
-
-    /**
-     * The variables of each `$d`, as written.
-     * @returns {Rows}
-     */
-    groups() {
-        const { cutter, words } = this;
-        const { data, groups, groupEnds } = this.text;
-        const found = new Rows();
-        for (let number = 0; number < groups.size; number++) {
-            const size = cutter.cut(data, groups.items[number], groupEnds.items[number]);
-            for (let at = 0; at < size; at++) found.push(words.add(cutter.starts[at], cutter.ends[at]));
-            found.end();
-        }
-        this.makeRoom();
-        return found;
     }
 }
 

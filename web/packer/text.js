@@ -1,14 +1,17 @@
-// Reads the text of a database that the program accepted: what stands in it beside marks and citations. It does
-// what query/text.py does; a test compares both.
+// What a database says. The statements come of the section `statements` of the program's report, whose bytes are proved;
+// comments and headings of the text, where they stand between the assertions.
 
-import { Byte, Chains, Row, Words, afterComment, closeOf, isComment, textAt } from "./bytes.js";
+import { Byte, Row, Rows, Words, closeOf, isComment, isSame, textAt } from "./bytes.js";
 
 /** The lines that enclose the title of a part, a chapter, a section and a subsection. */
 const DECORATIONS = ["####", "#*#*", "=-=-", "-.-."];
 /** How many lines a title has at most. */
 const MOST_LINES = 4;
-const Letter = { a: 0x61, c: 0x63, d: 0x64, e: 0x65, f: 0x66, j: 0x6a, p: 0x70, t: 0x74, v: 0x76 };
+const Letter = { a: 0x61, d: 0x64, e: 0x65, f: 0x66, j: 0x6a, o: 0x6f, p: 0x70, t: 0x74, v: 0x76 };
 const Brace = { open: 0x7b, close: 0x7d };
+const COLON = 0x3a;
+const ZERO = 0x30;
+const SECTION = "\nstatements\n";
 
 /**
  * A heading: `first` is the number of the first assertion after it, `end` that of the first one after its chapter,
@@ -24,7 +27,7 @@ const Brace = { open: 0x7b, close: 0x7d };
  * @property {number} stop
  */
 
-/** Statements of one kind: where the label and the formula of each stand. */
+/** Statements of one kind: where the label and the formula of each stand in the report. */
 export class Statements {
     constructor() {
         this.labels = new Row();
@@ -41,41 +44,74 @@ export class Statements {
      * @param {number} label
      * @param {number} labelEnd
      * @param {number} formula
+     * @param {number} formulaEnd
      */
-    push(label, labelEnd, formula) {
+    push(label, labelEnd, formula, formulaEnd) {
         this.labels.push(label);
         this.labelEnds.push(labelEnd);
         this.formulas.push(formula);
+        this.formulaEnds.push(formulaEnd);
+    }
+}
+
+/** A stretch for each assertion; 0 and 0 where there is none. */
+class Stretches {
+    constructor() {
+        this.starts = new Row();
+        this.ends = new Row();
+    }
+
+    /**
+     * @param {number} start
+     * @param {number} end
+     */
+    push(start, end) {
+        this.starts.push(start);
+        this.ends.push(end);
+    }
+
+    /**
+     * @param {number} number
+     * @returns {[number, number]}
+     */
+    of(number) {
+        return [this.starts.items[number], this.ends.items[number]];
     }
 }
 
 /** What a database says: statements, comments and headings in file order, by their places. */
 export class Text {
-    /** @param {Uint8Array} data */
-    constructor(data) {
+    /**
+     * @param {Uint8Array} source the bytes of the database
+     * @param {Uint8Array} data those of the report, in which labels, symbols and pairs stand
+     */
+    constructor(source, data) {
+        this.source = source;
         this.data = data;
-        /** The `$a` and `$p` statements. */
+        /** The `$a` and `$p` statements, the letter of each, and where each begins and ends in the database. */
         this.assertions = new Statements();
-        /** Where the proofs of assertions stand; 0 and 0 for a `$a`. */
-        this.proofs = new Row();
-        this.proofEnds = new Row();
-        /** Of each assertion the list of its active `$e` in `essential`, and of its active `$d` in `disjoint`. */
-        this.essentialOf = new Row();
-        this.disjointOf = new Row();
-        /** Lists of numbers of `hypotheses`, and of `groups`. */
-        this.essential = new Chains();
-        this.disjoint = new Chains();
-        /** The comment before each assertion; 0 and 0 where there is none. */
+        this.letters = new Row();
+        this.places = new Row();
+        this.ends = new Row();
+        /**
+         * The `$e` and the `$f` that are mandatory for some assertion, each once, in the order of the lines that name
+         * them; of each assertion its `$e`.
+         */
+        this.hypotheses = new Statements();
+        this.floating = new Statements();
+        this.essential = new Rows();
+        /** Of each assertion the pairs of variables that must be distinct, each behind a `$d`. */
+        this.pairs = new Stretches();
+        /** Of each theorem its dummy variables, and the pairs of which one is a dummy. */
+        this.dummies = new Stretches();
+        this.dummyPairs = new Stretches();
+        /** Where the section ends in the report. */
+        this.sectionEnd = 0;
+        /** The comment before each assertion, in the database; 0 and 0 where there is none. */
         this.comments = new Row();
         this.commentEnds = new Row();
         /** How many headings stand before each assertion. */
         this.headersBefore = new Row();
-        /** The `$e` statements, and the `$f` statements. */
-        this.hypotheses = new Statements();
-        this.floating = new Statements();
-        /** The symbols of each `$d`. */
-        this.groups = new Row();
-        this.groupEnds = new Row();
         /** @type {Header[]} */
         this.headers = [];
         /** @type {string | null} */
@@ -87,9 +123,20 @@ export class Text {
         return this.assertions.size;
     }
 
-    /** @param {number} number */
+    /**
+     * Whether an assertion is a `$p`.
+     * @param {number} number
+     */
     isProved(number) {
-        return this.proofEnds.items[number] > 0;
+        return this.letters.items[number] !== Letter.a;
+    }
+
+    /**
+     * Whether it is a theorem that is left open, and counts as an axiom.
+     * @param {number} number
+     */
+    isOpen(number) {
+        return this.letters.items[number] === Letter.o;
     }
 
     /** @param {number} number */
@@ -110,155 +157,300 @@ export class Text {
     }
 }
 
-/** The text isn't a database that the program accepts; reading ended at `place`. */
+/** The report isn't one of the database; reading ended at `place` of it. */
 export class UnreadableText extends Error {
     /** @param {number} place */
     constructor(place) {
-        super(`the text can't be read from byte ${place}`);
+        super(`the statements can't be read from byte ${place} of the report`);
         this.place = place;
     }
 }
 
-/** What is known while a text is read from its beginning. */
-class Reading {
-    /** @param {Uint8Array} data */
-    constructor(data) {
-        this.data = data;
-        this.text = new Text(data);
-        /** The lists of what is active, and those at the beginnings of blocks. */
-        this.essential = 0;
-        this.disjoint = 0;
+/**
+ * An order of numbers from 0 that agrees with the orders of parts of them. What a part has anew stands before what comes
+ * next in it, or last.
+ */
+class Order {
+    constructor() {
+        /** Of each number those before and after it; behind them all stands -1. */
+        this.before = new Map([[-1, -1]]);
+        this.after = new Map([[-1, -1]]);
+        /** @type {number[]} */
+        this.waiting = [];
+    }
+
+    /**
+     * Adds the next number of a part.
+     * @param {number} number
+     */
+    add(number) {
+        if (this.after.has(number)) this.settle(number);
+        else this.waiting.push(number);
+    }
+
+    /** Ends a part. */
+    end() {
+        this.settle(-1);
+    }
+
+    /**
+     * Puts those that wait before a number.
+     * @param {number} number
+     */
+    settle(number) {
+        for (const each of this.waiting) {
+            const before = this.before.get(number) ?? -1;
+            this.after.set(before, each);
+            this.before.set(each, before);
+            this.after.set(each, number);
+            this.before.set(number, each);
+        }
+        this.waiting.length = 0;
+    }
+
+    /** All numbers in order. */
+    *[Symbol.iterator]() {
+        for (let at = this.after.get(-1) ?? -1; at >= 0; at = this.after.get(at) ?? -1) yield at;
+    }
+}
+
+/** The order of the parts of a line. */
+const Part = { given: 0, pairs: 1, dummies: 2, dummyPairs: 3 };
+
+/** Reads the lines of the section. */
+class Section {
+    /** @param {Text} text */
+    constructor(text) {
+        this.text = text;
+        this.bytes = text.data;
+        this.place = sectionIn(text.data);
+        this.essential = new Words(text.data);
+        this.floating = new Words(text.data);
+        this.order = new Order();
+    }
+
+    /** Reads all lines, up to the one that ends the report. */
+    read() {
+        const { bytes, text } = this;
+        for (;;) {
+            const end = bytes.indexOf(Byte.newline, this.place);
+            if (end < 0) throw new UnreadableText(this.place);
+            const colon = bytes.subarray(this.place, end).indexOf(COLON);
+            if (colon < 0) break;
+            this.readLine(this.place + colon, end);
+            this.place = end + 1;
+        }
+        text.sectionEnd = this.place;
+        text.floating = inOrder(text.floating, this.order);
+    }
+
+    /**
+     * Reads a line, whose label ends at a place.
+     * @param {number} labelEnd
+     * @param {number} end
+     */
+    readLine(labelEnd, end) {
+        const { text, bytes, place: label } = this;
+        const letter = bytes[labelEnd + 1];
+        if (letter !== Letter.a && letter !== Letter.p && letter !== Letter.o) throw new UnreadableText(labelEnd);
+        this.place = labelEnd + 2;
+        const start = this.number();
+        const stop = this.number();
+        this.passColon();
+        const before = text.size === 0 ? 0 : text.ends.items[text.size - 1];
+        const isInside = before <= start && start < stop && stop <= text.source.length;
+        if (!isInside || !this.isLabel(label, labelEnd, start)) throw new UnreadableText(label);
+        text.letters.push(letter);
+        text.places.push(start);
+        text.ends.push(stop);
+        const formula = this.readParts(end, letter === Letter.a ? Letter.a : Letter.p);
+        text.assertions.push(label, labelEnd, formula, end);
+    }
+
+    /**
+     * Whether the word that begins at a place of the database is this label.
+     * @param {number} label
+     * @param {number} labelEnd
+     * @param {number} start
+     */
+    isLabel(label, labelEnd, start) {
+        const { source } = this.text;
+        const end = start + labelEnd - label;
+        const isWord = source[end] <= Byte.space || source[end] === Byte.dollar;
+        return isWord && isSame(this.bytes, label, labelEnd, source, start, end);
+    }
+
+    /** Reads a colon. */
+    passColon() {
+        if (this.bytes[this.place++] !== COLON) throw new UnreadableText(this.place - 1);
+    }
+
+    /** Reads a colon and a number. */
+    number() {
+        this.passColon();
+        const first = this.place;
+        let number = 0;
+        for (; this.bytes[this.place] >= ZERO && this.bytes[this.place] < ZERO + 10; this.place++) {
+            number = 10 * number + this.bytes[this.place] - ZERO;
+        }
+        if (this.place === first) throw new UnreadableText(first);
+        return number;
+    }
+
+    /**
+     * Reads what stands behind the places of a line. Returns where the formula begins.
+     * @param {number} end of the line
+     * @param {number} last the letter of the keyword before the formula
+     */
+    readParts(end, last) {
+        const { text, bytes } = this;
+        let stage = Part.given;
         /** @type {[number, number][]} */
-        this.blocks = [];
+        const found = Array.from({ length: 4 }, () => [0, 0]);
+        for (;;) {
+            const keyword = this.place + 1;
+            const isKeyword = bytes[this.place] === Byte.space && bytes[keyword] === Byte.dollar;
+            if (!isKeyword || bytes[keyword + 2] !== Byte.space || keyword + 3 >= end) throw new UnreadableText(keyword);
+            const letter = bytes[keyword + 1];
+            const first = keyword + 3;
+            const next = this.afterPart(first, end);
+            const part = letter === last ? -1 : partOf(letter, stage);
+            if ((part < stage || next === end) !== (letter === last && next === end)) throw new UnreadableText(keyword);
+            if (letter === last) {
+                text.essential.end();
+                this.order.end();
+                text.pairs.push(...found[Part.pairs]);
+                text.dummies.push(...found[Part.dummies]);
+                text.dummyPairs.push(...found[Part.dummyPairs]);
+                return first;
+            }
+            stage = part;
+            if (part === Part.given) this.addGiven(letter, first, next);
+            else if (part === Part.dummies) found[part] = [first, next];
+            else found[part] = [found[part][1] === 0 ? keyword : found[part][0], next];
+            this.place = next;
+        }
+    }
+
+    /**
+     * Where the part that begins at a place ends: before the next keyword, or with the line.
+     * @param {number} place
+     * @param {number} end
+     */
+    afterPart(place, end) {
+        const dollar = this.bytes.subarray(place, end).indexOf(Byte.dollar);
+        return dollar < 0 ? end : place + dollar - 1;
+    }
+
+    /**
+     * Adds a hypothesis: its label, and behind it its symbols.
+     * @param {number} letter
+     * @param {number} first
+     * @param {number} end
+     */
+    addGiven(letter, first, end) {
+        const { text, bytes } = this;
+        const labelEnd = bytes.indexOf(Byte.space, first);
+        if (labelEnd < 0 || labelEnd >= end) throw new UnreadableText(first);
+        const isEssential = letter === Letter.e;
+        const statements = isEssential ? text.hypotheses : text.floating;
+        const number = (isEssential ? this.essential : this.floating).add(first, labelEnd);
+        if (number === statements.size) statements.push(first, labelEnd, labelEnd + 1, end);
+        if (isEssential) text.essential.push(number);
+        else this.order.add(number);
+    }
+}
+
+/**
+ * Statements in an order.
+ * @param {Statements} statements
+ * @param {Iterable<number>} order
+ */
+function inOrder({ labels, labelEnds, formulas, formulaEnds }, order) {
+    const found = new Statements();
+    for (const at of order) {
+        found.push(labels.items[at], labelEnds.items[at], formulas.items[at], formulaEnds.items[at]);
+    }
+    return found;
+}
+
+/**
+ * Which part of a line a keyword begins, where parts up to a stage were read; -1 for no part.
+ * @param {number} letter
+ * @param {number} stage
+ */
+function partOf(letter, stage) {
+    if (letter === Letter.f || letter === Letter.e) return Part.given;
+    if (letter === Letter.v) return stage < Part.dummies ? Part.dummies : -1;
+    if (letter !== Letter.d) return -1;
+    return stage < Part.dummies ? Part.pairs : Part.dummyPairs;
+}
+
+/**
+ * Where the lines of the section begin.
+ * @param {Uint8Array} report
+ */
+function sectionIn(report) {
+    for (let place = report.indexOf(Byte.newline); place >= 0; place = report.indexOf(Byte.newline, place + 1)) {
+        if (report[place + SECTION.length - 1] !== Byte.newline) continue;
+        if (textAt(report, place, place + SECTION.length) === SECTION) return place + SECTION.length;
+    }
+    throw new UnreadableText(report.length);
+}
+
+/** Reads what stands between the assertions: comments and headings. */
+class Gaps {
+    /** @param {Text} text */
+    constructor(text) {
+        this.text = text;
+        this.data = text.source;
         /** The comment that was read last, if nothing came after it. */
         this.comment = 0;
         this.commentEnd = 0;
         this.counters = [0, 0, 0, 0];
+        /** How many assertions stand before. */
+        this.passed = 0;
     }
 
-    /** Reads the whole text. */
+    /** Reads all of them. */
     read() {
-        const { data } = this;
-        let place = 0;
-        for (;;) {
-            while (place < data.length && data[place] <= Byte.space) place++;
-            if (place === data.length) break;
-            if (isComment(data, place)) {
-                const end = closeOf(data, place + 2);
-                if (end === data.length) throw new UnreadableText(place);
-                this.addComment(place + 2, end);
-                place = end + 2;
-                continue;
-            }
-            place = data[place] === Byte.dollar ? this.readPlain(place) : this.readStatement(place);
-            this.comment = this.commentEnd = 0;
-        }
-        closeChapters(this.text);
-    }
-
-    /**
-     * The place of the `$` that ends what begins at a place, comments passed over.
-     * @param {number} place
-     */
-    dollarAfter(place) {
-        const { data } = this;
-        const { length } = data;
-        for (;;) {
-            while (place < length && data[place] !== Byte.dollar) place++;
-            if (!isComment(data, place)) break;
-            place = afterComment(data, place);
-        }
-        if (place >= length) throw new UnreadableText(place);
-        return place;
-    }
-
-    /**
-     * The place of the `$.` that ends what begins at a place.
-     * @param {number} place
-     */
-    endAfter(place) {
-        const end = this.dollarAfter(place);
-        if (this.data[end + 1] !== Byte.dot) throw new UnreadableText(end);
-        return end;
-    }
-
-    /**
-     * Reads a `$c`, `$d`, `$v` or a brace. Returns the place after it.
-     * @param {number} place
-     */
-    readPlain(place) {
-        const sign = this.data[place + 1];
-        if (sign === Brace.open || sign === Brace.close) {
-            this.addBrace(sign, place);
-            return place + 2;
-        }
-        if (sign !== Letter.c && sign !== Letter.d && sign !== Letter.v) throw new UnreadableText(place);
-        const end = this.endAfter(place + 3);
-        if (sign === Letter.d) {
-            this.disjoint = this.text.disjoint.add(this.disjoint);
-            this.text.groups.push(place + 3);
-            this.text.groupEnds.push(end);
-        }
-        return end + 2;
-    }
-
-    /**
-     * @param {number} brace
-     * @param {number} place
-     */
-    addBrace(brace, place) {
-        if (brace === Brace.open) {
-            this.blocks.push([this.essential, this.disjoint]);
-            return;
-        }
-        const block = this.blocks.pop();
-        if (!block) throw new UnreadableText(place);
-        [this.essential, this.disjoint] = block;
-    }
-
-    /**
-     * Reads a statement with a label. Returns the place after it.
-     * @param {number} place
-     */
-    readStatement(place) {
-        const { data, text } = this;
-        let labelEnd = place;
-        while (data[labelEnd] > Byte.space && data[labelEnd] !== Byte.dollar) labelEnd++;
-        const dollar = this.dollarAfter(labelEnd);
-        const kind = data[dollar + 1];
-        const formula = dollar + 3;
-        if (kind === Letter.a || kind === Letter.p) {
-            const formulaEnd = this.dollarAfter(formula);
-            const isProved = data[formulaEnd + 1] === Byte.equals;
-            const end = isProved ? this.endAfter(formulaEnd + 2) : formulaEnd;
-            text.assertions.push(place, labelEnd, formula);
-            text.assertions.formulaEnds.push(formulaEnd);
-            this.addAssertion(isProved ? formulaEnd + 2 : 0, isProved ? end : 0);
-            return end + 2;
-        }
-        if (kind !== Letter.e && kind !== Letter.f) throw new UnreadableText(dollar);
-        const end = this.endAfter(formula);
-        const statements = kind === Letter.e ? text.hypotheses : text.floating;
-        if (kind === Letter.e) this.essential = text.essential.add(this.essential);
-        statements.push(place, labelEnd, formula);
-        statements.formulaEnds.push(end);
-        return end + 2;
-    }
-
-    /**
-     * Adds what belongs to an assertion beside label and formula.
-     * @param {number} proof
-     * @param {number} proofEnd
-     */
-    addAssertion(proof, proofEnd) {
         const { text } = this;
-        text.essentialOf.push(this.essential);
-        text.disjointOf.push(this.disjoint);
-        text.proofs.push(proof);
-        text.proofEnds.push(proofEnd);
-        text.comments.push(this.comment);
-        text.commentEnds.push(this.commentEnd);
-        text.headersBefore.push(text.headers.length);
+        let place = 0;
+        for (; this.passed < text.size; this.passed++) {
+            this.readGap(place, text.places.items[this.passed]);
+            text.comments.push(this.comment);
+            text.commentEnds.push(this.commentEnd);
+            text.headersBefore.push(text.headers.length);
+            this.comment = this.commentEnd = 0;
+            place = text.ends.items[this.passed];
+        }
+        this.readGap(place, this.data.length);
+        closeChapters(text);
+    }
+
+    /**
+     * Reads a gap. A comment within a statement isn't about what comes after it.
+     * @param {number} place
+     * @param {number} end
+     */
+    readGap(place, end) {
+        const { data } = this;
+        let isWithin = false;
+        while (place < end) {
+            if (data[place] <= Byte.space) {
+                place++;
+            } else if (isComment(data, place)) {
+                const close = closeOf(data, place + 2);
+                if (!isWithin) this.addComment(place + 2, close);
+                place = close + 2;
+            } else {
+                const sign = data[place] === Byte.dollar ? data[place + 1] : 0;
+                isWithin = sign !== Byte.dot && sign !== Brace.open && sign !== Brace.close;
+                this.comment = this.commentEnd = 0;
+                if (sign > 0) place += 2;
+                else while (place < end && data[place] > Byte.space) place++;
+            }
+        }
     }
 
     /**
@@ -293,7 +485,7 @@ class Reading {
         counters[level]++;
         counters.fill(0, level + 1);
         const number = counters.slice(0, level + 1).join(".");
-        text.headers.push({ ...heading, number, first: text.size, end: text.size });
+        text.headers.push({ ...heading, number, first: this.passed, end: this.passed });
     }
 }
 
@@ -374,12 +566,15 @@ function closeChapters(text) {
 }
 
 /**
- * Reads the bytes of a database that the program accepts; UnreadableText where it's none.
- * @param {Uint8Array} data
+ * What a database says, by its bytes and by the program's report of it, which has the section `statements`.
+ * UnreadableText where the report isn't one of the database.
+ * @param {Uint8Array} source
+ * @param {Uint8Array} report
  * @returns {Text}
  */
-export function readText(data) {
-    const reading = new Reading(data);
-    reading.read();
-    return reading.text;
+export function readText(source, report) {
+    const text = new Text(source, report);
+    new Section(text).read();
+    new Gaps(text).read();
+    return text;
 }

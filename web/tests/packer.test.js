@@ -7,7 +7,7 @@ import { Mark, marksOf, putLine } from "../packer/comments.js";
 import { faultOf, refusalOf, explained } from "../packer/faults.js";
 import { pageFile } from "../packer/file.js";
 import { packText } from "../packer/pack.js";
-import { readText } from "../packer/text.js";
+import { UnreadableText, readText } from "../packer/text.js";
 
 const NOTHING = { named: {}, numbers: {}, none: [] };
 const TEXT = `$c |- set wff = $. $v x y z p q $.
@@ -16,15 +16,35 @@ vx $f set x $. vy $f set y $. vz $f set z $. wp $f wff p $. wq $f wff q $.
   all $p |- x = p $= ( vy vz wq ) A $. some $p |- x = p $= ( vy vz ) A $. $}
 none $a |- x = y $.
 `;
+const GIVEN = " $f vx set x $f wp wff p $d x p";
+const SAID = {
+    all: `${GIVEN} $v y z q $d x y $d x z $d x q $d y z $d y q $d z q $p |- x = p`,
+    some: `${GIVEN} $v y z $d x y $d x z $d y z $p |- x = p`,
+    none: " $f vx set x $f vy set y $a |- x = y",
+};
 
 function about(title) {
     const facts = { title, file: "x.mm", bytes: 1, sha256: null, maker: "x" };
     return { ...facts, only: null, essential: false, open: false, watched: [] };
 }
 
+/** The report of a text, in which each label has said behind its places. */
+function reportOf(text, said) {
+    const lines = Object.entries(said).map(([label, rest]) => {
+        const place = text.search(new RegExp(`(?<=^|\\s)${label} \\$[ap]`));
+        return `${label}:${rest.includes("$p") ? "p" : "a"}:${place}:${text.indexOf("$.", place) + 2}:${rest}\n`;
+    });
+    return `mmdepend 2\naxioms 0\ntheorems 0\nstatements\n${lines.join("")}end\n`;
+}
+
+/** What a text says. */
+function read(text, said) {
+    return readText(encoded(text), encoded(reportOf(text, said)));
+}
+
 /** A block of a text, as lines. */
-function lines(text, name) {
-    const block = packText(readText(encoded(text)), about("t"), NOTHING).get(name);
+function lines(text, said, name) {
+    const block = packText(read(text, said), about("t"), NOTHING).get(name);
     return new TextDecoder().decode(block).split("\n");
 }
 
@@ -59,22 +79,22 @@ test("marks of comments", () => {
 });
 
 test("conditions become lines", () => {
-    assert.deepEqual(lines(TEXT, "conditions"), [
+    assert.deepEqual(lines(TEXT, SAID, "conditions"), [
         "x p\ty z q\ty x z q$z x y q$q x y z",
         "x p\ty z\ty x z$z x y",
         "",
     ]);
     const whole = "$c |- set $. $v x y $. vx $f set x $. vy $f set y $. $d x y $. a $p |- x $= vy $.";
-    assert.deepEqual(lines(whole, "conditions"), ["\ty\t*"]);
+    const said = { a: " $f vx set x $v y $d x y $p |- x" };
+    assert.deepEqual(lines(whole, said, "conditions"), ["\ty\t*"]);
 });
 
 test("pairs of variables that must be distinct become few groups, which have each pair", () => {
     for (const wanted of [["abc"], ["abc", "cd"], ["abcd", "ef"], ["ab", "ac", "bd", "cd"]]) {
         const pairs = wanted.flatMap((group) => pairsOf([...group]));
-        const text = `$c |- v $. $v a b c d e f $.
-            ${[..."abcdef"].map((name) => `f${name} $f v ${name} $.`).join(" ")}
-            ${pairs.map((pair) => `$d ${pair} $.`).join(" ")} x $a |- a b c d e f $.`;
-        const [line] = lines(text, "conditions");
+        const given = [..."abcdef"].map((name) => ` $f f${name} v ${name}`).join("");
+        const said = { x: `${given}${pairs.map((pair) => ` $d ${pair}`).join("")} $a |- a b c d e f` };
+        const [line] = lines("x $a |- a b c d e f $.", said, "conditions");
         const groups = line.split("$").map((group) => group.split(" "));
         assert.deepEqual([...new Set(groups.flatMap(pairsOf))].sort(), [...new Set(pairs)].sort());
         assert.equal(groups.length, wanted.length);
@@ -107,4 +127,65 @@ test("faults in one line", () => {
     const tables = { faults: { E18: ["odd", "mend it"] }, unknown: ["unknown", "ask"] };
     assert.equal(explained("x.mm", fault, tables), "x.mm:2:6: refused E18 in 'x': odd; mend it");
     assert.equal(explained("x.mm", { ...fault, code: "E99" }, tables), "x.mm:2:6: refused E99 in 'x': unknown; ask");
+});
+
+test("variables stand in the order of their `$f`, as far as the lines tell it", () => {
+    const said = {
+        one: " $f fb v b $a |- b",
+        two: " $f fa v a $f fb v b $f fd v d $a |- a b d",
+        three: " $f fc v c $f fd v d $f fe v e $a |- c d e",
+    };
+    const text = "one $a |- b $. two $a |- a b d $. three $a |- c d e $.";
+    const [facts] = lines(text, said, "facts");
+    const names = JSON.parse(facts).variables.map(([name]) => name);
+    assert.equal(names.join(""), "abcde");
+});
+
+test("comments and headings between assertions", () => {
+    const text = `$( $t htmldef "a" as "b"; $)
+$( First $) $c |- v $. $v x $. fx $f v x $.
+$(
+####
+  One  part
+####
+ Told. $)
+$( of a $) a $a |- x $( within $) $.
+$( not of b $) \${ h $( within a hypothesis $) $e |- x $.
+$( of b $) $( $j x $) b $a |- x $. $}
+$( not
+####
+$) c $a |- x $.
+$( of nothing $)
+`;
+    const given = " $f fx v x";
+    const found = read(text, { a: `${given} $a |- x`, b: `${given} $e h |- x $a |- x`, c: `${given} $a |- x` });
+    const comments = [0, 1, 2].map((at) => text.slice(found.comments.items[at], found.commentEnds.items[at]).trim());
+    assert.deepEqual(comments, ["of a", "of b", "not\n####"]);
+    assert.deepEqual(found.headers.map(({ title, first, end, level }) => [title, first, end, level]), [["One part", 0, 3, 0]]);
+    assert.equal(found.typesetting.trim(), 'htmldef "a" as "b";');
+    assert.deepEqual([...found.headersBefore.taken()], [1, 1, 1]);
+});
+
+test("a report of another text, or one that is damaged, isn't read", () => {
+    const whole = reportOf(TEXT, SAID);
+    assert.equal(readText(encoded(TEXT), encoded(whole)).size, 3);
+    const damages = [
+        ["all:p", "all:x"],
+        ["all:p", "al:p"],
+        ["all:p:", "all:p:1"],
+        [" $f vx", " $g vx"],
+        [" $f vx set x", " $f vx"],
+        [" $a |- x = y", " $p |- x = y"],
+        [" $a |- x = y", ""],
+        [" $a |- x = y", " $a |- x = y $a |- x"],
+        ["$v y z q", "$v y z q $v x"],
+        ["\nend\n", ""],
+        ["\nstatements", ""],
+    ];
+    for (const [before, after] of damages) {
+        const damaged = whole.replace(before, after);
+        assert.notEqual(damaged, whole);
+        assert.throws(() => readText(encoded(TEXT), encoded(damaged)), UnreadableText, before);
+    }
+    assert.throws(() => readText(encoded(` ${TEXT}`), encoded(whole)), UnreadableText);
 });

@@ -23,11 +23,10 @@
  * @typedef {{ task: "look", blob: Blob }
  *     | { task: "verify", file: Contents, module: Uint8Array, request: Request }
  *     | { task: "save", file: Contents, module: Uint8Array, request: Request, report: ReportName, form: 1 | 2 }
- *     | { task: "pack", files: Chosen[], request: Request, maker: string, entities: Entities }
- *     | { task: "reports", reports: Uint8Array[] }} Ask
+ *     | { task: "pack", files: Chosen[], reports: Uint8Array[], request: Request, maker: string, entities: Entities }} Ask
  */
 
-/** @typedef {"all" | "matrix" | "counts" | "usage" | "citations"} ReportName */
+/** @typedef {"all" | "matrix" | "counts" | "usage" | "citations" | "statements"} ReportName */
 
 /**
  * What a worker tells: how far it is, what it made, or why it made nothing. `part` is from 0 to 1.

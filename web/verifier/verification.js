@@ -1,6 +1,5 @@
 // Verifies a database, and one beside it where it is to be compared, and makes the blocks of the page.
 
-import { sizeOf } from "./contents.js";
 import { Helper } from "./helpers.js";
 
 /** @typedef {import("../packer/reports.js").Request} Request */
@@ -18,12 +17,6 @@ import { Helper } from "./helpers.js";
  * @property {Tables} tables
  * @property {boolean} isShared whether workers can read what the browser holds
  */
-
-/**
- * Bytes of texts that are packed while proofs are checked. Larger ones are packed after that, since there may not be
- * memory for both at a time.
- */
-const MOST_BESIDE = 1 << 24;
 
 /** A run of the program's core over one or two databases. */
 export class Verification {
@@ -51,27 +44,18 @@ export class Verification {
      * @returns {Promise<Map<string, Uint8Array>>}
      */
     async run() {
-        const size = this.files.reduce((sum, { file }) => sum + sizeOf(file), 0);
-        const early = size <= MOST_BESIDE ? this.packTexts() : null;
         /** @type {Uint8Array[]} */
         const reports = [];
         for (const each of this.files) reports.push(await this.verify(each));
         this.current = this.files[0];
         this.tell("Making the index", null);
-        const { packer, packed } = early ?? this.packTexts();
-        const { blocks } = await packed;
-        const transfer = reports.map((report) => report.buffer);
-        const more = await packer.ask({ task: "reports", reports }, "packed", transfer);
-        this.end(packer);
-        return new Map([...blocks, ...more.blocks]);
-    }
-
-    /** Begins to pack the texts in a worker. */
-    packTexts() {
         const { maker, entities } = this.tools.tables;
+        const { files, request } = this;
         const packer = this.helper(() => {});
-        const task = { task: /** @type {const} */ ("pack"), files: this.files, request: this.request, maker, entities };
-        return { packer, packed: packer.ask(task, "packed") };
+        const task = { task: /** @type {const} */ ("pack"), files, reports, request, maker, entities };
+        const { blocks } = await packer.ask(task, "packed", reports.map((report) => report.buffer));
+        this.end(packer);
+        return blocks;
     }
 
     /**

@@ -82,13 +82,13 @@ async function reportOf(module, file, request) {
 }
 
 /**
- * Verifies a file, and tells what the page needs of it: matrix and citations, of all typecodes, since chains may lead
- * over other assertions than those of one typecode.
+ * Verifies a file, and tells what the page needs of it: matrix, citations and statements, of all typecodes, since chains
+ * may lead over other assertions than those of one typecode.
  * @param {{ file: Contents, module: Uint8Array, request: Request }} asked
  */
 async function verify({ file, module, request }) {
     /** @type {Wanted} */
-    const wanted = { ...request, only: null, report: "matrix,citations", form: 2 };
+    const wanted = { ...request, only: null, report: "matrix,citations,statements", form: 2 };
     const answer = await reportOf(module, file, wanted);
     if (!answer) return;
     const written = answer.report.slice();
@@ -111,28 +111,18 @@ async function save({ file, module, request, report: name, form }) {
 }
 
 /**
- * The databases that are packed: that of the page, and then the older release.
- * @type {Making[]}
+ * Packs files, that of the page and then the older release, with the reports of them.
+ * @param {Extract<Ask, { task: "pack" }>} asked
  */
-let makings = [];
-
-/**
- * Packs what stands in the texts of files.
- * @param {{ files: Chosen[], request: Request, maker: string, entities: Entities }} asked
- */
-async function packTexts({ files, request, maker, entities }) {
-    makings = [];
-    for (const { name, file } of files) makings.push(new Making(name, await bytesOf(file), request));
-    tellBlocks(await makings[0].ofText({ maker, entities }));
-}
-
-/**
- * Packs what the reports of these files say.
- * @param {Uint8Array[]} reports
- */
-function packTheirReports(reports) {
-    const [side, old] = makings.map((making, at) => making.side(reports[at]));
-    tellBlocks(makings[0].ofReports(side, old ? { name: makings[1].name, side: old } : null));
+async function pack({ files, reports, request, maker, entities }) {
+    const makings = [];
+    for (const [at, { name, file }] of files.entries()) {
+        makings.push(new Making(name, await bytesOf(file), request, reports[at]));
+    }
+    const [side, old] = makings.map((making) => making.side());
+    const blocks = await makings[0].ofText({ maker, entities });
+    const more = makings[0].ofReports(side, old ? { name: makings[1].name, side: old } : null);
+    tellBlocks(new Map([...blocks, ...more]));
 }
 
 /** @param {Map<string, Uint8Array>} blocks */
@@ -154,8 +144,7 @@ async function answer(asked) {
     if (asked.task === "look") await look(asked.blob);
     else if (asked.task === "verify") await verify(asked);
     else if (asked.task === "save") await save(asked);
-    else if (asked.task === "pack") await packTexts(asked);
-    else packTheirReports(asked.reports);
+    else await pack(asked);
 }
 
 /**
