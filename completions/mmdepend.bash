@@ -15,7 +15,7 @@ _mmdepend() {
             # The last of the names that commas separate.
             local named=
             case $word in *,*) named=${word%,*}, ;; esac
-            mapfile -t COMPREPLY < <(compgen -P "$named" -W 'all matrix counts usage citations' -- "${word##*,}")
+            mapfile -t COMPREPLY < <(compgen -P "$named" -W 'all matrix counts usage citations statements' -- "${word##*,}")
             return
             ;;
         --form) words='1 2' ;;

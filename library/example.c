@@ -3,7 +3,8 @@
  *     cc example.c $(pkg-config --cflags --libs mmdepend) -o example
  *     ./example FILE [PARTS [ROOM [OUT]]]
  *
- * PARTS are matrix, counts, usage and citations, with commas between them, or all: the first three.
+ * PARTS are matrix, counts, usage, citations and statements, with commas between them, or all: the
+ * first three.
  * ROOM and OUT are how many bytes of memory are lent at first; where they are too few, more are. The
  * status is that of the program: 0 for a report, 1 for a refusal, 2 to 4 for what failed. */
 #include "mmdepend.h"
@@ -21,7 +22,8 @@ static const struct {
              {"matrix", MMDEPEND_MATRIX},
              {"counts", MMDEPEND_COUNTS},
              {"usage", MMDEPEND_USAGE},
-             {"citations", MMDEPEND_CITATIONS}};
+             {"citations", MMDEPEND_CITATIONS},
+             {"statements", MMDEPEND_STATEMENTS}};
 
 /* The bits of a part whose name has this length; 0 if there is none. */
 static uint32_t bits_of(const char *name, size_t length) {

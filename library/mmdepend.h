@@ -55,7 +55,8 @@ enum mmdepend_section {
     MMDEPEND_COUNTS = 2,
     MMDEPEND_USAGE = 4,
     MMDEPEND_ALL = 7, /* these three */
-    MMDEPEND_CITATIONS = 8
+    MMDEPEND_CITATIONS = 8,
+    MMDEPEND_STATEMENTS = 16
 };
 
 enum mmdepend_form {
@@ -70,8 +71,8 @@ enum mmdepend_form {
  *     it as given up.
  * text: the database, `text_len` bytes. Of more than 2,147,483,648 bytes only these are read, and
  *     they are refused.
- * only: the typecode of the axioms that are columns, and of the citations that are listed, in UTF-8,
- *     if `has_only`; else all are.
+ * only: the typecode of the axioms that are columns, and of the citations and statements that are
+ *     listed, in UTF-8, if `has_only`; else all are.
  * sections: one or more bits of mmdepend_section.
  * form: a number of mmdepend_form.
  * essential: whether a theorem cites only what the logical part of its proof applies.

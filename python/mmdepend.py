@@ -21,10 +21,10 @@ from functools import cache, cached_property
 from pathlib import Path
 from typing import Literal
 
-__all__ = ["PARTS", "Refused", "Report", "report", "version"]
+__all__ = ["FAULTS", "PARTS", "Refused", "Report", "report", "version"]
 
 # The parts of a report by their names, each with its bit. `all` are the first three of the others.
-PARTS = {"all": 7, "matrix": 1, "counts": 2, "usage": 4, "citations": 8}
+PARTS = {"all": 7, "matrix": 1, "counts": 2, "usage": 4, "citations": 8, "statements": 16}
 USAGE = PARTS["usage"]
 NAMES = ("libmmdepend.so.0", "libmmdepend.so")
 UNIT = 16
@@ -34,6 +34,49 @@ LEAST = 1 << 20
 
 # The statuses of the library that can come.
 ACCEPTED, REFUSED, TOO_SHORT, NO_MEMORY = 0, 1, 3, 4
+
+# What is wrong, by the code of the fault; docs/FAULTS.md says more of each.
+FAULTS = {
+    "E00": "the text is longer than 2,147,483,647 bytes",
+    "E01": "a byte that is neither white space nor printable ASCII",
+    "E02": "in a comment, a word that contains `$(` or `$)`",
+    "E03": "a comment that is not closed",
+    "E04": "a word with `$` that is no keyword, or `$)` outside a comment",
+    "E05": "`$[` or `$]` outside comments: files aren't included",
+    "E06": "where a statement begins, a word that is no label",
+    "E07": "a token that isn't expected here",
+    "E08": "the file ends within a statement",
+    "E09": "`$}` without an open block",
+    "E10": "the file ends while a block is open",
+    "E11": "a `$c` in a block",
+    "E12": "a `$c` or `$v` that declares nothing",
+    "E13": "a symbol that is declared already",
+    "E14": "a label and a symbol that are the same word",
+    "E15": "a label that was used before",
+    "E17": "a formula that doesn't begin with a constant declared before",
+    "E18": "a symbol that is neither a constant nor an active variable",
+    "E19": "a `$f` that isn't a constant and an active variable",
+    "E20": "a variable that has an active `$f` already",
+    "E21": "a variable whose earlier `$f` has another typecode",
+    "E22": "a variable without an active `$f`",
+    "E23": "a `$d` of fewer than two variables",
+    "E24": "in a `$d`, a symbol that is no active variable",
+    "E25": "in a `$d`, a variable that is named twice",
+    "E31": "a proof without a step",
+    "E32": "a `?` in a proof",
+    "E33": "a word in the proof that is no active hypothesis and no earlier assertion",
+    "E34": "the stack has fewer entries than the assertion has hypotheses",
+    "E35": "no substitution turns the hypotheses of the assertion into the last entries",
+    "E36": "a disjoint variable restriction is violated",
+    "E37": "the stack doesn't have exactly one entry at the end of the proof",
+    "E38": "what the proof proves isn't the theorem's formula",
+    "E39": "a formula of more than 1,048,576 symbols",
+    "E41": "the `(` of a compressed proof has no `)`",
+    "E42": "in a compressed proof, a byte that is neither a capital letter nor `?`",
+    "E43": "in a compressed proof, a number without its last letter",
+    "E44": "in a compressed proof, a `Z` before the first number",
+    "E45": "in a compressed proof, a number for which there is nothing",
+}
 
 ARGUMENTS = (
     ctypes.c_void_p,
@@ -54,13 +97,18 @@ ARGUMENTS = (
 
 class Refused(Exception):
     """The database has a fault: the first one stands at this line and column, both from 1, and has
-    this code, such as E37. Columns count bytes."""
+    this code, such as E37. Columns count bytes. `text` says in English what is wrong."""
 
     def __init__(self, line: int, column: int, code: str) -> None:
         super().__init__(f"{line}:{column} {code}")
         self.line = line
         self.column = column
         self.code = code
+
+    @property
+    def text(self) -> str:
+        """What is wrong. It is empty for a code of a later version of the library."""
+        return FAULTS.get(self.code, "")
 
     def __reduce__(self) -> tuple[type["Refused"], tuple[int, int, str]]:
         """By what it is made again where it is copied or comes from another process."""
@@ -205,8 +253,8 @@ def report(
 ) -> bytes:
     """Verifies a database and returns the bytes of its report, as the program writes them.
 
-    `text` is the database. `part` is what is reported: `matrix`, `counts`, `usage` and `citations`,
-    one or more of them with commas between them, or `all`: the first three. `only` is the typecode
+    `text` is the database. `part` is what is reported: `matrix`, `counts`, `usage`, `citations`
+    and `statements`, one or more of them with commas between them, or `all`: the first three. `only` is the typecode
     of the axioms that are columns, such as `|-`; if it is None, all axioms are. `form` is how the
     matrix is written: 1 a digit for each column, 2 a hexadecimal digit for every four. With
     `essential` a theorem cites only what the logical part of its proof applies, and with
