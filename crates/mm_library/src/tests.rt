@@ -144,7 +144,16 @@ fn each_status_comes_with_its_output(rt: HostRuntime) {
             MATRIX_AND_CITATIONS,
         )
     );
-    assert!(&rt; answers(memory, TEXT, b"wff", STATEMENTS, ACCEPTED, SYNTAX_STATEMENTS));
+    assert!(&rt;
+        answers(
+            memory,
+            TEXT,
+            b"wff",
+            STATEMENTS,
+            ACCEPTED,
+            SYNTAX_STATEMENTS
+        )
+    );
     assert!(&rt; answers(memory, TEXT, b"", NO_SECTION, NO_SUCH_REQUEST, b""));
     assert!(&rt; answers(memory, TEXT, b"", UNKNOWN_BIT, NO_SUCH_REQUEST, b""));
 }
