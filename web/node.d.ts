@@ -2,6 +2,7 @@
 
 declare module "node:fs" {
     export function openSync(path: string): number;
+    export function readFileSync(path: URL): Uint8Array;
     export function readSync(file: number, into: Uint8Array, at: number, count: number, place: null): number;
     export function writeSync(file: number, bytes: Uint8Array, at: number, count: number): number;
 }

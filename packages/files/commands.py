@@ -1,0 +1,37 @@
+"""The commands `mmdepend` and `mmquery` of an installed package: they run what lies in the folder
+`packed` beside this module, in place of this process."""
+
+import os
+import shutil
+import subprocess
+import sys
+from pathlib import Path
+from typing import NoReturn
+
+PACKED = Path(__file__).resolve().parent / "packed"
+
+
+def run(line: list[str]) -> NoReturn:
+    """Runs a command in place of this process. Windows can't do that, so there this process waits
+    for it."""
+    sys.stdout.flush()
+    if os.name == "nt":
+        sys.exit(subprocess.run(line, check=False).returncode)
+    os.execv(line[0], line)
+
+
+def mmdepend() -> NoReturn:
+    """The program: the native one where the package has it, and else the one for Node."""
+    native = PACKED / "mmdepend"
+    if native.exists():
+        run([str(native), *sys.argv[1:]])
+    node = shutil.which("node")
+    if node is None:
+        sys.exit("mmdepend: this package needs the command node, of Node 18 or later")
+    run([node, str(PACKED / "mmdepend.mjs"), *sys.argv[1:]])
+
+
+def mmquery() -> NoReturn:
+    """The command that answers questions. It takes no module from elsewhere (`-I`), and writes none
+    (`-B`)."""
+    run([sys.executable, "-IB", str(PACKED / "mmquery"), *sys.argv[1:]])

@@ -1,0 +1,58 @@
+// The proved core for programs of others, under Node: index.js of the package for npm, beside which the module lies.
+
+import { readFileSync } from "node:fs";
+import { compile, report as answered, version as versionOf } from "./library.js";
+
+/** @typedef {import("./types.js").Request} Request */
+
+const REFUSED = 1;
+const NO_MEMORY = 4;
+const REFUSAL = /^refused ([0-9]+):([0-9]+) (E[0-9]{2})\n$/;
+
+/** The database has a fault. Line and column count from 1, in bytes. */
+export class Refused extends Error {
+    /** @param {Uint8Array} refusal what the module wrote */
+    constructor(refusal) {
+        const said = new TextDecoder().decode(refusal);
+        super(said.trim());
+        const [, line, column, code] = /** @type {RegExpExecArray} */ (REFUSAL.exec(said));
+        this.name = "Refused";
+        this.line = Number(line);
+        this.column = Number(column);
+        this.code = code;
+    }
+}
+
+/** @type {Promise<WebAssembly.Module> | null} */
+let compiled = null;
+
+/** The module, compiled at its first use. */
+function core() {
+    if (compiled === null) compiled = compile(readFileSync(new URL("./mmdepend.wasm", import.meta.url)));
+    return compiled;
+}
+
+/**
+ * Verifies a database, and gives the bytes of its report. Throws Refused if it has a fault, a TypeError if what is requested
+ * isn't there, and a RangeError if memory runs out.
+ * @param {Uint8Array} text
+ * @param {Partial<Request>} [request]
+ * @returns {Promise<Uint8Array>}
+ */
+export async function report(text, request = {}) {
+    if (!(text instanceof Uint8Array)) throw new TypeError("the database is no Uint8Array");
+    const said = Object.fromEntries(Object.entries(request).filter(([, value]) => value !== undefined));
+    const answer = await answered(await core(), text.length, (bytes) => bytes().set(text), said);
+    if (answer.status === REFUSED) throw new Refused(answer.report);
+    if (answer.status === NO_MEMORY) throw new RangeError("out of memory");
+    if (answer.status !== 0) throw new TypeError("there is no such section, form or typecode");
+    return answer.report.slice();
+}
+
+/**
+ * The version, and the logic in which it was proved.
+ * @returns {Promise<string>}
+ */
+export async function version() {
+    return versionOf(await core());
+}
