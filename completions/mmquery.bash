@@ -5,10 +5,10 @@ _mmquery() {
     if [ "$word" = = ]; then word=; elif [ "$before" = = ]; then
         before=${COMP_WORDS[COMP_CWORD - 2]}; fi
     if [ "$COMP_CWORD" -eq 1 ]; then
-        words='verify rests falls cites cited-by uncited why way-out frees top within same compare review gate chapters order unfinished discouraged mathboxes move graph picture page set-proof export cache --help --version'
+        words='verify rests falls cites cited-by uncited why way-out frees top within same compare review history gate chapters order unfinished discouraged mathboxes move graph picture page set-proof export cache --help --version'
     else
         case ${COMP_WORDS[1]}:$before in
-            verify:--format | rests:--format | falls:--format | cites:--format | cited-by:--format | uncited:--format | why:--format | way-out:--format | frees:--format | top:--format | within:--format | same:--format | compare:--format | chapters:--format | order:--format | unfinished:--format | discouraged:--format | mathboxes:--format | move:--format | export:--format | cache:--format) words='text tsv csv json' ;;
+            verify:--format | rests:--format | falls:--format | cites:--format | cited-by:--format | uncited:--format | why:--format | way-out:--format | frees:--format | top:--format | within:--format | same:--format | compare:--format | history:--format | chapters:--format | order:--format | unfinished:--format | discouraged:--format | mathboxes:--format | move:--format | export:--format | cache:--format) words='text tsv csv json' ;;
             review:--format) words='text tsv csv json markdown' ;;
             gate:--format) words='text json github markdown' ;;
             graph:--as) words='dot graphml edges' ;;
@@ -29,6 +29,7 @@ _mmquery() {
                     same:-*) words='--only --all --axioms --ignore-definitions --essential --open --format --before --main --mathbox --under --like --not --among --no-cache -h --help' ;;
                     compare:-*) words='--only --all --axioms --ignore-definitions --essential --open --format --no-cache -h --help' ;;
                     review:-*) words='--only --all --axioms --ignore-definitions --essential --open --format --no-cache -h --help' ;;
+                    history:-*) words='--of --essential --open --format --no-cache -h --help' ;;
                     gate:-*) words='--base --merge-base --config --config-of-new --summary --format --no-cache -h --help' ;;
                     chapters:-*) words='--only --all --axioms --ignore-definitions --essential --open --format --no-cache -h --help' ;;
                     order:-*) words='--only --all --axioms --ignore-definitions --essential --open --format --before --main --mathbox --under --like --not --among --no-cache -h --help' ;;

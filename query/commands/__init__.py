@@ -64,6 +64,9 @@ MODULES: dict[str, dict[str, str]] = {
     "review": {
         "review": "what a change does to the theorems, one line for each, or as a comment",
     },
+    "history": {
+        "history": "how much rested on AXIOMs in each revision, or since when T does",
+    },
     "gate": {
         "gate": "the check of a pull request: what the base and its mmdepend.toml ask for",
     },
