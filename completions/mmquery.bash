@@ -5,10 +5,10 @@ _mmquery() {
     if [ "$word" = = ]; then word=; elif [ "$before" = = ]; then
         before=${COMP_WORDS[COMP_CWORD - 2]}; fi
     if [ "$COMP_CWORD" -eq 1 ]; then
-        words='verify rests falls cites cited-by uncited why way-out frees top within same compare review history gate chapters order unfinished discouraged mathboxes move graph picture page set-proof export cache --help --version'
+        words='verify rests falls cites cited-by uncited why way-out frees top within same compare review history gate chapters order unfinished discouraged mathboxes definitions move graph picture page set-proof export cache --help --version'
     else
         case ${COMP_WORDS[1]}:$before in
-            verify:--format | rests:--format | falls:--format | cites:--format | cited-by:--format | uncited:--format | why:--format | way-out:--format | frees:--format | top:--format | within:--format | same:--format | compare:--format | history:--format | chapters:--format | order:--format | unfinished:--format | discouraged:--format | mathboxes:--format | move:--format | export:--format | cache:--format) words='text tsv csv json' ;;
+            verify:--format | rests:--format | falls:--format | cites:--format | cited-by:--format | uncited:--format | why:--format | way-out:--format | frees:--format | top:--format | within:--format | same:--format | compare:--format | history:--format | chapters:--format | order:--format | unfinished:--format | discouraged:--format | mathboxes:--format | definitions:--format | move:--format | export:--format | cache:--format) words='text tsv csv json' ;;
             review:--format) words='text tsv csv json markdown' ;;
             gate:--format) words='text json github markdown' ;;
             graph:--as) words='dot graphml edges' ;;
@@ -36,6 +36,7 @@ _mmquery() {
                     unfinished:-*) words='--essential --open --format --before --main --mathbox --under --like --not --among --no-cache -h --help' ;;
                     discouraged:-*) words='--essential --open --format --before --main --mathbox --under --like --not --among --no-cache -h --help' ;;
                     mathboxes:-*) words='--essential --open --format --before --main --mathbox --under --like --not --among --no-cache -h --help' ;;
+                    definitions:-*) words='--essential --open --format --before --main --mathbox --under --like --not --among --no-cache -h --help' ;;
                     move:-*) words='--to --format --no-cache -h --help' ;;
                     graph:-*) words='--as --essential --open --no-cache -h --help' ;;
                     picture:-*) words='--png --across --down --only --all --axioms --ignore-definitions --essential --open --no-cache -h --help' ;;

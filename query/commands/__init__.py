@@ -77,6 +77,9 @@ MODULES: dict[str, dict[str, str]] = {
         "discouraged": "which theorems use one whose new usage is discouraged",
         "mathboxes": "citations of a mathbox from outside it",
     },
+    "definitions": {
+        "definitions": "whether definitions keep the rules that set.mm has for them",
+    },
     "moving": {
         "move": "what has to go along where THEOREM is moved",
     },

@@ -43,6 +43,7 @@ WORDS: dict[str, tuple[str, ...]] = {
     "unfinished": ("DB",),
     "discouraged": ("DB",),
     "mathboxes": ("DB",),
+    "definitions": ("DB",),
     "move": ("DB", "a2", "--to", "a1i"),
     "graph": ("DB", "a2"),
     "picture": ("DB",),
@@ -57,7 +58,7 @@ MENDING = {"set-proof"}
 # Those that take only a file that git keeps, and tell a fault in a row.
 OF_GIT = {"history"}
 # Those that write to standard output only where there is something to say.
-MAY_BE_SILENT = {"unfinished", "export", "mathboxes", "gate", "same", "uncited"}
+MAY_BE_SILENT = {"unfinished", "definitions", "export", "mathboxes", "gate", "same", "uncited"}
 
 
 def keep_in_git(folder: Path) -> None:
