@@ -22,8 +22,8 @@ _mmquery() {
                     cited-by:-*) words='--essential --open --format --before --main --mathbox --under --like --not --among --no-cache -h --help' ;;
                     uncited:-*) words='--essential --open --format --before --main --mathbox --under --like --not --among --no-cache -h --help' ;;
                     why:-*) words='--all --essential --open --format --no-cache -h --help' ;;
-                    way-out:-*) words='--keep --essential --open --format --before --main --mathbox --under --like --not --among --no-cache -h --help' ;;
-                    frees:-*) words='--most --keep --essential --open --format --before --main --mathbox --under --like --not --among --no-cache -h --help' ;;
+                    way-out:-*) words='--keep --keep-wrappers --essential --open --format --before --main --mathbox --under --like --not --among --no-cache -h --help' ;;
+                    frees:-*) words='--most --keep --keep-wrappers --essential --open --format --before --main --mathbox --under --like --not --among --no-cache -h --help' ;;
                     top:-*) words='--theorems --below --against --only --all --axioms --ignore-definitions --essential --open --format --before --main --mathbox --under --like --not --among --no-cache -h --help' ;;
                     within:-*) words='--list --only --all --axioms --ignore-definitions --essential --open --format --before --main --mathbox --under --like --not --among --no-cache -h --help' ;;
                     same:-*) words='--only --all --axioms --ignore-definitions --essential --open --format --before --main --mathbox --under --like --not --among --no-cache -h --help' ;;
