@@ -99,14 +99,23 @@ class Scopes:
     bound: dict[str, list[tuple[int, int]]] = field(default_factory=dict)
     free: dict[str, list[int]] = field(default_factory=dict)
     places: dict[str, list[int]] = field(default_factory=dict)
+    known: dict[str, tuple[list[int], list[int]]] = field(default_factory=dict)
+
+    def stretches(self, variable: str) -> tuple[list[int], list[int]]:
+        """Where the stretches begin in which a variable is bound, rising, and for each where what
+        was begun before or there has ended."""
+        if variable not in self.known:
+            starts: list[int] = []
+            ends: list[int] = []
+            for start, end in sorted(self.bound.get(variable, ())):
+                starts.append(start)
+                ends.append(max(end, ends[-1]) if ends else end)
+            self.known[variable] = starts, ends
+        return self.known[variable]
 
     def are_within(self, places: Sequence[int], variable: str) -> bool:
         """Whether a variable is bound at each of these places."""
-        starts: list[int] = []
-        ends: list[int] = []
-        for start, end in sorted(self.bound.get(variable, ())):
-            starts.append(start)
-            ends.append(max(end, ends[-1]) if ends else end)
+        starts, ends = self.stretches(variable)
         numbers = ((bisect_right(starts, place) - 1, place) for place in places)
         return all(number >= 0 and place < ends[number] for number, place in numbers)
 
@@ -268,7 +277,8 @@ class Uses:
         self.unread: dict[str, str] = {}
         self.grammar = Grammar()
         self.defined = {each.form for each in known}
-        self.awaited: dict[str, set[str]] = {}  # for a constant of a form the forms
+        self.signs: dict[str, str] = {}  # for each form that is awaited a constant of it
+        self.awaited: dict[str, set[str]] = {}  # for each such constant the forms
         self.counts: Counter[str] = Counter()  # in how many syntax axioms a constant is
         self.seen: set[str] = set()
         for one in assertions:
@@ -285,34 +295,34 @@ class Uses:
         self.counts.update(constants)
         if one.label in self.defined:
             rarest = min(constants, key=self.counts.__getitem__, default=ANY)
+            self.signs[one.label] = rarest
             self.awaited.setdefault(rarest, set()).add(one.label)
 
     def look_at(self, one: Assertion) -> None:
         """Notes the forms that an assertion and its hypotheses have."""
         given = [each.formula for each in one.frame().hypotheses() if each.kind == "e"]
         for formula in [*given, one.formula]:
-            if formula in self.seen:
-                continue
-            self.seen.add(formula)
-            forms: set[str] = set()
-            for symbol in {ANY, *formula.split(" ")} & self.awaited.keys():
-                forms |= self.awaited[symbol]
-            if forms:
-                self.note(one, formula, forms)
+            if formula not in self.seen:
+                self.seen.add(formula)
+                signs = [each for each in {ANY, *formula.split(" ")} if self.awaited.get(each)]
+                if signs:
+                    self.note(one, formula, signs)
 
-    def note(self, one: Assertion, formula: str, forms: set[str]) -> None:
-        """Notes which of these forms a formula has."""
+    def note(self, one: Assertion, formula: str, signs: Sequence[str]) -> None:
+        """Notes which forms a formula has that has constants of some. Where it can't be read, it
+        isn't known of any of these."""
         symbols, variables = read_as(formula, one)
         try:
-            found = forms.intersection(self.grammar.tree(WFF, symbols, variables).rules.values())
+            found = set(self.grammar.tree(WFF, symbols, variables).rules.values())
         except NotRead as why:
-            for form in forms:
-                self.unread.setdefault(form, f"{one.label} can't be read: {why}")
+            for sign in signs:
+                for form in self.awaited.pop(sign):
+                    self.unread[form] = f"{one.label} can't be read: {why}"
+                    del self.signs[form]
             return
-        for form in found:
+        for form in found & self.signs.keys():
             self.first[form] = one
-            for others in self.awaited.values():
-                others.discard(form)
+            self.awaited[self.signs.pop(form)].discard(form)
 
 
 def is_syntax(one: Assertion) -> bool:

@@ -32,17 +32,15 @@ cited    what is cited
 WAY_OUT_PAGE = """
 Shows the smallest change that frees THEOREM of ON, an axiom or a theorem, as far as citations tell.
 
+of       THEOREM
 what     applies: on the way to ON, the proof of `theorem` applies it, or what is kept
          first: one of the fewest citations that have to go, of all such sets that next to THEOREM
          last: the same, of the set next to ON
 theorem  who cites
 cited    what is cited
 
-Without THEOREM each theorem is listed for which one citation is enough:
-
-theorem            the theorem
-first, first_cited the first such citation: who cites, and what
-last, last_cited   the last such citation
+Without THEOREM, `of` is each theorem for which one citation is enough, with one line for the first
+such citation and one for the last.
 
 With --keep LABEL, theorems that need ON anyway: they stay as they are, and what cites them counts
 as what cites ON. With --keep-wrappers these are the theorems that only say ON in another form:
@@ -58,12 +56,10 @@ FREES_PAGE = """
 Lists in file order which theorems no longer rest on ON, an axiom or a theorem, if the THEOREMs get
 proofs without it and all other proofs stay; the THEOREMs are among them.
 
+freed    how many theorems it frees by itself, itself included
 theorem  the label of the theorem
 
-Without a THEOREM, the theorems that free most so, each by itself:
-
-freed    how many theorems it frees, itself included
-theorem  the label of the theorem
+Without a THEOREM, the theorems that free most so, each by itself.
 
 With --keep LABEL, theorems that need ON anyway: they get no other proof, and what cites them rests
 on ON. With --keep-wrappers these are the theorems that only say ON in another form: those whose
@@ -75,6 +71,10 @@ variables. Standard error says which they are.
   $ mmquery frees set.mm ax-ac2 --most 4
   $ mmquery frees set.mm ax-13 --keep-wrappers
 """
+
+
+FREED = ["freed", "theorem"]
+WAYS = ["of", "what", "theorem", "cited"]
 
 
 def configure_why(parser: argparse.ArgumentParser) -> None:
@@ -183,7 +183,7 @@ def run_way_out(context: Context, arguments: argparse.Namespace) -> int:
         start = graph.theorem(arguments.labels[0])
         found = cuts.way_out(graph, start, end, kept)
         rows = [
-            [word, labels[node], labels[cited]]
+            [labels[start], word, labels[node], labels[cited]]
             for word, edges in (
                 ("applies", found.applies),
                 ("first", found.first),
@@ -192,17 +192,15 @@ def run_way_out(context: Context, arguments: argparse.Namespace) -> int:
             for node, cited in edges
         ]
         why = "is kept" if start in kept else f"doesn't rest on {labels[end]}"
-        columns = ["what", "theorem", "cited"]
-        context.table(columns, rows, f"{graph.name}: {labels[start]} {why}")
+        context.table(WAYS, rows, f"{graph.name}: {labels[start]} {why}", "of", ["of"])
         return 0
     ends = cuts.Bottlenecks(graph, end, citations=True, kept=kept).ends
     rows = []
     for node, pair in ends.items():
-        if pair:
-            rows.append([labels[node], *(labels[each] for edge in pair for each in edge)])
+        for word, edge in zip(("first", "last"), pair or ()):
+            rows.append([labels[node], word, *(labels[each] for each in edge)])
     why = f"{graph.name}: no theorem rests on {labels[end]} by way of a single citation"
-    columns = ["theorem", "first", "first_cited", "last", "last_cited"]
-    context.table(columns, rows, why, "theorem")
+    context.table(WAYS, rows, why, "of")
     return 0
 
 
@@ -228,18 +226,23 @@ def run_frees(context: Context, arguments: argparse.Namespace) -> int:
     graph = database.graph()
     end = graph.node(arguments.on)
     kept = kept_in(context, arguments, database, end)
+    freeing = cuts.freeing(graph, end, kept)
     if arguments.theorems:
         again = {graph.theorem(label) for label in arguments.theorems}
-        rows = [[graph.labels[node]] for node in cuts.freed(graph, end, again, kept)]
-        context.table(["theorem"], rows, nothing_rests(graph, end, "of these "), "theorem")
+        counts = {node: freed for freed, node in freeing}
+        rows: list[list[Value]] = []
+        for node in cuts.freed(graph, end, again, kept):
+            rows.append([counts[node], graph.labels[node]])
+        why = nothing_rests(graph, end, "of these ")
+        context.table(FREED, rows, why, "theorem", ["freed"])
         return 0
-    freeing = sorted(cuts.freeing(graph, end, kept), key=lambda pair: -pair[0])
+    freeing.sort(key=lambda pair: -pair[0])
     if not freeing and kept:
         context.tell(f"{graph.name}: all that rests on {graph.labels[end]} is kept")
     elif not freeing:
         context.tell(nothing_rests(graph, end))
     found: list[list[Value]] = [[freed, graph.labels[node]] for freed, node in freeing]
-    context.out.table(["freed", "theorem"], context.kept(found, 1)[: arguments.most])
+    context.out.table(FREED, context.kept(found, 1)[: arguments.most])
     return 0
 
 

@@ -85,7 +85,8 @@ def run(context: Context, arguments: argparse.Namespace) -> int:
     if repository.is_shallow():
         context.tell("the clone is shallow, so there may be revisions before the first one")
     if theorem is None:
-        context.out.table(COLUMNS, counts(known, axioms))
+        aside = [] if axioms else ["axiom", "rest"]
+        context.out.table(COLUMNS, counts(known, axioms), aside)
     else:
         context.out.table(COLUMNS_OF, turns(known, axioms, theorem))
     return 0

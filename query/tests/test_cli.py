@@ -44,10 +44,16 @@ class CommandLine(World):
         self.refuses("xyzzy", why="no command xyzzy")
         self.refuses("rests", "small.mm", "a2", "--esential", why="did you mean --essential?")
         self.refuses("rests", "--formt=json", "small.mm", "a2", why="did you mean --format?")
-        self.refuses("rests", "small.mm", "a2", "--xyzzy", why="no option --xyzzy; usage: ")
+        self.refuses("rests", "small.mm", "a2", "--xyzzy", why="no option --xyzzy\n")
         self.refuses("rests", "small.mm", "a2", "--format", "xml", why="xml")
         self.refuses("rests", "small.mm", "a2", "--format", why="lacks its value")
-        self.refuses("rests", why="usage: mmquery rests")
+        self.refuses("rests", why="usage: mmquery rests [OPTIONS] DATABASE LABEL..\n")
+        self.refuses(
+            "way-out", "small.mm", why="usage: mmquery way-out [OPTIONS] DATABASE [THEOREM] ON"
+        )
+        self.refuses("export", "small.mm", why="--sqlite")
+        for words in (("--format", "xml"), ("--only", "wff", "--all"), ("--axioms",)):
+            self.assertNotIn("usage", self.refuses("rests", "small.mm", "a2", *words))
         self.refuses("rests", "small.mm", why="LABEL")
         self.refuses("uncited", "small.mm", "a2", why="a2")
         self.refuses("top", "small.mm", "0", why="'0' is no number")
