@@ -115,17 +115,19 @@ def put_union(
     rows: Mapping[int, Sequence[int]],
     labels: Sequence[str],
     empty: str,
+    is_said: bool = False,
 ) -> None:
-    """Answers with numbers of what is known, each with the LABELs to which it belongs."""
+    """Answers with numbers of what is known, each with the LABELs to which it belongs; it `is_said`
+    already whether these are all of them."""
     table: list[list[Value]] = []
     for number, of in rows.items():
         table.append([known[number], [labels[place] for place in of]])
-    context.table([column, "labels"], table, empty, column, aside_of(labels))
+    context.table([column, "labels"], table, empty, column, aside_of(labels, is_said))
 
 
-def aside_of(labels: Sequence[str]) -> list[str]:
-    """What the form `text` leaves out: of one LABEL it says nothing whose each line is."""
-    return ["labels"] if len(labels) == 1 else []
+def aside_of(labels: Sequence[str], is_said: bool = False) -> list[str]:
+    """What the form `text` leaves out: the LABELs where they are the same on each line."""
+    return ["labels"] if is_said or len(labels) == 1 else []
 
 
 def chosen_of(database: Database) -> str:
@@ -196,7 +198,8 @@ def run_falls(context: Context, arguments: argparse.Namespace) -> int:
     which = names if len(labels) == 1 else f"{word} of {names}"
     without = " that the options leave" if arguments.without else ""
     why = f"{database.name}: no theorem{without} rests on {which}"
-    put_union(context, "theorem", database.prepared.theorems, rows, labels, why)
+    theorems = database.prepared.theorems
+    put_union(context, "theorem", theorems, rows, labels, why, arguments.all_of)
     return 0
 
 

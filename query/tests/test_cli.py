@@ -76,13 +76,14 @@ class CommandLine(World):
         self.write("d.mm", SMALL + "df-x $a |- p $.\nt $p |- p $= wp df-x $.\n")
         self.assertEqual(self.answers("rests", "d.mm", "t"), ["df-x"])
         self.assertEqual(self.answers("rests", "d.mm", "t", "--ignore-definitions"), [])
-        words = ("rests", "d.mm", "t", "a2", "--axioms", "df-,ax-m")
-        self.assertEqual(self.answers(*words), ["ax-mp", "df-x"])
-        twice = ("rests", "d.mm", "t", "a2", "--axioms", "df-", "--axioms", "ax-1")
-        self.assertEqual(self.answers(*twice), ["ax-1", "df-x"])
+        both = ("rests", "d.mm", "t", "a2", "--format=csv")
+        words = (*both, "--axioms", "df-,ax-m")
+        self.assertEqual(self.answers(*words), ["axiom,labels", "ax-mp,a2", "df-x,t"])
+        twice = (*both, "--axioms", "df-", "--axioms", "ax-1")
+        self.assertEqual(self.answers(*twice), ["axiom,labels", "ax-1,a2", "df-x,t"])
         self.refuses("rests", "d.mm", "t", "--axioms", "ax-m,dg-", why="begins with 'dg-'")
         self.refuses("rests", "d.mm", "t", "--only", "|--", why="no axiom of typecode '|--'")
-        self.assertEqual(self.answers("rests", "d.mm", "t", "a2", "--only", "wff"), ["wi"])
+        self.assertEqual(self.answers(*both, "--only", "wff"), ["axiom,labels", "wi,a2"])
 
     def test_labels_that_are_not_there(self) -> None:
         for words in (

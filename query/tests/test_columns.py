@@ -80,6 +80,8 @@ class Columns(World):
         self.assertEqual(self.answers("rests", "small.mm", "a2"), ["ax-1", "ax-mp"])
         lines = self.answers("rests", "small.mm", "a2", "ax1")
         self.assertEqual(lines, ["axiom  labels", "ax-1   a2 ax1", "ax-mp  a2"])
+        both = self.answers("falls", "small.mm", "ax-1", "ax-mp", "--all-of")
+        self.assertEqual(both, ["a1i", "a2"])
         self.assertEqual(self.answers("cites", "small.mm", "a2"), ["wi", "a1i"])
         self.assertEqual(self.answers("cited-by", "small.mm", "a1i"), ["a2"])
         self.assertEqual(self.answers("frees", "small.mm", "ax-mp", "a1i"), ["a1i", "a2"])
