@@ -47,6 +47,7 @@ def configure(parser: argparse.ArgumentParser) -> None:
 def run(context: Context, arguments: argparse.Namespace) -> int:
     """Answers."""
     database = context.database(arguments.database, options_of(arguments))
+    database.dependence()  # NoAnswer where there is no axiom of typecode |-
     rows: list[list[Value]] = [
         [each.label, WORDS[each.is_sound], each.why]
         for each in Definitions(database.text.assertions).verdicts()
