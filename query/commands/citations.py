@@ -53,7 +53,7 @@ def configure_cites(parser: argparse.ArgumentParser) -> None:
 def run_cites(context: Context, arguments: argparse.Namespace) -> int:
     """Answers `cites`."""
     graph = context.database(arguments.database, options_of(arguments)).graph()
-    nodes = [graph.node(label) for label in arguments.labels]
+    nodes = [graph.node(label) for label in dict.fromkeys(arguments.labels)]
     above = None if arguments.on is None else graph.above([graph.node(arguments.on)])
     rows = [
         [graph.labels[node], graph.labels[cited]]
@@ -80,7 +80,7 @@ def configure_cited_by(parser: argparse.ArgumentParser) -> None:
 def run_cited_by(context: Context, arguments: argparse.Namespace) -> int:
     """Answers `cited-by`."""
     graph = context.database(arguments.database, options_of(arguments)).graph()
-    nodes = [graph.node(label) for label in arguments.labels]
+    nodes = [graph.node(label) for label in dict.fromkeys(arguments.labels)]
     rows = [
         [graph.labels[user], graph.labels[node]] for node in nodes for user in graph.users(node)
     ]

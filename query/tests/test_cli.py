@@ -52,8 +52,18 @@ class CommandLine(World):
             "way-out", "small.mm", why="usage: mmquery way-out [OPTIONS] DATABASE [THEOREM] ON"
         )
         self.refuses("export", "small.mm", why="--sqlite")
-        for words in (("--format", "xml"), ("--only", "wff", "--all"), ("--axioms",)):
-            self.assertNotIn("usage", self.refuses("rests", "small.mm", "a2", *words))
+        for name, words in {
+            "cites": "DATABASE LABEL..",
+            "frees": "DATABASE ON [THEOREM..]",
+            "gate": "[OLD] DATABASE",
+            "history": "DATABASE REV..REV [AXIOM..]",
+            "export": "DATABASE --sqlite FILE",
+            "cache": "[show|clear]",
+        }.items():
+            head = self.answers(name, "--help")[0]
+            self.assertEqual(head, f"usage: mmquery {name} [OPTIONS] {words}")
+        for wrong in (("--format", "xml"), ("--only", "wff", "--all"), ("--axioms",)):
+            self.assertNotIn("usage", self.refuses("rests", "small.mm", "a2", *wrong))
         self.refuses("rests", "small.mm", why="LABEL")
         self.refuses("uncited", "small.mm", "a2", why="a2")
         self.refuses("top", "small.mm", "0", why="'0' is no number")

@@ -83,6 +83,7 @@ class Columns(World):
         both = self.answers("falls", "small.mm", "ax-1", "ax-mp", "--all-of")
         self.assertEqual(both, ["a1i", "a2"])
         self.assertEqual(self.answers("cites", "small.mm", "a2"), ["wi", "a1i"])
+        self.assertEqual(self.answers("cites", "small.mm", "a2", "a2"), ["wi", "a1i"])
         self.assertEqual(self.answers("cited-by", "small.mm", "a1i"), ["a2"])
         self.assertEqual(self.answers("frees", "small.mm", "ax-mp", "a1i"), ["a1i", "a2"])
         rows = self.query("frees", "small.mm", "ax-mp", "a1i", "--format=json").rows()
