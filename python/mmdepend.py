@@ -203,18 +203,26 @@ def once(text: bytes, request: Request, room: Memory, out: Memory) -> tuple[int,
 
 def output(text: bytes, request: Request) -> tuple[int, bytes]:
     """The status and the output, with as much memory as it takes. What isn't used of memory that is
-    lent is never really taken from the system, so the first try is generous."""
+    lent is never really taken from the system, so the first try is generous. MemoryError, which
+    says what room was too small, if the system gives no more."""
     room_size = up_to(ROOM_FOR_A_BYTE * len(text) + LEAST)
     out_size = up_to((5 if request.sections & USAGE else 2) * len(text) + LEAST)
+    too_small = 0
     while True:
-        with Memory(room_size) as room, Memory(out_size) as out:
-            status, written = once(text, request, room, out)
-            if status == TOO_SHORT:
-                out_size = up_to(written)
-            elif status == NO_MEMORY:
-                room_size *= 2
-            else:
-                return status, out.pages[:written]
+        try:
+            with Memory(room_size) as room, Memory(out_size) as out:
+                status, written = once(text, request, room, out)
+                if status not in (TOO_SHORT, NO_MEMORY):
+                    return status, out.pages[:written]
+        except MemoryError as error:
+            if not too_small:
+                raise
+            raise MemoryError(f"a room of {too_small} bytes is too small, and {error}") from None
+        if status == TOO_SHORT:
+            out_size = up_to(written)
+        else:
+            too_small = room_size
+            room_size *= 2
 
 
 def of_type(value: object, types: tuple[type, ...], name: str) -> None:

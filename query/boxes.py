@@ -4,11 +4,11 @@ it past others."""
 
 from __future__ import annotations
 
-from bisect import bisect_left
 from collections import Counter
 from collections.abc import Mapping, Sequence
 from dataclasses import dataclass
 
+from query.order import longest_rising
 from query.text import Text
 
 
@@ -78,20 +78,7 @@ def stands(old: Text, new: Text, to_old: Mapping[str, str]) -> list[Stand]:
 
 def rising(common: Sequence[Stand]) -> list[Stand]:
     """As many of them as possible that stand in the same order in both databases."""
-    ends: list[int] = []  # for each length the least number at which a chain of it ends
-    last: list[int] = []  # for each length the place of that end
-    before: list[int] = []  # for each place that of the one before it in its chain
-    for place, each in enumerate(common):
-        length = bisect_left(ends, each.number)
-        ends[length : length + 1] = [each.number]
-        last[length : length + 1] = [place]
-        before.append(last[length - 1] if length else -1)
-    found = []
-    place = last[-1] if last else -1
-    while place >= 0:
-        found.append(common[place])
-        place = before[place]
-    return found[::-1]
+    return [common[place] for place in longest_rising([each.number for each in common])]
 
 
 def owners_of(stayed: Sequence[Stand]) -> dict[int, int]:

@@ -20,6 +20,8 @@ from query.output import Output, reason, write_all
 # Before a word that begins with `-`, so that argparse takes it as a word. No argument has this
 # sign.
 MARK = "\0"
+ABOUT_WORDS = ("the following arguments are required", "unrecognized arguments")
+"""How argparse begins what it says of words that are missing or too many."""
 VERSION = "mmquery 0.1.0\n"
 
 
@@ -35,9 +37,11 @@ class Parser(argparse.ArgumentParser):
         )
 
     def error(self, message: str) -> NoReturn:
-        """Raises NoAnswer with the usage."""
-        usage = " ".join(self.format_usage().split())
-        raise NoAnswer(f"{shown(message.replace(MARK, ''))}; {usage}")
+        """Raises NoAnswer. Where words are missing or too many, it says which are taken."""
+        told = shown(message.replace(MARK, ""))
+        if any(told.startswith(start) for start in ABOUT_WORDS):
+            told = f"{told}; {self.format_usage().strip()}"
+        raise NoAnswer(told)
 
     def read(self, words: list[str]) -> argparse.Namespace:
         """The arguments that the words give: options from anywhere before a `--`, then the
@@ -89,10 +93,29 @@ def unmarked(value: Any) -> Any:
     return value.removeprefix(MARK) if isinstance(value, str) else value
 
 
+FORMS = {None: "{}", "+": "{}..", "*": "[{}..]", "?": "[{}]"}
+"""How a word is written in a usage line, by how many of it are taken."""
+
+
+def usage_of(parser: Parser, name: str) -> str:
+    """The usage line of a command: the options that it needs, and its words. `LABEL..` is one or
+    several, and what stands in brackets may be left out."""
+    parts = [f"mmquery {name} [OPTIONS]"]
+    for action in parser._actions:
+        called = "|".join(action.choices or ()) or str(action.metavar)
+        if action.option_strings and action.required:
+            parts.append(f"{action.option_strings[0]} {called}")
+        elif not action.option_strings:
+            form = "{}" if called.startswith("[") else FORMS[str(action.nargs or "") or None]
+            parts.append(form.format(called))
+    return " ".join(parts)
+
+
 def parser_of(chosen: Command) -> Parser:
     """The parser of a command, with the options that all have."""
     parser = Parser(chosen.name)
     chosen.configure(parser)
+    parser.usage = usage_of(parser, chosen.name)
     if chosen.formats:
         parser.add_argument(
             "--format",

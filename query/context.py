@@ -1,6 +1,6 @@
 """What a command is given besides its words: where its answer goes, databases, and filters."""
 
-from collections.abc import Iterable, Sequence
+from collections.abc import Collection, Iterable, Sequence
 from dataclasses import dataclass, field
 
 from query.database import Database
@@ -54,15 +54,17 @@ class Context:
         rows: Iterable[Sequence[Value]],
         empty: str,
         listed: str | None = None,
+        aside: Collection[str] = (),
     ) -> None:
         """Answers with a table. Where it has no row, standard error says why, by `empty`. Of a list
-        `listed` is the column of the labels to which the filters apply."""
+        `listed` is the column of the labels to which the filters apply. The form `text` leaves out
+        the columns `aside`."""
         rows = list(rows)
         if not rows:
             self.tell(empty)
         if listed is not None:
             rows = self.kept(rows, columns.index(listed))
-        self.out.table(columns, rows)
+        self.out.table(columns, rows, aside)
 
     def tell(self, text: str) -> None:
         """Writes a line to standard error, a remark that changes nothing of the answer."""

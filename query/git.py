@@ -168,8 +168,9 @@ def short(commit: str) -> str:
 
 
 def said(done: subprocess.CompletedProcess[bytes]) -> str:
-    """The first line that git wrote to standard error, without `fatal: `."""
-    lines = done.stderr.decode("utf-8", "replace").splitlines()
+    """The first line that git wrote to standard error and that is no hint, without `fatal: `."""
+    every = done.stderr.decode("utf-8", "replace").splitlines()
+    lines = [line for line in every if not line.startswith("hint: ")]
     return "git: " + (lines[0].removeprefix("fatal: ") if lines else f"status {done.returncode}")
 
 

@@ -2,13 +2,18 @@
 
 It is kept until the command has its whole answer, and written then. So nothing is on standard
 output where there is no answer.
+
+A value is written by one rule in each form. For a program: that there is none is an empty field in
+TSV and CSV, and null in JSON; yes and no are `true` and `false` in all three; a list is an array in
+JSON, and in the others its words apart by spaces. For a person, as text: `-`, `yes` and `no`. The
+columns of an answer don't depend on how many words a command was given.
 """
 
 import errno
 import json
 import os
 import re
-from collections.abc import Iterable, Sequence
+from collections.abc import Collection, Iterable, Sequence
 
 from query.errors import NoAnswer, shown
 
@@ -21,14 +26,21 @@ WIDEST = 200
 long."""
 
 
-def _word(value: Value) -> str:
-    """A value in a field of text, TSV and CSV."""
-    if isinstance(value, str):
-        return value
-    if value is None:
+def _shown(value: Value) -> str:
+    """A value in a field of text."""
+    if value is None or value == []:
         return "-"
     if isinstance(value, bool):
         return "yes" if value else "no"
+    return _field(value)
+
+
+def _field(value: Value) -> str:
+    """A value in a field of TSV and CSV."""
+    if value is None:
+        return ""
+    if isinstance(value, bool):
+        return "true" if value else "false"
     if isinstance(value, list):
         return " ".join(value)
     return str(value)
@@ -37,13 +49,13 @@ def _word(value: Value) -> str:
 def _aligned(columns: Sequence[str], rows: Sequence[Sequence[Value]]) -> str:
     """The table for a person: one column as lines, several aligned under a line of their names."""
     if len(columns) == 1:
-        return "".join(_word(row[0]) + "\n" for row in rows)
+        return "".join(_shown(row[0]) + "\n" for row in rows)
     if not rows:
         return ""
     forms = []
     words = []
     for name, column in zip(columns, zip(*rows, strict=True)):
-        words.append([name, *map(_word, column)])
+        words.append([name, *map(_shown, column)])
         is_right = all(isinstance(value, (int, float)) or value is None for value in column)
         width = min(max(map(len, words[-1])), WIDEST)
         forms.append(f"{{:{'>' if is_right else '<'}{width}}}")
@@ -53,7 +65,7 @@ def _aligned(columns: Sequence[str], rows: Sequence[Sequence[Value]]) -> str:
 
 def _tabs(columns: Sequence[str], rows: Iterable[Sequence[Value]]) -> str:
     """The table as TSV: a tab or a line's end in a field becomes a space."""
-    lines = [list(columns), *([_word(value) for value in row] for row in rows)]
+    lines = [list(columns), *([_field(value) for value in row] for row in rows)]
     return "".join(
         "\t".join(" ".join(word.splitlines()).replace("\t", " ") for word in line) + "\n"
         for line in lines
@@ -62,7 +74,7 @@ def _tabs(columns: Sequence[str], rows: Iterable[Sequence[Value]]) -> str:
 
 def _commas(columns: Sequence[str], rows: Iterable[Sequence[Value]]) -> str:
     """The table as CSV, lines ended by a line feed."""
-    lines = [list(columns), *([_word(value) for value in row] for row in rows)]
+    lines = [list(columns), *([_field(value) for value in row] for row in rows)]
     # An empty line would be none.
     return "".join((",".join(map(_cell, line)) or '""') + "\n" for line in lines)
 
@@ -70,7 +82,7 @@ def _commas(columns: Sequence[str], rows: Iterable[Sequence[Value]]) -> str:
 def _cell(word: str) -> str:
     """A field of CSV. What a spreadsheet would take as a formula has a `'` before it, and so has
     what begins with `'`: who takes one `'` from the beginning of each field has the word."""
-    if RUNNING.match(word) and word != "-":
+    if RUNNING.match(word):
         word = "'" + word
     if QUOTED.search(word):
         return '"' + word.replace('"', '""') + '"'
@@ -90,12 +102,17 @@ class Output:
         self.format = format
         self._parts: list[bytes] = []
 
-    def table(self, columns: Sequence[str], rows: Iterable[Sequence[Value]]) -> None:
+    def table(
+        self,
+        columns: Sequence[str],
+        rows: Iterable[Sequence[Value]],
+        aside: Collection[str] = (),
+    ) -> None:
         """Adds a table in the format chosen; one in another format than tsv, csv and json as text.
 
         In text a table without rows is empty and one of a single column has no line of names, so
-        that an answer of labels is just these. None is `-` there and null in JSON; a list of labels
-        is joined by spaces.
+        that an answer of labels is just these; and the columns that are `aside` are left out: they
+        say the same on each line, or nothing.
         """
         if self.format == "json":
             self.text(_objects(columns, rows))
@@ -104,7 +121,9 @@ class Output:
         elif self.format == "tsv":
             self.text(_tabs(columns, rows))
         else:
-            self.text(_aligned(columns, list(rows)))
+            wanted = [number for number, name in enumerate(columns) if name not in aside]
+            names = [columns[number] for number in wanted]
+            self.text(_aligned(names, [[row[number] for number in wanted] for row in rows]))
 
     def line(self, text: str) -> None:
         """Adds a line as it is, whatever the format."""

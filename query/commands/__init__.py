@@ -64,6 +64,9 @@ MODULES: dict[str, dict[str, str]] = {
     "review": {
         "review": "what a change does to the theorems, one line for each, or as a comment",
     },
+    "history": {
+        "history": "how much rested on AXIOMs in each revision, or since when T does",
+    },
     "gate": {
         "gate": "the check of a pull request: what the base and its mmdepend.toml ask for",
     },
@@ -73,6 +76,9 @@ MODULES: dict[str, dict[str, str]] = {
         "unfinished": "theorems that are left open, and what rests on them",
         "discouraged": "which theorems use one whose new usage is discouraged",
         "mathboxes": "citations of a mathbox from outside it",
+    },
+    "definitions": {
+        "definitions": "whether definitions keep the rules that set.mm has for them",
     },
     "moving": {
         "move": "what has to go along where THEOREM is moved",

@@ -5,10 +5,12 @@ import argparse
 from query import cuts
 from query.commands import Command
 from query.context import Context
+from query.database import Database
 from query.errors import NoAnswer
 from query.graph import Graph
 from query.output import Value
 from query.options import add_choice_of_citations, add_database, count, options_of
+from query.wrappers import wrappers
 
 WHY_PAGE = """
 Shows a shortest chain of citations by which LABEL rests on ON, from the one to the other: each
@@ -30,20 +32,20 @@ cited    what is cited
 WAY_OUT_PAGE = """
 Shows the smallest change that frees THEOREM of ON, an axiom or a theorem, as far as citations tell.
 
+of       THEOREM
 what     applies: on the way to ON, the proof of `theorem` applies it, or what is kept
          first: one of the fewest citations that have to go, of all such sets that next to THEOREM
          last: the same, of the set next to ON
 theorem  who cites
 cited    what is cited
 
-Without THEOREM each theorem is listed for which one citation is enough:
-
-theorem            the theorem
-first, first_cited the first such citation: who cites, and what
-last, last_cited   the last such citation
+Without THEOREM, `of` is each theorem for which one citation is enough, with one line for the first
+such citation and one for the last.
 
 With --keep LABEL, theorems that need ON anyway: they stay as they are, and what cites them counts
-as what cites ON.
+as what cites ON. With --keep-wrappers these are the theorems that only say ON in another form:
+those whose proof applies ON and nothing else that rests on ON, and those that state what ON states
+but for the variables. Standard error says which they are.
 
   $ mmquery way-out set.mm numth2 ax-ac2
   $ mmquery way-out set.mm ax-ac2
@@ -54,20 +56,25 @@ FREES_PAGE = """
 Lists in file order which theorems no longer rest on ON, an axiom or a theorem, if the THEOREMs get
 proofs without it and all other proofs stay; the THEOREMs are among them.
 
+freed    how many theorems it frees by itself, itself included
 theorem  the label of the theorem
 
-Without a THEOREM, the theorems that free most so, each by itself:
-
-freed    how many theorems it frees, itself included
-theorem  the label of the theorem
+Without a THEOREM, the theorems that free most so, each by itself.
 
 With --keep LABEL, theorems that need ON anyway: they get no other proof, and what cites them rests
-on ON.
+on ON. With --keep-wrappers these are the theorems that only say ON in another form: those whose
+proof applies ON and nothing else that rests on ON, and those that state what ON states but for the
+variables. Standard error says which they are.
 
   $ mmquery frees set.mm ax-ac2 axac3
   $ mmquery frees set.mm ax-ac2 --keep axac3
   $ mmquery frees set.mm ax-ac2 --most 4
+  $ mmquery frees set.mm ax-13 --keep-wrappers
 """
+
+
+FREED = ["freed", "theorem"]
+WAYS = ["of", "what", "theorem", "cited"]
 
 
 def configure_why(parser: argparse.ArgumentParser) -> None:
@@ -119,10 +126,31 @@ def add_keep(parser: argparse.ArgumentParser) -> None:
         default=[],
         help="a theorem that needs ON anyway; several: by commas, or more options",
     )
+    parser.add_argument(
+        "--keep-wrappers",
+        action="store_true",
+        help="keep the theorems that only say ON in another form",
+    )
 
 
-def kept_in(graph: Graph, end: int, words: list[str]) -> frozenset[int]:
+def kept_in(
+    context: Context, arguments: argparse.Namespace, database: Database, end: int
+) -> frozenset[int]:
     """The theorems that are kept. NoAnswer where one isn't a theorem, or doesn't rest on ON."""
+    graph = database.graph()
+    named = named_in(graph, end, arguments.keep)
+    if not arguments.keep_wrappers:
+        return named
+    found = wrappers(graph, database.text, end)
+    if found:
+        context.tell(f"kept as wrappers: {', '.join(graph.labels[node] for node in found)}")
+    else:
+        context.tell(f"{graph.name}: no theorem only wraps {graph.labels[end]}")
+    return named | frozenset(found)
+
+
+def named_in(graph: Graph, end: int, words: list[str]) -> frozenset[int]:
+    """The theorems that `--keep` names."""
     nodes = [graph.theorem(label) for word in words for label in word.split(",") if label]
     above = graph.above([end]) if nodes else set()
     for node in nodes:
@@ -146,15 +174,16 @@ def run_way_out(context: Context, arguments: argparse.Namespace) -> int:
     """Answers `way-out`."""
     if len(arguments.labels) > 2:
         raise NoAnswer("way-out takes DATABASE, THEOREM and ON, or DATABASE and ON alone")
-    graph = context.database(arguments.database, options_of(arguments)).graph()
+    database = context.database(arguments.database, options_of(arguments))
+    graph = database.graph()
     end = graph.node(arguments.labels[-1])
     labels = graph.labels
-    kept = kept_in(graph, end, arguments.keep)
+    kept = kept_in(context, arguments, database, end)
     if len(arguments.labels) == 2:
         start = graph.theorem(arguments.labels[0])
         found = cuts.way_out(graph, start, end, kept)
         rows = [
-            [word, labels[node], labels[cited]]
+            [labels[start], word, labels[node], labels[cited]]
             for word, edges in (
                 ("applies", found.applies),
                 ("first", found.first),
@@ -163,17 +192,15 @@ def run_way_out(context: Context, arguments: argparse.Namespace) -> int:
             for node, cited in edges
         ]
         why = "is kept" if start in kept else f"doesn't rest on {labels[end]}"
-        columns = ["what", "theorem", "cited"]
-        context.table(columns, rows, f"{graph.name}: {labels[start]} {why}")
+        context.table(WAYS, rows, f"{graph.name}: {labels[start]} {why}", "of", ["of"])
         return 0
     ends = cuts.Bottlenecks(graph, end, citations=True, kept=kept).ends
     rows = []
     for node, pair in ends.items():
-        if pair:
-            rows.append([labels[node], *(labels[each] for edge in pair for each in edge)])
+        for word, edge in zip(("first", "last"), pair or ()):
+            rows.append([labels[node], word, *(labels[each] for each in edge)])
     why = f"{graph.name}: no theorem rests on {labels[end]} by way of a single citation"
-    columns = ["theorem", "first", "first_cited", "last", "last_cited"]
-    context.table(columns, rows, why, "theorem")
+    context.table(WAYS, rows, why, "of")
     return 0
 
 
@@ -195,19 +222,27 @@ def configure_frees(parser: argparse.ArgumentParser) -> None:
 
 def run_frees(context: Context, arguments: argparse.Namespace) -> int:
     """Answers `frees`."""
-    graph = context.database(arguments.database, options_of(arguments)).graph()
+    database = context.database(arguments.database, options_of(arguments))
+    graph = database.graph()
     end = graph.node(arguments.on)
-    kept = kept_in(graph, end, arguments.keep)
+    kept = kept_in(context, arguments, database, end)
+    freeing = cuts.freeing(graph, end, kept)
     if arguments.theorems:
         again = {graph.theorem(label) for label in arguments.theorems}
-        rows = [[graph.labels[node]] for node in cuts.freed(graph, end, again, kept)]
-        context.table(["theorem"], rows, nothing_rests(graph, end, "of these "), "theorem")
+        counts = {node: freed for freed, node in freeing}
+        rows: list[list[Value]] = []
+        for node in cuts.freed(graph, end, again, kept):
+            rows.append([counts[node], graph.labels[node]])
+        why = nothing_rests(graph, end, "of these ")
+        context.table(FREED, rows, why, "theorem", ["freed"])
         return 0
-    freeing = sorted(cuts.freeing(graph, end, kept), key=lambda pair: -pair[0])
-    if not freeing:
+    freeing.sort(key=lambda pair: -pair[0])
+    if not freeing and kept:
+        context.tell(f"{graph.name}: all that rests on {graph.labels[end]} is kept")
+    elif not freeing:
         context.tell(nothing_rests(graph, end))
     found: list[list[Value]] = [[freed, graph.labels[node]] for freed, node in freeing]
-    context.out.table(["freed", "theorem"], context.kept(found, 1)[: arguments.most])
+    context.out.table(FREED, context.kept(found, 1)[: arguments.most])
     return 0
 
 

@@ -12,8 +12,8 @@ Lists in file order what the proof of LABEL itself applies, axioms and theorems 
 An axiom cites nothing. With --on, only what is that assertion or rests on it: the citations that
 bring it in.
 
+theorem  who cites it, one of the LABELs
 cited    what is cited
-theorem  who cites it, where several LABELs are given
 
   $ mmquery cites set.mm zorn --essential
   $ mmquery cites set.mm zorn --on ax-ac2
@@ -23,7 +23,7 @@ CITED_BY_PAGE = """
 Lists in file order the theorems whose proof itself applies LABEL.
 
 theorem  who cites it
-cited    what is cited, where several LABELs are given
+cited    what is cited, one of the LABELs
 
   $ mmquery cited-by set.mm ax-ac2
 """
@@ -35,6 +35,9 @@ theorem  the label of the theorem
 
   $ mmquery uncited set.mm
 """
+
+
+PAIRS = ["theorem", "cited"]
 
 
 def configure_cites(parser: argparse.ArgumentParser) -> None:
@@ -50,7 +53,7 @@ def configure_cites(parser: argparse.ArgumentParser) -> None:
 def run_cites(context: Context, arguments: argparse.Namespace) -> int:
     """Answers `cites`."""
     graph = context.database(arguments.database, options_of(arguments)).graph()
-    nodes = [graph.node(label) for label in arguments.labels]
+    nodes = [graph.node(label) for label in dict.fromkeys(arguments.labels)]
     above = None if arguments.on is None else graph.above([graph.node(arguments.on)])
     rows = [
         [graph.labels[node], graph.labels[cited]]
@@ -62,23 +65,9 @@ def run_cites(context: Context, arguments: argparse.Namespace) -> int:
     why = f"{graph.name}: {names}: cites nothing"
     if arguments.on is not None:
         why += f" that rests on {shown(arguments.on)}"
-    put_pairs(context, ["theorem", "cited"], rows, 1, len(nodes), why)
+    aside = ["theorem"] if len(nodes) == 1 else []
+    context.table(PAIRS, rows, why, "cited", aside)
     return 0
-
-
-def put_pairs(
-    context: Context,
-    columns: list[str],
-    rows: list[list[str]],
-    wanted: int,
-    labels: int,
-    empty: str,
-) -> None:
-    """Answers with pairs, or where one LABEL was given with their wanted half."""
-    if labels == 1:
-        columns, rows = [columns[wanted]], [[row[wanted]] for row in rows]
-        wanted = 0
-    context.table(columns, rows, empty, columns[wanted])
 
 
 def configure_cited_by(parser: argparse.ArgumentParser) -> None:
@@ -91,12 +80,12 @@ def configure_cited_by(parser: argparse.ArgumentParser) -> None:
 def run_cited_by(context: Context, arguments: argparse.Namespace) -> int:
     """Answers `cited-by`."""
     graph = context.database(arguments.database, options_of(arguments)).graph()
-    nodes = [graph.node(label) for label in arguments.labels]
+    nodes = [graph.node(label) for label in dict.fromkeys(arguments.labels)]
     rows = [
         [graph.labels[user], graph.labels[node]] for node in nodes for user in graph.users(node)
     ]
     why = f"{graph.name}: no theorem cites {shown(' or '.join(arguments.labels))}"
-    put_pairs(context, ["theorem", "cited"], rows, 0, len(nodes), why)
+    context.table(PAIRS, rows, why, "theorem", ["cited"] if len(nodes) == 1 else [])
     return 0
 
 

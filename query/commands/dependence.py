@@ -1,7 +1,7 @@
 """`rests` and `falls`: on what assertions rest, and what rests on them."""
 
 import argparse
-from collections.abc import Sequence
+from collections.abc import Iterable, Mapping, Sequence
 from dataclasses import replace
 
 from query.commands import Command
@@ -10,21 +10,25 @@ from query.database import Database, Dependence
 from query.errors import shown
 from query.graph import Graph
 from query.options import add_choice_of_axioms, add_database, options_of
+from query.output import Value
 
 RESTS_PAGE = """
 Lists in file order the axioms on which the proofs of the LABELs rest: those that a proof applies,
 and those of the theorems that it applies. An axiom rests on itself.
 
 axiom    the label of the axiom
+labels   which of the LABELs rest on it
 
 With --theorems, the theorems on which they rest instead:
 
 theorem  the label of the theorem
+labels   which of the LABELs rest on it
 
 With --apart, the axioms of every typecode, those of one typecode (|- or that of --only) apart:
 
 kind     logic: an axiom of this typecode; syntax: another one
 axiom    the label of the axiom
+labels   which of the LABELs rest on it
 
   $ mmquery rests set.mm 2p2e4 --axioms ax-
   $ mmquery rests --all set.mm 2p2e4
@@ -36,6 +40,7 @@ Lists in file order the theorems that rest on the LABELs, axioms or theorems: th
 have to be found anew where a LABEL is dropped. A theorem doesn't rest on itself.
 
 theorem  the label of the theorem
+labels   on which of the LABELs it rests
 
 With --only or --axioms, a LABEL that is an axiom has to be one of those. With several LABELs, what
 rests on any one of them (--any-of, the default), or on each of them (--all-of). --without LABEL
@@ -69,23 +74,60 @@ def configure_rests(parser: argparse.ArgumentParser) -> None:
 def run_rests(context: Context, arguments: argparse.Namespace) -> int:
     """Answers `rests`."""
     database = context.database(arguments.database, options_of(arguments))
+    labels = list(dict.fromkeys(arguments.labels))
+    names = shown(" ".join(labels))
     if arguments.theorems:
-        graph = database.graph()
-        nodes = [graph.node(label) for label in arguments.labels]
-        below = graph.below(cited for node in nodes for cited in graph.cites[node])
-        found = [graph.labels[node] for node in sorted(below) if graph.is_theorem(node)]
-        names = shown(" ".join(arguments.labels))
-        rows = [[label] for label in found]
+        rows = union(theorems_below(database, label) for label in labels)
         why = f"{database.name}: {names}: rests on no theorem"
-        context.table(["theorem"], rows, why, "theorem")
+        put_union(context, "theorem", database.graph().labels, rows, labels, why)
     elif arguments.apart:
-        put_apart(context, database, arguments.labels)
+        put_apart(context, database, labels)
     else:
-        axioms = axioms_of(database, arguments.labels)
-        names = shown(" ".join(arguments.labels))
+        dependence = database.dependence()
+        rows = union(rested_on(database, dependence, label) for label in labels)
         why = f"{database.name}: {names}: rests on no axiom{chosen_of(database)}"
-        context.table(["axiom"], [[label] for label in axioms], why, "axiom")
+        put_union(context, "axiom", dependence.axioms, rows, labels, why)
     return 0
+
+
+def theorems_below(database: Database, label: str) -> list[int]:
+    """The nodes of the theorems on which an assertion rests. NoAnswer where there is none of this
+    label."""
+    graph = database.graph()
+    below = graph.below(graph.cites[graph.node(label)])
+    return [node for node in below if graph.is_theorem(node)]
+
+
+def union(several: Iterable[Iterable[int]]) -> dict[int, list[int]]:
+    """The numbers that are in one of several collections, rising, each with the places of those
+    that have it."""
+    found: dict[int, list[int]] = {}
+    for place, numbers in enumerate(several):
+        for number in numbers:
+            found.setdefault(number, []).append(place)
+    return dict(sorted(found.items()))
+
+
+def put_union(
+    context: Context,
+    column: str,
+    known: Sequence[str],
+    rows: Mapping[int, Sequence[int]],
+    labels: Sequence[str],
+    empty: str,
+    is_said: bool = False,
+) -> None:
+    """Answers with numbers of what is known, each with the LABELs to which it belongs; it `is_said`
+    already whether these are all of them."""
+    table: list[list[Value]] = []
+    for number, of in rows.items():
+        table.append([known[number], [labels[place] for place in of]])
+    context.table([column, "labels"], table, empty, column, aside_of(labels, is_said))
+
+
+def aside_of(labels: Sequence[str], is_said: bool = False) -> list[str]:
+    """What the form `text` leaves out: the LABELs where they are the same on each line."""
+    return ["labels"] if is_said or len(labels) == 1 else []
 
 
 def chosen_of(database: Database) -> str:
@@ -97,23 +139,19 @@ def chosen_of(database: Database) -> str:
     return f"{which}; --all counts every axiom" if which else ""
 
 
-def axioms_of(database: Database, labels: Sequence[str]) -> list[str]:
-    """The chosen axioms on which assertions rest. NoAnswer where there is none of a label."""
-    dependence = database.dependence()
-    columns: set[int] = set()
-    for label in labels:
-        columns.update(rested_on(database, dependence, label))
-    return [dependence.axioms[column] for column in sorted(columns)]
-
-
 def put_apart(context: Context, database: Database, labels: Sequence[str]) -> None:
     """Answers `rests --apart`."""
     logic = set(database.dependence().axioms)
     database.data()  # NoAnswer where it is a report, whose axioms can't be told apart
     every = replace(database, options=replace(database.options, only=None))
-    rows = [["logic" if each in logic else "syntax", each] for each in axioms_of(every, labels)]
+    dependence = every.dependence()
+    rows: list[list[Value]] = []
+    for column, of in union(rested_on(every, dependence, label) for label in labels).items():
+        axiom = dependence.axioms[column]
+        kind = "logic" if axiom in logic else "syntax"
+        rows.append([kind, axiom, [labels[place] for place in of]])
     why = f"{database.name}: {shown(' '.join(labels))}: rests on no axiom"
-    context.table(["kind", "axiom"], rows, why, "axiom")
+    context.table(["kind", "axiom", "labels"], rows, why, "axiom", aside_of(labels))
 
 
 def rested_on(database: Database, dependence: Dependence, label: str) -> Sequence[int]:
@@ -150,18 +188,18 @@ def run_falls(context: Context, arguments: argparse.Namespace) -> int:
         for label in arguments.labels:
             if label not in database.prepared.theorems:
                 database.dependence().column(label)  # NoAnswer where it isn't chosen
-    sets = [users_of(database, label) for label in arguments.labels]
-    found = set.intersection(*sets) if arguments.all_of else set.union(*sets)
-    for label in arguments.without:
-        found -= users_of(database, label)
-    theorems = database.prepared.theorems
-    rows = [[theorems[row]] for row in sorted(found)]
+    labels = list(dict.fromkeys(arguments.labels))
+    rows = union(users_of(database, label) for label in labels)
+    left_out = {row for label in arguments.without for row in users_of(database, label)}
+    least = len(labels) if arguments.all_of else 1
+    rows = {row: of for row, of in rows.items() if len(of) >= least and row not in left_out}
     word = "each" if arguments.all_of else "any"
-    names = shown(", ".join(arguments.labels))
-    which = names if len(sets) == 1 else f"{word} of {names}"
+    names = shown(", ".join(labels))
+    which = names if len(labels) == 1 else f"{word} of {names}"
     without = " that the options leave" if arguments.without else ""
     why = f"{database.name}: no theorem{without} rests on {which}"
-    context.table(["theorem"], rows, why, "theorem")
+    theorems = database.prepared.theorems
+    put_union(context, "theorem", theorems, rows, labels, why, arguments.all_of)
     return 0
 
 

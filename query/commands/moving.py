@@ -14,8 +14,8 @@ from query.text import Text
 MOVE_PAGE = """
 Shows what has to go along where THEOREM is moved, in file order.
 
-what   after: THEOREM may stand right behind this one, the last of those that its proof cites; -
-       where it cites nothing
+what   after: THEOREM may stand right behind this one, the last of those that its proof cites;
+       there is none where it cites nothing
        needs: with --to PLACE, THEOREM rests on this one, which stands at PLACE or behind it
        user: with --to PLACE, this theorem rests on THEOREM, and stands before PLACE
 label  which assertion

@@ -23,8 +23,8 @@ on which nothing rests. With N too, the N of them on which most rest.
 With --against OLD, in file order the axioms on which another number of theorems rests than in the
 database OLD:
 
-was       how many did in OLD; - (null) where it has no such axiom
-theorems  how many do now; - (null) where there is no such axiom any more
+was       how many did in OLD; nothing where it has no such axiom
+theorems  how many do now; nothing where there is no such axiom any more
 axiom     the label of the axiom
 
   $ mmquery top set.mm 3

@@ -1,13 +1,13 @@
 """`review`: what a pull request does to the theorems of a database."""
 
 import argparse
-from bisect import bisect_left
 from collections.abc import Iterable, Sequence
 from dataclasses import dataclass, field
 
 from query.changes import Comparison, sides, text_of_side
 from query.commands import TABLE_FORMATS, Command
 from query.context import Context
+from query.order import longest_rising
 from query.options import add_choice_of_axioms, add_database, options_of
 from query.output import Value
 from query.text import Text
@@ -64,7 +64,7 @@ class Change:
 
     def row(self) -> list[Value]:
         """Its row of the table."""
-        lists: list[Value] = [self.gained or None, self.lost or None, self.via or None]
+        lists = [self.gained, self.lost, self.via]
         return [self.label, self.status, self.was, self.axioms, *lists, self.bytes]
 
 
@@ -155,19 +155,7 @@ def out_of_order(numbered: Iterable[tuple[str, int]]) -> set[str]:
     """The labels that have to be left out, so that the numbers of the others rise, as few as can
     be."""
     pairs = list(numbered)
-    ends: list[int] = []
-    last: list[int] = []
-    before: list[int] = []
-    for place, (_, number) in enumerate(pairs):
-        rank = bisect_left(ends, number)
-        ends[rank : rank + 1] = [number]
-        last[rank : rank + 1] = [place]
-        before.append(last[rank - 1] if rank else -1)
-    stayed = set()
-    place = last[-1] if last else -1
-    while place >= 0:
-        stayed.add(place)
-        place = before[place]
+    stayed = set(longest_rising([number for _, number in pairs]))
     return {label for place, (label, _) in enumerate(pairs) if place not in stayed}
 
 

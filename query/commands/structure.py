@@ -32,7 +32,7 @@ rest      how many of these theorems rest on the axiom
 first     the first of these that does
 title     that of the header
 
-Without an AXIOM there are no columns of axioms.
+Without an AXIOM there is a row for each header, and nothing in axiom, rest and first.
 
   $ mmquery chapters set.mm ax-ac2 ax-reg
 """
@@ -54,7 +54,7 @@ UNFINISHED_PAGE = """
 Lists the theorems that are left open, whose proof is ?, in file order. A chain of citations ends at
 an open theorem, as at an axiom. With THEOREM, one of these, the theorems that rest on it.
 
-theorems  how many theorems rest on it
+theorems  how many theorems rest on it; with THEOREM nothing
 theorem   the label of the open theorem (with THEOREM: of the theorem that rests on it)
 
   $ mmquery unfinished set.mm
@@ -128,11 +128,11 @@ def run_chapters(context: Context, arguments: argparse.Namespace) -> int:
     for number, first, end, title in places:
         theorems_below = counted[0].within(first, end)[0]
         if not columns:
-            rows.append([number, theorems_below, title])
+            rows.append([number, theorems_below, None, None, None, title])
         for label, numbers in zip(arguments.axiom, counted[1:]):
             rows.append([number, theorems_below, label, *numbers.within(first, end), title])
-    names = ["axiom", "rest", "first"] if columns else []
-    context.out.table(["number", "theorems", *names, "title"], rows)
+    about = ["axiom", "rest", "first"]
+    context.out.table(["number", "theorems", *about, "title"], rows, [] if columns else about)
     return 0
 
 
@@ -189,9 +189,9 @@ def run_unfinished(context: Context, arguments: argparse.Namespace) -> int:
     if arguments.theorem not in found:
         raise NoAnswer(f"{database.name}: has no open theorem '{shown(arguments.theorem)}'")
     users = dependence.users(dependence.column(arguments.theorem))
-    named = [[dependence.theorems[row]] for row in users]
+    named: list[list[Value]] = [[None, dependence.theorems[row]] for row in users]
     why = f"{database.name}: nothing rests on {arguments.theorem}"
-    context.table(["theorem"], named, why, "theorem")
+    context.table(["theorems", "theorem"], named, why, "theorem", ["theorems"])
     return 0
 
 

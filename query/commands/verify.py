@@ -2,6 +2,7 @@
 
 import argparse
 from collections.abc import Iterator
+from functools import cached_property
 
 from query import program, progress
 from query.bare import bare, declared_at, leave_open
@@ -36,6 +37,8 @@ other proofs are judged on. --most N ends with the Nth fault.
 
 NOTHING = ["--report=citations", "--only="]
 """The report of the axioms of no typecode, in which nothing is listed."""
+LONGEST = 1000
+"""Bytes of a word that are shown."""
 FIELDS = ["line", "column", "code", "statement", "meaning", "advice"]
 FIELDS += ["proved", "wanted", "word", "declared"]
 COLUMNS = ["valid", "axioms", "theorems", *FIELDS]
@@ -92,28 +95,29 @@ def others(database: Database, first: Refused, most: int) -> Iterator[Refused]:
 
 
 def put_refusals(context: Context, refusals: list[Refused]) -> None:
-    """Answers with faults."""
+    """Answers with faults of one database."""
+    words = Words(refusals[0].source)
     if context.out.format == "text":
         for refusal in refusals:
-            put_lines(context, refusal)
+            put_lines(context, refusal, words)
         return
     rows: list[list[Value]] = []
     for refusal in refusals:
         meaning, advice = FAULTS.get(refusal.code, UNKNOWN)
         label = statement_of(refusal).removeprefix("in ").strip("'") or None
         row: list[Value] = [refusal.line, refusal.column, refusal.code, label, meaning, advice]
-        rows.append([False, None, None, *row, *formulas(refusal), *word_of(refusal)])
+        rows.append([False, None, None, *row, *formulas(refusal), *words.of(refusal)])
     context.out.table(COLUMNS, rows)
 
 
-def put_lines(context: Context, refusal: Refused) -> None:
+def put_lines(context: Context, refusal: Refused, words: "Words") -> None:
     """Answers with a fault, for a person."""
     meaning, advice = FAULTS.get(refusal.code, UNKNOWN)
     statement = statement_of(refusal)
     place = f" {statement}" if statement else ""
     at = f"{refusal.source.name}:{refusal.line}:{refusal.column}"
     context.out.line(f"{at}: refused {refusal.code}{place}: {meaning}")
-    word, declared = word_of(refusal)
+    word, declared = words.of(refusal)
     if word is not None:
         where = f"is declared on line {declared}" if declared else "is declared nowhere"
         context.out.line(f"  the word          {word}, which {where}")
@@ -143,19 +147,34 @@ def formulas(refusal: Refused) -> tuple[str | None, str | None]:
     return proved(source, end) or (None, None)
 
 
-def word_of(refusal: Refused) -> tuple[str | None, int | None]:
-    """The word of a proof that can't be cited, and the line on which something of this name is
-    declared; None where that can't be told."""
-    data = refusal.source.data
-    if refusal.code != "E33" or refusal.source.is_report():
-        return None, None
-    place = place_of(data, refusal.line, refusal.column)
-    word = data[place : place + LONGEST].split(None, 1)[0].decode("latin-1")
-    found = declared_at(bare(data), word)
-    return word, None if found is None else data.count(b"\n", 0, found) + 1
+class Words:
+    """The words of proofs of a database that can't be cited."""
 
+    def __init__(self, source: Source) -> None:
+        self.source = source
+        self.known: dict[str, int | None] = {}
 
-LONGEST = 1000
-"""Bytes of a word that are shown."""
+    @cached_property
+    def text(self) -> bytes:
+        """The text without its comments, which is made once for all words."""
+        return bare(self.source.data)
+
+    def of(self, refusal: Refused) -> tuple[str | None, int | None]:
+        """The word for which a proof is refused, and the line on which something of this name is
+        declared; None where that can't be told."""
+        data = self.source.data
+        if refusal.code != "E33" or self.source.is_report():
+            return None, None
+        place = place_of(data, refusal.line, refusal.column)
+        word = data[place : place + LONGEST].split(None, 1)[0].decode("latin-1")
+        if word not in self.known:
+            self.known[word] = self.line_of(word)
+        return word, self.known[word]
+
+    def line_of(self, word: str) -> int | None:
+        """The line on which something of this name is declared."""
+        found = declared_at(self.text, word)
+        return None if found is None else self.source.data.count(b"\n", 0, found) + 1
+
 
 COMMANDS = [Command("verify", PAGE, configure, run)]

@@ -1,6 +1,8 @@
 """For each command words that it answers over small databases, for the tests that try them all."""
 
+import os
 import sqlite3
+import subprocess
 from pathlib import Path
 
 from query.tests.world import SMALL
@@ -18,7 +20,7 @@ NEWER = WHOLE.replace(
     "$( $j", "${ b $e |- p $. b1 $p |- ( q -> ( q -> p ) ) $= wp wq b a2 $. $}\n$( $j"
 )
 
-# Each command, with DB for a database, which it answers with status 0 or 1.
+# Each command, with DB for a database that git keeps, which it answers with status 0 or 1.
 WORDS: dict[str, tuple[str, ...]] = {
     "verify": ("DB",),
     "rests": ("DB", "a2"),
@@ -34,12 +36,14 @@ WORDS: dict[str, tuple[str, ...]] = {
     "same": ("DB", "a2"),
     "compare": ("DB", "newer.mm"),
     "review": ("DB", "newer.mm"),
+    "history": ("DB", "HEAD", "ax-1"),
     "gate": ("DB", "newer.mm"),
     "chapters": ("DB", "ax-1"),
     "order": ("DB",),
     "unfinished": ("DB",),
     "discouraged": ("DB",),
     "mathboxes": ("DB",),
+    "definitions": ("DB",),
     "move": ("DB", "a2", "--to", "a1i"),
     "graph": ("DB", "a2"),
     "picture": ("DB",),
@@ -51,8 +55,23 @@ WORDS: dict[str, tuple[str, ...]] = {
 # Those that take no database, or a database whose first fault is one of a proof.
 WITHOUT_DATABASE = {"cache"}
 MENDING = {"set-proof"}
+# Those that take only a file that git keeps, and tell a fault in a row.
+OF_GIT = {"history"}
 # Those that write to standard output only where there is something to say.
-MAY_BE_SILENT = {"unfinished", "export", "mathboxes", "gate", "same", "uncited"}
+MAY_BE_SILENT = {"unfinished", "definitions", "export", "mathboxes", "gate", "same", "uncited"}
+
+
+def keep_in_git(folder: Path) -> None:
+    """Makes a folder a repository that has its files."""
+    names = {
+        f"GIT_{who}_{what}": "a@b" for who in ("AUTHOR", "COMMITTER") for what in ("NAME", "EMAIL")
+    }
+    for words in (
+        ("init", "--quiet", "--initial-branch=main"),
+        ("add", "--all"),
+        ("commit", "--quiet", "--message", "x"),
+    ):
+        subprocess.run(["git", *words], cwd=folder, env={**os.environ, **names}, check=True)
 
 
 def words_of(name: str, database: str) -> list[str]:

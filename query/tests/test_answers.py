@@ -10,7 +10,11 @@ import unittest
 import xml.etree.ElementTree as Xml
 import zlib
 
-from query.tests.world import MMQUERY, SMALL, World
+from unittest import mock
+
+from query.bare import bare, declared_at
+from query.tests import world
+from query.tests.world import MMQUERY, SMALL, World, asked
 
 OPEN = SMALL.replace("wp wq wp wi h wp wq ax-1 ax-mp $.", "? $.")
 DOT = """digraph "small.mm" {
@@ -81,6 +85,19 @@ class Answers(World):
         self.assertEqual([row["code"] for row in came.rows()], ["E37", "E33", "E33", "E03"])
         self.assertEqual(self.query("verify", "--each", "small.mm").status, 0)
 
+    def test_the_text_is_searched_once(self) -> None:
+        """However many proofs have a word that can't be cited, comments are passed over once."""
+        bad = "".join(f"bad{number} $p wff p $= no{number % 3} $.\n" for number in range(9))
+        path = str(self.room / self.write("bad.mm", SMALL + bad))
+        with (
+            mock.patch.dict(os.environ, {"MMDEPEND": world.program() or ""}),
+            mock.patch("query.commands.verify.bare", wraps=bare) as passed,
+            mock.patch("query.commands.verify.declared_at", wraps=declared_at) as searched,
+        ):
+            rows = asked("verify", path, "--each")
+        self.assertEqual([row[5] for row in rows], ["E33"] * 9)
+        self.assertEqual((passed.call_count, searched.call_count), (2, 3))
+
     def test_verify_tells_both_formulas(self) -> None:
         for old, new, proved, wanted in (
             ("wi2 $p wff ( p", "wi2 $p wff ( q", "( p -> ( q -> p ) )", "( q -> ( q -> p ) )"),
@@ -124,9 +141,10 @@ class Answers(World):
 
     def test_apart(self) -> None:
         rows = self.answers("rests", "--apart", "small.mm", "a1i", "--format=tsv")
-        self.assertEqual(rows, ["kind\taxiom", "syntax\twi", "logic\tax-1", "logic\tax-mp"])
+        wanted = ["syntax\twi\ta1i", "logic\tax-1\ta1i", "logic\tax-mp\ta1i"]
+        self.assertEqual(rows, ["kind\taxiom\tlabels", *wanted])
         rows = self.answers("rests", "--apart", "--only=wff", "small.mm", "a1i", "--format=tsv")
-        self.assertEqual(rows[1:], ["logic\twi", "syntax\tax-1", "syntax\tax-mp"])
+        self.assertEqual(rows[1:], ["logic\twi\ta1i", "syntax\tax-1\ta1i", "syntax\tax-mp\ta1i"])
 
     def test_what_changed_in_numbers(self) -> None:
         new = SMALL.replace("wi2 $p", "${ n $e |- p $. ax-n $a |- ( q -> p ) $. $}\nwi2 $p")

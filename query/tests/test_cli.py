@@ -44,10 +44,26 @@ class CommandLine(World):
         self.refuses("xyzzy", why="no command xyzzy")
         self.refuses("rests", "small.mm", "a2", "--esential", why="did you mean --essential?")
         self.refuses("rests", "--formt=json", "small.mm", "a2", why="did you mean --format?")
-        self.refuses("rests", "small.mm", "a2", "--xyzzy", why="no option --xyzzy; usage: ")
+        self.refuses("rests", "small.mm", "a2", "--xyzzy", why="no option --xyzzy\n")
         self.refuses("rests", "small.mm", "a2", "--format", "xml", why="xml")
         self.refuses("rests", "small.mm", "a2", "--format", why="lacks its value")
-        self.refuses("rests", why="usage: mmquery rests")
+        self.refuses("rests", why="usage: mmquery rests [OPTIONS] DATABASE LABEL..\n")
+        self.refuses(
+            "way-out", "small.mm", why="usage: mmquery way-out [OPTIONS] DATABASE [THEOREM] ON"
+        )
+        self.refuses("export", "small.mm", why="--sqlite")
+        for name, words in {
+            "cites": "DATABASE LABEL..",
+            "frees": "DATABASE ON [THEOREM..]",
+            "gate": "[OLD] DATABASE",
+            "history": "DATABASE REV..REV [AXIOM..]",
+            "export": "DATABASE --sqlite FILE",
+            "cache": "[show|clear]",
+        }.items():
+            head = self.answers(name, "--help")[0]
+            self.assertEqual(head, f"usage: mmquery {name} [OPTIONS] {words}")
+        for wrong in (("--format", "xml"), ("--only", "wff", "--all"), ("--axioms",)):
+            self.assertNotIn("usage", self.refuses("rests", "small.mm", "a2", *wrong))
         self.refuses("rests", "small.mm", why="LABEL")
         self.refuses("uncited", "small.mm", "a2", why="a2")
         self.refuses("top", "small.mm", "0", why="'0' is no number")
@@ -70,13 +86,14 @@ class CommandLine(World):
         self.write("d.mm", SMALL + "df-x $a |- p $.\nt $p |- p $= wp df-x $.\n")
         self.assertEqual(self.answers("rests", "d.mm", "t"), ["df-x"])
         self.assertEqual(self.answers("rests", "d.mm", "t", "--ignore-definitions"), [])
-        words = ("rests", "d.mm", "t", "a2", "--axioms", "df-,ax-m")
-        self.assertEqual(self.answers(*words), ["ax-mp", "df-x"])
-        twice = ("rests", "d.mm", "t", "a2", "--axioms", "df-", "--axioms", "ax-1")
-        self.assertEqual(self.answers(*twice), ["ax-1", "df-x"])
+        both = ("rests", "d.mm", "t", "a2", "--format=csv")
+        words = (*both, "--axioms", "df-,ax-m")
+        self.assertEqual(self.answers(*words), ["axiom,labels", "ax-mp,a2", "df-x,t"])
+        twice = (*both, "--axioms", "df-", "--axioms", "ax-1")
+        self.assertEqual(self.answers(*twice), ["axiom,labels", "ax-1,a2", "df-x,t"])
         self.refuses("rests", "d.mm", "t", "--axioms", "ax-m,dg-", why="begins with 'dg-'")
         self.refuses("rests", "d.mm", "t", "--only", "|--", why="no axiom of typecode '|--'")
-        self.assertEqual(self.answers("rests", "d.mm", "t", "a2", "--only", "wff"), ["wi"])
+        self.assertEqual(self.answers(*both, "--only", "wff"), ["axiom,labels", "wi,a2"])
 
     def test_labels_that_are_not_there(self) -> None:
         for words in (

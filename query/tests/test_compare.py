@@ -19,21 +19,21 @@ def expected(old: Generation, new: Generation) -> set[tuple[str, ...]]:
         before = old.part(part.number)
         kind = "axiom" if part.is_axiom else "theorem"
         if before is None:
-            rows.add(("new", kind, part.label, "-", "-"))
+            rows.add(("new", kind, part.label, "", ""))
         elif before.label != part.label:
-            rows.add(("renamed", kind, part.label, before.label, "-"))
+            rows.add(("renamed", kind, part.label, before.label, ""))
         elif before.says != part.says:
-            rows.add(("changed", kind, part.label, "-", "-"))
+            rows.add(("changed", kind, part.label, "", ""))
     for part in old.parts:
         if new.part(part.number) is None:
             kind = "axiom" if part.is_axiom else "theorem"
-            rows.add(("gone", kind, part.label, "-", "-"))
+            rows.add(("gone", kind, part.label, "", ""))
     for change, there, other in (("gained", new, old), ("lost", old, new)):
         for part in there.parts:
             if part.is_axiom or other.part(part.number) is None:
                 continue
             for axiom in there.rests(part.number) - other.rests(part.number):
-                rows.add((change, "theorem", part.label, "-", there.label(axiom)))
+                rows.add((change, "theorem", part.label, "", there.label(axiom)))
     return rows
 
 

@@ -24,11 +24,12 @@ LISTS: dict[str, list[str]] = {
     "order": [],
     "unfinished": [],
     "discouraged": [],
+    "definitions": [],
     "mathboxes": [],
 }
 """Each command that lists labels, with words of a question."""
 COLUMNS = {"rests": "axiom", "cites": "cited", "top": "axiom", "order": "label"}
-COLUMNS["discouraged"] = "label"
+COLUMNS |= {"discouraged": "label", "definitions": "definition", "way-out": "of"}
 """The column to which the filters apply, where it isn't `theorem`."""
 
 EARLY = {"wi", "ax-1", "one", "two", "ax-2"}
@@ -44,6 +45,7 @@ class Filtered(World):
     def setUp(self) -> None:
         super().setUp()
         self.write("db.mm", PARTS)
+        self.write("definitions.mm", PARTS + "df-x $a |- p $.\ndf-o $a |- p $.\n")
         self.write("few", "two six  # and no other\nfour\n")
 
     def uncited(self, *filters: str) -> list[str]:
@@ -91,7 +93,8 @@ class Filtered(World):
         self.assertEqual({name for name in names() if command(name).lists}, set(LISTS))
         for name, words in LISTS.items():
             flags = [] if name == "unfinished" else ["--open"]
-            asked = [name, "--format", "json", *flags, "db.mm", *words]
+            database = "definitions.mm" if name == "definitions" else "db.mm"
+            asked = [name, "--format", "json", *flags, database, *words]
             column = COLUMNS.get(name, "theorem")
             whole = self.query(*asked).rows()
             self.assertTrue(whole, name)

@@ -10,23 +10,18 @@ from query.tests.world import DATABASES, World, asked
 QUESTIONS = 40
 
 
-@unittest.skipUnless(shutil.which("metamath"), "metamath isn't installed")
-@unittest.skipUnless((DATABASES / "iset.mm").exists(), "iset.mm isn't installed")
-class Metamath(World):
-    """`show trace_back LABEL /axioms` and `show usage LABEL /recursive`, for some labels."""
+class Told(World):
+    """What metamath.exe says of a database."""
+
+    DATABASE = "iset.mm"
 
     def setUp(self) -> None:
         super().setUp()
-        (self.room / "iset.mm").symlink_to(DATABASES / "iset.mm")
-        order = [line.split("\t") for line in self.answers("order", "iset.mm", "--format=tsv")[1:]]
-        chance = random.Random(52)
-        theorems = [row[4] for row in order if row[1] == "theorem"]
-        self.theorems = chance.sample(theorems, QUESTIONS)
-        self.labels = chance.sample([row[4] for row in order], QUESTIONS) + ["ax-ext", "ax-setind"]
+        (self.room / self.DATABASE).symlink_to(DATABASES / self.DATABASE)
 
     def told(self, questions: list[str]) -> list[str]:
-        """What metamath.exe says to each question on iset.mm."""
-        script = ["set scroll continuous", "set width 9999", "read iset.mm"]
+        """What metamath.exe says to each question of the database."""
+        script = ["set scroll continuous", "set width 9999", f"read {self.DATABASE}"]
         for question in questions:
             script += ["! question", question]
         self.write("script", "\n".join([*script, "! question", "exit", ""]))
@@ -43,6 +38,20 @@ class Metamath(World):
             labels = " ".join(re.findall(r"(?m)^  (.*)$", part)).split()
             answers.append([label for label in labels if label != "(None)"])
         return answers
+
+
+@unittest.skipUnless(shutil.which("metamath"), "metamath isn't installed")
+@unittest.skipUnless((DATABASES / "iset.mm").exists(), "iset.mm isn't installed")
+class Metamath(Told):
+    """`show trace_back LABEL /axioms` and `show usage LABEL /recursive`, for some labels."""
+
+    def setUp(self) -> None:
+        super().setUp()
+        order = [line.split("\t") for line in self.answers("order", "iset.mm", "--format=tsv")[1:]]
+        chance = random.Random(52)
+        theorems = [row[4] for row in order if row[1] == "theorem"]
+        self.theorems = chance.sample(theorems, QUESTIONS)
+        self.labels = chance.sample([row[4] for row in order], QUESTIONS) + ["ax-ext", "ax-setind"]
 
     def test_trace_back(self) -> None:
         answers = self.said([f"show trace_back {label} /axioms" for label in self.theorems])
@@ -71,6 +80,27 @@ class Metamath(World):
         parts = self.told([f"show proof {label} /all /lemmon" for label in chains])
         for part, (label, cited) in zip(parts, chains.items(), strict=True):
             self.assertRegex(part, rf"(?m)^ *\d+.*\s{re.escape(cited)}\s", label)
+
+
+@unittest.skipUnless(shutil.which("metamath"), "metamath isn't installed")
+@unittest.skipUnless((DATABASES / "set.mm").exists(), "set.mm isn't installed")
+class Twenty(Told):
+    """Five answers of docs/QUESTIONS.md, by what metamath.exe says of set.mm."""
+
+    DATABASE = "set.mm"
+
+    def test_five_answers(self) -> None:
+        questions = {
+            "show trace_back zorn /axioms": ("rests", "--all", "set.mm", "zorn"),
+            "show trace_back 2p2e4 /axioms": ("rests", "--all", "set.mm", "2p2e4"),
+            "show usage ax-ac2 /recursive": ("falls", "set.mm", "ax-ac2"),
+            "show usage numth3": ("cited-by", "set.mm", "numth3"),
+        }
+        for question, wanted in zip(questions, self.said([*questions])):
+            self.assertEqual(self.answers(*questions[question]), wanted, question)
+        (told,) = self.told(["show discouraged"])
+        lines = re.findall(r"(?m)^SHOW DISCOURAGED:  (.*)$", told)
+        self.assertEqual(self.answers("discouraged", "set.mm"), sorted(lines))
 
 
 if __name__ == "__main__":

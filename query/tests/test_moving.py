@@ -77,10 +77,10 @@ class Moved(World):
             for theorem in world.theorems():
                 cited = sorted(world.cites[theorem], key=order.index)
                 [[what, label, where, line]] = asked("move", path, theorem)
-                self.assertEqual((what, label), ("after", cited[-1] if cited else "-"))
+                self.assertEqual((what, label), ("after", cited[-1] if cited else ""))
                 if cited:
                     self.assertIn(f" {label} $", world.text.splitlines()[int(line) - 1])
-                    self.assertEqual(where, "-")
+                    self.assertEqual(where, "")
 
     def test_where(self) -> None:
         path = str(self.room / self.closed())

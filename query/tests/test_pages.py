@@ -7,8 +7,9 @@ import re
 import shutil
 import subprocess
 import unittest
+from pathlib import Path
 
-from query.cli import parser_of
+from query.cli import VERSION, parser_of
 from query.commands import command, names, summaries
 from query.completions import files
 from query.faults import FAULTS
@@ -17,10 +18,10 @@ from query.tests.world import DATABASES, TOP, World, program
 PAGE = TOP / "docs" / "COOKBOOK.md"
 
 
-def blocks() -> list[list[tuple[str, list[str]]]]:
+def blocks(page: Path = PAGE) -> list[list[tuple[str, list[str]]]]:
     """The blocks of commands, each command with the lines that are shown of its answer."""
     found = []
-    for block in re.findall(r"```console\n(.*?)```", PAGE.read_text(), re.S):
+    for block in re.findall(r"```console\n(.*?)```", page.read_text(), re.S):
         commands: list[tuple[str, list[str]]] = []
         for line in block.splitlines():
             if line.startswith("$ "):
@@ -40,7 +41,42 @@ def is_shown(shown: list[str], came: list[str]) -> bool:
     return bool(came) and came[0] == shown[0] and is_shown(shown[1:], came[1:])
 
 
-class Cookbook(World):
+class Examples(World):
+    """A page whose commands are run."""
+
+    def run_all(self, page: Path) -> int:
+        """Runs the commands of a page, each of which shows what stands there. Returns how many
+        these are."""
+        (self.room / "set.mm").symlink_to(DATABASES / "set.mm")
+        path = self.surroundings()["PATH"]
+        tried = 0
+        for block in blocks(page):
+            for line, shown in block:
+                done = self.ran("bash", "-c", line, PATH=f"{TOP}:{path}")
+                came = done.lines() + done.err.splitlines()
+                if done.status:
+                    came.append(f"(status {done.status})")
+                cut = came if "..." not in shown else came[:20] + came[-20:]
+                self.assertTrue(is_shown(shown, cut), f"{line}\n" + "\n".join(cut[:9]))
+                tried += 1
+        return tried
+
+
+class Twenty(Examples):
+    """docs/QUESTIONS.md."""
+
+    PAGE = TOP / "docs" / "QUESTIONS.md"
+
+    def test_they_are_twenty(self) -> None:
+        numbers = re.findall(r"^\*\*(\d+)\. .*?\?\*\*", self.PAGE.read_text(), re.M)
+        self.assertEqual([*map(int, numbers)], list(range(1, 21)))
+
+    @unittest.skipUnless((DATABASES / "set.mm").exists(), "set.mm isn't installed")
+    def test_examples(self) -> None:
+        self.assertGreater(self.run_all(self.PAGE), 20)
+
+
+class Cookbook(Examples):
     """docs/COOKBOOK.md."""
 
     def test_every_command_is_on_it(self) -> None:
@@ -50,19 +86,7 @@ class Cookbook(World):
 
     @unittest.skipUnless((DATABASES / "set.mm").exists(), "set.mm isn't installed")
     def test_examples(self) -> None:
-        (self.room / "set.mm").symlink_to(DATABASES / "set.mm")
-        path = self.surroundings()["PATH"]
-        tried = 0
-        for block in blocks():
-            for line, shown in block:
-                done = self.ran("bash", "-c", line, PATH=f"{TOP}:{path}")
-                came = done.lines() + done.err.splitlines()
-                if done.status:
-                    came.append(f"(status {done.status})")
-                cut = came if "..." not in shown else came[:20] + came[-20:]
-                self.assertTrue(is_shown(shown, cut), f"{line}\n" + "\n".join(cut[:9]))
-                tried += 1
-        self.assertGreater(tried, 30)
+        self.assertGreater(self.run_all(PAGE), 30)
         self.assertTrue((self.room / "set.png").read_bytes().startswith(b"\x89PNG\r\n\x1a\n"))
         self.assertTrue((self.room / "set.html").read_bytes()[:15].lower() == b"<!doctype html>")
 
@@ -76,6 +100,26 @@ class Cookbook(World):
         path = f"{self.room}:{self.surroundings()['PATH']}"
         self.assertEqual(self.ran("bash", "-e", "-c", commands, PATH=path), self.ran("true"))
         self.assertEqual(self.answers("cites", "report", "zorn", "--on", "ax-ac2"), ["numth3"])
+
+
+class Changes(unittest.TestCase):
+    """CHANGELOG.md and docs/STABILITY.md."""
+
+    def test_the_versions(self) -> None:
+        """The newest entry is the version that there is, and nothing is promised before its
+        time."""
+        entries = re.findall(r"^## (\S+)$", (TOP / "CHANGELOG.md").read_text(), re.M)
+        self.assertEqual(f"mmquery {entries[0]}\n", VERSION)
+        self.assertEqual(entries, sorted(set(entries), key=numbers_of, reverse=True))
+        text = (TOP / "docs" / "STABILITY.md").read_text()
+        since = re.findall(r"^\| .* \| (\d+\.\d+\.\d+) \| ", text, re.M)
+        self.assertGreater(len(since), 8)
+        self.assertLessEqual(set(since), set(entries))
+
+
+def numbers_of(version: str) -> list[int]:
+    """The numbers of a version."""
+    return [int(part) for part in version.split(".")]
 
 
 class Manual(World):

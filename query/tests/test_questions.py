@@ -14,6 +14,11 @@ def first(rows: list[list[str]]) -> list[str]:
     return [row[0] for row in rows]
 
 
+def second(rows: list[list[str]]) -> list[str]:
+    """The second field of each row."""
+    return [row[1] for row in rows]
+
+
 class Questions(World):
     """Each command over twelve databases, four of them with hostile labels."""
 
@@ -61,7 +66,11 @@ class Questions(World):
             labels = chance.sample(world.theorems(), 3)
             rests = set().union(*(world.rests(label) for label in labels))
             wanted = [axiom for axiom in world.axioms if axiom in rests]
-            self.assertEqual(first(asked("rests", path, "--", *labels)), wanted)
+            rows = asked("rests", path, "--", *labels)
+            self.assertEqual(first(rows), wanted)
+            for axiom, whose in rows:
+                mine = [label for label in labels if axiom in world.rests(label)]
+                self.assertEqual(whose, " ".join(mine))
 
     def test_falls(self) -> None:
         for world, path, chance in self.worlds():
@@ -77,13 +86,17 @@ class Questions(World):
                 ):
                     words = ("falls", path, word, f"--without={other}", "--", one, two)
                     wanted = [each for each in world.cites if each in both - users[other]]
-                    self.assertEqual(first(asked(*words)), wanted)
+                    rows = asked(*words)
+                    self.assertEqual(first(rows), wanted)
+                    for each, on in rows:
+                        resting = [label for label in (one, two) if each in users[label]]
+                        self.assertEqual(on, " ".join(resting))
 
     def test_cites_and_cited_by(self) -> None:
         for world, path, chance in self.worlds():
             for label in world.labels():
                 self.assertEqual(
-                    first(asked("cites", path, "--", label)), world.cites.get(label, [])
+                    second(asked("cites", path, "--", label)), world.cites.get(label, [])
                 )
                 users = [each for each in world.cites if label in world.cites[each]]
                 self.assertEqual(first(asked("cited-by", path, "--", label)), users)
@@ -93,7 +106,7 @@ class Questions(World):
                     for each in world.cites.get(label, [])
                     if each == on or on in world.rests(each)
                 ]
-                came = first(asked("cites", path, f"--on={on}", "--", label))
+                came = second(asked("cites", path, f"--on={on}", "--", label))
                 self.assertEqual(came, brings)
             uncited = [
                 label
@@ -134,14 +147,15 @@ class Questions(World):
                     continue
                 size = smallest_cut(world, label, on)
                 for word in ("first", "last"):
-                    cut = {(row[1], row[2]) for row in rows if row[0] == word}
+                    cut = {(row[2], row[3]) for row in rows if row[1] == word}
                     self.assertEqual(len(cut), size)
                     self.assertFalse(still_rests(world, label, on, cut))
                 between = {each for chain in all_chains(world, label, on) for each in chain}
                 applies = [
                     each for each in world.cites if each in between and on in world.cites[each]
                 ]
-                self.assertEqual([row[1] for row in rows if row[0] == "applies"], applies)
+                self.assertEqual([row[2] for row in rows if row[1] == "applies"], applies)
+                self.assertEqual({row[0] for row in rows}, {label})
                 tried += size > 1
         self.assertGreater(tried, 3)
 
@@ -150,12 +164,15 @@ class Questions(World):
         for world, path, _ in self.worlds(8):
             edges = [(one, cited) for one in world.cites for cited in world.cites[one]]
             for on in world.axioms:
-                rows = {row[0]: row[1:] for row in asked("way-out", path, "--", on)}
+                rows: dict[str, list[list[str]]] = {}
+                for label, *row in asked("way-out", path, "--", on):
+                    rows.setdefault(label, []).append(row)
                 for label in world.users(on):
                     single = [e for e in edges if not still_rests(world, label, on, {e})]
                     self.assertEqual(label in rows, bool(single))
                     if single:
-                        ends = [tuple(rows[label][:2]), tuple(rows[label][2:])]
+                        self.assertEqual([row[0] for row in rows[label]], ["first", "last"])
+                        ends = [tuple(row[1:]) for row in rows[label]]
                         self.assertIn(ends[0], single)
                         self.assertIn(ends[1], single)
                         tried += len(single) > 1
@@ -168,7 +185,7 @@ class Questions(World):
             numbers = {}
             for label in world.users(on):
                 wanted = freed(world, on, {label})
-                self.assertEqual(first(asked("frees", path, "--", on, label)), wanted)
+                self.assertEqual(second(asked("frees", path, "--", on, label)), wanted)
                 numbers[label] = len(wanted)
                 tried += len(wanted) > 1
             most = asked("frees", path, "--most", "99", "--", on)
@@ -177,7 +194,11 @@ class Questions(World):
             self.assertEqual(counts, sorted(counts, reverse=True))
             some = chance.sample(world.theorems(), 2)
             wanted = freed(world, on, set(some))
-            self.assertEqual(first(asked("frees", path, "--", on, *some)), wanted)
+            came = asked("frees", path, "--", on, *some)
+            self.assertEqual(second(came), wanted)
+            self.assertEqual(
+                {label: int(count) for count, label in came}.items() - numbers.items(), set()
+            )
         self.assertGreater(tried, 5)
 
     def test_keep(self) -> None:
@@ -195,10 +216,10 @@ class Questions(World):
             numbers = {}
             for label in others:
                 wanted = kept_freed(cites, on, kept, {label})
-                self.assertEqual(first(asked("frees", path, keep, "--", on, label)), wanted)
+                self.assertEqual(second(asked("frees", path, keep, "--", on, label)), wanted)
                 numbers[label] = len(wanted)
                 rows = asked("way-out", path, keep, "--", label, on)
-                cut = {(row[1], row[2]) for row in rows if row[0] == "first"}
+                cut = {(row[2], row[3]) for row in rows if row[1] == "first"}
                 self.assertTrue(cut)
                 self.assertFalse(kept in {one for one, _ in cut})
                 left = {

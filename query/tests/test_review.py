@@ -28,11 +28,11 @@ class Reviewed(World):
     def test_each_status(self) -> None:
         ax1 = "ax1 $p |- ( p -> ( q -> p ) ) $= wp wq ax-1 $.\n"
         new = "nu $p wff ( p -> p ) $= wp wp wi $.\n"
-        empty = ["-", "-", "-", "-", "-"]
+        empty = ["", "", "", "", ""]
         for text, rows in (
             (SMALL, []),
-            (SMALL + new, [["nu", "new", "-", "0", "-", "-", "-", str(len(new) - 1)]]),
-            (SMALL.replace("a2 $p", "a3 $p"), [["a3", "renamed", "a2", "-", "-", "-", "-", "0"]]),
+            (SMALL + new, [["nu", "new", "", "0", "", "", "", str(len(new) - 1)]]),
+            (SMALL.replace("a2 $p", "a3 $p"), [["a3", "renamed", "a2", "", "", "", "", "0"]]),
             (SMALL.replace(ax1, ""), [["ax1", "gone", *empty, str(1 - len(ax1))]]),
             (SMALL.replace(ax1, "") + ax1, [["ax1", "moved", *empty, "0"]]),
             (
@@ -52,10 +52,10 @@ class Reviewed(World):
         self.write("old.mm", with_axiom)
         a2 = with_axiom.replace("wq wp wi wq wp wq g a1i a1i $.", "wq wq wp wi wi all $.")
         [row] = self.reviewed(a2)
-        self.assertEqual(row[:7], ["a2", "proof", "-", "-", "all", "ax-1 ax-mp", "all"])
+        self.assertEqual(row[:7], ["a2", "proof", "", "", "all", "ax-1 ax-mp", "all"])
         a1i = with_axiom.replace("wp wq wp wi h wp wq ax-1 ax-mp $.", "wq wp wi all $.")
         [row] = self.reviewed(a1i)
-        self.assertEqual(row[:7], ["a1i", "proof", "-", "-", "all", "ax-1 ax-mp", "all"])
+        self.assertEqual(row[:7], ["a1i", "proof", "", "", "all", "ax-1 ax-mp", "all"])
         both = a1i.replace("wq wp wi wq wp wq g a1i a1i", "wq wp wi wq wp wq g a1i  a1i")
         self.assertEqual([row[0] for row in self.reviewed(both)], ["a1i"])
         again = a1i.replace("wq wp wi wq wp wq g a1i a1i", "( wi a1i ) BADBABCEE")

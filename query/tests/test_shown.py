@@ -129,8 +129,7 @@ class Cells(unittest.TestCase):
     def test_none_runs(self) -> None:
         for row in csv.reader(io.StringIO(self.written(self.WORDS), newline="")):
             for cell in row:
-                if cell != "-":
-                    self.assertNotIn(cell.strip()[:1], {"=", "+", "-", "@", "\uff1d"}, row)
+                self.assertNotIn(cell.strip()[:1], {"=", "+", "-", "@", "\uff1d"}, row)
 
     def test_other_forms_are_as_they_were(self) -> None:
         for form, wanted in (("tsv", "a\n=1\n"), ("json", '[\n{"a": "=1"}\n]\n')):

@@ -17,8 +17,10 @@ from query.tests.commands import (
     MAY_BE_SILENT,
     MENDING,
     NEWER,
+    OF_GIT,
     WHOLE,
     WITHOUT_DATABASE,
+    keep_in_git,
     words_of,
 )
 from query.tests.world import MMQUERY, Came, World, program
@@ -35,6 +37,7 @@ class Statuses(World):
         self.write("newer.mm", NEWER)
         self.write("broken.mm", WHOLE.replace("wi wi $.", "wi $."))
         self.write("early.mm", WHOLE.replace("$v p q $.", "$v p q $"))
+        keep_in_git(self.room)
 
     def all_words(self) -> list[list[str]]:
         """The words of every command over a database, and pages of help."""
@@ -113,7 +116,7 @@ class Statuses(World):
             shutil.rmtree(self.cache / "mmquery", ignore_errors=True)
             for size in LIMITS:
                 came = self.ended(words, subprocess.PIPE, size)
-                if words[0] == "export" and came.status == 2:
+                if words[0] in {"export", *OF_GIT} and came.status == 2:
                     self.no_answer(words, came)
                 else:
                     self.assertEqual(
@@ -165,6 +168,9 @@ class Statuses(World):
                 if name == "verify":
                     self.assertEqual((came.status, came.err), (1, ""))
                     self.assertRegex(came.out, rf"\A{file}:\d+:\d+: refused {code} in ")
+                elif name in OF_GIT:
+                    self.assertEqual((came.status, came.err), (0, ""))
+                    self.assertRegex(came.out, rf"  refused \d+:\d+ {code}\n")
                 elif name in MENDING and code == "E37":
                     self.assertEqual((came.status, came.err), (0, ""))
                 elif name == "gate" and came.status == 1:
@@ -183,6 +189,7 @@ class Interrupts(World):
         super().setUp()
         self.write("db.mm", WHOLE)
         self.write("newer.mm", NEWER)
+        keep_in_git(self.room)
 
     def interrupted(self, words: list[str], number: int, delay: float) -> tuple[Came, bool]:
         """Runs a command and sends it a signal after these seconds. Also whether that came in

@@ -68,8 +68,8 @@ class Structure(World):
             rows[::2],
             [
                 ["0", "6", "ax-2", "3", "three", "(the whole database)"],
-                ["0.1", "2", "ax-2", "0", "-", "First"],
-                ["0.1.1", "1", "ax-2", "0", "-", "Deeper | <b>"],
+                ["0.1", "2", "ax-2", "0", "", "First"],
+                ["0.1.1", "1", "ax-2", "0", "", "Deeper | <b>"],
                 ["0.2", "1", "ax-2", "1", "three", "Mathbox for Ann Other"],
                 ["0.3", "3", "ax-2", "2", "four", "Mathbox for Bo"],
             ],
@@ -80,11 +80,14 @@ class Structure(World):
                 ["0", "ax-1", "2", "one"],
                 ["0.1", "ax-1", "2", "one"],
                 ["0.1.1", "ax-1", "1", "two"],
-                ["0.2", "ax-1", "0", "-"],
-                ["0.3", "ax-1", "0", "-"],
+                ["0.2", "ax-1", "0", ""],
+                ["0.3", "ax-1", "0", ""],
             ],
         )
-        self.assertEqual(self.rows("chapters", "db.mm")[0], ["0", "6", "(the whole database)"])
+        rows = self.rows("chapters", "db.mm")
+        self.assertEqual(rows[0], ["0", "6", "", "", "", "(the whole database)"])
+        text = self.answers("chapters", "--open", "db.mm")
+        self.assertEqual(text[0].split(), ["number", "theorems", "title"])
         self.refuses(
             "chapters", "--open", "db.mm", "one", why="has no axiom of typecode '|-' 'one'"
         )
@@ -94,7 +97,7 @@ class Structure(World):
         self.assertEqual(
             self.rows("order", "db.mm"),
             [
-                ["2", "axiom", "wff", "-", "wi"],
+                ["2", "axiom", "wff", "", "wi"],
                 ["8", "axiom", "|-", "2", "ax-1"],
                 ["9", "theorem", "|-", "1", "one"],
                 ["15", "theorem", "|-", "1", "two"],
@@ -121,7 +124,8 @@ class Structure(World):
 
     def test_unfinished(self) -> None:
         self.assertEqual(self.rows("unfinished", "db.mm"), [["1", "todo"]])
-        self.assertEqual(self.rows("unfinished", "db.mm", "todo"), [["six"]])
+        self.assertEqual(self.rows("unfinished", "db.mm", "todo"), [["", "six"]])
+        self.assertEqual(self.answers("unfinished", "--open", "db.mm", "todo"), ["six"])
         self.refuses("unfinished", "db.mm", "five", why="has no open theorem 'five'")
         self.write("small.mm", SMALL)
         self.assertEqual(self.answers("unfinished", "small.mm"), [])
@@ -141,10 +145,10 @@ class Structure(World):
         self.assertEqual(
             self.rows("discouraged", "db.mm"),
             [
-                ["use", "four", "five", "-"],
-                ["usage", "four", "-", "1"],
-                ["usage", "five", "-", "0"],
-                ["proof", "five", "-", "2"],
+                ["use", "four", "five", ""],
+                ["usage", "four", "", "1"],
+                ["usage", "five", "", "0"],
+                ["proof", "five", "", "2"],
             ],
         )
 

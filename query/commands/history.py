@@ -1,0 +1,131 @@
+"""`history`: how much rests on axioms in each revision of a repository, or since when a theorem
+does."""
+
+import argparse
+import os
+from collections.abc import Iterator, Sequence
+from pathlib import Path
+
+from query import program, progress, secret
+from query.commands import Command
+from query.context import Context
+from query.errors import NoAnswer, shown
+from query.figures import Figures, Question, figures_of
+from query.git import repository_of
+from query.history import Revision, nothing_in, range_of, revisions
+from query.objects import Objects
+from query.options import add_choice_of_citations, add_database, options_of
+from query.output import Value
+from query.source import is_of_git
+
+PAGE = """
+Shows for each revision of the range that changed DATABASE, a file of the working folder's
+repository, how many theorems rest on each AXIOM; the oldest first, and a row for each AXIOM.
+
+rev       the revision's full id
+date      the day on which it was committed, by universal time
+theorems  how many theorems the file has
+axiom     the AXIOM, an axiom of any typecode
+rest      how many theorems rest on it; none where the file has no such axiom
+fault     why nothing is known of this revision: `refused LINE:COLUMN CODE` where a proof or the
+          text is faulty, or that the file isn't there
+
+With --of T, only the revisions at which the answer changed, and the first one:
+
+rev, date, axiom, fault   the same
+theorem                   T
+rests                     whether T rests on the axiom; none where there is no theorem T
+So the last row of an axiom says since which revision it is as it is.
+
+REV..REV are the revisions of the second REV that aren't in the first, as in git; REV alone is all
+of them. Of a merge the first parent is followed: a merge into the branch is one change, by whatever
+revisions it was made. The file is followed through renames, labels aren't. What is known of a
+revision is kept; each other one takes as long as a first question.
+
+  $ mmquery history set.mm v1..main ax-ac2 ax-reg
+  $ mmquery history set.mm v1..main ax-ac2 --of zorn
+"""
+
+COLUMNS = ("rev", "date", "theorems", "axiom", "rest", "fault")
+COLUMNS_OF = ("rev", "date", "theorem", "axiom", "rests", "fault")
+
+Row = tuple[Value, ...]
+Known = Sequence[tuple[Revision, Figures]]
+
+
+def configure(parser: argparse.ArgumentParser) -> None:
+    """Adds the words and options."""
+    add_database(parser)
+    parser.add_argument("range", metavar="REV..REV")
+    parser.add_argument("axiom", metavar="AXIOM", nargs="*")
+    parser.add_argument("--of", metavar="T", help="since when the theorem T rests on each AXIOM")
+    add_choice_of_citations(parser)
+
+
+def run(context: Context, arguments: argparse.Namespace) -> int:
+    """Answers."""
+    word, axioms, theorem = arguments.database, arguments.axiom, arguments.of
+    if word == "-" or is_of_git(word) or os.path.isdir(word):
+        raise NoAnswer(f"{shown(word)}: history wants the path of a file that git keeps")
+    if theorem is not None and not axioms:
+        raise NoAnswer("history --of wants at least one AXIOM")
+    repository = repository_of(Path.cwd())
+    path, within = repository.path_of(word), range_of(arguments.range, repository)
+    question = Question(options_of(arguments), context.uses_cache, tuple(axioms), theorem)
+    program.ready()
+    if context.uses_cache:
+        secret.made()  # here, since a process of its own may be ended while it makes one
+    with Objects(repository) as objects:
+        progress.now(f"looking for the revisions of {shown(word)}")
+        found = revisions(objects, within, path)
+        if not found:
+            context.tell(nothing_in(objects, within, path))
+        known = list(zip(found, figures_of(objects, found, question), strict=True))
+    check(known, question, f"{within.word} of {shown(word)}")
+    if repository.is_shallow():
+        context.tell("the clone is shallow, so there may be revisions before the first one")
+    if theorem is None:
+        aside = [] if axioms else ["axiom", "rest"]
+        context.out.table(COLUMNS, counts(known, axioms), aside)
+    else:
+        context.out.table(COLUMNS_OF, turns(known, axioms, theorem))
+    return 0
+
+
+def check(known: Known, question: Question, name: str) -> None:
+    """NoAnswer where no revision has an axiom, or the theorem, that is asked for."""
+    sound = [each for _, each in known if each.fault is None]
+    if not sound:
+        return
+    for axiom in question.axioms:
+        if all(each.count(axiom) is None for each in sound):
+            raise NoAnswer(f"no revision in {name} has an axiom '{shown(axiom)}'")
+    if not any(each.has_theorem for each in sound):
+        raise NoAnswer(f"no revision in {name} has a theorem '{shown(str(question.theorem))}'")
+
+
+def counts(known: Known, axioms: Sequence[str]) -> Iterator[Row]:
+    """For each revision the theorems that rest on each axiom."""
+    for revision, each in known:
+        if not axioms:
+            yield revision.commit, revision.date, each.theorems, None, None, each.fault
+        for axiom in axioms:
+            rest = each.count(axiom)
+            yield revision.commit, revision.date, each.theorems, axiom, rest, each.fault
+
+
+def turns(known: Known, axioms: Sequence[str], theorem: str) -> Iterator[Row]:
+    """For each revision the axioms of which it is another answer than before whether the theorem
+    rests on them."""
+    last: dict[str, bool | None] = {}
+    for revision, each in known:
+        for axiom in axioms:
+            rests = each.rests(axiom)
+            is_same = axiom in last and last[axiom] == rests
+            if each.fault is None:
+                last[axiom] = rests
+            if each.fault is not None or not is_same:
+                yield revision.commit, revision.date, theorem, axiom, rests, each.fault
+
+
+COMMANDS = [Command("history", PAGE, configure, run)]

@@ -1,0 +1,416 @@
+"""`history`, over repositories that are made: each revision compared with what is asked of it
+alone, renames, merges, faults, and repositories that are made to hurt."""
+
+import os
+import random
+import unittest
+
+from query.tests.repositories import ADDED, BASE, FREED, Repositories, changed
+from query.tests.world import invented, program
+
+OF_AC = ("db.mm", "HEAD", "ax-ac2")
+BROKEN = changed(BASE, ("$= df-4 $.", "$= none $."))
+
+
+class History(Repositories):
+    """What the tests share."""
+
+    def rows(self, *words: str) -> list[dict[str, object]]:
+        """The rows of an answer."""
+        came = self.query("history", "--format=json", *words)
+        self.assertEqual((came.status, came.err), (0, ""), came)
+        return came.rows()
+
+    def of(self, *words: str, column: str = "rest") -> list[object]:
+        """A column of an answer."""
+        return [row[column] for row in self.rows(*words)]
+
+    def is_empty(self, *words: str, why: str) -> None:
+        """The answer has no row, and standard error says why."""
+        came = self.query("history", "--format=json", *words)
+        self.assertEqual((came.status, came.out), (0, "[]\n"), came)
+        self.assertEqual(came.err, f"mmquery: {why}\n")
+
+
+class Revisions(History):
+    """Which revisions there are, and what each says."""
+
+    def test_counts(self) -> None:
+        first = self.git("rev-parse", "HEAD")
+        self.ask("# nothing of the database\n")
+        self.commit(changed(BASE, FREED))
+        self.write("other", "")
+        self.commit(changed(BASE, FREED))
+        last = self.commit(BASE + ADDED)
+        rows = self.rows("db.mm", "HEAD", "ax-ac2", "ax-1")
+        day = self.git("show", "--no-patch", "--format=%cs", "HEAD")
+        self.assertEqual([row["rest"] for row in rows], [2, 4, 0, 5, 2, 5])
+        self.assertEqual([row["theorems"] for row in rows[::2]], [6, 6, 7])
+        self.assertEqual([row["axiom"] for row in rows[:2]], ["ax-ac2", "ax-1"])
+        self.assertEqual((rows[0]["rev"], rows[-1]["rev"]), (first, last))
+        self.assertEqual({row["fault"] for row in rows}, {None})
+        self.assertIn(rows[-1]["date"], (day, rows[0]["date"]))
+        self.assertEqual(self.of("db.mm", f"{first}..HEAD", "ax-ac2"), [0, 2])
+        self.assertEqual(self.of("db.mm", f"{first}..", "ax-ac2"), [0, 2])
+        self.assertEqual(self.of("db.mm", f"{first}..HEAD~1", "ax-ac2"), [0])
+        (row, *_) = self.rows("db.mm", "HEAD")
+        self.assertEqual((row["theorems"], row["axiom"], row["rest"]), (6, None, None))
+
+    def test_each_revision_by_itself(self) -> None:
+        """The figures are those that `falls` and `rests` give of each revision."""
+        chance = random.Random(7)
+        for _ in range(6):
+            self.commit(invented(chance, 8).text)
+        axioms = ["wi", "l0", "l1"]
+        for flags in ((), ("--essential",)):
+            for row in self.rows("db.mm", "main~5..main", *axioms, *flags):
+                words = (f"{row['rev']}:db.mm", str(row["axiom"]))
+                came = self.answers("falls", "--all", *flags, *words)
+                self.assertEqual(row["rest"], len(came), words)
+        rested = {}
+        for row in self.rows("db.mm", "main~5..main", *axioms, "--of", "l3"):
+            rested[str(row["rev"]), str(row["axiom"])] = row["rests"]
+        last: dict[str, object] = {}
+        for number in range(4, -1, -1):
+            commit = self.git("rev-parse", f"main~{number}")
+            told = self.query("rests", "--all", f"{commit}:db.mm", "l3", "--format=json")
+            found = {str(row["axiom"]) for row in told.rows()} if told.status == 0 else None
+            is_axiom = found is not None and "l3" in found
+            for axiom in axioms:
+                now = None if found is None or is_axiom else axiom in found
+                if axiom not in last or last[axiom] != now:
+                    self.assertEqual(rested.pop((commit, axiom)), now, (commit, axiom))
+                last[axiom] = now
+        self.assertEqual(rested, {})
+
+    def test_since_when(self) -> None:
+        without = changed(BASE, ("zorn $p", "zorn3 $p"))
+        self.commit(changed(BASE, FREED))
+        self.commit(without)
+        back = self.commit(BASE)
+        self.commit(BASE + ADDED)
+        rows = self.rows("db.mm", "HEAD", "ax-ac2", "ax-1", "--of", "zorn")
+        told = [(row["axiom"], row["rests"]) for row in rows]
+        wanted: list[tuple[str, bool | None]]
+        wanted = [("ax-ac2", True), ("ax-1", True), ("ax-ac2", False)]
+        wanted += [("ax-ac2", None), ("ax-1", None), ("ax-ac2", True), ("ax-1", True)]
+        self.assertEqual(told, wanted)
+        self.assertEqual(rows[-2]["rev"], back)
+        self.assertEqual({row["theorem"] for row in rows}, {"zorn"})
+
+    def test_what_is_not_there(self) -> None:
+        self.commit(changed(BASE, FREED))
+        self.refuses("history", *OF_AC[:2], "ax-x", why="no revision in HEAD of db.mm has an axiom")
+        self.refuses("history", *OF_AC, "--of", "x", why="has a theorem 'x'")
+        self.refuses("history", *OF_AC, "--of", "ax-1", why="has a theorem 'ax-1'")
+        self.refuses("history", "db.mm", "HEAD", "--of", "zorn", why="wants at least one AXIOM")
+        self.refuses("history", "db.mm", "none..HEAD", why="git has no revision 'none'")
+        self.refuses("history", "db.mm", "HEAD~1...HEAD", why="REV..REV has two dots")
+        self.refuses("history", "-", "HEAD", why="the path of a file")
+        self.refuses("history", "HEAD:db.mm", "HEAD", why="the path of a file")
+        self.refuses("history", ".", "HEAD", why="the path of a file")
+        self.refuses("history", "/etc/passwd", "HEAD", why="not in the repository")
+        new = changed(BASE, ("ax-ac2 $a |- ( p -> ( p -> p ) ) $.", "ax-x $a |- p $."))
+        self.commit(new.replace("wp ax-ac2", "wp wp ax-1"))
+        self.assertEqual(self.of("db.mm", "HEAD", "ax-x"), [None, None, 0])
+
+    def test_empty_ranges(self) -> None:
+        self.ask("# another\n")
+        first, last = (self.git("rev-parse", name)[:12] for name in ("HEAD~1", "HEAD"))
+        self.is_empty("db.mm", "HEAD..", why=f"HEAD.. has no revision: both ends are {last}")
+        self.is_empty(
+            "db.mm", "main..HEAD~1", why=f"main..HEAD~1 has no revision: {first} is before {last}"
+        )
+        self.is_empty("db.mm", "main~1..main", why="no revision of main~1..main changed db.mm")
+        self.is_empty("none.mm", "main", why="no revision of main has none.mm")
+
+    def test_a_revision_that_begins_as_an_option(self) -> None:
+        self.git("update-ref", "refs/heads/-x", "HEAD")
+        self.commit(changed(BASE, FREED))
+        self.assertEqual(self.of("--", "db.mm", "-x..HEAD", "ax-ac2"), [0])
+        self.assertEqual(self.of("--", "db.mm", "-x", "ax-ac2"), [2])
+        self.refuses("history", "db.mm", "-x..HEAD", why="there is no option -x..HEAD")
+        self.refuses("history", "--", "db.mm", "--all..HEAD", why="git has no revision '--all'")
+        self.refuses("history", "--", "db.mm", "--output=x", why="git has no revision '--output=x'")
+        self.assertFalse((self.room / "x").exists())
+
+    def test_renames(self) -> None:
+        self.git("mv", "db.mm", "set.mm")
+        self.commit(BASE, "set.mm")
+        (self.room / "sub").mkdir()
+        self.git("mv", "set.mm", "sub/new.mm")
+        self.commit(changed(BASE, FREED), "sub/new.mm")
+        self.commit(BASE + ADDED, "sub/new.mm")
+        self.assertEqual(self.of("sub/new.mm", "HEAD", "ax-ac2"), [2, 2, 0, 2])
+        self.assertEqual(self.of("sub/new.mm", "HEAD~2..", "ax-ac2"), [0, 2])
+        rows = self.rows("set.mm", "HEAD", "ax-ac2")
+        faults = [row["fault"] for row in rows]
+        self.assertEqual(faults, [None, None, "there is no set.mm"])
+        self.write("db.mm", "$( Another file. $)\n")
+        self.git("add", "--all")
+        self.git("commit", "--quiet", "--message", "another")
+        self.assertEqual(self.of("db.mm", "HEAD", column="theorems"), [6, None, 0])
+
+    def test_names_without_end(self) -> None:
+        for number in range(51):
+            self.git("mv", f"{number - 1}.mm" if number else "db.mm", f"{number}.mm")
+            self.git("commit", "--quiet", "--message", "a name")
+        self.refuses("history", "50.mm", "HEAD", why="had more than 50 names before")
+        self.assertEqual(len(self.rows("50.mm", "HEAD~40..")), 40)
+
+    def test_merges(self) -> None:
+        self.branch()
+        self.commit(changed(BASE, FREED))
+        self.commit(BASE + ADDED)
+        self.commit(changed(BASE, FREED) + ADDED)
+        self.git("checkout", "--quiet", "main")
+        self.git("merge", "--quiet", "--no-ff", "--no-edit", "work")
+        merge = self.git("rev-parse", "HEAD")
+        rows = self.rows("db.mm", "main", "ax-ac2")
+        self.assertEqual([row["rest"] for row in rows], [2, 0])
+        self.assertEqual(rows[-1]["rev"], merge)
+        self.assertEqual(self.of("db.mm", "main~1..work", "ax-ac2"), [0, 2, 0])
+
+    def test_faulty_revisions(self) -> None:
+        self.commit(BROKEN)
+        self.commit(BASE + "x $a nothing $.\n")
+        self.git("rm", "--quiet", "db.mm")
+        self.git("commit", "--quiet", "--message", "gone")
+        (self.room / "db.mm").symlink_to("elsewhere")
+        self.git("add", "--all")
+        self.git("commit", "--quiet", "--message", "a link")
+        (self.room / "db.mm").unlink()
+        self.commit("version https://git-lfs.github.com/spec/v1\n")
+        self.commit("refused 1:1 E00\n")
+        self.commit(changed(BASE, FREED))
+        rows = self.rows(*OF_AC)
+        self.assertEqual([row["rest"] for row in rows], [2, *[None] * 6, 0])
+        faults = [str(row["fault"]) for row in rows]
+        self.assertRegex(faults[1], r"\Arefused 10:\d+ E3\d\Z")
+        self.assertRegex(faults[2], r"\Arefused 16:\d+ E17\Z")
+        for fault, part in zip(faults[3:], ("there is no db.mm", "is a link", "Git LFS", "report")):
+            self.assertIn(part, fault)
+        rows = self.rows(*OF_AC, "--of", "zorn")
+        self.assertEqual([row["rests"] for row in rows], [True, *[None] * 6, False])
+        self.git("branch", "bad", "HEAD~6")
+        came = self.query("history", "db.mm", "main~7..bad", "ax-none", "--format=json")
+        self.assertEqual((came.status, came.err, len(came.rows())), (0, "", 1))
+
+    def test_a_program_that_fails(self) -> None:
+        self.write("failing", '#!/bin/sh\n[ "$1" = --version ] || exit 3\n')
+        (self.room / "failing").chmod(0o755)
+        why = "the program ended with status 3"
+        self.refuses("history", *OF_AC, why=why, MMDEPEND="./failing")
+
+    def test_a_shallow_clone(self) -> None:
+        self.commit(changed(BASE, FREED))
+        other = self.room.parent / "other"
+        self.git("clone", "--quiet", "--depth=1", f"file://{self.room}", str(other))
+        room, self.room = self.room, other
+        came = self.query("history", "--format=json", *OF_AC)
+        self.assertEqual([row["rest"] for row in came.rows()], [0])
+        self.assertIn("the clone is shallow", came.err)
+        self.room = room
+
+    def test_a_bare_repository(self) -> None:
+        self.commit(changed(BASE, FREED))
+        other = self.room.parent / "other.git"
+        self.git("clone", "--quiet", "--bare", ".", str(other))
+        room, self.room = self.room, other
+        self.assertEqual(self.of("db.mm", "main", "ax-ac2"), [2, 0])
+        self.room = room
+
+    def test_from_a_folder(self) -> None:
+        (self.room / "sub").mkdir()
+        self.commit(BASE, "sub/db.mm")
+        room, self.room = self.room, self.room / "sub"
+        self.assertEqual(self.of(*OF_AC), [2])
+        self.assertEqual(self.of("../db.mm", "HEAD", "ax-ac2"), [2])
+        self.room = room
+
+
+class Kept(History):
+    """What is known of a revision is kept, and what somebody else put there isn't believed."""
+
+    def setUp(self) -> None:
+        super().setUp()
+        self.commit(changed(BASE, FREED))
+        self.runs = self.room.parent / "runs"
+        self.counting = self.room.parent / "counting"
+        self.counting.write_text(
+            f'#!/bin/sh\n[ "$1" = --version ] || echo x >> {self.runs}\n' f'exec {program()} "$@"\n'
+        )
+        self.counting.chmod(0o755)
+
+    def told(self, *words: str) -> tuple[list[object], int]:
+        """The answer, and for how many databases the program ran."""
+        self.runs.write_text("")
+        came = self.query(
+            "history", *(words or OF_AC), "--format=json", MMDEPEND=str(self.counting)
+        )
+        self.assertEqual((came.status, came.err), (0, ""))
+        key = "rests" if "--of" in words else "rest"
+        return [row[key] for row in came.rows()], len(self.runs.read_text().split())
+
+    def test_known_revisions(self) -> None:
+        self.assertEqual(self.told(), ([2, 0], 2))
+        self.assertEqual(self.told(), ([2, 0], 0))
+        self.assertEqual(self.told("db.mm", "HEAD", "ax-1"), ([4, 5], 0))
+        self.commit(BASE + ADDED)
+        self.assertEqual(self.told(), ([2, 0, 2], 1))
+        self.assertEqual(self.told(*OF_AC, "--no-cache"), ([2, 0, 2], 3))
+        self.assertEqual(self.told(*OF_AC, "--essential"), ([2, 0, 2], 3))
+        self.assertEqual(self.told(*OF_AC, "--of", "zorn"), ([True, False, True], 3))
+        self.assertEqual(self.told(*OF_AC, "--of", "zorn"), ([True, False, True], 0))
+
+    def test_a_whole_result_is_enough(self) -> None:
+        for revision in ("HEAD", "HEAD~1"):
+            self.query("rests", f"{revision}:db.mm", "zorn", MMDEPEND=str(self.counting))
+        self.assertEqual(self.told(), ([2, 0], 0))
+        self.assertEqual(self.told(*OF_AC, "--of", "zorn"), ([True, False], 0))
+
+    def test_it_is_small(self) -> None:
+        self.told()
+        sizes = [file.stat().st_size for file in (self.cache / "mmquery").iterdir()]
+        self.assertEqual(len(sizes), 2)
+        self.assertLess(max(sizes), 400)
+
+    def test_what_was_planted(self) -> None:
+        self.told()
+        files = sorted((self.cache / "mmquery").iterdir())
+        contents = [file.read_bytes() for file in files]
+        for one, other in zip(files, reversed(contents)):
+            one.write_bytes(other)
+        self.assertEqual(self.told(), ([2, 0], 2))
+        for file in files:
+            data = bytearray(file.read_bytes())
+            data[-5] ^= 1
+            file.write_bytes(data)
+        self.assertEqual(self.told(), ([2, 0], 2))
+        (self.config / "mmquery" / "secret").unlink()
+        self.assertEqual(self.told(), ([2, 0], 2))
+
+
+class Hostile(History):
+    """Nothing of the repository is run, and nothing but what its commits have is believed."""
+
+    def setUp(self) -> None:
+        super().setUp()
+        self.write(".gitattributes", "*.mm filter=bad diff=bad merge=bad ident -text\n")
+        self.commit(changed(BASE, FREED))
+        self.git("mv", "db.mm", "new.mm")
+        self.commit(BASE + ADDED, "new.mm")
+        self.marker = self.room.parent / "marker"
+        self.words = ("new.mm", "HEAD", "ax-ac2")
+        self.wanted: list[object] = [2, 0, 2]
+
+    def test_settings(self) -> None:
+        touch = f"touch {self.marker}"
+        hook = self.room.parent / "hooks"
+        hook.mkdir()
+        for name in ("post-checkout", "reference-transaction", "pre-auto-gc"):
+            (hook / name).write_text(f"#!/bin/sh\n{touch}\n")
+            (hook / name).chmod(0o755)
+        for setting in (
+            f"core.fsmonitor={touch}",
+            f"core.hooksPath={hook}",
+            f"core.pager={touch}",
+            f"pager.rev-list={touch}",
+            f"pager.diff-tree={touch}",
+            f"diff.external={touch}",
+            f"diff.bad.command={touch}",
+            f"diff.bad.textconv={touch}",
+            f"filter.bad.smudge={touch}",
+            f"filter.bad.process={touch}",
+            f"alias.rev-list=!{touch}",
+            f"core.sshCommand={touch}",
+            f"gpg.program={touch}",
+            "log.showSignature=true",
+            "diff.renames=false",
+            "diff.renameLimit=1",
+            "log.excludeDecoration=x",
+        ):
+            self.git("config", *setting.split("=", 1))
+        self.assertEqual(self.of(*self.words), self.wanted)
+        self.assertFalse(self.marker.exists())
+
+    def test_a_promise(self) -> None:
+        for setting in (
+            "extensions.partialClone=origin",
+            "core.repositoryFormatVersion=1",
+            f"remote.origin.url=ext::touch {self.marker}",
+            "remote.origin.promisor=true",
+            "protocol.ext.allow=always",
+        ):
+            self.git("config", *setting.split("=", 1))
+        self.commit(changed(BASE, FREED) + ADDED, "new.mm")
+        self.remove("HEAD:new.mm")
+        rows = self.rows(*self.words)
+        self.assertEqual([row["rest"] for row in rows], [*self.wanted, None])
+        self.assertIn("git: ", str(rows[-1]["fault"]))
+        self.assertNotIn("hint", str(rows[-1]["fault"]))
+        self.remove("HEAD~2:db.mm")  # which has to be read to see that it was renamed
+        self.refuses("history", *self.words, why="git: ")
+        self.assertFalse(self.marker.exists())
+
+    def remove(self, name: str) -> None:
+        """Removes an object."""
+        blob = self.git("rev-parse", name)
+        (self.room / ".git/objects" / blob[:2] / blob[2:]).unlink()
+
+    def test_what_is_put_in_place(self) -> None:
+        tip = self.git("rev-parse", "HEAD")
+        old = self.git("rev-parse", "HEAD~2")
+        self.git(
+            "replace", self.git("rev-parse", "HEAD:new.mm"), self.git("rev-parse", f"{old}:db.mm")
+        )
+        self.git("replace", "--graft", tip)
+        self.assertEqual(self.of(*self.words), self.wanted)
+        (self.room / ".git/info/grafts").write_text(f"{tip}\n")
+        self.assertEqual(self.of(*self.words), self.wanted)
+
+    def test_variables(self) -> None:
+        other = self.room.parent / "other"
+        self.git("clone", "--quiet", ".", str(other))
+        for name, value in (
+            ("GIT_DIR", str(other / ".git")),
+            ("GIT_OBJECT_DIRECTORY", "/nowhere"),
+            ("GIT_EXTERNAL_DIFF", f"touch {self.marker}"),
+            ("GIT_GLOB_PATHSPECS", "1"),
+            ("GIT_DIFF_OPTS", "--unified=0"),
+            ("GIT_SHALLOW_FILE", "/nowhere"),
+        ):
+            more: dict[str, str] = {name: value}
+            came = self.query("history", *self.words, "--format=json", given=b"", **more)
+            self.assertEqual([row["rest"] for row in came.rows()], self.wanted, name)
+        self.assertFalse(self.marker.exists())
+
+    def test_paths_that_are_patterns(self) -> None:
+        for name in ("*.mm", ":(glob)*", ":!new.mm", "a\nb.mm", "-x", "\x1b[31m.mm"):
+            self.write(name, BASE)
+        self.git("add", "--all")
+        self.git("commit", "--quiet", "--message", "names")
+        for name in ("./*.mm", "./:(glob)*", "./:!new.mm", "a\nb.mm", "./-x", "\x1b[31m.mm"):
+            self.assertEqual(self.of("--", name, "HEAD", "ax-ac2"), [2], name)
+        self.is_empty("./n*", "HEAD", why="no revision of HEAD has n*")
+        self.is_empty("\x1b.mm", "HEAD", why="no revision of HEAD has \\x1b.mm")
+
+    def test_links_on_the_way(self) -> None:
+        (self.room / "link").symlink_to(".")
+        self.refuses("history", "link/new.mm", "HEAD", why="link is a link")
+        os.rename(self.room / "new.mm", self.room / "aside.mm")
+        (self.room / "new.mm").symlink_to("aside.mm")
+        self.refuses("history", "new.mm", "HEAD", why="new.mm is a link")
+
+    def test_dates_that_are_none(self) -> None:
+        tree = self.git("rev-parse", "HEAD^{tree}")
+        text = f"tree {tree}\nauthor a <a@b> 1 +0000\ncommitter a <a@b> {10**17} +0000\n\nx\n"
+        self.write("commit", text)
+        commit = self.git("hash-object", "-t", "commit", "-w", "--literally", "commit")
+        (row,) = self.rows("new.mm", commit, "ax-ac2")
+        self.assertEqual((row["rev"], row["rest"]), (commit, 2))
+        self.assertIsNone(row["date"])
+
+
+if __name__ == "__main__":
+    unittest.main()
