@@ -98,7 +98,7 @@ def put_library(packed: Packed, root: Path) -> None:
 def put_documents(packed: Packed, root: Path) -> None:
     """The pages, the example for C, the licence and the log of changes."""
     documents = root / DOCUMENTS
-    packed.copy(("README.md", "docs"), documents)
+    packed.copy(("README.md", "CHANGELOG.md", "docs"), documents)
     put_copy(packed.folder / "include/example.c", documents / "examples/example.c")
     expat = (packed.folder / LICENCES[0]).read_text()
     indented = "\n".join(f" {line}" if line.strip() else " ." for line in expat.splitlines())

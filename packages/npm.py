@@ -57,7 +57,7 @@ def make(packed: Packed, folder: Path) -> Path:
     with tempfile.TemporaryDirectory() as name:
         room = Path(name)
         package = room / "package"
-        packed.copy([*LICENCES, "docs", "mmdepend.mjs", "mmdepend.html"], package)
+        packed.copy([*LICENCES, "CHANGELOG.md", "docs", "mmdepend.mjs", "mmdepend.html"], package)
         for part in ("index.js", "index.d.ts", "mmdepend.wasm"):
             put_copy(packed.folder / "module" / part, package / part)
         put(package / "README.md", README.format(summary=SUMMARY))

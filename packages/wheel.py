@@ -39,6 +39,7 @@ TOLD = {
 # What each wheel has of the packed file.
 PACKED = (
     "README.md",
+    "CHANGELOG.md",
     *LICENCES,
     "docs",
     "man",

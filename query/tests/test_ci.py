@@ -1,4 +1,4 @@
-"""The CI job of docs/ci: its two forms have the same lines, and the script does what it says."""
+"""The CI job of docs/ci, the action that it calls, and the script that this runs."""
 
 import hashlib
 import re
@@ -16,29 +16,29 @@ JOB = TOP / "docs" / "ci" / "github.yml"
 ENDS_IN_A_CHEAT = ("$= df-4 $.", "$= ax-cheat $.")
 
 
-BLOCKS = re.compile(r"^ +run: \|\n((?: {10}.*\n)+)", re.MULTILINE)
+ACTION = TOP / "action.yml"
+BLOCKS = re.compile(r"^( +)run: \|\n((?:\1  .*\n)+)", re.MULTILINE)
+
+
+def commands(path: Path) -> list[str]:
+    """What the steps of a job or an action run."""
+    return [re.sub(r"(?m)^ +", "", block) for _, block in BLOCKS.findall(path.read_text())]
 
 
 class Lines(unittest.TestCase):
-    """The lines of both forms."""
+    """The lines of the job, the action and the script."""
 
-    def test_they_are_the_same(self) -> None:
-        script = SCRIPT.read_text().split("\n# Take the program:")[1].splitlines()[1:]
-        lines = [line for line in script if line and not line.startswith("#")]
-        block = BLOCKS.findall(JOB.read_text())[1]
-        there = [line[10:] for line in block.splitlines()]
-        self.assertTrue(there.pop(0).startswith("NEW=refs/heads/new BASE=refs/heads/base "))
-        self.assertEqual(len(lines), 20)
-        self.assertEqual(lines, there)
-
-    def test_the_base_of_the_job(self) -> None:
-        job = JOB.read_text()
-        self.assertIn("format('refs/heads/{0}', github.base_ref) || github.event.before", job)
-        self.assertIn("github.event.pull_request.head.sha || github.sha", job)
+    def test_the_base_of_the_action(self) -> None:
+        action = ACTION.read_text()
+        event = "(github.event.pull_request && format('refs/heads/{0}', github.base_ref))"
+        self.assertIn(f"inputs.base || {event} || github.event.before }}}}", action)
+        self.assertIn("github.event.pull_request.head.sha || github.sha", action)
 
     def test_nothing_of_an_event_is_part_of_a_command(self) -> None:
-        for block in BLOCKS.findall(JOB.read_text()):
-            self.assertNotIn("${{", block)
+        for path in (JOB, ACTION):
+            self.assertTrue(commands(path))
+            for block in commands(path):
+                self.assertNotIn("${{", block)
 
     def test_a_pull_request_is_data(self) -> None:
         job = JOB.read_text()
@@ -47,17 +47,19 @@ class Lines(unittest.TestCase):
         self.assertIn("types: [opened, synchronize, reopened, edited]", target)
         self.assertNotRegex(job, r"\n  (pull_request|merge_group|workflow_dispatch):")
         self.assertIn("\npermissions:\n  contents: read\njobs:", job)
-        self.assertNotRegex(job, r"secrets\.|github\.token|uses: actions/(checkout|cache)")
-        self.assertNotRegex("".join(BLOCKS.findall(job)), r"checkout|switch|pull|worktree|archive")
-        used = re.findall(r"uses: (.*)", job)
-        self.assertTrue(used)
+        both = job + ACTION.read_text()
+        self.assertNotRegex(both, r"secrets\.|github\.token|uses: actions/(checkout|cache)")
+        lines = "".join([*commands(JOB), *commands(ACTION)])
+        self.assertNotRegex(lines, r"checkout|switch|pull|worktree|archive")
+        used = re.findall(r"uses: (.*)", both)
+        self.assertEqual(len(used), 2)
         for each in used:
-            self.assertRegex(each, r"\A[\w./-]+@[0-9a-f]{40}\Z")
+            self.assertRegex(each, r"\A(\./mmdepend|[\w./-]+@[0-9a-f]{40})\Z")
 
     def test_nothing_is_kept_from_elsewhere(self) -> None:
-        commands = re.findall(r'^"\$room/mmdepend/mmquery" .*', SCRIPT.read_text(), re.MULTILINE)
-        self.assertEqual(len(commands), 3)
-        for each in commands:
+        found = re.findall(r'^"\$program/mmquery" .*', SCRIPT.read_text(), re.MULTILINE)
+        self.assertEqual(len(found), 3)
+        for each in found:
             self.assertIn(" --no-cache ", each)
 
 
@@ -182,6 +184,66 @@ class Script(Repositories):
         for folder in (str(self.room / "tmp"), "tmp"):
             self.assertEqual(self.check(TMPDIR=folder).status, 3)
             self.assertEqual(list((self.room / "tmp").iterdir()), [])
+
+    def test_what_is_unpacked_already(self) -> None:
+        self.branch()
+        self.commit(BASE + ADDED)
+        came = self.check(PACKED="", SHA256="", UNPACKED=str(self.folder))
+        self.assertEqual((came.status, came.err), (0, ""), came)
+        self.assertEqual(self.check(UNPACKED="nowhere", KEPT="").status, 3)
+        shutil.copytree(self.folder, self.room / "unpacked")
+        self.assertEqual(self.check(UNPACKED="unpacked", KEPT="").status, 3)
+        (self.folder / "query" / "more.py").write_text("")
+        self.assertEqual(self.check(UNPACKED=str(self.folder), KEPT="").status, 3)
+
+    def test_another_configuration_of_the_base(self) -> None:
+        self.write("more.toml", f"{WATCH}allow = ['ax-cheat']\n")
+        self.commit(BASE)
+        self.branch()
+        cheat = "ax-cheat $a |- ( 2 + 2 ) = 4 $.\n2p2e4 $p"
+        self.commit(changed(BASE, ("2p2e4 $p", cheat), ENDS_IN_A_CHEAT))
+        self.assertEqual(self.check().status, 1)
+        came = self.check(CONFIG="nowhere.toml", KEPT="")
+        self.assertEqual(came.status, 2, came)
+
+    def test_the_action(self) -> None:
+        (self.folder / "docs" / "ci").mkdir(parents=True)
+        shutil.copy(SCRIPT, self.folder / "docs" / "ci")
+        listed = self.folder / "SHA256SUMS"
+        line = f"{self.sum(SCRIPT)}  docs/ci/check-database\n"
+        listed.write_text("".join(sorted([*listed.open(), line], key=lambda each: each[66:])))
+        self.branch()
+        self.commit(changed(BASE, ("2p2e4 $p", "ax-cheat $a |- ( 2 + 2 ) = 4 $.\n2p2e4 $p")))
+        runner = self.room.parent / "runner"
+        runner.mkdir()
+        new = self.git("rev-parse", "HEAD").strip()
+        surroundings = self.surroundings(
+            GITHUB_ACTION_PATH=str(self.folder),
+            GITHUB_STEP_SUMMARY=str(runner / "summary.md"),
+            RUNNER_TEMP=str(runner),
+            REPOSITORY=str(self.room),
+            NEW_COMMIT=new,
+            BASE_COMMIT="refs/heads/main",
+            DATABASE="db.mm",
+            NEW="refs/heads/new",
+            BASE="refs/heads/base",
+            FORMAT="github",
+        )
+        del surroundings["MMDEPEND"]
+        statuses = [
+            subprocess.run(
+                ["bash", "-e", "-c", block],
+                cwd=self.room.parent,
+                env=surroundings,
+                capture_output=True,
+                check=False,
+            )
+            for block in commands(ACTION)
+        ]
+        self.assertEqual([done.returncode for done in statuses], [0, 1], statuses)
+        self.assertIn(b"ax-cheat: a new axiom", statuses[1].stdout)
+        self.assertIn("ax-cheat", (runner / "kept" / "changes.tsv").read_text())
+        self.assertIn("ax-cheat", (runner / "summary.md").read_text())
 
 
 class Modules(World):
