@@ -18,6 +18,8 @@ PIPE = 1 << 20  # bytes that wait in a pipe
 MOST = 2_000_000_000
 """Bytes that are read of what the program says. Of set.mm it says 47 million."""
 HOME = os.path.dirname(os.path.dirname(os.path.realpath(__file__)))
+SCRIPT = "mmdepend.mjs"
+"""The program for Node."""
 
 
 class Refused(NoAnswer):
@@ -106,21 +108,28 @@ class Running:
 
 @dataclass(frozen=True)
 class Program:
-    """The program at a path."""
+    """The program at a path, or the one for Node, which the command `node` runs."""
 
     path: str
+    node: str | None = None
 
     @cached_property
     def _file(self) -> bytes:
         with open(self.path, "rb") as file:
             return file.read()
 
+    def running(self, words: list[str], given: int, is_kept: bool) -> Running:
+        """The program while it runs with these words, and an open file as standard input."""
+        if self.node is None:
+            return Running(self.path, words, given, is_kept)
+        return Running(self.node, [self.path, *words], given, is_kept, (), without_node())
+
     def prepare(self) -> None:
         """Has the program built where it is a script that does so, as in a clone. What that says
         goes to standard error. NoAnswer where it can't be run."""
-        if self._file.startswith(b"\x7fELF"):
+        if self.node is not None or self._file.startswith(b"\x7fELF"):
             return
-        running = Running(self.path, ["--version"], devnull(), False)
+        running = self.running(["--version"], devnull(), False)
         if running.ended()[2] != 0:
             raise NoAnswer(f"{shown(self.path)} can't be run")
 
@@ -151,22 +160,31 @@ def located(command: str) -> str | None:
     return shutil.which(command, path=path)
 
 
+def without_node() -> dict[str, str]:
+    """The variables of the environment, but for those by which Node would be told to do more."""
+    return {name: value for name, value in os.environ.items() if not name.startswith("NODE_")}
+
+
 def found() -> Program:
-    """The program of the variable MMDEPEND, or the one beside the folder `query`. NoAnswer where
-    there is none."""
+    """The program of the variable MMDEPEND, or the one beside the folder `query`; where the system
+    has no native one, that for Node beside it. NoAnswer where there is none."""
     word = os.environ.get("MMDEPEND") or os.path.join(HOME, "mmdepend")
     path = shutil.which(word)
-    if path is None:
+    if path is not None:
+        return Program(os.path.abspath(path))
+    script = os.path.join(HOME, SCRIPT)
+    node = located("node")
+    if os.environ.get("MMDEPEND") or node is None or not os.path.exists(script):
         raise NoAnswer(f"there is no program {shown(word)}; the variable MMDEPEND may name it")
-    return Program(os.path.abspath(path))
+    return Program(script, node)
 
 
 def version() -> str:
     """What the program says of its version. NoAnswer where it can't be run."""
-    path = found().path
-    out, _, status = Running(path, ["--version"], devnull(), False).ended()
+    program = found()
+    out, _, status = program.running(["--version"], devnull(), False).ended()
     if status != 0:
-        raise NoAnswer(f"{shown(path)} can't be run")
+        raise NoAnswer(f"{shown(program.path)} can't be run")
     return out.decode("latin-1").strip()
 
 
@@ -193,7 +211,7 @@ def over(program: Program, source: Source, words: list[str]) -> Running:
     """The program running over a source."""
     descriptor = source.opened()
     try:
-        return Running(program.path, words, descriptor, True)
+        return program.running(words, descriptor, True)
     finally:
         os.close(descriptor)
 

@@ -25,7 +25,6 @@ with the reason. The page is made by Node 18 or later: `node mmdepend.mjs page` 
 
 Example: mmquery page --against v1:set.mm set.mm > set.html
 """
-PROGRAM = "mmdepend.mjs"
 
 
 def configure(parser: argparse.ArgumentParser) -> None:
@@ -60,12 +59,12 @@ def words_of(arguments: argparse.Namespace) -> list[str]:
 def program() -> str:
     """The program for Node: beside `mmquery` where it was unpacked, else where it was built.
     NoAnswer where there is none."""
-    from query.program import HOME
+    from query.program import HOME, SCRIPT
 
-    for path in (os.path.join(HOME, PROGRAM), os.path.join(HOME, "out", "web", PROGRAM)):
+    for path in (os.path.join(HOME, SCRIPT), os.path.join(HOME, "out", "web", SCRIPT)):
         if os.path.exists(path):
             return path
-    raise NoAnswer(f"there is no {PROGRAM}, which makes pages; web/build makes it")
+    raise NoAnswer(f"there is no {SCRIPT}, which makes pages; web/build makes it")
 
 
 def node() -> str:
@@ -81,7 +80,7 @@ def node() -> str:
 def made(databases: list[Database], words: list[str]) -> bytes:
     """The page that the program makes of the database, beside an older one where there are two.
     NoAnswer where it makes none."""
-    from query.program import Running, devnull
+    from query.program import Running, devnull, without_node
 
     with ExitStack() as opened:
         places = {}
@@ -91,10 +90,7 @@ def made(databases: list[Database], words: list[str]) -> bytes:
             places[descriptor] = f"/dev/fd/{descriptor}"
         first, *others = places.values()
         line = [program(), "page", *words, *(f"--against={place}" for place in others), first]
-        surroundings = {
-            name: value for name, value in os.environ.items() if not name.startswith("NODE_")
-        }
-        running = Running(node(), line, devnull(), True, tuple(places), surroundings)
+        running = Running(node(), line, devnull(), True, tuple(places), without_node())
         out, errors, status = running.ended()
     for database in databases:
         database.source.see_unchanged()
