@@ -211,7 +211,8 @@ class Script(Repositories):
         shutil.copy(SCRIPT, self.folder / "docs" / "ci")
         listed = self.folder / "SHA256SUMS"
         line = f"{self.sum(SCRIPT)}  docs/ci/check-database\n"
-        listed.write_text("".join(sorted([*listed.open(), line], key=lambda each: each[66:])))
+        lines = [*listed.read_text().splitlines(keepends=True), line]
+        listed.write_text("".join(sorted(lines, key=lambda each: each[66:])))
         self.branch()
         self.commit(changed(BASE, ("2p2e4 $p", "ax-cheat $a |- ( 2 + 2 ) = 4 $.\n2p2e4 $p")))
         runner = self.room.parent / "runner"
