@@ -1,7 +1,7 @@
 //! The nodes.
 
 ghost use Rattle.std.specs.Prelude.{◌≡◌, ◌<◌, ◌≤◌, ◌++◌, ◌∷◌, [], length, take, All, OnOk, OnErr};
-ghost use Rattle.std.specs.Prelude.{IfOk, bytes_eq, true};
+ghost use Rattle.std.specs.Prelude.{IfOk, IfSome, bytes_eq, true};
 ghost use Rattle.mm_nodes.specs.Strings.{first_node, string_of, joined_string_of, IsBody, IsMade};
 ghost use Rattle.mm_nodes.specs.Strings.{Extends};
 ghost use Rattle.mm_nodes.specs.Store.{nodes_of, AreNodes};
@@ -198,19 +198,48 @@ impl<A: Allocator> Nodes<A> {
         self.is_equal_by_symbols(wanted, body)
     }
 
-    /// Whether these bodies are those of a node, or the body itself alone.
+    /// The bodies of a node; `None` for a symbol.
+    #[inline(always)]
+    fn bodies(&self, body: Body) -> Option<&[Body]>
+        ensures { IfSome result
+            (λ bs. string_of self.now body ≡ joined_string_of self.now bs.now) }
+    {
+        match body.index() {
+            None => None,
+            Some(index) => {
+                if index >= self.heads.len() {
+                    return None;
+                }
+                Some(bodies_of(&self.heads, self.bodies.as_slice(), index))
+            }
+        }
+    }
+
+    /// Whether two bodies are one, or nodes with the same bodies.
+    #[inline(always)]
+    fn are_same(&self, first: Body, second: Body) -> bool
+        ensures { result ≡ true → string_of self.now second ≡ string_of self.now first }
+    {
+        if first == second {
+            return true;
+        }
+        match (self.bodies(first), self.bodies(second)) {
+            (Some(of_first), Some(of_second)) => of_first == of_second,
+            _ => false,
+        }
+    }
+
+    /// Whether these bodies are those of a node, or one that is the same as the body.
     #[inline(always)]
     fn is_listed(&self, wanted: &[Body], body: Body) -> bool
         ensures { result ≡ true → string_of self.now body ≡ joined_string_of self.now wanted.now }
     {
-        match body.index() {
-            None => wanted.len() == 1 && wanted[0] == body,
-            Some(index) => {
-                if index >= self.heads.len() {
-                    return false;
-                }
-                bodies_of(&self.heads, self.bodies.as_slice(), index) == wanted
-            }
+        if wanted.len() == 1 {
+            return self.are_same(wanted[0], body);
+        }
+        match self.bodies(body) {
+            None => false,
+            Some(bodies) => bodies == wanted,
         }
     }
 
