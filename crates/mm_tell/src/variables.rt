@@ -53,8 +53,12 @@ fn dummy_variable<D: Allocator>(
     let Some(statement) = database.find(label) else {
         return None;
     };
+    // Most labels are those of assertions, of which no more is asked.
+    let Some(variable) = typed_variable(database, statement) else {
+        return None;
+    };
     if database.active_at(statement, theorem) && !has_number(hypotheses, statement) {
-        typed_variable(database, statement)
+        Some(variable)
     } else {
         None
     }

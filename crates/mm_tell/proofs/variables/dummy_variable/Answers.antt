@@ -26,6 +26,13 @@ as_found false true false v a_is m_is = refl
 as_found f false m v a_is m_is = absurd (cc)
 as_found f a true v a_is m_is = absurd (cc)
 
+not_found_untyped : (f a m v : Bool) → false ≡ (f && v) → false ≡ ((f && a) && (not m && v))
+not_found_untyped false a m v untyped = refl
+not_found_untyped true a m true untyped = absurd (cc)
+not_found_untyped true false m false untyped = refl
+not_found_untyped true true false false untyped = refl
+not_found_untyped true true true false untyped = refl
+
 not_found_inactive : (f a r : Bool) → a ≡ false → false ≡ ((f && a) && r)
 not_found_inactive true false r a_is = refl
 not_found_inactive false false r a_is = refl
@@ -36,14 +43,29 @@ not_found_mandatory true true v m_is = refl
 not_found_mandatory false true v m_is = refl
 not_found_mandatory b false v m_is = absurd (cc)
 
-pub returns-then-not-has_number-clause-names_dummy : goal.returns-then-not-has_number-clause-names_dummy
+pub returns-in_default-typed_variable-clause-names_dummy :
+    goal.returns-in_default-typed_variable-clause-names_dummy
+returns-in_default-typed_variable-clause-names_dummy g c =
+    λ x.
+    let db = c.args.database.now.statements in
+    let j = c.in-Some.statement in
+    let floats = list_any is_floating (statement_at db j) in
+    not_found_untyped floats _ _ (is_member (variable_of db j) x)
+    (ap (λ xs. is_member xs x) c.in_default-typed_variable.ensures.variable_is
+    ∙ member_if floats (variable_of db j) x)
+    ∙ sym (named_alone db c.args.theorem c.args.label.now x j c.in-Some.ensures.has_label.1
+    c.in-Some.ensures.is_unique)
+
+pub returns-then-not-has_number-clause-names_dummy :
+    goal.returns-then-not-has_number-clause-names_dummy
 returns-then-not-has_number-clause-names_dummy g c =
     λ x.
     let db = c.args.database.now.statements in
     let j = c.in-Some.statement in
-    ap (λ xs. is_member xs x) c.typed_variable.ensures.variable_is
-    ∙ member_if (list_any is_floating (statement_at db j)) (variable_of db j) x
-    ∙ as_found (list_any is_floating (statement_at db j)) _ _ (is_member (variable_of db j) x)
+    let floats = list_any is_floating (statement_at db j) in
+    ap (λ xs. is_member xs x) c.in-Some-typed_variable.ensures.variable_is
+    ∙ member_if floats (variable_of db j) x
+    ∙ as_found floats _ _ (is_member (variable_of db j) x)
     (sym c.active_at.ensures ∙ c.if-active_at.true)
     (ap (λ hs. is_member hs j) (sym c.requires.are_hypotheses) ∙ sym c.has_number.ensures
     ∙ c.if-not-has_number.true)
