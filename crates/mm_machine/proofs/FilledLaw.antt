@@ -84,30 +84,30 @@ module _ (nodes : List (List ℕ)) (es : List Entry) (parts : List RulePart) whe
         (i + 1)
     bodies_written bodies more spare' needed' added list_is string_is added_is are_needed needed_le
         needed_in count_le = record {
-      count_le = count_le;
-      string_is =
-          ap (joined_string_of nodes) list_is
-          ∙ flat_map-append (string_of nodes) (take count list) bodies
-          ∙ ap₂ (λ u v. u ++ v) written.string_is string_is
-          ∙ sym (filled_take nodes es parts i p i_lt p_is);
-      length_is =
-          let front_is = written.length_is in
-          let all_is = ap length (filled_take nodes es parts i p i_lt p_is) in
-          omega (
-            arith,
-            front_is,
-            all_is,
-            added_is,
-            length-append (filled_parts nodes es (take i parts)) (filled_part nodes es p),
-          );
-      bodies_needed =
-          subst (All (λ b. b < first_node + needed')) (sym list_is)
-          (All-append (λ b. b < first_node + needed') (take count list) bodies
-          (All-weaker (λ b. b < first_node + needed) (λ b. b < first_node + needed')
-          (λ x x_lt. omega (arith, x_lt, needed_le)) (take count list) written.bodies_needed)
-          are_needed);
-      needed_le_count = needed_in;
-    }
+          count_le = count_le;
+          string_is =
+              ap (joined_string_of nodes) list_is
+              ∙ flat_map-append (string_of nodes) (take count list) bodies
+              ∙ ap₂ (λ u v. u ++ v) written.string_is string_is
+              ∙ sym (filled_take nodes es parts i p i_lt p_is);
+          length_is =
+              let front_is = written.length_is in
+              let all_is = ap length (filled_take nodes es parts i p i_lt p_is) in
+              omega (
+                arith,
+                front_is,
+                all_is,
+                added_is,
+                length-append (filled_parts nodes es (take i parts)) (filled_part nodes es p),
+              );
+          bodies_needed =
+              subst (All (λ b. b < first_node + needed')) (sym list_is)
+              (All-append (λ b. b < first_node + needed') (take count list) bodies
+              (All-weaker (λ b. b < first_node + needed) (λ b. b < first_node + needed')
+              (λ x x_lt. omega (arith, x_lt, needed_le)) (take count list) written.bodies_needed)
+              are_needed);
+          needed_le_count = needed_in;
+        }
 
     -- what replaces a variable
     pub opened_written : (e : Entry) (j opened_count opened_needed spare' needed' : ℕ)

@@ -150,12 +150,7 @@ impl<A: Allocator> Nodes<A> {
 
     /// Makes a node.
     #[inline(always)]
-    fn push(
-        &mut self,
-        bodies: &[Body],
-        symbol_count: u32,
-        needed: u32,
-    ) -> Result<Body, AllocError>
+    fn push(&mut self, bodies: &[Body], symbol_count: u32, needed: u32) -> Result<Body, AllocError>
         requires has_room { length self.old < MAX_NODES }
         requires has_bodies { 0 < length bodies.now }
         requires bodies_needed { All (λ b. b < first_node + needed) bodies.now }
