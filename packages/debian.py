@@ -7,7 +7,7 @@ import tempfile
 from email.utils import formatdate
 from pathlib import Path
 
-from common import LICENCES, SUMMARY, Packed, put, put_compressed, put_copy, settle
+from common import LICENCES, Packed, put, put_compressed, put_copy, settle
 
 MAINTAINER = "mmdepend maintainers <maintainers@users.noreply.bisvjolt.example>"
 ARCHITECTURE = "amd64"
@@ -24,7 +24,7 @@ Maintainer: {MAINTAINER}
 Installed-Size: {{size}}
 Depends: libc6 (>= 2.34), python3 (>= 3.11)
 Suggests: nodejs (>= 18), metamath-databases
-Description: {SUMMARY[0].lower()}{SUMMARY[1:]}
+Description: verify Metamath databases and tell on which axioms theorems rest
  The command mmdepend reads a Metamath database, verifies every proof in it,
  and reports for each theorem on which axioms it rests. It is proved that what
  it writes is what the definitions say.
@@ -69,7 +69,9 @@ COMPLETIONS = {
 
 def put_commands(packed: Packed, root: Path) -> None:
     """The two commands, what they need, their manual pages and completions."""
-    put_copy(packed.folder / "mmdepend", root / "usr/bin/mmdepend", 0o755)
+    program = root / "usr/bin/mmdepend"
+    put_copy(packed.folder / "mmdepend", program, 0o755)
+    subprocess.run(["strip", program], check=True)
     packed.copy(("mmquery", "query", "mmdepend.mjs", "mmdepend.html"), root / SHARE)
     (root / SHARE / "mmdepend").symlink_to("../../bin/mmdepend")
     (root / "usr/bin/mmquery").symlink_to("../share/mmdepend/mmquery")
