@@ -64,7 +64,8 @@ def configure(parser: argparse.ArgumentParser) -> None:
 
 def run(context: Context, arguments: argparse.Namespace) -> int:
     """Answers."""
-    word, axioms, theorem = arguments.database, arguments.axiom, arguments.of
+    word, theorem = arguments.database, arguments.of
+    axioms = list(dict.fromkeys(arguments.axiom))
     if word == "-" or is_of_git(word) or os.path.isdir(word):
         raise NoAnswer(f"{shown(word)}: history wants the path of a file that git keeps")
     if theorem is not None and not axioms:

@@ -309,6 +309,22 @@ def long_formulas(count: int) -> Files:
     return one(f"x $p |- ( p -> p ) $= ( wi ax via two ) {letters_of} $.\n")
 
 
+def definitions(size: int) -> Files:
+    """Forms, statements without them, and their definitions; and a formula in many quantifiers."""
+    lines = [
+        "$c |- wff class setvar ( <-> ) = A. T. $.",
+        "$v ph ps x A B $.",
+        "wph $f wff ph $. wps $f wff ps $. vx $f setvar x $. cA $f class A $. cB $f class B $.",
+        "wb $a wff ( ph <-> ps ) $. wal $a wff A. x ph $. cv $a class x $. wceq $a wff A = B $.",
+        "wtru $a wff T. $.",
+        f"df-tru $a |- ( T. <-> {'A. x ' * size}x = x ) $.",
+    ]
+    lines += [f"$c c{number} $. k{number} $a class c{number} $." for number in range(size)]
+    lines += [f"u{number} $a |- ( x = x <-> A = A ) $." for number in range(size)]
+    lines += [f"df-{number} $a |- c{number} = c{number + 1} $." for number in range(size - 1)]
+    return {"a.mm": "\n".join(lines).encode() + b"\n"}
+
+
 SHAPES = [
     Shape("white space at the end", white_space, 100_000, 100_000,
           ("verify b.mm", "chapters b.mm", "gate a.mm b.mm", "page b.mm")),
@@ -333,6 +349,7 @@ SHAPES = [
            "export --sqlite out.db a.mm")),
     Shape("a `$e` before each", many_hypotheses, 2_000, 3_000,
           ("chapters a.mm", "compare a.mm b.mm", "gate a.mm b.mm"), is_answer=True),
+    Shape("definitions", definitions, 20_000, 10_000, ("definitions a.mm",)),
     Shape("deep blocks", deep_blocks, 200_000, 100_000, ("gate a.mm b.mm", "page b.mm")),
     Shape("axioms", many_axioms, 100_000, 100_000,
           ("rests b.mm more", "falls b.mm a0", "top b.mm", "compare a.mm b.mm", "gate a.mm b.mm",

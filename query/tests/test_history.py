@@ -52,7 +52,7 @@ class Revisions(History):
         self.assertIn(rows[-1]["date"], (day, rows[0]["date"]))
         self.assertEqual(self.of("db.mm", f"{first}..HEAD", "ax-ac2"), [0, 2])
         self.assertEqual(self.of("db.mm", f"{first}..", "ax-ac2"), [0, 2])
-        self.assertEqual(self.of("db.mm", f"{first}..HEAD~1", "ax-ac2"), [0])
+        self.assertEqual(self.of("db.mm", f"{first}..HEAD~1", "ax-ac2", "ax-ac2"), [0])
         (row, *_) = self.rows("db.mm", "HEAD")
         self.assertEqual((row["theorems"], row["axiom"], row["rest"]), (6, None, None))
 

@@ -90,14 +90,20 @@ class Twenty(Told):
     DATABASE = "set.mm"
 
     def test_five_answers(self) -> None:
-        questions = {
-            "show trace_back zorn /axioms": ("rests", "--all", "set.mm", "zorn"),
-            "show trace_back 2p2e4 /axioms": ("rests", "--all", "set.mm", "2p2e4"),
-            "show usage ax-ac2 /recursive": ("falls", "set.mm", "ax-ac2"),
-            "show usage numth3": ("cited-by", "set.mm", "numth3"),
-        }
-        for question, wanted in zip(questions, self.said([*questions])):
-            self.assertEqual(self.answers(*questions[question]), wanted, question)
+        zorn, two, fallen, citing = self.said(
+            [
+                "show trace_back zorn /axioms",
+                "show trace_back 2p2e4 /axioms",
+                "show usage ax-ac2 /recursive",
+                "show usage numth3",
+            ]
+        )
+        self.assertEqual(self.answers("rests", "--all", "set.mm", "zorn"), zorn)
+        for theorem, every, start in (("zorn", zorn, "ax-"), ("2p2e4", two, "df-")):
+            wanted = [label for label in every if label.startswith(start)]
+            self.assertEqual(self.answers("rests", "set.mm", theorem, "--axioms", start), wanted)
+        self.assertEqual(self.answers("falls", "set.mm", "ax-ac2"), fallen)
+        self.assertEqual(self.answers("cited-by", "set.mm", "numth3"), citing)
         (told,) = self.told(["show discouraged"])
         lines = re.findall(r"(?m)^SHOW DISCOURAGED:  (.*)$", told)
         self.assertEqual(self.answers("discouraged", "set.mm"), sorted(lines))
