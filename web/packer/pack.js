@@ -7,6 +7,7 @@
 import { Byte, Writer, encoded } from "./bytes.js";
 import { marksOf, putLine } from "./comments.js";
 import { Conditions } from "./conditions.js";
+import { packProofs } from "./proofs.js";
 import { lowestOf } from "./reports.js";
 import { Vocabulary } from "./symbols.js";
 import { readTypesetting } from "./typesetting.js";
@@ -350,5 +351,6 @@ export function packReports(dependence) {
     /** @type {Blocks} */
     const blocks = new Map();
     packMarks(dependence, blocks);
+    packProofs(dependence, blocks);
     return blocks;
 }

@@ -38,7 +38,7 @@ export const Group = { axiom: 0, definition: 1, logic: 2, open: 3, syntax: 4 };
  * @param {string} name
  */
 export function isLater(name) {
-    return name.startsWith("comments-") || name === "chapter-texts" || name === "against";
+    return /^(?:comments-|proof-)/.test(name) || name === "chapter-texts" || name === "against";
 }
 
 /** The database. Assertions are numbers from 0, in file order; theorems have a row, axioms a column. */

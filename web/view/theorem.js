@@ -2,6 +2,7 @@
 
 import { count, counted, element } from "./elements.js";
 import { GROUPS, Group } from "./model.js";
+import { ProofView } from "./proof.js";
 
 /** @typedef {import("./elements.js").Child} Child */
 /** @typedef {import("./elements.js").Colours} Colours */
@@ -21,6 +22,7 @@ export class TheoremView {
         this.elements = elements;
         this.statements = statements;
         this.colours = colours;
+        this.proof = new ProofView(model, elements);
     }
 
     /**
@@ -36,6 +38,7 @@ export class TheoremView {
             ...this.statements.head(number, comment),
             this.glance(columns, byGroup),
             ...since,
+            this.proof.render(number),
             this.restsOn(number, columns, byGroup),
             this.avoids(number, columns),
             this.cites(number),
