@@ -190,7 +190,8 @@ function packPlaces(text) {
  */
 function newlinesIn(data, start, end) {
     let count = 0;
-    for (let place = start; place < end; place++) if (data[place] === Byte.newline) count++;
+    let place = data.indexOf(Byte.newline, start);
+    for (; place >= 0 && place < end; place = data.indexOf(Byte.newline, place + 1)) count++;
     return count;
 }
 

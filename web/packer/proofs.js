@@ -1,6 +1,6 @@
 // Packs the steps of proofs, so that a page has them in few bytes. codes.js says how.
 
-import { Byte, Cutter, Row, Words, Writer, closeOf } from "./bytes.js";
+import { Byte, Cutter, Row, Words, Writer, afterComment, closeOf, wordFrom } from "./bytes.js";
 import { CHUNK, Code, FREQUENT, KINDS, Recent, kindOf } from "./codes.js";
 import { UnreadableText } from "./text.js";
 
@@ -71,7 +71,7 @@ class Frames {
     }
 }
 
-/** The labels that are often used, each with its code. A label is 2 * n for the `$f` n, 2 * n + 1 for the assertion n. */
+/** The labels that are often used, each with its code: 2 * n for the `$f` n, 2 * n + 1 for the assertion n. */
 class Frequent {
     /**
      * @param {Dependence} dependence
@@ -82,12 +82,11 @@ class Frequent {
         const floating = new Uint32Array(text.given.size);
         const assertions = new Uint32Array(text.size);
         for (const number of cited) assertions[number]++;
-        for (let number = 0; number < frames.size; number++) {
-            for (const item of frames.of(number)) if (item % 2 === 0) floating[item / 2]++;
-        }
+        for (const item of text.frames.row.taken()) if (item % 2 === 0) floating[frames.numbers[item / 2]]++;
         /** Of each kind the labels, the most used first. What is of no `$f`'s typecode is mostly cited once. */
         this.labels = [1, 2, 3].map((kind) => {
-            const found = [...labelsOf(floating, kinds.floating, kind, 0), ...labelsOf(assertions, kinds.assertions, kind, 1)];
+            const found = labelsOf(floating, kinds.floating, kind, 0);
+            found.push(...labelsOf(assertions, kinds.assertions, kind, 1));
             found.sort(([one, often], [other, less]) => less - often || one - other);
             return found.slice(0, FREQUENT).map(([label]) => label);
         });
@@ -132,17 +131,18 @@ class Packer {
         this.kinds = new Kinds(this.text);
         this.frames = new Frames(this.text);
         this.frequent = new Frequent(dependence, this.frames, this.kinds);
-        this.cutter = new Cutter();
         this.streams = Array.from({ length: KINDS + Code.recent }, () => new Writer());
         /**
-         * What has a number of its own in a proof, 2 * n for the `$e` n of the database and 2 * n + 1 for the assertion n;
-         * and of each such assertion the number.
+         * What has a number of its own in a proof: 2 * n for the `$e` n of the database, 2 * n + 1 for the assertion n.
+         * And of each the number.
          */
         this.own = new Row();
         this.places = new Uint32Array(this.text.size);
-        /** What each number of a compressed proof stands for: its kind, code, and number. */
-        this.labels = { kinds: new Row(), codes: new Row(), numbers: new Row() };
-        /** The steps of a proof: each byte with the kind of its stream, and the numbers of those that have one. */
+        this.hypothesisPlaces = new Uint32Array(this.text.hypotheses.size);
+        /** What each number of a compressed proof stands for: 8 times the code and the kind, and a number. */
+        this.labels = new Row();
+        this.labelNumbers = new Row();
+        /** The steps of a proof: 8 times the code, 4 if it is marked, and the kind; and numbers of some. */
         this.steps = new Row();
         this.numbers = new Row();
         /** For each number of a repeated step the marked one, and of each marked one its kind. */
@@ -156,16 +156,19 @@ class Packer {
      * @param {number} row
      */
     pack(row) {
-        const { text, dependence, labels } = this;
+        const { text, dependence } = this;
         const number = dependence.theorems[row];
-        for (const each of [labels.kinds, labels.codes, labels.numbers, this.steps, this.numbers, this.own]) each.size = 0;
-        for (const each of [this.marked, this.markedKinds, ...this.recent]) each.size = 0;
+        for (const each of [this.labels, this.labelNumbers, this.own]) each.size = 0;
+        for (const each of [this.steps, this.numbers, this.marked, this.markedKinds, ...this.recent]) each.size = 0;
         this.setOwn(row, number);
-        const start = proofIn(text.source, text.places.items[number]);
+        const { source } = text;
         const end = text.ends.items[number] - 2;
-        const words = this.cutter.cut(text.source, start, end);
-        if (text.source[this.cutter.starts[0]] === Byte.open) this.packCompressed(number, words);
-        else for (let word = 0; word < words; word++) this.putWord(number, word);
+        const place = wordFrom(source, proofIn(source, text.places.items[number]), end);
+        // Each step has a byte of the text at least.
+        this.steps.reserve(end - place);
+        this.marked.reserve(end - place);
+        if (source[place] === Byte.open) this.packCompressed(number, place + 1, end);
+        else this.packWords(place, end);
         this.putStreams();
     }
 
@@ -176,7 +179,10 @@ class Packer {
      */
     setOwn(row, theorem) {
         const { own, places, frequent, text, dependence } = this;
-        for (const hypothesis of text.essential.of(theorem)) own.push(2 * hypothesis);
+        for (const hypothesis of text.essential.of(theorem)) {
+            this.hypothesisPlaces[hypothesis] = own.size;
+            own.push(2 * hypothesis);
+        }
         for (const cited of dependence.citedBy(row)) {
             if (frequent.codes[2 * cited + 1] > 0) continue;
             places[cited] = own.size;
@@ -185,46 +191,61 @@ class Packer {
     }
 
     /**
-     * @param {number} number
-     * @param {number} words how many there are
+     * @param {number} theorem
+     * @param {number} start behind the bracket
+     * @param {number} end
      */
-    packCompressed(number, words) {
-        const { cutter } = this;
+    packCompressed(theorem, start, end) {
         const { source } = this.text;
-        for (const item of this.frames.of(number)) this.addHypothesis(number, item);
-        let word = 1;
-        for (; source[cutter.starts[word]] !== Byte.close; word++) this.addWord(number, word);
+        for (const item of this.frames.of(theorem)) this.addHypothesis(item);
+        let place = wordFrom(source, start, end);
+        while (source[place] !== Byte.close) place = wordFrom(source, this.addWord(place), end);
+        this.packLetters(place + 1, end);
+    }
+
+    /**
+     * @param {number} start
+     * @param {number} end
+     */
+    packLetters(start, end) {
+        const { source } = this.text;
+        const { size, items } = this.labels;
         let base = 0;
-        for (word++; word < words; word++) {
-            for (let place = cutter.starts[word]; place < cutter.ends[word]; place++) {
-                const letter = source[place];
-                if (letter <= Letter.T) {
-                    this.putNumber(20 * base + letter - Letter.A);
-                    base = 0;
-                } else if (letter <= Letter.Y) base = 5 * base + letter - Letter.U + 1;
-                else this.mark();
-            }
+        let place = start;
+        while (place < end) {
+            const letter = source[place++];
+            if (letter < Letter.A) {
+                if (letter > Byte.space) place = afterComment(source, place - 1);
+            } else if (letter <= Letter.T) {
+                const number = 20 * base + letter - Letter.A;
+                if (number < size) this.put(items[number], this.labelNumbers.items[number]);
+                else this.repeat(this.marked.items[number - size]);
+                base = 0;
+            } else if (letter <= Letter.Y) base = 5 * base + letter - Letter.U + 1;
+            else this.mark();
         }
     }
 
     /**
-     * The step of a number, from 0, of a compressed proof.
-     * @param {number} number
+     * @param {number} start
+     * @param {number} end
      */
-    putNumber(number) {
-        const { kinds, codes, numbers } = this.labels;
-        if (number < kinds.size) this.put(kinds.items[number], codes.items[number], numbers.items[number]);
-        else this.repeat(this.marked.items[number - kinds.size]);
+    packWords(start, end) {
+        const { source } = this.text;
+        const { labels, labelNumbers } = this;
+        for (let place = start; place < end; ) {
+            place = wordFrom(source, this.addWord(place), end);
+            this.put(labels.items[--labels.size], labelNumbers.items[--labelNumbers.size]);
+        }
     }
 
     /**
-     * @param {number} kind
-     * @param {number} code
+     * @param {number} step
      * @param {number} number
      */
-    put(kind, code, number) {
-        this.steps.push(8 * code + kind);
-        if (code < Code.recent) this.numbers.push(number);
+    put(step, number) {
+        this.steps.items[this.steps.size++] = step;
+        if (step < 8 * Code.recent) this.numbers.push(number);
     }
 
     /** Marks the step before, which may be marked already or be a repeated one. */
@@ -251,25 +272,22 @@ class Packer {
     repeat(marked) {
         const kind = this.markedKinds.items[marked];
         const at = this.recent[kind].use(marked);
-        if (at >= 0) this.put(kind, Code.recent + at, 0);
+        if (at >= 0) this.put(8 * (Code.recent + at) + kind, 0);
         else {
-            this.put(kind, Code.far, this.markedKinds.size - 1 - marked);
+            this.put(8 * Code.far + kind, this.markedKinds.size - 1 - marked);
             this.recent[kind].add(marked);
         }
     }
 
     /**
-     * Adds a mandatory hypothesis of the theorem to the labels of a compressed proof.
-     * @param {number} theorem
+     * Adds a mandatory hypothesis of the theorem to the labels.
      * @param {number} item as in `frames`
      */
-    addHypothesis(theorem, item) {
+    addHypothesis(item) {
         if (item % 2 === 0) this.addLabel(this.kinds.floating[item / 2], item);
         else {
             const hypothesis = (item - 1) / 2;
-            const place = this.text.essential.of(theorem).indexOf(hypothesis);
-            if (place < 0) throw new Error("a proof names what isn't there");
-            this.add(this.kinds.hypotheses[hypothesis], Code.own, place);
+            this.add(this.kinds.hypotheses[hypothesis], Code.own, this.hypothesisPlaces[hypothesis]);
         }
     }
 
@@ -288,28 +306,27 @@ class Packer {
      * @param {number} number
      */
     add(kind, code, number) {
-        const { labels } = this;
-        labels.kinds.push(kind);
-        labels.codes.push(code);
-        labels.numbers.push(number);
+        this.labels.push(8 * code + kind);
+        this.labelNumbers.push(number);
     }
 
     /**
-     * Adds what a word of a proof names to the labels.
-     * @param {number} theorem
-     * @param {number} word
+     * Adds what a word of a proof names to the labels. Returns where the word ends.
+     * @param {number} start
      */
-    addWord(theorem, word) {
-        const { text, kinds, cutter } = this;
-        const start = cutter.starts[word];
-        const end = cutter.ends[word];
-        const assertion = text.byLabel.find(text.source, start, end);
+    addWord(start) {
+        const { text, kinds } = this;
+        const { source } = text;
+        let end = start;
+        while (source[end] > Byte.space) end++;
+        const assertion = text.byLabel.find(source, start, end);
         if (assertion >= 0) this.addAssertion(assertion);
         else {
-            const floating = text.givenByLabel.find(text.source, start, end);
+            const floating = text.givenByLabel.find(source, start, end);
             if (floating >= 0) this.addLabel(kinds.floating[floating], 2 * floating);
-            else this.addHypothesis(theorem, 2 * text.hypothesesByLabel.find(text.source, start, end) + 1);
+            else this.addHypothesis(2 * text.hypothesesByLabel.find(source, start, end) + 1);
         }
+        return end;
     }
 
     /** @param {number} assertion */
@@ -322,27 +339,16 @@ class Packer {
         else this.addLabel(kind, 2 * assertion + 1);
     }
 
-    /**
-     * The step of a word of a proof that isn't compressed.
-     * @param {number} theorem
-     * @param {number} word
-     */
-    putWord(theorem, word) {
-        const { kinds, codes, numbers } = this.labels;
-        this.addWord(theorem, word);
-        const last = --kinds.size;
-        codes.size = numbers.size = last;
-        this.put(kinds.items[last], codes.items[last], numbers.items[last]);
-    }
-
     /** Adds the steps of a proof to the streams, the last one first. */
     putStreams() {
         const { streams, numbers } = this;
-        const steps = this.steps.items;
-        for (let at = this.steps.size - 1; at >= 0; at--) {
-            const code = steps[at] >>> 3;
-            streams[steps[at] & 3].push(2 * code + ((steps[at] >>> 2) & 1));
-            if (code < Code.recent) streams[KINDS + code].number(numbers.items[--numbers.size]);
+        const { items, size } = this.steps;
+        for (let kind = 0; kind < KINDS; kind++) streams[kind].reserve(size);
+        for (let at = size - 1; at >= 0; at--) {
+            const step = items[at];
+            const stream = streams[step & 3];
+            stream.bytes[stream.size++] = step >>> 2;
+            if (step < 8 * Code.recent) streams[KINDS + (step >>> 3)].number(numbers.items[--numbers.size]);
         }
     }
 
@@ -386,17 +392,20 @@ function packFloating({ source, given }) {
 /**
  * Of each assertion its mandatory `$f`: twice their number, and the gaps between them. Where one stands behind a `$e`
  * the first number is one more, and for each `$f` follows how many `$e` stand before it.
+ * @param {Text} text
  * @param {Frames} frames
  */
-function packFrames(frames) {
+function packFrames(text, frames) {
     const writer = new Writer();
     for (let number = 0; number < frames.size; number++) {
         const frame = frames.of(number);
-        const floating = frame.filter((item) => item % 2 === 0);
-        const isMixed = frame.some((item, at) => at > 0 && item % 2 === 0 && frame[at - 1] % 2 === 1);
-        writer.number(2 * floating.length + (isMixed ? 1 : 0));
+        const essential = text.essential.of(number).length;
+        const floating = frame.length - essential;
+        const isMixed = frame.subarray(floating).some((item) => item % 2 === 0);
+        writer.number(2 * floating + (isMixed ? 1 : 0));
         let expected = 0;
-        for (const item of floating) {
+        for (const item of frame) {
+            if (item % 2 === 1) continue;
             writer.number(item / 2 - expected);
             expected = item / 2 + 1;
         }
@@ -418,7 +427,7 @@ function packFrames(frames) {
 export function packProofs(dependence, blocks) {
     const packer = new Packer(dependence);
     blocks.set("proof-floating", packFloating(dependence.text));
-    blocks.set("proof-frames", packFrames(packer.frames));
+    blocks.set("proof-frames", packFrames(dependence.text, packer.frames));
     blocks.set("proof-labels", packer.frequent.block());
     const size = dependence.theorems.length;
     for (let row = 0; row < size; row++) {

@@ -243,9 +243,9 @@ class Section {
         for (;;) {
             const end = bytes.indexOf(Byte.newline, this.place);
             if (end < 0) throw new UnreadableText(this.place);
-            const colon = bytes.subarray(this.place, end).indexOf(COLON);
-            if (colon < 0) break;
-            this.readLine(this.place + colon, end);
+            const colon = bytes.indexOf(COLON, this.place);
+            if (colon < 0 || colon >= end) break;
+            this.readLine(colon, end);
             this.place = end + 1;
         }
         text.sectionEnd = this.place;
@@ -347,8 +347,8 @@ class Section {
      * @param {number} end
      */
     afterPart(place, end) {
-        const dollar = this.bytes.subarray(place, end).indexOf(Byte.dollar);
-        return dollar < 0 ? end : place + dollar - 1;
+        const dollar = this.bytes.indexOf(Byte.dollar, place);
+        return dollar < 0 || dollar >= end ? end : dollar - 1;
     }
 
     /**
