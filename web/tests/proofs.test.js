@@ -3,16 +3,11 @@
 import assert from "node:assert/strict";
 import { test } from "node:test";
 import { encoded } from "../packer/bytes.js";
-import { packReports, packText } from "../packer/pack.js";
-import { readReport } from "../packer/reports.js";
-import { readText } from "../packer/text.js";
 import { Derivation, OtherFormula, TooManySigns } from "../view/derivation.js";
-import { Model } from "../view/model.js";
 import { MOST_STEPS, Proofs, TooManySteps } from "../view/proofs.js";
 import { Abandoned, Turns } from "../view/turns.js";
+import { blocksOf, modelOf } from "./blocks.js";
 
-const NOTHING = { named: {}, numbers: {}, none: [] };
-const PLAIN = { only: null, essential: false, open: false };
 const HEAD = `$c wff |- ( -> ) $. $v p q r $.
 wp $f wff p $. wq $f wff q $. wr $f wff r $.
 wi $a wff ( p -> q ) $.
@@ -29,46 +24,9 @@ const SAID = {
 /** `( q -> p )` of `p`, by the axiom. */
 const A1I = `${PQ} $e h |- p $p |- ( q -> p )`;
 
-/** The report of a text, in which each label has `said` behind its places, and cites what `cites` has. */
-function reportOf(text, said, cites) {
-    const labels = Object.keys(said);
-    const axioms = labels.filter((label) => !cites[label]);
-    const theorems = labels.filter((label) => cites[label]);
-    const marks = new Map(axioms.map((label) => [label, new Set([label])]));
-    for (const label of theorems) marks.set(label, new Set(cites[label].flatMap((other) => [...marks.get(other)])));
-    const digitsOf = (label) => {
-        let digits = "";
-        for (let at = 0; at < axioms.length; at += 4) {
-            const four = [0, 1, 2, 3].map((more) => (marks.get(label).has(axioms[at + more]) ? 8 >> more : 0));
-            digits += four.reduce((sum, bit) => sum + bit).toString(16);
-        }
-        return digits;
-    };
-    const lines = labels.map((label) => {
-        const place = text.search(new RegExp(`(?<=^|\\s)${label} \\$[ap]`));
-        return `${label}:${cites[label] ? "p" : "a"}:${place}:${text.indexOf("$.", place) + 2}:${said[label]}`;
-    });
-    return [
-        ...["mmdepend 2", `axioms ${axioms.length}`, `theorems ${theorems.length}`, "matrix"],
-        ...theorems.map((label) => `${label}:${digitsOf(label)}`),
-        "citations",
-        ...theorems.map((label) => `${label}:${cites[label].length}:${cites[label].join(" ")}`),
-        ...["statements", ...lines, "end", ""],
-    ].join("\n");
-}
-
-/** The blocks of a text. */
-function blocksOf(text, said, cites) {
-    const report = encoded(reportOf(text, said, cites));
-    const read = readText(encoded(text), report);
-    const about = { title: "t", file: "x.mm", bytes: 1, sha256: null, maker: "x", watched: [], ...PLAIN };
-    return new Map([...packText(read, about, NOTHING), ...packReports(readReport(read, PLAIN, report))]);
-}
-
 /** The proofs that blocks have. */
 function proofsOf(blocks) {
-    const get = (name) => blocks.get(name);
-    return new Proofs(new Model({ has: (name) => blocks.has(name), get, load: async (name) => get(name) }));
+    return new Proofs(modelOf(blocks));
 }
 
 /** The proof of a theorem, carried out. */
@@ -80,7 +38,7 @@ async function derivationOf(proofs, label) {
     return derivation;
 }
 
-/** The essential steps, or all of them, each as a line: what it applies, the numbers of what it uses, and what it says. */
+/** The essential steps, or all of them, as lines: what each applies, the numbers of what it uses, and what it says. */
 function linesOf(derivation, areAll = false) {
     const steps = areAll ? derivation.all : derivation.essential;
     const { model } = derivation;

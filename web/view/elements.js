@@ -45,7 +45,7 @@ export function byId(id) {
 }
 
 /** With more hypotheses than this only their number stands in a line. */
-const MOST_GIVEN = 3;
+export const MOST_GIVEN = 3;
 /** A formula with more signs is cut in lists of what was found. */
 const LONGEST_FOUND = 240;
 /** So many labels or lines are shown at first. */

@@ -1,9 +1,8 @@
 // The field of the search with what was found, and the view of all that was found.
 
-import { byId, count, element } from "./elements.js";
+import { MOST_GIVEN, byId, count, element } from "./elements.js";
 import { plainText } from "./markup.js";
 import { Search } from "./search.js";
-import { plain } from "./symbols.js";
 
 /** @typedef {import("./elements.js").Child} Child */
 /** @typedef {import("./elements.js").Elements} Elements */
@@ -104,7 +103,7 @@ export class Finder {
         const said = where === "comment" ? (this.model.knownComment(number) ?? "") : "";
         const text = element("span", { class: "text" });
         if (said !== "") text.append(...this.excerpt(said, words, BEFORE));
-        else text.append(...this.formulas(number, where === "formula" ? words : []));
+        else text.append(...this.formulas(number));
         return element(
             "li",
             {
@@ -122,25 +121,24 @@ export class Finder {
     }
 
     /**
-     * The formula of an assertion, and before it the hypotheses if only these have all the words.
+     * The formula of an assertion, and before it its hypotheses: without these it would say more than it does.
      * @param {number} number
-     * @param {string[]} words
      */
-    formulas(number, words) {
+    formulas(number) {
         const { model, elements } = this;
-        const formula = model.formulas.at(number);
-        const small = formula.toLowerCase();
-        const key = this.search.symbols.keyOfFormula(formula);
+        const given = model.hypotheses.of(number);
         /** @type {Child[]} */
         const parts = [];
-        if (!words.every((word) => small.includes(word) || key.includes(plain(word)))) {
-            for (const index of model.hypotheses.of(number)) {
-                const sign = element("span", { class: "sign" }, parts.length > 0 ? " & " : "");
+        if (given.length > MOST_GIVEN) {
+            parts.push(element("span", { class: "hint" }, `${count(given.length)} hypotheses`));
+        } else {
+            given.forEach((index, at) => {
+                const sign = element("span", { class: "sign" }, at > 0 ? " & " : "");
                 parts.push(sign, elements.shortFormula(model.hypothesisFormulas.at(index)));
-            }
-            parts.push(element("span", { class: "sign" }, " ⇒ "));
+            });
         }
-        return [...parts, elements.shortFormula(formula)];
+        if (given.length > 0) parts.push(element("span", { class: "sign" }, " ⇒ "));
+        return [...parts, elements.shortFormula(model.formulas.at(number))];
     }
 
     /**

@@ -155,7 +155,7 @@ function toldOf(error) {
         return `Its formulas have more than ${count(MOST_SIGNS)} signs together, too many to be shown here.`;
     }
     if (error instanceof OtherFormula) {
-        return "The steps that were read don't prove the theorem's formula. The page is at fault, so no steps are shown.";
+        return "The steps that were read don't prove this formula. The page is at fault, so no steps are shown.";
     }
     return `The proof couldn't be read: ${String(error)}`;
 }
