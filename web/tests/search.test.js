@@ -7,7 +7,7 @@ import { Symbols } from "../view/symbols.js";
 import { blocksOf, modelOf } from "./blocks.js";
 
 const TEXT = `$c |- wff ( ) -> A. = " $. $v ph ps x $.
-$( $t althtmldef "ph" as "<i>&phi;</i>"; althtmldef "->" as " &rarr; "; althtmldef "|-" as "&vdash; "; $)
+$( $t althtmldef "ph" as "<i>&#966;</i>"; althtmldef "->" as " &#8594; "; althtmldef "|-" as "&#8866; "; $)
 wph $f wff ph $. wps $f wff ps $. vx $f wff x $.
 $( The implication id. $) wi $a wff ( ph -> ps ) $.
 $( An arrow, and Zorn's lemma. $) long $a |- ( ( ph -> ph ) -> ( ph -> ph ) ) $.
