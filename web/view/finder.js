@@ -25,8 +25,9 @@ export class Finder {
      * @param {Elements} elements
      * @param {Symbols} symbols
      * @param {(address: string) => void} go
+     * @param {AbortSignal} signal ends what listens
      */
-    constructor(model, elements, symbols, go) {
+    constructor(model, elements, symbols, go, signal) {
         this.model = model;
         this.elements = elements;
         this.search = new Search(model, symbols);
@@ -38,36 +39,54 @@ export class Finder {
         /** @type {Found[]} */
         this.best = [];
         this.total = 0;
-        this.listen();
+        this.listen(signal);
+    }
+
+    /** Empties the field, which another database takes over. */
+    end() {
+        this.close();
+        this.input.value = this.found.textContent = "";
+        this.input.disabled = true;
+        delete this.input.dataset.ready;
     }
 
     /** Makes the texts ready, and finds again what was typed meanwhile. */
     async prepare() {
         if (this.search.isWhole) return;
         await this.search.prepare();
+        if (this.input.disabled) return;
         this.input.dataset.ready = "whole";
         if (!this.results.hidden) this.find();
     }
 
-    listen() {
+    /** @param {AbortSignal} signal */
+    listen(signal) {
         this.input.disabled = false;
-        this.input.addEventListener("focus", () => this.prepare());
-        this.input.addEventListener("input", () => this.find());
-        this.input.addEventListener("keydown", (event) => this.onKey(event));
-        byId("search-form").addEventListener("submit", (event) => {
+        this.input.addEventListener("focus", () => this.prepare(), { signal });
+        this.input.addEventListener("input", () => this.find(), { signal });
+        this.input.addEventListener("keydown", (event) => this.onKey(event), { signal });
+        const submit = (/** @type {Event} */ event) => {
             event.preventDefault();
             this.choose(Math.max(0, this.active));
-        });
-        document.addEventListener("keydown", (event) => {
-            const isTyping = event.target instanceof Element && event.target.matches("input, select, textarea");
-            if (event.key !== "/" || isTyping || event.ctrlKey || event.altKey || event.metaKey) return;
-            event.preventDefault();
-            this.input.focus();
-            this.input.select();
-        });
-        document.addEventListener("pointerdown", (event) => {
+        };
+        byId("search-form").addEventListener("submit", submit, { signal });
+        const closeOutside = (/** @type {Event} */ event) => {
             if (!(event.target instanceof Element) || !event.target.closest("#search-form")) this.close();
-        });
+        };
+        document.addEventListener("keydown", (event) => this.onSlash(event), { signal });
+        document.addEventListener("pointerdown", closeOutside, { signal });
+    }
+
+    /**
+     * Goes to the field, where `/` is typed elsewhere.
+     * @param {KeyboardEvent} event
+     */
+    onSlash(event) {
+        const isTyping = event.target instanceof Element && event.target.matches("input, select, textarea");
+        if (event.key !== "/" || isTyping || event.ctrlKey || event.altKey || event.metaKey) return;
+        event.preventDefault();
+        this.input.focus();
+        this.input.select();
     }
 
     find() {
