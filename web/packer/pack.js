@@ -260,7 +260,7 @@ function symbolsOf(text, vocabulary, entities) {
         if (looks.has(look)) alike.push(name);
         looks.add(look);
     }
-    return { symbols: shown, alike, legend: typesetting.legend };
+    return { symbols: shown, alike, legend: typesetting.legend, bibliography: typesetting.bibliography };
 }
 
 /**

@@ -151,6 +151,19 @@ export class Model {
         return groups;
     }
 
+    /** The formulas of all axioms. */
+    *formulasOfAxioms() {
+        for (let number = 0; number < this.size; number++) {
+            const kind = this.kinds[number];
+            if (kind === Kind.column || kind === Kind.otherAxiom) yield this.formulas.at(number);
+        }
+    }
+
+    /** How many axioms there are on which a theorem rests. */
+    get usedAxioms() {
+        return this.usersOf.reduce((number, users) => number + (users > 0 ? 1 : 0), 0);
+    }
+
     /** The group of axioms that matter first: those called so, or else the other logical ones. */
     get firstGroup() {
         return this.groupSizes[Group.axiom] > 0 ? Group.axiom : Group.logic;
@@ -262,7 +275,7 @@ export class Model {
     get firstUsers() {
         if (!this.knownFirstUsers) {
             const first = new Int32Array(this.axioms.length).fill(-1);
-            let left = this.usersOf.reduce((number, users) => number + (users > 0 ? 1 : 0), 0);
+            let left = this.usedAxioms;
             const seen = new Uint32Array(this.words);
             for (let row = 0; row < this.theorems.length && left > 0; row++) {
                 for (let word = 0; word < this.words; word++) {

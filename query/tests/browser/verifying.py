@@ -137,7 +137,8 @@ class Answers:
 
     def add(self, path: Path, options: Options, names: Iterable[str] = ()) -> None:
         """Reports of a database; what the page itself asks for is always there."""
-        self.put(path, "matrix,citations", 2, Options(None, options.essential, options.open))
+        asked = "matrix,citations,statements"
+        self.put(path, asked, 2, Options(None, options.essential, options.open))
         for name in names:
             for form in (1, 2):
                 self.put(path, name, form, options)
