@@ -101,7 +101,7 @@ export class ProofView {
         const numberOf = new Map(steps.map((step, at) => [step, at + 1]));
         const make = (/** @type {number} */ step) => {
             const used = areAll ? derivation.usedBy(step) : derivation.essentialUsedBy(step);
-            const numbers = used.map((each) => numberOf.get(each) ?? 0);
+            const numbers = used.map((each) => String(numberOf.get(each)));
             return this.line(derivation, step, numberOf.get(step) ?? 0, numbers);
         };
         const list = element("ol", { class: "lines steps", "aria-label": "Steps" });
@@ -113,15 +113,15 @@ export class ProofView {
      * @param {Derivation} derivation
      * @param {number} step
      * @param {number} number
-     * @param {number[]} used
+     * @param {string[]} used
      */
     line(derivation, step, number, used) {
         const hidden = (/** @type {string} */ text) => element("span", { class: "hidden" }, text);
-        const from = used.length === 0 ? "" : [hidden(" from "), used.map(count).join(", ")];
+        const from = used.length === 0 ? "" : [hidden(" from "), used.join(", ")];
         return element(
             "li",
             { class: "line step" },
-            element("span", { class: "number" }, hidden("Step "), count(number)),
+            element("span", { class: "number" }, hidden("Step "), String(number)),
             " ",
             element("span", { class: "from" }, ...from),
             " ",

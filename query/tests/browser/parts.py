@@ -169,6 +169,8 @@ def check_keyboard(
     count(browser.is_at(chain[1]), f"{name}: Enter follows the chain")
     browser.run("history.back()")
     count(browser.is_at(theorem), f"{name}: back shows the theorem again")
+    left = browser.run("return texts('.chain li > a')")
+    same(left, chain, f"{name}: and the chain that was open")
     check_axiom_keys(browser, truth, axiom, other)
     check_picture_keys(browser, truth)
 
