@@ -303,6 +303,7 @@ class Start {
         this.say(
             "There is too little memory",
             element("p", {}, `The browser gives the page too little memory to verify ${name}.`),
+            element("p", {}, "The core can have 4 GB at most, for the text and some five to ten times as much again."),
             element("p", {}, "So nothing is known of it. Close other pages, or use the program."),
         );
     }
