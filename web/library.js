@@ -21,6 +21,17 @@ const PLAIN = { report: "all", only: null, form: 1, essential: false, open: fals
 const PAGE = 65536;
 const MOST_PAGES = 65536;
 const UNIT = 16;
+/**
+ * How many bytes of output are tried first for each byte of the text, by the sections and in both forms: a bit more than
+ * those of set.mm have.
+ */
+const SHARES = {
+    matrix: [2.75, 0.75],
+    counts: [0.05, 0.05],
+    usage: [2, 2],
+    citations: [0.25, 0.25],
+    statements: [0.5, 0.5],
+};
 /** Of the arguments that the module writes to, three of eight bytes: the room's two, and a length. */
 const WRITTEN = 24;
 /** The longest text, and one byte more: the module refuses such a text, and reads nothing behind it. */
@@ -63,17 +74,28 @@ class Memory {
     }
 
     /**
-     * Makes sure that there is memory up to a place.
+     * Makes sure that there is memory up to a place. Where that can't be had, `most` is what there is.
      * @param {number} end
      */
     reach(end) {
         if (end > this.most) throw new Exhausted();
         const lacking = Math.ceil((end - this.memory.buffer.byteLength) / PAGE);
-        if (lacking <= 0) return;
+        if (lacking <= 0 || this.grows(lacking)) return;
+        for (let pages = lacking >>> 1; pages > 0; pages >>>= 1) this.grows(pages);
+        this.most = this.memory.buffer.byteLength;
+        throw new Exhausted();
+    }
+
+    /**
+     * Whether memory could be made larger by so many pages.
+     * @param {number} pages
+     */
+    grows(pages) {
         try {
-            this.memory.grow(lacking);
+            this.memory.grow(pages);
+            return true;
         } catch (error) {
-            throw new Exhausted();
+            return false;
         }
     }
 
@@ -111,8 +133,10 @@ function firstRoom(size) {
  * @param {number} size the text's bytes
  * @param {Request} request
  */
-function firstOutput(size, { report }) {
-    return upTo(size * (bitsOf(report) & BITS.usage ? 5 : 2) + PAGE, PAGE);
+function firstOutput(size, { report, form }) {
+    const bits = bitsOf(report);
+    const sections = /** @type {(keyof typeof SHARES)[]} */ (Object.keys(SHARES)).filter((name) => bits & BITS[name]);
+    return upTo(size * sections.reduce((sum, name) => sum + SHARES[name][form - 1], 0) + PAGE, PAGE);
 }
 
 /**
@@ -192,38 +216,63 @@ class Run {
         return { status, out, report };
     }
 
-    /**
-     * The room that is tried next: a third more, or all that there is besides the output.
-     * @param {number} room
-     * @param {number} output
-     */
-    largerRoom(room, output) {
-        const { memory } = this;
-        const left = memory.most - upTo(memory.free, PAGE) - output;
-        const larger = Math.min(upTo((room * 4) / 3, PAGE), left - (left % PAGE));
-        if (larger <= room) throw new Exhausted();
-        return larger;
+    /** How many bytes there can be for room and output, in whole pages. */
+    get left() {
+        const left = this.memory.most - upTo(this.memory.free, PAGE);
+        return left - (left % PAGE);
     }
 
     /**
-     * Calls the module with more memory until that is enough, or there is no more.
+     * Calls the module with more memory until that is enough, or there is no more. Each time the room is a third
+     * larger, up to all that the output leaves. The output is given less than was meant at first where the room needs
+     * it: the module says then how much it needs.
      * @param {number} room
      * @returns {Answer}
      */
     answer(room) {
         let output = firstOutput(/** @type {number} */ (this.size), this.request);
+        let needed = PAGE;
+        let tooSmall = 0;
         for (;;) {
-            const { status, out, report } = this.call(room, output);
-            if (status === OUT_TOO_SHORT) output = upTo(report, PAGE);
-            else if (status === ROOM_TOO_SMALL) room = this.largerRoom(room, output);
-            else {
-                return {
-                    status: /** @type {Answer["status"]} */ (status),
-                    report: this.memory.bytes(out, report),
-                    memory: this.memory.memory.buffer.byteLength,
-                };
-            }
+            const { left } = this;
+            output = Math.max(needed, Math.min(output, left - room));
+            room = Math.min(room, left - output);
+            if (room <= tooSmall) throw new Exhausted();
+            const called = this.tried(room, output);
+            if (called === null) continue;
+            if (called.status === OUT_TOO_SHORT) output = needed = upTo(called.report, PAGE);
+            else if (called.status === ROOM_TOO_SMALL) {
+                tooSmall = room;
+                room = upTo((room * 4) / 3, PAGE);
+            } else return this.answered(called);
         }
+    }
+
+    /**
+     * One call, or null where there was less memory than was thought.
+     * @param {number} room
+     * @param {number} output
+     */
+    tried(room, output) {
+        const { left } = this;
+        try {
+            return this.call(room, output);
+        } catch (error) {
+            if (error instanceof Exhausted && this.left < left) return null;
+            throw error;
+        }
+    }
+
+    /**
+     * @param {{ status: number, out: number, report: number }} called
+     * @returns {Answer}
+     */
+    answered({ status, out, report: size }) {
+        return {
+            status: /** @type {Answer["status"]} */ (status),
+            report: this.memory.bytes(out, size),
+            memory: this.memory.memory.buffer.byteLength,
+        };
     }
 }
 

@@ -180,9 +180,12 @@ function watchedIn(words, { word, axioms }) {
     return labels;
 }
 
-/** @param {Uint8Array} block */
-function packed(block) {
-    return deflateSync(block, { level: 9 }).toString("base64");
+/**
+ * @param {Uint8Array} block
+ * @param {number} level
+ */
+function packed(block, level) {
+    return deflateSync(block, { level }).toString("base64");
 }
 
 /**

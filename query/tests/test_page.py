@@ -48,6 +48,18 @@ class Page(World):
             self.assertNotIn(word, page)
         self.assertEqual(page, self.page("b.mm", "--title", "{{data}}<b>"))
 
+    def test_proofs(self) -> None:
+        self.write("b.mm", SMALL)
+        blocks = self.blocks("b.mm")
+        given = re.findall(r"(\S+)\s+\$f\s+(\S+)\s+(\S+)\s+\$\.", SMALL)
+        self.assertEqual(lines_in(blocks, "proof-floating"), [" ".join(words) for words in given])
+        self.assertEqual(
+            [name for name in blocks if name.startswith("proof-steps-")], ["proof-steps-0"]
+        )
+        for option in ("--essential", "--open"):
+            other = self.blocks("b.mm", option)
+            self.assertEqual(other["proof-frames"], blocks["proof-frames"], option)
+
     def test_what_it_says_of_its_making(self) -> None:
         self.write("b.mm", SMALL)
         data = SMALL.encode("latin-1")

@@ -39,6 +39,17 @@ export class Row {
         this.items[this.size++] = number;
     }
 
+    /**
+     * Makes room for so many numbers more.
+     * @param {number} more
+     */
+    reserve(more) {
+        if (this.size + more <= this.items.length) return;
+        const items = new Uint32Array(Math.max(2 * this.items.length, this.size + more));
+        items.set(this.items.subarray(0, this.size));
+        this.items = items;
+    }
+
     /** Only the numbers that are there, in no more room than they need. */
     taken() {
         return this.items.slice(0, this.size);
@@ -273,6 +284,21 @@ export function isComment(data, place) {
  */
 export function afterComment(data, place) {
     return Math.min(data.length, closeOf(data, place + 2) + 2);
+}
+
+/**
+ * The place of the next word of a stretch, or its end.
+ * @param {Uint8Array} data
+ * @param {number} place
+ * @param {number} end
+ */
+export function wordFrom(data, place, end) {
+    while (place < end) {
+        if (data[place] <= Byte.space) place++;
+        else if (isComment(data, place)) place = afterComment(data, place);
+        else return place;
+    }
+    return end;
 }
 
 /**

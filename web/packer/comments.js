@@ -33,25 +33,39 @@ export function marksOf(data, start, end) {
     let found = 0;
     const places = new Uint32Array(8); // of the last four words, beginnings and ends in turn
     let place = start;
-    while (place < end) {
+    for (let words = 0; place < end; ) {
         if (data[place] <= Byte.space) {
             place++;
             continue;
         }
         found |= Mark.comment;
-        places.copyWithin(0, 2);
-        places[6] = place;
+        const first = place;
         while (place < end && data[place] > Byte.space) place++;
-        places[7] = place;
-        if (data[places[6]] === LAST[0]) found |= markAt(data, places);
+        const at = 2 * (words++ % 4);
+        places[at] = first;
+        places[at + 1] = place;
+        const mayBeLast = data[first] === LAST[0] && place - first >= LAST.length;
+        if (mayBeLast) found |= markAt(data, inOrder(places, words));
     }
     return found;
 }
 
 /**
+ * The places of the last four words, the first one first.
+ * @param {Uint32Array} places those of word n are the pair n % 4
+ * @param {number} words how many words there were
+ */
+function inOrder(places, words) {
+    return [0, 1, 2, 3].flatMap((word) => {
+        const at = 2 * ((words + word) % 4);
+        return [places[at], places[at + 1]];
+    });
+}
+
+/**
  * The mark whose sentence four words are, or 0.
  * @param {Uint8Array} data
- * @param {Uint32Array} places
+ * @param {number[]} places
  */
 function markAt(data, places) {
     const last = places[6];
@@ -75,6 +89,10 @@ function markAt(data, places) {
  * @param {number} end
  */
 export function putLine(writer, data, start, end) {
+    if (!data.subarray(start, end).includes(OPENING[0])) {
+        putPlainLine(writer, data, start, end);
+        return;
+    }
     const first = writer.size;
     let place = start;
     for (;;) {

@@ -45,6 +45,7 @@ export class Conditions {
         const writer = new Writer();
         for (let number = 0; number < text.size; number++) {
             if (number > 0) writer.push(Byte.newline);
+            if (!this.hasAny(number)) continue;
             this.readVariables(number);
             this.pairs = this.readPairs(...text.pairs.of(number));
             this.proofPairs = this.readPairs(...text.dummyPairs.of(number));
@@ -57,6 +58,15 @@ export class Conditions {
             else this.putStars(writer);
         }
         return writer.taken();
+    }
+
+    /**
+     * Whether an assertion has pairs or dummy variables.
+     * @param {number} number
+     */
+    hasAny(number) {
+        const { pairs, dummies } = this.text;
+        return pairs.ends.items[number] > 0 || dummies.ends.items[number] > 0;
     }
 
     /**

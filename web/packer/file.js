@@ -32,8 +32,17 @@ function escaped(text) {
  * @param {string} signs in base64
  */
 function holder(name, signs) {
-    const lines = signs.match(new RegExp(`.{1,${WIDTH}}`, "g")) ?? [];
+    const lines = [];
+    for (let at = 0; at < signs.length; at += WIDTH) lines.push(signs.slice(at, at + WIDTH));
     return `<script type="application/octet-stream" id="data-${name}">\n${lines.join("\n")}\n</script>`;
+}
+
+/**
+ * How hard a block is deflated, by the levels of zlib: proofs hardly get smaller where it takes four times as long.
+ * @param {string} name
+ */
+function levelOf(name) {
+    return name.startsWith("proof-") ? 6 : 9;
 }
 
 /**
@@ -41,10 +50,11 @@ function holder(name, signs) {
  * @param {Shell} shell
  * @param {string} title without signs that no screen shows
  * @param {Blocks} blocks
- * @param {(block: Uint8Array) => string} packed deflates a block and writes it in base64
+ * @param {(block: Uint8Array, level: number) => string} packed deflates a block, as hard as the level of zlib says, and
+ *     writes it in base64
  */
 export function pageFile(shell, title, blocks, packed) {
-    const data = Array.from(blocks, ([name, block]) => holder(name, packed(block))).join("\n");
+    const data = Array.from(blocks, ([name, block]) => holder(name, packed(block, levelOf(name)))).join("\n");
     /** @type {Record<string, string>} */
     const parts = { title: escaped(title), data };
     return shell.map((part, at) => (at % 2 === 0 ? part : parts[part])).join("");

@@ -7,6 +7,7 @@
 import { Byte, Writer, encoded } from "./bytes.js";
 import { marksOf, putLine } from "./comments.js";
 import { Conditions } from "./conditions.js";
+import { packProofs } from "./proofs.js";
 import { lowestOf } from "./reports.js";
 import { Vocabulary } from "./symbols.js";
 import { readTypesetting } from "./typesetting.js";
@@ -189,7 +190,8 @@ function packPlaces(text) {
  */
 function newlinesIn(data, start, end) {
     let count = 0;
-    for (let place = start; place < end; place++) if (data[place] === Byte.newline) count++;
+    let place = data.indexOf(Byte.newline, start);
+    for (; place >= 0 && place < end; place = data.indexOf(Byte.newline, place + 1)) count++;
     return count;
 }
 
@@ -258,7 +260,7 @@ function symbolsOf(text, vocabulary, entities) {
         if (looks.has(look)) alike.push(name);
         looks.add(look);
     }
-    return { symbols: shown, alike, legend: typesetting.legend };
+    return { symbols: shown, alike, legend: typesetting.legend, bibliography: typesetting.bibliography };
 }
 
 /**
@@ -350,5 +352,6 @@ export function packReports(dependence) {
     /** @type {Blocks} */
     const blocks = new Map();
     packMarks(dependence, blocks);
+    packProofs(dependence, blocks);
     return blocks;
 }

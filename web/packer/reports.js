@@ -267,15 +267,19 @@ class Reader {
     checkMarks() {
         const { words, bits, starts, cited, theorems, rowOf, columnOf } = this.found;
         const row = new Uint32Array(words);
+        /** Up to which number of 32 bits each row has marks: what is cited stands mostly far above. */
+        const reach = new Uint32Array(theorems.length);
         for (let number = 0; number < theorems.length; number++) {
             row.fill(0);
             for (let place = starts[number]; place < starts[number + 1]; place++) {
                 const column = columnOf[cited[place]];
                 const other = rowOf[cited[place]];
                 if (column >= 0) row[column >>> 5] |= 1 << (column & 31);
-                else if (other >= 0) addMarks(row, bits, other * words);
+                else if (other >= 0) addMarks(row, bits, other * words, reach[other]);
             }
             if (!areMarks(row, bits, number * words)) throw new OddReport("marks and citations don't agree");
+            reach[number] = words;
+            while (reach[number] > 0 && row[reach[number] - 1] === 0) reach[number]--;
         }
     }
 }
@@ -326,9 +330,10 @@ export function columnsOf(row) {
  * @param {Uint32Array} row
  * @param {Uint32Array} bits
  * @param {number} start
+ * @param {number} size how many numbers of it have marks
  */
-function addMarks(row, bits, start) {
-    for (let word = 0; word < row.length; word++) row[word] |= bits[start + word];
+function addMarks(row, bits, start, size) {
+    for (let word = 0; word < size; word++) row[word] |= bits[start + word];
 }
 
 /**

@@ -1,7 +1,7 @@
 // What a database says. The statements come of the section `statements` of the program's report, whose bytes are proved;
 // comments and headings of the text, where they stand between the assertions.
 
-import { Byte, Row, Rows, Words, closeOf, isComment, isSame, textAt } from "./bytes.js";
+import { Byte, Row, Rows, Words, afterComment, closeOf, isComment, isSame, textAt } from "./bytes.js";
 
 /** The lines that enclose the title of a part, a chapter, a section and a subsection. */
 const DECORATIONS = ["####", "#*#*", "=-=-", "-.-."];
@@ -100,6 +100,15 @@ export class Text {
         this.hypotheses = new Statements();
         this.floating = new Statements();
         this.essential = new Rows();
+        /** The `$e` by their labels. */
+        this.hypothesesByLabel = new Words(data);
+        /** The `$f` in the order of the lines that name them. */
+        this.named = new Statements();
+        /** The mandatory hypotheses of each assertion in order: 2 * n for the `$f` n of `named`, 2 * n + 1 for the `$e` n. */
+        this.frames = new Rows();
+        /** All `$f` of the database, by their places there, and their numbers by their labels. */
+        this.given = new Statements();
+        this.givenByLabel = new Words(source);
         /** Of each assertion the pairs of variables that must be distinct, each behind a `$d`. */
         this.pairs = new Stretches();
         /** Of each theorem its dummy variables, and the pairs of which one is a dummy. */
@@ -224,7 +233,6 @@ class Section {
         this.text = text;
         this.bytes = text.data;
         this.place = sectionIn(text.data);
-        this.essential = new Words(text.data);
         this.floating = new Words(text.data);
         this.order = new Order();
     }
@@ -235,13 +243,13 @@ class Section {
         for (;;) {
             const end = bytes.indexOf(Byte.newline, this.place);
             if (end < 0) throw new UnreadableText(this.place);
-            const colon = bytes.subarray(this.place, end).indexOf(COLON);
-            if (colon < 0) break;
-            this.readLine(this.place + colon, end);
+            const colon = bytes.indexOf(COLON, this.place);
+            if (colon < 0 || colon >= end) break;
+            this.readLine(colon, end);
             this.place = end + 1;
         }
         text.sectionEnd = this.place;
-        text.floating = inOrder(text.floating, this.order);
+        text.floating = inOrder(text.named, this.order);
     }
 
     /**
@@ -318,6 +326,7 @@ class Section {
             if ((part < stage || next === end) !== (letter === last && next === end)) throw new UnreadableText(keyword);
             if (letter === last) {
                 text.essential.end();
+                text.frames.end();
                 this.order.end();
                 text.pairs.push(...found[Part.pairs]);
                 text.dummies.push(...found[Part.dummies]);
@@ -338,8 +347,8 @@ class Section {
      * @param {number} end
      */
     afterPart(place, end) {
-        const dollar = this.bytes.subarray(place, end).indexOf(Byte.dollar);
-        return dollar < 0 ? end : place + dollar - 1;
+        const dollar = this.bytes.indexOf(Byte.dollar, place);
+        return dollar < 0 || dollar >= end ? end : dollar - 1;
     }
 
     /**
@@ -353,9 +362,10 @@ class Section {
         const labelEnd = bytes.indexOf(Byte.space, first);
         if (labelEnd < 0 || labelEnd >= end) throw new UnreadableText(first);
         const isEssential = letter === Letter.e;
-        const statements = isEssential ? text.hypotheses : text.floating;
-        const number = (isEssential ? this.essential : this.floating).add(first, labelEnd);
+        const statements = isEssential ? text.hypotheses : text.named;
+        const number = (isEssential ? text.hypothesesByLabel : this.floating).add(first, labelEnd);
         if (number === statements.size) statements.push(first, labelEnd, labelEnd + 1, end);
+        text.frames.push(2 * number + (isEssential ? 1 : 0));
         if (isEssential) text.essential.push(number);
         else this.order.add(number);
     }
@@ -436,6 +446,7 @@ class Gaps {
     readGap(place, end) {
         const { data } = this;
         let isWithin = false;
+        let word = place;
         while (place < end) {
             if (data[place] <= Byte.space) {
                 place++;
@@ -447,10 +458,30 @@ class Gaps {
                 const sign = data[place] === Byte.dollar ? data[place + 1] : 0;
                 isWithin = sign !== Byte.dot && sign !== Brace.open && sign !== Brace.close;
                 this.comment = this.commentEnd = 0;
+                if (sign === Letter.f) this.addFloating(word, place + 2, end);
+                word = place;
                 if (sign > 0) place += 2;
                 else while (place < end && data[place] > Byte.space) place++;
             }
         }
+    }
+
+    /**
+     * Adds a `$f`, whose label begins at a place.
+     * @param {number} label
+     * @param {number} formula where what is behind the keyword begins
+     * @param {number} end
+     */
+    addFloating(label, formula, end) {
+        const { data, text } = this;
+        let labelEnd = label;
+        while (data[labelEnd] > Byte.space) labelEnd++;
+        let close = data.indexOf(Byte.dollar, formula);
+        while (close >= 0 && close < end && data[close + 1] === Byte.open) {
+            close = data.indexOf(Byte.dollar, afterComment(data, close));
+        }
+        const number = text.givenByLabel.add(label, labelEnd);
+        if (number === text.given.size) text.given.push(label, labelEnd, formula, close);
     }
 
     /**

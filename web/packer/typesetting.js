@@ -1,5 +1,6 @@
-// How a `$t` comment says that symbols are shown: `althtmldef`, by Unicode, and `htmlvarcolor`. Nothing
-// of a `$t` comment becomes markup: what is shown is made of pieces of text and the names of a few tags.
+// How a `$t` comment says that symbols are shown: `althtmldef`, by Unicode, and `htmlvarcolor`; and where references are
+// explained, `htmlbibliography`. Nothing of a `$t` comment becomes markup: what is shown is made of pieces of text and
+// the names of a few tags, and an address is kept only if it is that of a page.
 
 import { visible } from "./visible.js";
 
@@ -53,6 +54,8 @@ const CIRCLE = [
     [345, "purple"],
     [361, "red"],
 ];
+/** The address of a page: on the web, or beside the page of the database. */
+const PAGE = /^(?:https?:\/\/[\w.-]+(?::[0-9]+)?(?:\/[\w.~-]+)*\/)?[\w][\w.-]*\.html?$/;
 /** Signs of a definition; a longer one isn't used. */
 const LONGEST = 200;
 const LARGEST = 0x10ffff;
@@ -349,18 +352,32 @@ function isShown(pieces) {
 }
 
 /**
+ * What a `$t` comment says: how symbols are shown, the classes of variables, and which page explains references.
+ * @typedef {{ symbols: Map<string, Piece[]>, legend: Piece[], bibliography: string | null }} Typesetting
+ */
+
+/**
+ * The address of a page, or null where a text is none.
+ * @param {string} text
+ */
+function pageAt(text) {
+    return text.length <= LONGEST && PAGE.test(text) ? text : null;
+}
+
+/**
  * Reads the body of a `$t` comment. A later definition of a symbol replaces one before. What isn't a statement of the
  * kind that is wanted is passed over.
  * @param {string | null} text
  * @param {Entities} entities
- * @returns {{ symbols: Map<string, Piece[]>, legend: Piece[] }}
+ * @returns {Typesetting}
  */
 export function readTypesetting(text, entities) {
     const definitions = new Definitions(entities);
-    /** @type {{ symbols: Map<string, Piece[]>, legend: Piece[] }} */
-    const found = { symbols: new Map(), legend: [] };
+    /** @type {Typesetting} */
+    const found = { symbols: new Map(), legend: [], bibliography: null };
     for (const words of statementsOf(text ?? "")) {
         if (words[0] === "htmlvarcolor") found.legend = definitions.pieces(joined(words.slice(1)) ?? "");
+        if (words[0] === "htmlbibliography") found.bibliography = pageAt(joined(words.slice(1)) ?? "");
         const said = joined(words.slice(3));
         if (words[0] !== "althtmldef" || words[2] !== "as" || said === null) continue;
         const symbol = isQuoted(words[1]) ? unquoted(words[1]) : words[1];

@@ -98,3 +98,15 @@ test("signs that no screen shows", () => {
     assert.equal(visible("a\x1b\x7f\u200b\u202eb"), "a\u241b\u2421\ufffd\ufffdb");
     assert.equal(visible("\u2200\u{1d465}"), "\u2200\u{1d465}");
 });
+
+test("the page of the bibliography is an address of a page, or none", () => {
+    const read = (written) => readTypesetting(`htmlbibliography "${written}";`, ENTITIES).bibliography;
+    for (const good of ["mmset.html", "https://us.metamath.org/mpeuni/mmset.html", "http://localhost:8000/x.htm"]) {
+        assert.equal(read(good), good);
+    }
+    for (const bad of ["javascript:alert(1)//x.html", "data:text/html,x.html", "//host/x.html", "../x.html", "x.html#y"]) {
+        assert.equal(read(bad), null, bad);
+    }
+    assert.equal(readTypesetting('htmlbibliography "mm" + "set.html";', ENTITIES).bibliography, "mmset.html");
+    assert.equal(readTypesetting(null, ENTITIES).bibliography, null);
+});

@@ -15,6 +15,14 @@ const OTHERS = [
     { name: "zip", signs: [0x50, 0x4b, 0x03, 0x04] },
     { name: "zstd", signs: [0x28, 0xb5, 0x2f, 0xfd] },
 ];
+/** How files begin that are no text, though the first bytes could be some. */
+const DOCUMENT = /^%PDF-/;
+/** Bytes that no text has. */
+const NO_TEXT = /[\x00-\x08\x0e-\x1f\x7f]/;
+/** How a member of a file begins that is compressed by gzip, and how often no member begins where it could. */
+const MEMBER = [0x1f, 0x8b, 0x08];
+const RESERVED_FLAGS = 0xe0;
+const MOST_TRIES = 64;
 /** How a report begins, or a refusal; neither is ever the beginning of a database that is accepted. */
 const REPORT = /^(?:mmdepend [0-9]+|refused [^ \n]+ E[^ \n]*)(?:\n|$)/;
 
@@ -51,12 +59,14 @@ export async function chosen(file, isShared, tell) {
     const begins = (/** @type {number[]} */ signs) => signs.every((sign, at) => bytes[at] === sign);
     const other = OTHERS.find(({ signs }) => begins(signs));
     if (other) throw new Unfit(`${name} is compressed by ${other.name}, which no browser unpacks. Unpack it first.`);
-    if (REPORT.test(new TextDecoder("latin1").decode(bytes))) {
-        throw new Unfit(`${name} is a report of the program, where the database is wanted.`);
-    }
+    const first = new TextDecoder("latin1").decode(bytes);
+    if (REPORT.test(first)) throw new Unfit(`${name} is a report of the program, where the database is wanted.`);
     if (begins(GZIP)) {
         tell(`Unpacking ${name}`);
         return { name, file: await forWorkers(await unpacked(file, name), name, isShared) };
+    }
+    if (NO_TEXT.test(first) || DOCUMENT.test(first)) {
+        throw new Unfit(`${name} is no text: it begins with bytes that no database has. A database is a file .mm.`);
     }
     if (file.size > MOST_BYTES) throw new TooLong();
     return { name, file: await forWorkers(file, name, isShared) };
@@ -70,7 +80,15 @@ export async function chosen(file, isShared, tell) {
  * @returns {Promise<Contents>}
  */
 async function forWorkers(file, name, isShared) {
-    if (isShared) return file;
+    return isShared ? file : bytesOf(file, name);
+}
+
+/**
+ * The bytes of a file.
+ * @param {Blob} file
+ * @param {string} name
+ */
+async function bytesOf(file, name) {
     try {
         return new Uint8Array(await file.arrayBuffer());
     } catch (error) {
@@ -80,15 +98,55 @@ async function forWorkers(file, name, isShared) {
 }
 
 /**
- * The text that a file was compressed from by gzip, held by the browser and not by the page.
+ * The text that a file was compressed from by gzip, held by the browser and not by the page. The file may have several
+ * members, one behind the other. Browsers unpack one, and don't say where it ends, so the places are tried where another
+ * one could begin.
  * @param {File} file
  * @param {string} name
  */
 async function unpacked(file, name) {
+    const whole = await inflated(file, 0);
+    if (whole) return whole;
+    const places = memberPlaces(await bytesOf(file, name));
+    /** @type {Blob[]} */
+    const parts = [];
+    let size = 0;
+    let start = 0;
+    let tries = 0;
+    for (const end of places) {
+        const part = await inflated(file.slice(start, end), size);
+        if (part) {
+            parts.push(part);
+            size += part.size;
+            start = end;
+        } else if (++tries > MOST_TRIES) break;
+    }
+    if (start < file.size) throw new Unfit(`${name} can't be unpacked: the compressed file is damaged.`);
+    return new Blob(parts);
+}
+
+/**
+ * Where members could begin behind the first one, and where the last one ends.
+ * @param {Uint8Array} bytes
+ */
+function* memberPlaces(bytes) {
+    for (let at = bytes.indexOf(MEMBER[0], 1); at >= 0; at = bytes.indexOf(MEMBER[0], at + 1)) {
+        const isMember = MEMBER.every((byte, more) => bytes[at + more] === byte);
+        if (isMember && (bytes[at + MEMBER.length] & RESERVED_FLAGS) === 0) yield at;
+    }
+    yield bytes.length;
+}
+
+/**
+ * What one member was compressed from, or null where it is no whole one. TooLong where the text has too many bytes.
+ * @param {Blob} member
+ * @param {number} before how many bytes of the text came before
+ */
+async function inflated(member, before) {
     const Inflater = /** @type {{ new (format: string): ReadableWritablePair<Uint8Array, BufferSource> }} */ (
         /** @type {any} */ (globalThis).DecompressionStream
     );
-    let size = 0;
+    let size = before;
     const counter = new TransformStream({
         transform(part, controller) {
             size += part.length;
@@ -97,9 +155,9 @@ async function unpacked(file, name) {
         },
     });
     try {
-        return await new Response(file.stream().pipeThrough(new Inflater("gzip")).pipeThrough(counter)).blob();
+        return await new Response(member.stream().pipeThrough(new Inflater("gzip")).pipeThrough(counter)).blob();
     } catch (error) {
         if (size > MOST_BYTES) throw new TooLong();
-        throw new Unfit(`${name} can't be unpacked: the compressed file is damaged, or has several parts.`);
+        return null;
     }
 }

@@ -33,9 +33,11 @@ export class Saving {
      * @param {Tools} tools
      * @param {Request} request
      * @param {Chosen} database
+     * @param {() => void} begin shows the view at the start
      */
-    constructor(tools, request, database) {
+    constructor(tools, request, database, begin) {
         this.tools = tools;
+        this.begin = begin;
         this.request = request;
         this.database = database;
         this.report = element("select", { id: "report" });
@@ -59,7 +61,8 @@ export class Saving {
             this.button,
             this.told,
         );
-        const again = element("button", { type: "button", id: "again", onclick: anew }, "Another database");
+        const name = "Another database, or other options";
+        const again = element("button", { type: "button", id: "again", onclick: () => this.begin() }, name);
         const left = this.request.open ? ", but those that are left open" : "";
         const verified = `The core checked every proof of ${this.database.name} on this machine${left}.`;
         return [element("p", { id: "verified" }, verified), fields, element("p", {}, again)];
@@ -82,10 +85,4 @@ export class Saving {
         }
         this.button.disabled = false;
     }
-}
-
-/** Opens the page anew, which frees all memory. */
-function anew() {
-    window.location.hash = "";
-    window.location.reload();
 }

@@ -17,6 +17,8 @@ import { visible } from "../packer/visible.js";
 /** @typedef {import("./types.js").Told} Told */
 /** @typedef {import("./verification.js").Tools} Tools */
 
+/** What the page is called until it has a database. */
+const TITLE = document.title;
 /** The fault of a text that has too many bytes. */
 const TOO_LONG = "E00";
 
@@ -62,6 +64,7 @@ class Start {
         this.tools = tools;
         this.main = byId("main");
         this.form = /** @type {HTMLFormElement} */ (byId("start"));
+        this.same = byId("same");
         this.input = /** @type {HTMLInputElement} */ (byId("file"));
         this.drop = byId("drop");
         this.pair = byId("pair");
@@ -75,7 +78,11 @@ class Start {
         this.running = null;
         /** Counts what was begun, so that what was cancelled ends where it next looks. */
         this.turn = 0;
+        /** What ends the page of the database that is shown. */
+        this.endPage = () => {};
         this.isShown = false;
+        /** The view at the start, which comes back for another database. */
+        this.parts = Array.from(this.main.childNodes);
         this.listen();
     }
 
@@ -92,14 +99,45 @@ class Start {
         });
         document.addEventListener("dragover", (event) => {
             event.preventDefault();
-            this.drop.classList.toggle("over", !this.isShown);
+            this.drop.classList.add("over");
         });
         document.addEventListener("dragleave", () => this.drop.classList.remove("over"));
         document.addEventListener("drop", (event) => {
             event.preventDefault();
             this.drop.classList.remove("over");
-            if (!this.isShown && !this.running) this.take(Array.from(event.dataTransfer?.files ?? []));
+            const files = Array.from(event.dataTransfer?.files ?? []);
+            if (files.length === 0) return;
+            this.startOver();
+            this.take(files);
         });
+        this.same.addEventListener("click", () => this.take(this.files));
+    }
+
+    /** Goes back to the view at the start, whatever was shown or done; the options are those that were chosen last. */
+    startOver() {
+        if (this.isShown) {
+            this.endPage();
+            this.endPage = () => {};
+            this.isShown = false;
+            history.replaceState(null, "", window.location.pathname + window.location.search);
+            this.main.replaceChildren(...this.parts);
+            byId("home").textContent = document.title = TITLE;
+            byId("more").replaceChildren();
+            document.documentElement.dataset.state = "start";
+        }
+        this.turn++;
+        this.end();
+        this.told.textContent = "";
+        this.answer.replaceChildren();
+    }
+
+    /** Shows the view at the start, from where the same files can be verified with other options. */
+    offerAgain() {
+        this.startOver();
+        const names = this.files.map((file) => visible(file.name)).join(" and ");
+        this.same.textContent = `Verify ${names} again`;
+        this.same.hidden = names === "";
+        this.main.querySelector("h1")?.focus();
     }
 
     /** What the form asks for. @returns {Request} */
@@ -116,6 +154,7 @@ class Start {
     take(files) {
         this.answer.replaceChildren();
         this.pair.hidden = true;
+        this.same.hidden = true;
         this.files = files;
         if (files.length === 1) this.verify(files);
         else if (files.length === 2) this.askWhichIsOlder();
@@ -209,8 +248,9 @@ class Start {
         const model = new Model(new MadeBlocks(blocks));
         this.isShown = true;
         byId("home").textContent = model.facts.title;
-        byId("more").append(...new Saving(this.tools, request, database).parts());
-        await present(model);
+        const saving = new Saving(this.tools, request, database, () => this.offerAgain());
+        byId("more").replaceChildren(...saving.parts());
+        this.endPage = await present(model);
         this.main.querySelector("h1")?.focus({ preventScroll: true });
     }
 
@@ -263,6 +303,7 @@ class Start {
         this.say(
             "There is too little memory",
             element("p", {}, `The browser gives the page too little memory to verify ${name}.`),
+            element("p", {}, "The core can have 4 GB at most, for the text and some five to ten times as much again."),
             element("p", {}, "So nothing is known of it. Close other pages, or use the program."),
         );
     }

@@ -1,6 +1,7 @@
 // The view of one axiom: what rests on it, and what falls if it is dropped together with others.
 
 import { count, counted, element, percent } from "./elements.js";
+import { Kind } from "./model.js";
 
 /** @typedef {import("./elements.js").Child} Child */
 /** @typedef {import("./elements.js").Elements} Elements */
@@ -33,7 +34,7 @@ export class AxiomView {
      */
     render(number, comment, others, since) {
         const column = this.model.columnOf[number];
-        const head = this.statements.head(number, comment);
+        const head = [...this.statements.head(number, comment), ...this.leftOpen(number)];
         const citedBy = this.statements.citedBy(number);
         if (column < 0) {
             const label = this.model.labels.at(number);
@@ -42,6 +43,17 @@ export class AxiomView {
             return [...head, element("p", { class: "note" }, note), ...since, citedBy];
         }
         return [...head, ...since, this.users(column), this.dropping(column, others), citedBy];
+    }
+
+    /**
+     * What there is of a proof that is left open.
+     * @param {number} number
+     */
+    leftOpen(number) {
+        const kind = this.model.kinds[number];
+        if (kind !== Kind.openColumn && kind !== Kind.otherOpen) return [];
+        const sign = element("code", {}, "?");
+        return [element("p", { class: "note", id: "left-open" }, "Its proof is ", sign, ": it is left open.")];
     }
 
     /** @param {number} column */

@@ -45,7 +45,9 @@ export function byId(id) {
 }
 
 /** With more hypotheses than this only their number stands in a line. */
-const MOST_GIVEN = 3;
+export const MOST_GIVEN = 3;
+/** A label with more letters may be broken at the end of a line. */
+const LONGEST_WHOLE = 20;
 /** A formula with more signs is cut in lists of what was found. */
 const LONGEST_FOUND = 240;
 /** So many labels or lines are shown at first. */
@@ -86,6 +88,25 @@ export function percent(part, whole) {
     return `${share.toFixed(1)} %`;
 }
 
+/**
+ * A formula that a screen reader reads as the database spells it, which tells its symbols apart.
+ * @param {HTMLElement} made
+ * @param {string} spelling
+ */
+function spelled(made, spelling) {
+    made.setAttribute("role", "math");
+    made.setAttribute("aria-label", spelling);
+    return made;
+}
+
+/**
+ * The class of a label that stays in one line, after a space; nothing for a long one.
+ * @param {string} label
+ */
+function wholeIfShort(label) {
+    return label.length <= LONGEST_WHOLE ? " look-whole" : "";
+}
+
 export class Elements {
     /**
      * @param {Model} model
@@ -110,11 +131,9 @@ export class Elements {
     link(number, attributes = {}) {
         const column = this.model.columnOf[number];
         const colour = column < 0 ? "" : ` of-${this.model.groupKey(column)}`;
-        return element(
-            "a",
-            { href: this.address(number), class: `label${colour}`, ...attributes },
-            this.model.labels.at(number),
-        );
+        const label = this.model.labels.at(number);
+        const classes = `label${colour}${wholeIfShort(label)}`;
+        return element("a", { href: this.address(number), class: classes, ...attributes }, label);
     }
 
     /**
@@ -177,8 +196,8 @@ export class Elements {
      */
     formula(text, isExplained = false) {
         const made = this.emptyFormula();
-        this.putRuns(made, this.symbols.runs(text), isExplained);
-        return made;
+        const isTold = this.putRuns(made, this.symbols.runs(text), isExplained);
+        return isTold ? spelled(made, text) : made;
     }
 
     /**
@@ -193,12 +212,14 @@ export class Elements {
     }
 
     /**
+     * Adds what is shown. Returns whether the spelling of a symbol is told.
      * @param {HTMLElement} made
      * @param {Run[]} runs
      * @param {boolean} isExplained
      */
     putRuns(made, runs, isExplained) {
         let plain = "";
+        let isAnyTold = false;
         for (const { text, tags, symbol, isAlike } of runs) {
             const isTold = symbol !== "" && (isAlike || (isExplained && symbol !== text));
             if (tags === "" && !isTold) {
@@ -207,11 +228,13 @@ export class Elements {
             }
             const node = this.tagged(text, tags);
             if (isTold) node.title = symbol;
+            isAnyTold ||= isTold;
             if (isAlike) node.classList.add("alike");
             made.append(plain, node);
             plain = "";
         }
         made.append(plain);
+        return isAnyTold;
     }
 
     /**
@@ -244,8 +267,8 @@ export class Elements {
     variable(variable) {
         const made = this.emptyFormula();
         const runs = this.symbols.runsOf(variable, false).filter((run) => run.text.trim() !== "");
-        this.putRuns(made, runs.map((run) => ({ ...run, text: run.text.trim() })), true);
-        return made;
+        const isTold = this.putRuns(made, runs.map((run) => ({ ...run, text: run.text.trim() })), true);
+        return isTold ? spelled(made, variable) : made;
     }
 
     /**
@@ -480,8 +503,8 @@ export class Elements {
      */
     mathematics(formula) {
         const made = this.emptyFormula();
-        this.putRuns(made, this.symbols.runs(formula, false), false);
-        return made;
+        const isTold = this.putRuns(made, this.symbols.runs(formula, false), false);
+        return isTold ? spelled(made, formula) : made;
     }
 
     /**
@@ -494,14 +517,20 @@ export class Elements {
     }
 
     /**
-     * A reference to a book or article: it finds all that name it.
+     * A reference to a book or article: it leads to the bibliography, where the database names one, and its page to all
+     * that name it. Without a bibliography it finds these itself.
      * @param {string} author
      * @param {string} page
      */
     reference(author, page) {
-        const address = `#search=${encodeURIComponent(`[${author}]`)}`;
-        const made = element("span", { class: "reference" }, "[", element("a", { href: address }, author), "]");
-        if (page !== "") made.append(` ${page}`);
+        const { bibliography } = this.model.facts;
+        const all = `#search=${encodeURIComponent(`[${author}]`)}`;
+        const address = bibliography === null ? all : `${bibliography}#${encodeURIComponent(author)}`;
+        const link = element("a", { href: address, rel: bibliography === null ? null : "noreferrer noopener" }, author);
+        const made = element("span", { class: "reference" }, "[", link, "]");
+        if (page === "") return made;
+        const title = `All that name ${author}`;
+        made.append(" ", bibliography === null ? page : element("a", { href: all, title }, page));
         return made;
     }
 

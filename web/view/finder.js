@@ -1,9 +1,8 @@
 // The field of the search with what was found, and the view of all that was found.
 
-import { byId, count, element } from "./elements.js";
+import { MOST_GIVEN, byId, count, element } from "./elements.js";
 import { plainText } from "./markup.js";
 import { Search } from "./search.js";
-import { plain } from "./symbols.js";
 
 /** @typedef {import("./elements.js").Child} Child */
 /** @typedef {import("./elements.js").Elements} Elements */
@@ -26,8 +25,9 @@ export class Finder {
      * @param {Elements} elements
      * @param {Symbols} symbols
      * @param {(address: string) => void} go
+     * @param {AbortSignal} signal ends what listens
      */
-    constructor(model, elements, symbols, go) {
+    constructor(model, elements, symbols, go, signal) {
         this.model = model;
         this.elements = elements;
         this.search = new Search(model, symbols);
@@ -39,36 +39,54 @@ export class Finder {
         /** @type {Found[]} */
         this.best = [];
         this.total = 0;
-        this.listen();
+        this.listen(signal);
+    }
+
+    /** Empties the field, which another database takes over. */
+    end() {
+        this.close();
+        this.input.value = this.found.textContent = "";
+        this.input.disabled = true;
+        delete this.input.dataset.ready;
     }
 
     /** Makes the texts ready, and finds again what was typed meanwhile. */
     async prepare() {
         if (this.search.isWhole) return;
         await this.search.prepare();
+        if (this.input.disabled) return;
         this.input.dataset.ready = "whole";
         if (!this.results.hidden) this.find();
     }
 
-    listen() {
+    /** @param {AbortSignal} signal */
+    listen(signal) {
         this.input.disabled = false;
-        this.input.addEventListener("focus", () => this.prepare());
-        this.input.addEventListener("input", () => this.find());
-        this.input.addEventListener("keydown", (event) => this.onKey(event));
-        byId("search-form").addEventListener("submit", (event) => {
+        this.input.addEventListener("focus", () => this.prepare(), { signal });
+        this.input.addEventListener("input", () => this.find(), { signal });
+        this.input.addEventListener("keydown", (event) => this.onKey(event), { signal });
+        const submit = (/** @type {Event} */ event) => {
             event.preventDefault();
             this.choose(Math.max(0, this.active));
-        });
-        document.addEventListener("keydown", (event) => {
-            const isTyping = event.target instanceof Element && event.target.matches("input, select, textarea");
-            if (event.key !== "/" || isTyping || event.ctrlKey || event.altKey || event.metaKey) return;
-            event.preventDefault();
-            this.input.focus();
-            this.input.select();
-        });
-        document.addEventListener("pointerdown", (event) => {
+        };
+        byId("search-form").addEventListener("submit", submit, { signal });
+        const closeOutside = (/** @type {Event} */ event) => {
             if (!(event.target instanceof Element) || !event.target.closest("#search-form")) this.close();
-        });
+        };
+        document.addEventListener("keydown", (event) => this.onSlash(event), { signal });
+        document.addEventListener("pointerdown", closeOutside, { signal });
+    }
+
+    /**
+     * Goes to the field, where `/` is typed elsewhere.
+     * @param {KeyboardEvent} event
+     */
+    onSlash(event) {
+        const isTyping = event.target instanceof Element && event.target.matches("input, select, textarea");
+        if (event.key !== "/" || isTyping || event.ctrlKey || event.altKey || event.metaKey) return;
+        event.preventDefault();
+        this.input.focus();
+        this.input.select();
     }
 
     find() {
@@ -104,7 +122,7 @@ export class Finder {
         const said = where === "comment" ? (this.model.knownComment(number) ?? "") : "";
         const text = element("span", { class: "text" });
         if (said !== "") text.append(...this.excerpt(said, words, BEFORE));
-        else text.append(...this.formulas(number, where === "formula" ? words : []));
+        else text.append(...this.formulas(number));
         return element(
             "li",
             {
@@ -122,25 +140,24 @@ export class Finder {
     }
 
     /**
-     * The formula of an assertion, and before it the hypotheses if only these have all the words.
+     * The formula of an assertion, and before it its hypotheses: without these it would say more than it does.
      * @param {number} number
-     * @param {string[]} words
      */
-    formulas(number, words) {
+    formulas(number) {
         const { model, elements } = this;
-        const formula = model.formulas.at(number);
-        const small = formula.toLowerCase();
-        const key = this.search.symbols.keyOfFormula(formula);
+        const given = model.hypotheses.of(number);
         /** @type {Child[]} */
         const parts = [];
-        if (!words.every((word) => small.includes(word) || key.includes(plain(word)))) {
-            for (const index of model.hypotheses.of(number)) {
-                const sign = element("span", { class: "sign" }, parts.length > 0 ? " & " : "");
+        if (given.length > MOST_GIVEN) {
+            parts.push(element("span", { class: "hint" }, `${count(given.length)} hypotheses`));
+        } else {
+            given.forEach((index, at) => {
+                const sign = element("span", { class: "sign" }, at > 0 ? " & " : "");
                 parts.push(sign, elements.shortFormula(model.hypothesisFormulas.at(index)));
-            }
-            parts.push(element("span", { class: "sign" }, " ⇒ "));
+            });
         }
-        return [...parts, elements.shortFormula(formula)];
+        if (given.length > 0) parts.push(element("span", { class: "sign" }, " ⇒ "));
+        return [...parts, elements.shortFormula(model.formulas.at(number))];
     }
 
     /**

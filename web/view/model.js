@@ -38,7 +38,7 @@ export const Group = { axiom: 0, definition: 1, logic: 2, open: 3, syntax: 4 };
  * @param {string} name
  */
 export function isLater(name) {
-    return name.startsWith("comments-") || name === "chapter-texts" || name === "against";
+    return /^(?:comments-|proof-)/.test(name) || name === "chapter-texts" || name === "against";
 }
 
 /** The database. Assertions are numbers from 0, in file order; theorems have a row, axioms a column. */
@@ -149,6 +149,19 @@ export class Model {
             if (!hasLogic) groups[Group.logic].hint = "all of them";
         }
         return groups;
+    }
+
+    /** The formulas of all axioms. */
+    *formulasOfAxioms() {
+        for (let number = 0; number < this.size; number++) {
+            const kind = this.kinds[number];
+            if (kind === Kind.column || kind === Kind.otherAxiom) yield this.formulas.at(number);
+        }
+    }
+
+    /** How many axioms there are on which a theorem rests. */
+    get usedAxioms() {
+        return this.usersOf.reduce((number, users) => number + (users > 0 ? 1 : 0), 0);
     }
 
     /** The group of axioms that matter first: those called so, or else the other logical ones. */
@@ -262,7 +275,7 @@ export class Model {
     get firstUsers() {
         if (!this.knownFirstUsers) {
             const first = new Int32Array(this.axioms.length).fill(-1);
-            let left = this.usersOf.reduce((number, users) => number + (users > 0 ? 1 : 0), 0);
+            let left = this.usedAxioms;
             const seen = new Uint32Array(this.words);
             for (let row = 0; row < this.theorems.length && left > 0; row++) {
                 for (let word = 0; word < this.words; word++) {

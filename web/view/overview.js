@@ -72,10 +72,10 @@ export class Overview {
                     element("span", { class: "hint" }, `(${group.hint})`),
                 ),
             );
-        const number = counted(model.theorems.length, "theorem");
-        const lead = `${number}, which rest on ${counted(model.axioms.length, "axiom")}:`;
+        const number = counted(model.theorems.length, "theorem, which rests", "theorems, which rest");
+        const lead = `${number} on ${count(model.usedAxioms)} of ${counted(model.axioms.length, "axiom")}:`;
         const list = element("ul", { class: "legend" }, ...legend);
-        const made = element("div", {}, element("p", { class: "lead" }, lead), list);
+        const made = element("div", {}, element("p", { class: "lead", id: "lead" }, lead), list);
         if (model.facts.legend.length > 0) made.append(this.variablesLegend());
         if (model.isCompared) {
             made.append(element("p", {}, element("a", { href: "#difference" }, "What is new, gone and renamed")));

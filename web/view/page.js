@@ -7,7 +7,7 @@ import { Elements, byId, counted, element } from "./elements.js";
 import { Finder } from "./finder.js";
 import { Overview } from "./overview.js";
 import { Statements } from "./statements.js";
-import { Symbols } from "./symbols.js";
+import { Symbols, infixSymbols } from "./symbols.js";
 import { TheoremView } from "./theorem.js";
 
 /** @typedef {import("./elements.js").Child} Child */
@@ -26,14 +26,18 @@ class Page {
     constructor(model) {
         this.model = model;
         this.main = byId("main");
-        this.symbols = new Symbols(model.facts, model.typecodeOf);
+        const infix = infixSymbols(model.formulasOfAxioms(), model.typecodeOf);
+        this.symbols = new Symbols(model.facts, model.typecodeOf, infix);
         this.elements = new Elements(model, this.symbols);
         this.overview = new Overview(model, this.elements, (number) => this.go(this.elements.address(number)));
         const statements = new Statements(model, this.elements);
         this.theorem = new TheoremView(model, this.elements, statements, this.overview.colours);
         this.axiom = new AxiomView(model, this.elements, statements, (axiom, others) => this.keepTicks(axiom, others));
         this.chapter = new ChapterView(model, this.elements, this.overview);
-        this.finder = new Finder(model, this.elements, this.symbols, (address) => this.go(address));
+        /** Ends what listens to the page, once another database takes its place. */
+        this.ending = new AbortController();
+        const { signal } = this.ending;
+        this.finder = new Finder(model, this.elements, this.symbols, (address) => this.go(address), signal);
         /** @type {DifferenceView | null} */
         this.difference = null;
         this.turn = 0;
@@ -86,12 +90,11 @@ class Page {
         const comment = await model.comment(number);
         const since = (await this.since())?.sinceOf(number) ?? [];
         if (model.rowOf[number] >= 0) return { name: label, parts: this.theorem.render(number, comment, since) };
-        const others = ticked
-            .split(",")
-            .map((other) => model.labels.find(other))
-            .map((other) => (other === undefined ? -1 : model.columnOf[other]))
-            .filter((column) => column >= 0);
-        return { name: label, parts: this.axiom.render(number, comment, others, since) };
+        const named = ticked.split(",").filter((other) => other !== "");
+        const columns = named.map((other) => model.columnOf[model.labels.find(other) ?? -1] ?? -1);
+        const unknown = named.filter((_, at) => columns[at] < 0);
+        const parts = this.axiom.render(number, comment, columns.filter((column) => column >= 0), since);
+        return { name: label, parts: [...parts, ...this.unknown(unknown)] };
     }
 
     /**
@@ -118,6 +121,17 @@ class Page {
         const difference = await this.since();
         if (!difference) return this.notFound("no older release beside it for", "difference");
         return { name: `Since ${difference.difference.name}`, parts: difference.render() };
+    }
+
+    /**
+     * Tells of labels in the address that are no axioms.
+     * @param {string[]} labels
+     */
+    unknown(labels) {
+        if (labels.length === 0) return [];
+        const names = labels.flatMap((label, at) => [at > 0 ? ", " : "", element("code", {}, label)]);
+        const told = "The address names what is no axiom of this database, and isn't given up here: ";
+        return [element("p", { class: "note", id: "unknown", role: "status" }, told, ...names, ".")];
     }
 
     /**
@@ -158,15 +172,27 @@ class Page {
     }
 
     listen() {
-        window.addEventListener("popstate", () => this.show(false));
-        byId("skip").addEventListener("click", (event) => {
+        const { signal } = this.ending;
+        window.addEventListener("popstate", () => this.show(false), { signal });
+        const skip = (/** @type {Event} */ event) => {
             event.preventDefault();
             this.main.querySelector("h1")?.focus();
-        });
-        window.matchMedia("(prefers-color-scheme: dark)").addEventListener("change", () => {
+        };
+        byId("skip").addEventListener("click", skip, { signal });
+        const redraw = () => {
             this.overview.redraw();
             if (window.location.hash.length > 1) this.showAgain();
-        });
+        };
+        window.matchMedia("(prefers-color-scheme: dark)").addEventListener("change", redraw, { signal });
+    }
+
+    /** Ends it: it shows nothing more, and hears nothing. */
+    end() {
+        this.turn++;
+        this.ending.abort();
+        this.finder.end();
+        byId("spelling").hidden = true;
+        byId("made").replaceChildren();
     }
 
     /** The switch between the symbols and the spelling of the database. */
@@ -180,16 +206,20 @@ class Page {
         }
         button.hidden = false;
         button.setAttribute("aria-pressed", String(!this.symbols.isOn));
-        button.addEventListener("click", () => {
-            this.symbols.isOn = !this.symbols.isOn;
-            button.setAttribute("aria-pressed", String(!this.symbols.isOn));
-            try {
-                window.localStorage.setItem(KEPT, this.symbols.isOn ? "shown" : "written");
-            } catch (error) {
-                // It holds until the page is closed, then.
-            }
-            this.showAgain();
-        });
+        const { signal } = this.ending;
+        button.addEventListener("click", () => this.changeSpelling(button), { signal });
+    }
+
+    /** @param {HTMLElement} button */
+    changeSpelling(button) {
+        this.symbols.isOn = !this.symbols.isOn;
+        button.setAttribute("aria-pressed", String(!this.symbols.isOn));
+        try {
+            window.localStorage.setItem(KEPT, this.symbols.isOn ? "shown" : "written");
+        } catch (error) {
+            // It holds until the page is closed, then.
+        }
+        this.showAgain();
     }
 
     fillFooter() {
@@ -209,7 +239,7 @@ class Page {
 }
 
 /**
- * Shows a database. The texts for its search are made ready while nobody waits for them.
+ * Shows a database. The texts for its search are made ready while nobody waits for them. Returns what ends it.
  * @param {Model} model
  */
 export async function present(model) {
@@ -219,4 +249,5 @@ export async function present(model) {
     document.documentElement.dataset.state = "shown";
     if ("requestIdleCallback" in window) window.requestIdleCallback(() => page.finder.prepare());
     else setTimeout(() => page.finder.prepare());
+    return () => page.end();
 }

@@ -1,6 +1,7 @@
 // Finds assertions by label, formula in both spellings, and comment. Several words may stand in any order.
 
 import { Texts } from "./decode.js";
+import { firstWord } from "./model.js";
 import { plain } from "./symbols.js";
 
 /** @typedef {import("./model.js").Model} Model */
@@ -10,8 +11,14 @@ import { plain } from "./symbols.js";
 /** Where a word was found, as bits. */
 const In = { label: 1, formula: 2, comment: 4 };
 
-/** What a word adds to the rank of an assertion, by where it was found. */
-const Rank = { same: 40, beginning: 24, label: 16, formula: 6, phrase: 8, comment: 0 };
+/**
+ * What a word adds to the rank of an assertion, by where it was found; and what is added if a formula has all words
+ * side by side, and if it is just what was typed. A label that has a word of a single one comes before such a formula, but
+ * not one that has all of several words.
+ */
+const Rank = { same: 40, beginning: 24, label: 16, formula: 6, phrase: 8, exact: 9, more: 18, comment: 0 };
+/** A phrase in quotes, or a word. Quotes that stand alone are symbols. */
+const WORD = /(?<!\S)"(\S|\S[^"]*\S)"(?!\S)|\S+/g;
 const MOST_KNOWN = 24;
 const LONGEST_ORDER = 4095;
 const SLICE = 8; // milliseconds of work at a time
@@ -43,6 +50,21 @@ class Lines {
             line++;
             place = line < size ? text.indexOf(word, starts[line]) : -1;
         }
+    }
+
+    /**
+     * Whether the first field of the line of an assertion, up to a tab, is a text, all of it or from a place on.
+     * @param {number} number
+     * @param {string} wanted
+     * @param {number} place
+     */
+    begins(number, wanted, place) {
+        const { text, starts } = this.texts;
+        const start = starts[number - this.first];
+        return [0, place].some((at) => {
+            const after = text[start + at + wanted.length] ?? "\n";
+            return text.startsWith(wanted, start + at) && (after === "\t" || after === "\n");
+        });
     }
 
     /**
@@ -78,6 +100,8 @@ export class Search {
         this.formulas = [];
         /** @type {Lines[]} */
         this.shown = [];
+        /** How many letters the typecode of each formula has, in both spellings. */
+        this.codeSizes = { written: new Uint32Array(this.size), shown: new Uint32Array(this.size) };
         /** @type {Lines[]} */
         this.comments = [];
         this.isWhole = false;
@@ -126,8 +150,11 @@ export class Search {
         const shown = [];
         for (let number = first; number < end; number++) {
             const all = [model.formulas.at(number)];
+            const code = firstWord(all[0]);
+            this.codeSizes.written[number] = code.length;
+            this.codeSizes.shown[number] = symbols.keyOf(code).length;
             for (const index of model.hypotheses.of(number)) all.push(model.hypothesisFormulas.at(index));
-            written.push(all.join("\t").toLowerCase());
+            written.push(all.map(squeezed).join("\t"));
             shown.push(all.map((formula) => symbols.keyOfFormula(formula)).join("\t"));
         }
         this.formulas.push(new Lines(new Texts(written.join("\n"), end - first), first));
@@ -143,15 +170,16 @@ export class Search {
         const known = this.known.get(word);
         if (known) return known;
         const masks = new Uint8Array(this.size);
+        const written = squeezed(word);
         const shown = plain(word);
         const before = word.length > 1 ? this.known.get(word.slice(0, -1)) : undefined;
         if (before && this.isWhole && isSparse(before)) {
             for (let number = 0; number < this.size; number++) {
-                if (before[number]) masks[number] = this.maskOf(number, word, shown);
+                if (before[number]) masks[number] = this.maskOf(number, word, written, shown);
             }
         } else {
             this.labels.mark(word, masks, In.label);
-            for (const lines of this.formulas) lines.mark(word, masks, In.formula);
+            for (const lines of this.formulas) lines.mark(written, masks, In.formula);
             if (shown !== "") for (const lines of this.shown) lines.mark(shown, masks, In.formula);
             for (const lines of this.comments) lines.mark(word, masks, In.comment);
         }
@@ -164,12 +192,13 @@ export class Search {
      * Where one assertion has a word.
      * @param {number} number
      * @param {string} word
-     * @param {string} shown
+     * @param {string} written without spaces
+     * @param {string} shown the same in plain letters
      */
-    maskOf(number, word, shown) {
+    maskOf(number, word, written, shown) {
         const chunk = Math.floor(number / this.model.facts.chunk);
         let mask = this.labels.has(number, word) ? In.label : 0;
-        if (this.formulas[chunk]?.has(number, word)) mask |= In.formula;
+        if (this.formulas[chunk]?.has(number, written)) mask |= In.formula;
         else if (shown !== "" && this.shown[chunk]?.has(number, shown)) mask |= In.formula;
         if (this.comments[chunk]?.has(number, word)) mask |= In.comment;
         return mask;
@@ -183,10 +212,25 @@ export class Search {
     phrase(words) {
         if (words.length < 2) return null;
         const masks = new Uint8Array(this.size);
-        for (const lines of this.formulas) lines.mark(words.join(" "), masks, In.formula);
+        for (const lines of this.formulas) lines.mark(squeezed(words.join("")), masks, In.formula);
         const shown = plain(words.join(""));
         for (const lines of this.shown) lines.mark(shown, masks, In.formula);
         return masks;
+    }
+
+    /**
+     * Whether the formula of an assertion is just what was typed, with its typecode or without.
+     * @param {number} number
+     * @param {string} written what was typed, without spaces
+     * @param {string} shown the same in plain letters
+     */
+    isExact(number, written, shown) {
+        const chunk = Math.floor(number / this.model.facts.chunk);
+        const { written: size, shown: shownSize } = this.codeSizes;
+        return (
+            (this.formulas[chunk]?.begins(number, written, size[number]) ?? false) ||
+            (this.shown[chunk]?.begins(number, shown, shownSize[number]) ?? false)
+        );
     }
 
     /**
@@ -197,39 +241,62 @@ export class Search {
     find(typed) {
         const words = wordsOf(typed);
         if (words.length === 0 || this.size === 0) return { words, total: 0, keys: new Float64Array(0) };
-        const masks = [...new Set(words)].map((word) => this.masksOf(word));
-        const phrase = this.phrase(words);
+        const different = [...new Set(words)];
+        const masks = different.map((word) => this.masksOf(word));
+        const phrase = this.phrase(words) ?? masks[0];
+        const written = squeezed(words.join(""));
+        const shown = plain(written);
         const keys = new Float64Array(this.size);
         let total = 0;
         for (let number = 0; number < this.size; number++) {
             let all = true;
             for (const mask of masks) all = all && mask[number] !== 0;
             if (!all) continue;
-            keys[total++] = this.keyOf(number, words, masks, phrase !== null && phrase[number] !== 0);
+            let rank = this.rankOf(number, different, masks);
+            if (phrase[number] & In.formula) {
+                if (words.length > 1) rank += Rank.phrase;
+                if (this.isExact(number, written, shown)) rank += Rank.exact + Rank.more * (different.length - 1);
+            }
+            keys[total++] = this.keyOf(number, rank, masks);
         }
         return { words, total, keys: keys.subarray(0, total) };
     }
 
     /**
-     * A number that is the smaller, the better an assertion was found: by rank, then by length, then in file order.
+     * How well an assertion was found, by where it has each word.
      * @param {number} number
      * @param {string[]} words
      * @param {Uint8Array[]} masks
-     * @param {boolean} hasPhrase
      */
-    keyOf(number, words, masks, hasPhrase) {
-        let rank = hasPhrase ? Rank.phrase : 0;
-        let isInLabel = false;
+    rankOf(number, words, masks) {
+        let rank = 0;
         for (let index = 0; index < masks.length; index++) {
             const mask = masks[index][number];
-            if (mask & In.label) {
-                rank += this.rankOfLabel(number, words[index]);
-                isInLabel = true;
-            } else if (mask & In.formula) rank += Rank.formula;
+            if (mask & In.label) rank += this.rankOfLabel(number, words[index]);
+            else if (mask & In.formula) rank += Rank.formula;
         }
+        return rank;
+    }
+
+    /**
+     * A number that is the smaller, the better an assertion was found: by rank, then by length with hypotheses, then in
+     * file order.
+     * @param {number} number
+     * @param {number} rank
+     * @param {Uint8Array[]} masks
+     */
+    keyOf(number, rank, masks) {
+        const isInLabel = masks.some((mask) => mask[number] & In.label);
         const { starts } = isInLabel ? this.model.labels : this.model.formulas;
-        const length = Math.min(LONGEST_ORDER, starts[number + 1] - starts[number]);
-        const most = Rank.same * masks.length + Rank.phrase;
+        let size = starts[number + 1] - starts[number];
+        if (!isInLabel) {
+            const { hypotheses, hypothesisFormulas } = this.model;
+            for (const index of hypotheses.of(number)) {
+                size += hypothesisFormulas.starts[index + 1] - hypothesisFormulas.starts[index];
+            }
+        }
+        const length = Math.min(LONGEST_ORDER, size);
+        const most = (Rank.same + Rank.more) * masks.length + Rank.phrase + Rank.exact;
         return ((most - rank) * (LONGEST_ORDER + 1) + length) * this.size + number;
     }
 
@@ -284,11 +351,19 @@ export class Search {
 }
 
 /**
- * The words of a text as it was typed, in small letters.
+ * The words and the phrases in quotes of a text as it was typed, in small letters.
  * @param {string} typed
  */
 export function wordsOf(typed) {
-    return typed.toLowerCase().split(/\s+/).filter(Boolean);
+    return Array.from(typed.toLowerCase().matchAll(WORD), ([word, phrase]) => (phrase ?? word).replace(/\s+/g, " "));
+}
+
+/**
+ * A formula or a part of it in small letters, without spaces.
+ * @param {string} text
+ */
+export function squeezed(text) {
+    return text.toLowerCase().replace(/\s+/g, "");
 }
 
 /**

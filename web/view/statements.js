@@ -128,25 +128,20 @@ export class Statements {
     }
 
     /**
-     * Links to the theorems (or axioms) before and after.
+     * Links to the statements before and after, theorems and axioms alike.
      * @param {number} number
      */
     neighbours(number) {
-        const row = this.model.rowOf[number];
-        const column = this.model.columnOf[number];
-        if (row < 0 && column < 0) return "";
-        const list = row >= 0 ? this.model.theorems : this.model.axioms;
-        const at = row >= 0 ? row : column;
-        const name = row >= 0 ? "theorem" : "axiom";
-        const nav = element("nav", { class: "neighbours", "aria-label": `Neighbouring ${name}s` });
-        /** @type {(other: number | undefined, rel: string, which: string) => void} */
+        const { model, elements } = this;
+        const nav = element("nav", { class: "neighbours", "aria-label": "Neighbouring statements" });
+        /** @type {(other: number, rel: string, which: string) => void} */
         const put = (other, rel, which) => {
-            if (other === undefined) return;
-            const told = `${which} ${name}: ${this.model.labels.at(other)}`;
-            nav.append(this.elements.link(other, { rel, "aria-label": told }));
+            if (other < 0 || other === model.size) return;
+            const told = `${which} statement: ${model.labels.at(other)}`;
+            nav.append(elements.link(other, { rel, "aria-label": told }));
         };
-        put(list[at - 1], "prev", "Previous");
-        put(list[at + 1], "next", "Next");
+        put(number - 1, "prev", "Previous");
+        put(number + 1, "next", "Next");
         return nav;
     }
 

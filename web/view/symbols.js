@@ -19,7 +19,10 @@ const HUES = ["blue", "red", "purple", "green"];
 const BREAKABLE = /[-/?].|[|]./;
 const LONGEST_WHOLE = 12;
 
-/** Between some symbols is a space, though their definitions have none: ∃𝑦 𝑦 ∈ 𝑥, ∃𝑥 ∈ 𝐴 𝐵 = 𝑥, ∃𝑥 ∈ 𝐴 ∀𝑦. */
+/**
+ * Between some symbols is a space, though their definitions have none: ∃𝑦 𝑦 ∈ 𝑥, ∃𝑥 ∈ 𝐴 𝐵 = 𝑥, ∃𝑥 ∈ 𝐴 ∀𝑦. A symbol that
+ * joins what stands on both sides is left as it is defined: 𝐹:𝐴⟶𝐵.
+ */
 const ENDS_TERM = /^[\p{L}\p{N})\]}]/u; // of the last sign
 const BEGINS_PREFIX = /^[\p{Sm}\p{So}]/u;
 const WORD = /^[\p{L}\p{N}]{2}/u;
@@ -31,9 +34,11 @@ export class Symbols {
     /**
      * @param {Facts} facts
      * @param {Map<string, string>} typecodeOf
+     * @param {Set<string>} infix the symbols that stand between what they join
      */
-    constructor(facts, typecodeOf) {
+    constructor(facts, typecodeOf, infix = new Set()) {
         this.typecodeOf = typecodeOf;
+        this.infix = infix;
         /** @type {Map<string, Piece[]>} */
         this.definitions = new Map(facts.symbols);
         this.alike = new Set(facts.alike);
@@ -110,7 +115,8 @@ export class Symbols {
     areClose(symbols, index, before, text) {
         const last = Array.from(before).pop() ?? "";
         if (!ENDS_TERM.test(last)) return false;
-        if (BEGINS_PREFIX.test(text) || (WORD.test(text) && LETTER.test(before))) return true;
+        if (BEGINS_PREFIX.test(text)) return !this.infix.has(symbols[index]);
+        if (WORD.test(text) && LETTER.test(before)) return true;
         if (!LETTER.test(text)) return false;
         if (WORD.test(before) || this.isBound(symbols, index)) return true;
         const code = this.typecodeOf.get(symbols[index]);
@@ -151,6 +157,26 @@ export class Symbols {
         for (const symbol of formula.split(" ")) key += this.keyOf(symbol);
         return key;
     }
+}
+
+/**
+ * The symbols that stand between variables in a formula that builds another one, such as `-->` in `wff F : A --> B`.
+ * @param {Iterable<string>} formulas with their typecodes
+ * @param {Map<string, string>} typecodeOf
+ */
+export function infixSymbols(formulas, typecodeOf) {
+    const codes = new Set(typecodeOf.values());
+    /** @type {Set<string>} */
+    const found = new Set();
+    for (const formula of formulas) {
+        const symbols = formula.split(" ");
+        if (!codes.has(symbols[0])) continue;
+        for (let at = 2; at + 1 < symbols.length; at++) {
+            const isBetween = typecodeOf.has(symbols[at - 1]) && typecodeOf.has(symbols[at + 1]);
+            if (isBetween && !typecodeOf.has(symbols[at])) found.add(symbols[at]);
+        }
+    }
+    return found;
 }
 
 /**

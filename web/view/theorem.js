@@ -2,6 +2,7 @@
 
 import { count, counted, element } from "./elements.js";
 import { GROUPS, Group } from "./model.js";
+import { ProofView } from "./proof.js";
 
 /** @typedef {import("./elements.js").Child} Child */
 /** @typedef {import("./elements.js").Colours} Colours */
@@ -21,6 +22,7 @@ export class TheoremView {
         this.elements = elements;
         this.statements = statements;
         this.colours = colours;
+        this.proof = new ProofView(model, elements);
     }
 
     /**
@@ -36,6 +38,7 @@ export class TheoremView {
             ...this.statements.head(number, comment),
             this.glance(columns, byGroup),
             ...since,
+            this.proof.render(number),
             this.restsOn(number, columns, byGroup),
             this.avoids(number, columns),
             this.cites(number),
@@ -96,7 +99,7 @@ export class TheoremView {
                 group.name,
                 part.length,
                 () => element("ul", { class: "lines" }, ...part.map((column) => this.axiomLine(number, column))),
-                index !== Group.syntax || part.length === columns.length,
+                index !== Group.syntax || part.length === columns.length || part.some((column) => isChainOpen(column)),
             );
             fold.classList.add("group", `of-${group.key}`);
             fold.dataset.group = group.key;
@@ -116,12 +119,16 @@ export class TheoremView {
         const place = element("div", { id: `why-${column}`, class: "why" });
         const states = { "aria-expanded": "false", "aria-controls": place.id, "aria-label": `Why ${label}?` };
         const button = element("button", { type: "button", class: "ask", ...states }, "why");
+        const put = (/** @type {boolean} */ isOpen) => {
+            button.setAttribute("aria-expanded", String(isOpen));
+            place.replaceChildren(...(isOpen ? this.chain(theorem, axiom) : []));
+        };
         button.addEventListener("click", () => {
-            const isOpen = button.getAttribute("aria-expanded") === "true";
-            button.setAttribute("aria-expanded", String(!isOpen));
-            if (isOpen) place.replaceChildren();
-            else place.replaceChildren(...this.chain(theorem, axiom));
+            const isOpen = button.getAttribute("aria-expanded") === "false";
+            keepChain(column, isOpen);
+            put(isOpen);
         });
+        if (isChainOpen(column)) put(true);
         return this.elements.line(axiom, button, place);
     }
 
@@ -176,4 +183,28 @@ export class TheoremView {
         }
         return made;
     }
+}
+
+/**
+ * The columns whose chains are open. They are kept with the entry of the browser's history, so that whoever follows a
+ * chain and goes back finds it open.
+ * @returns {number[]}
+ */
+function openChains() {
+    const why = window.history.state?.why;
+    return Array.isArray(why) ? why : [];
+}
+
+/** @param {number} column */
+function isChainOpen(column) {
+    return openChains().includes(column);
+}
+
+/**
+ * @param {number} column
+ * @param {boolean} isOpen
+ */
+function keepChain(column, isOpen) {
+    const others = openChains().filter((other) => other !== column);
+    window.history.replaceState({ why: isOpen ? [...others, column] : others }, "");
 }

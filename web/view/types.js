@@ -19,6 +19,7 @@
  * @property {[string, Piece[]][]} symbols how each is shown
  * @property {string[]} alike symbols that look like one that comes earlier
  * @property {Piece[]} legend the classes of variables, in their colours
+ * @property {string | null} bibliography the address of the page that explains references
  */
 
 /**

@@ -20,7 +20,7 @@ import sys
 import tempfile
 from pathlib import Path
 
-from query.tests.browser import browsers, parts, views, whole
+from query.tests.browser import browsers, parts, proofs, views, whole
 from query.tests.browser.browsers import Browser
 from query.tests.browser.counting import checks, count, figure, same
 from query.tests.browser.truth import DATABASES, Truth, metamath_conditions
@@ -89,8 +89,10 @@ def try_database(browser: Browser, pages: Pages, name: str, rng: random.Random) 
     browser.open(page)
     shown = Shown(browser, truth)
     views.check_sample(shown, theorems, axioms, rng)
+    proofs.check_steps(browser, truth, theorems[:20])
     parts.check_chapters(browser, page, truth, rng, 12 if is_large else 4)
     parts.check_search(browser, page, truth, rng, 25)
+    parts.check_told(browser, page, truth)
     parts.check_history(type(browser), page, theorems[:3])
     parts.check_cells(browser, page, truth, rng, 20)
     deep = max(theorems[:5], key=lambda label: len(truth.marks(label)))

@@ -142,6 +142,22 @@ def check_chapter_axioms(shown: dict[str, Any], truth: Truth, inside: list[str],
     count(least <= told, f"{name}: the axioms on which its theorems rest", least - told)
 
 
+def check_told(browser: Browser, page: Path, truth: Truth) -> None:
+    """How many axioms carry theorems, and labels in an address that are no axioms."""
+    browser.open(page)
+    used = sum(1 for axiom in truth.columns if truth.users[axiom])
+    lead = browser.run("return document.getElementById('lead').textContent").replace(",", "")
+    wanted = f"on {used} of {len(truth.columns)} axiom"
+    count(wanted in lead, f"{browser.name}: on how many axioms theorems rest", lead)
+    first, other = truth.columns[:2]
+    address = f"#axiom={first}&with={other},nothing,{truth.theorems[0]}"
+    browser.run("window.location.hash = arguments[0]", address)
+    count(browser.is_at(first), f"{browser.name}: {first} is shown")
+    unknown = browser.run("return texts('#unknown code')")
+    wanted_labels = ["nothing", truth.theorems[0]]
+    same(unknown, wanted_labels, f"{browser.name}: labels of the address that are no axioms")
+
+
 def check_keyboard(
     browser: Browser, page: Path, truth: Truth, theorem: str, axiom: str, other: str
 ) -> None:
@@ -169,6 +185,8 @@ def check_keyboard(
     count(browser.is_at(chain[1]), f"{name}: Enter follows the chain")
     browser.run("history.back()")
     count(browser.is_at(theorem), f"{name}: back shows the theorem again")
+    left = browser.run("return texts('.chain li > a')")
+    same(left, chain, f"{name}: and the chain that was open")
     check_axiom_keys(browser, truth, axiom, other)
     check_picture_keys(browser, truth)
 

@@ -50,6 +50,7 @@ def try_browser(browser: Browser, room: Room, options: argparse.Namespace, seed:
     verifying.check_workers(browser, room)
     verifying.check_refusals(browser, room)
     verifying.check_drop(browser, room)
+    verifying.check_again(browser, room)
     verifying.check_pair(browser, room)
     verifying.check_hostile(browser, room)
     verifying.check_cancel(browser, room)

@@ -19,6 +19,7 @@ from pathlib import Path
 from query.faults import FAULTS
 from query.options import Options
 from query.tests.blocks import blocks_in
+from query.tests.browser import proofs
 from query.tests.browser.browsers import Browser, Chromium, Keys, WebKit
 from query.tests.browser.counting import count, figure, same
 from query.tests.browser.databases import EVIL, EVIL_TYPESETTING, NEWER, OLDER, OPEN
@@ -99,6 +100,8 @@ for (const kind of ["dragenter", "dragover", "drop"]) {
 }
 """
 
+DROP_ON_BODY = DROP.replace('document.getElementById("drop")', "document.body")
+
 # When files are chosen, as near to the choice as the page's own listener.
 CLOCK = """
 document.getElementById("file").addEventListener("change", () => performance.mark("chosen"), true);
@@ -137,7 +140,8 @@ class Answers:
 
     def add(self, path: Path, options: Options, names: Iterable[str] = ()) -> None:
         """Reports of a database; what the page itself asks for is always there."""
-        self.put(path, "matrix,citations", 2, Options(None, options.essential, options.open))
+        asked = "matrix,citations,statements"
+        self.put(path, asked, 2, Options(None, options.essential, options.open))
         for name in names:
             for form in (1, 2):
                 self.put(path, name, form, options)
@@ -190,7 +194,10 @@ class Room:
         hol = (DATABASES / "hol.mm").read_bytes()
         self.path("hol.mm.gz").write_bytes(gzip.compress(hol))
         self.path("damaged.mm.gz").write_bytes(gzip.compress(hol)[:-2000])
+        parts = [gzip.compress(hol[at : at + 30_000]) for at in range(0, len(hol), 30_000)]
+        self.path("parts.mm.gz").write_bytes(b"".join(parts))
         self.path("hol.mm.bz2").write_bytes(b"BZh9")
+        self.path("picture.mm").write_bytes(b"\x89PNG\r\n\x1a\n\0\0\0\rIHDR")
         self.path("report.txt").write_bytes(b"mmdepend 1\naxioms 0\n")
         self.build()
 
@@ -215,6 +222,8 @@ class Room:
             answers.add(DATABASES / f"{name}.mm", ALL, REPORTS if name == "hol" else ())
         for name in self.texts:
             answers.add(self.path(name), EVERYTHING if name == EVIL_NAME else ALL)
+        for name in ("newer.mm", "faulty.mm"):
+            answers.add(self.path(name), EVERYTHING)
         path = self.path("module.json")
         path.write_bytes(answers.module())
         return path
@@ -420,6 +429,7 @@ def check_refusals(browser: Browser, room: Room) -> None:
         ("damaged.mm.gz", "can't be unpacked"),
         ("hol.mm.bz2", "compressed by bzip2"),
         ("report.txt", "is a report of the program"),
+        ("picture.mm", "is no text"),
     ):
         browser.run("document.getElementById('answer').replaceChildren()")
         browser.choose("#file", [room.path(name)])
@@ -554,6 +564,36 @@ def check_drop(browser: Browser, room: Room) -> None:
     state = browser.run("return document.documentElement.dataset.state")
     same(state, "start", f"{browser.name}: another database can be chosen")
     browser.stays_silent("of a dropped file")
+
+
+def check_again(browser: Browser, room: Room) -> None:
+    """A file that is dropped later takes the place of the one before, and options are changed."""
+    name = browser.name
+    footer = "document.getElementById('made').textContent"
+    begin(browser, room)
+    browser.run(DROP, dropped(room.path("parts.mm.gz")))
+    shown(browser, "hol.mm in several compressed parts")
+    theorem = "ax1"
+    steps = proofs.metamath_steps(DATABASES / "hol.mm", [theorem])[theorem]
+    same(proofs.shown_steps(browser, theorem), steps, f"{name}: the steps of {theorem}")
+    browser.run("document.documentElement.dataset.state = 'another'")
+    browser.run(DROP_ON_BODY, dropped(room.path("newer.mm")))
+    shown(browser, "a database that is dropped later")
+    told = browser.run(f"return {footer}")
+    count("from newer.mm" in told, f"{name}: the page is that of the later one", told)
+    same(browser.run("return window.location.hash"), "", f"{name}: its overview is shown")
+    browser.run("document.getElementById('again').click()")
+    for option in ("essential", "open"):
+        browser.run("document.getElementById(arguments[0]).click()", option)
+    browser.run("document.getElementById('only').value = '|-'")
+    browser.run("document.getElementById('same').click()")
+    shown(browser, "the same database with other options")
+    told = browser.run(f"return {footer}")
+    wanted = "with --only |- --essential --open."
+    count(wanted in told and told.count("Made by") == 1, f"{name}: its options", told)
+    browser.run(DROP_ON_BODY, dropped(room.path("faulty.mm")))
+    told_within(browser, "a faulty file after another one", "faulty.mm is refused", "E18")
+    browser.stays_silent("of files that are dropped later")
 
 
 def check_database(browser: Browser, room: Room, name: str) -> Truth | None:

@@ -28,7 +28,7 @@ from query.tests.browser.scripts import CONTRAST
 from query.tests.browser.truth import DATABASES, HERE, PROGRAM, Truth
 from query.tests.browser.views import Shown
 
-MOST_BYTES = 9_000_000
+MOST_BYTES = 12_000_000
 MOST_SECONDS = 12
 MOST_UNTIL_SHOWN = 1000  # milliseconds
 MOST_FOR_A_KEY = 50

@@ -1,0 +1,61 @@
+// How steps of proofs are written in the blocks of a page: proofs.js packs them, and proofs.js of the view reads them.
+//
+// A block `proof-steps-0` and so on has the proofs of `CHUNK` theorems. It is made of streams, and begins with how many
+// bytes each of them has. The steps of a proof stand in them from the last to the first. Who reads them knows which
+// typecode comes next: first that of the theorem, and then those of the hypotheses of what was read. So there is a
+// stream for each kind of typecodes, with a byte for each step:
+//
+//     2 * code + 1   if the step is repeated later, else 2 * code
+//
+// The codes are those of `Code`: a label with a number, a hypothesis of the theorem or what it cites, a step that is
+// repeated, or one of the labels that are often used. Repeated steps of each kind are counted from the one that was
+// last used or marked, and only the last `RECENT` of them; others by how many were marked after them.
+
+/** How many proofs are in a block. */
+export const CHUNK = 2048;
+/** Typecodes that no `$f` has are of the kind 0; the others take turns with the other kinds. */
+export const KINDS = 4;
+/** How many repeated steps of a kind have a code, and how many labels. */
+export const RECENT = 24;
+export const FREQUENT = 100;
+/** The codes; the first three have a number in a stream of their own. */
+export const Code = { label: 0, own: 1, far: 2, recent: 3, frequent: 3 + RECENT };
+
+/**
+ * The kind of a typecode by its number among those of `$f`, or -1.
+ * @param {number} code
+ */
+export function kindOf(code) {
+    return code < 0 ? 0 : 1 + (code % (KINDS - 1));
+}
+
+/** The repeated steps of a kind that were last used or marked, the last one first. */
+export class Recent {
+    constructor() {
+        this.items = new Uint32Array(RECENT);
+        this.size = 0;
+    }
+
+    /** @param {number} item */
+    add(item) {
+        const { items } = this;
+        const size = Math.min(this.size, RECENT - 1);
+        for (let at = size; at > 0; at--) items[at] = items[at - 1];
+        items[0] = item;
+        this.size = size + 1;
+    }
+
+    /**
+     * Where a step is, which is then the first; -1 if it isn't there.
+     * @param {number} item
+     */
+    use(item) {
+        const { items, size } = this;
+        let at = 0;
+        while (at < size && items[at] !== item) at++;
+        if (at === size) return -1;
+        for (let place = at; place > 0; place--) items[place] = items[place - 1];
+        items[0] = item;
+        return at;
+    }
+}

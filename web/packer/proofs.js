@@ -1,0 +1,438 @@
+// Packs the steps of proofs, so that a page has them in few bytes. codes.js says how.
+
+import { Byte, Cutter, Row, Words, Writer, afterComment, closeOf, wordFrom } from "./bytes.js";
+import { CHUNK, Code, FREQUENT, KINDS, Recent, kindOf } from "./codes.js";
+import { UnreadableText } from "./text.js";
+
+/** @typedef {import("./reports.js").Dependence} Dependence */
+/** @typedef {import("./text.js").Text} Text */
+/** @typedef {import("./pack.js").Blocks} Blocks */
+
+const Letter = { A: 0x41, T: 0x54, U: 0x55, Y: 0x59, Z: 0x5a };
+
+/** Which kind each typecode is of. */
+class Kinds {
+    /** @param {Text} text */
+    constructor(text) {
+        this.cutter = new Cutter();
+        const { source, given } = text;
+        this.codes = new Words(source);
+        this.floating = new Uint8Array(given.size);
+        for (let number = 0; number < given.size; number++) {
+            this.cutter.cut(source, given.formulas.items[number], given.formulaEnds.items[number]);
+            const code = this.codes.add(this.cutter.starts[0], this.cutter.ends[0]);
+            this.floating[number] = kindOf(code);
+        }
+        this.assertions = this.ofStatements(text.data, text.assertions);
+        this.hypotheses = this.ofStatements(text.data, text.hypotheses);
+    }
+
+    /**
+     * The kind of each statement, by the first symbol.
+     * @param {Uint8Array} data
+     * @param {import("./text.js").Statements} statements
+     */
+    ofStatements(data, { size, formulas }) {
+        const kinds = new Uint8Array(size);
+        for (let number = 0; number < size; number++) {
+            const start = formulas.items[number];
+            let end = start;
+            while (data[end] > Byte.space) end++;
+            kinds[number] = kindOf(this.codes.find(data, start, end));
+        }
+        return kinds;
+    }
+}
+
+/** The mandatory hypotheses of assertions, in which `$f` have the numbers of those of the database. */
+class Frames {
+    /** @param {Text} text */
+    constructor({ data, named, givenByLabel, frames }) {
+        this.frames = frames;
+        this.numbers = new Uint32Array(named.size);
+        for (let at = 0; at < named.size; at++) {
+            const number = givenByLabel.find(data, named.labels.items[at], named.labelEnds.items[at]);
+            if (number < 0) throw new UnreadableText(named.labels.items[at]);
+            this.numbers[at] = number;
+        }
+    }
+
+    /** How many assertions there are. */
+    get size() {
+        return this.frames.size;
+    }
+
+    /**
+     * Of an assertion: 2 * n for the `$f` n, 2 * n + 1 for the `$e` n.
+     * @param {number} number
+     */
+    of(number) {
+        return this.frames.of(number).map((item) => (item % 2 === 0 ? 2 * this.numbers[item / 2] : item));
+    }
+}
+
+/** The labels that are often used, each with its code: 2 * n for the `$f` n, 2 * n + 1 for the assertion n. */
+class Frequent {
+    /**
+     * @param {Dependence} dependence
+     * @param {Frames} frames
+     * @param {Kinds} kinds
+     */
+    constructor({ text, cited }, frames, kinds) {
+        const floating = new Uint32Array(text.given.size);
+        const assertions = new Uint32Array(text.size);
+        for (const number of cited) assertions[number]++;
+        for (const item of text.frames.row.taken()) if (item % 2 === 0) floating[frames.numbers[item / 2]]++;
+        /** Of each kind the labels, the most used first. What is of no `$f`'s typecode is mostly cited once. */
+        this.labels = [1, 2, 3].map((kind) => {
+            const found = labelsOf(floating, kinds.floating, kind, 0);
+            found.push(...labelsOf(assertions, kinds.assertions, kind, 1));
+            found.sort(([one, often], [other, less]) => less - often || one - other);
+            return found.slice(0, FREQUENT).map(([label]) => label);
+        });
+        this.codes = new Uint8Array(2 * Math.max(text.size, text.given.size) + 2);
+        for (const labels of this.labels) labels.forEach((label, at) => (this.codes[label] = Code.frequent + at));
+    }
+
+    /** The block that has them. */
+    block() {
+        const writer = new Writer();
+        for (const labels of this.labels) {
+            writer.number(labels.length);
+            for (const label of labels) writer.number(label);
+        }
+        return writer.taken();
+    }
+}
+
+/**
+ * The labels of a kind that are used, each with how often.
+ * @param {Uint32Array} counts
+ * @param {Uint8Array} kinds
+ * @param {number} kind
+ * @param {0 | 1} odd
+ * @returns {[number, number][]}
+ */
+function labelsOf(counts, kinds, kind, odd) {
+    /** @type {[number, number][]} */
+    const found = [];
+    for (let number = 0; number < counts.length; number++) {
+        if (counts[number] > 0 && kinds[number] === kind) found.push([2 * number + odd, counts[number]]);
+    }
+    return found;
+}
+
+/** Packs proof after proof. */
+class Packer {
+    /** @param {Dependence} dependence */
+    constructor(dependence) {
+        this.dependence = dependence;
+        this.text = dependence.text;
+        this.kinds = new Kinds(this.text);
+        this.frames = new Frames(this.text);
+        this.frequent = new Frequent(dependence, this.frames, this.kinds);
+        this.streams = Array.from({ length: KINDS + Code.recent }, () => new Writer());
+        /**
+         * What has a number of its own in a proof: 2 * n for the `$e` n of the database, 2 * n + 1 for the assertion n.
+         * And of each the number.
+         */
+        this.own = new Row();
+        this.places = new Uint32Array(this.text.size);
+        this.hypothesisPlaces = new Uint32Array(this.text.hypotheses.size);
+        /** What each number of a compressed proof stands for: 8 times the code and the kind, and a number. */
+        this.labels = new Row();
+        this.labelNumbers = new Row();
+        /** The steps of a proof: 8 times the code, 4 if it is marked, and the kind; and numbers of some. */
+        this.steps = new Row();
+        this.numbers = new Row();
+        /** For each number of a repeated step the marked one, and of each marked one its kind. */
+        this.marked = new Row();
+        this.markedKinds = new Row();
+        this.recent = Array.from({ length: KINDS }, () => new Recent());
+    }
+
+    /**
+     * Packs the proof of a theorem.
+     * @param {number} row
+     */
+    pack(row) {
+        const { text, dependence } = this;
+        const number = dependence.theorems[row];
+        for (const each of [this.labels, this.labelNumbers, this.own]) each.size = 0;
+        for (const each of [this.steps, this.numbers, this.marked, this.markedKinds, ...this.recent]) each.size = 0;
+        this.setOwn(row, number);
+        const { source } = text;
+        const end = text.ends.items[number] - 2;
+        const place = wordFrom(source, proofIn(source, text.places.items[number]), end);
+        // Each step has a byte of the text at least.
+        this.steps.reserve(end - place);
+        this.marked.reserve(end - place);
+        if (source[place] === Byte.open) this.packCompressed(number, place + 1, end);
+        else this.packWords(place, end);
+        this.putStreams();
+    }
+
+    /**
+     * Finds what has a number of its own in the proof of a theorem: its `$e`, and what it cites and isn't often used.
+     * @param {number} row
+     * @param {number} theorem
+     */
+    setOwn(row, theorem) {
+        const { own, places, frequent, text, dependence } = this;
+        for (const hypothesis of text.essential.of(theorem)) {
+            this.hypothesisPlaces[hypothesis] = own.size;
+            own.push(2 * hypothesis);
+        }
+        for (const cited of dependence.citedBy(row)) {
+            if (frequent.codes[2 * cited + 1] > 0) continue;
+            places[cited] = own.size;
+            own.push(2 * cited + 1);
+        }
+    }
+
+    /**
+     * @param {number} theorem
+     * @param {number} start behind the bracket
+     * @param {number} end
+     */
+    packCompressed(theorem, start, end) {
+        const { source } = this.text;
+        for (const item of this.frames.of(theorem)) this.addHypothesis(item);
+        let place = wordFrom(source, start, end);
+        while (source[place] !== Byte.close) place = wordFrom(source, this.addWord(place), end);
+        this.packLetters(place + 1, end);
+    }
+
+    /**
+     * @param {number} start
+     * @param {number} end
+     */
+    packLetters(start, end) {
+        const { source } = this.text;
+        const { size, items } = this.labels;
+        let base = 0;
+        let place = start;
+        while (place < end) {
+            const letter = source[place++];
+            if (letter < Letter.A) {
+                if (letter > Byte.space) place = afterComment(source, place - 1);
+            } else if (letter <= Letter.T) {
+                const number = 20 * base + letter - Letter.A;
+                if (number < size) this.put(items[number], this.labelNumbers.items[number]);
+                else this.repeat(this.marked.items[number - size]);
+                base = 0;
+            } else if (letter <= Letter.Y) base = 5 * base + letter - Letter.U + 1;
+            else this.mark();
+        }
+    }
+
+    /**
+     * @param {number} start
+     * @param {number} end
+     */
+    packWords(start, end) {
+        const { source } = this.text;
+        const { labels, labelNumbers } = this;
+        for (let place = start; place < end; ) {
+            place = wordFrom(source, this.addWord(place), end);
+            this.put(labels.items[--labels.size], labelNumbers.items[--labelNumbers.size]);
+        }
+    }
+
+    /**
+     * @param {number} step
+     * @param {number} number
+     */
+    put(step, number) {
+        this.steps.items[this.steps.size++] = step;
+        if (step < 8 * Code.recent) this.numbers.push(number);
+    }
+
+    /** Marks the step before, which may be marked already or be a repeated one. */
+    mark() {
+        const last = this.steps.size - 1;
+        const step = this.steps.items[last];
+        const code = step >>> 3;
+        const kind = step & 3;
+        if (code === Code.far) this.marked.push(this.markedKinds.size - 1 - this.numbers.items[this.numbers.size - 1]);
+        else if (code >= Code.recent && code < Code.frequent) this.marked.push(this.recent[kind].items[0]);
+        else if (step & 4) this.marked.push(this.markedKinds.size - 1);
+        else {
+            this.steps.items[last] |= 4;
+            this.recent[kind].add(this.markedKinds.size);
+            this.marked.push(this.markedKinds.size);
+            this.markedKinds.push(kind);
+        }
+    }
+
+    /**
+     * Puts a marked step once more.
+     * @param {number} marked
+     */
+    repeat(marked) {
+        const kind = this.markedKinds.items[marked];
+        const at = this.recent[kind].use(marked);
+        if (at >= 0) this.put(8 * (Code.recent + at) + kind, 0);
+        else {
+            this.put(8 * Code.far + kind, this.markedKinds.size - 1 - marked);
+            this.recent[kind].add(marked);
+        }
+    }
+
+    /**
+     * Adds a mandatory hypothesis of the theorem to the labels.
+     * @param {number} item as in `frames`
+     */
+    addHypothesis(item) {
+        if (item % 2 === 0) this.addLabel(this.kinds.floating[item / 2], item);
+        else {
+            const hypothesis = (item - 1) / 2;
+            this.add(this.kinds.hypotheses[hypothesis], Code.own, this.hypothesisPlaces[hypothesis]);
+        }
+    }
+
+    /**
+     * @param {number} kind
+     * @param {number} label
+     */
+    addLabel(kind, label) {
+        const code = this.frequent.codes[label];
+        this.add(kind, code, label);
+    }
+
+    /**
+     * @param {number} kind
+     * @param {number} code
+     * @param {number} number
+     */
+    add(kind, code, number) {
+        this.labels.push(8 * code + kind);
+        this.labelNumbers.push(number);
+    }
+
+    /**
+     * Adds what a word of a proof names to the labels. Returns where the word ends.
+     * @param {number} start
+     */
+    addWord(start) {
+        const { text, kinds } = this;
+        const { source } = text;
+        let end = start;
+        while (source[end] > Byte.space) end++;
+        const assertion = text.byLabel.find(source, start, end);
+        if (assertion >= 0) this.addAssertion(assertion);
+        else {
+            const floating = text.givenByLabel.find(source, start, end);
+            if (floating >= 0) this.addLabel(kinds.floating[floating], 2 * floating);
+            else this.addHypothesis(2 * text.hypothesesByLabel.find(source, start, end) + 1);
+        }
+        return end;
+    }
+
+    /** @param {number} assertion */
+    addAssertion(assertion) {
+        const { own, places } = this;
+        const kind = this.kinds.assertions[assertion];
+        const place = places[assertion];
+        const isOwn = place < own.size && own.items[place] === 2 * assertion + 1;
+        if (isOwn) this.add(kind, Code.own, place);
+        else this.addLabel(kind, 2 * assertion + 1);
+    }
+
+    /** Adds the steps of a proof to the streams, the last one first. */
+    putStreams() {
+        const { streams, numbers } = this;
+        const { items, size } = this.steps;
+        for (let kind = 0; kind < KINDS; kind++) streams[kind].reserve(size);
+        for (let at = size - 1; at >= 0; at--) {
+            const step = items[at];
+            const stream = streams[step & 3];
+            stream.bytes[stream.size++] = step >>> 2;
+            if (step < 8 * Code.recent) streams[KINDS + (step >>> 3)].number(numbers.items[--numbers.size]);
+        }
+    }
+
+    /** The block of the proofs since the last one. */
+    taken() {
+        const writer = new Writer();
+        const parts = this.streams.map((stream) => stream.taken());
+        for (const part of parts) writer.number(part.length);
+        for (const part of parts) writer.stretch(part, 0, part.length);
+        return writer.taken();
+    }
+}
+
+/**
+ * Where a proof begins in a statement `$p`: behind its `$=`.
+ * @param {Uint8Array} data
+ * @param {number} place of the label
+ */
+function proofIn(data, place) {
+    for (let at = data.indexOf(Byte.dollar, place); ; at = data.indexOf(Byte.dollar, at + 2)) {
+        if (data[at + 1] === Byte.equals) return at + 2;
+        if (data[at + 1] === Byte.open) at = closeOf(data, at + 2);
+    }
+}
+
+/**
+ * The `$f` as lines: label, typecode and variable.
+ * @param {Text} text
+ */
+function packFloating({ source, given }) {
+    const writer = new Writer();
+    for (let number = 0; number < given.size; number++) {
+        if (number > 0) writer.push(Byte.newline);
+        writer.stretch(source, given.labels.items[number], given.labelEnds.items[number]);
+        writer.push(Byte.space);
+        writer.words(source, given.formulas.items[number], given.formulaEnds.items[number]);
+    }
+    return writer.taken();
+}
+
+/**
+ * Of each assertion its mandatory `$f`: twice their number, and the gaps between them. Where one stands behind a `$e`
+ * the first number is one more, and for each `$f` follows how many `$e` stand before it.
+ * @param {Text} text
+ * @param {Frames} frames
+ */
+function packFrames(text, frames) {
+    const writer = new Writer();
+    for (let number = 0; number < frames.size; number++) {
+        const frame = frames.of(number);
+        const essential = text.essential.of(number).length;
+        const floating = frame.length - essential;
+        const isMixed = frame.subarray(floating).some((item) => item % 2 === 0);
+        writer.number(2 * floating + (isMixed ? 1 : 0));
+        let expected = 0;
+        for (const item of frame) {
+            if (item % 2 === 1) continue;
+            writer.number(item / 2 - expected);
+            expected = item / 2 + 1;
+        }
+        if (!isMixed) continue;
+        let before = 0;
+        for (const item of frame) {
+            if (item % 2 === 1) before++;
+            else writer.number(before);
+        }
+    }
+    return writer.taken();
+}
+
+/**
+ * The proofs of all theorems, and what is needed to read them.
+ * @param {Dependence} dependence
+ * @param {Blocks} blocks
+ */
+export function packProofs(dependence, blocks) {
+    const packer = new Packer(dependence);
+    blocks.set("proof-floating", packFloating(dependence.text));
+    blocks.set("proof-frames", packFrames(dependence.text, packer.frames));
+    blocks.set("proof-labels", packer.frequent.block());
+    const size = dependence.theorems.length;
+    for (let row = 0; row < size; row++) {
+        packer.pack(row);
+        const isLast = row % CHUNK === CHUNK - 1 || row === size - 1;
+        if (isLast) blocks.set(`proof-steps-${Math.floor(row / CHUNK)}`, packer.taken());
+    }
+}

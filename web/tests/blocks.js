@@ -1,0 +1,52 @@
+// The blocks of small texts, for tests: the reports of these are made here.
+
+import { encoded } from "../packer/bytes.js";
+import { packReports, packText } from "../packer/pack.js";
+import { readReport } from "../packer/reports.js";
+import { readText } from "../packer/text.js";
+import { Model } from "../view/model.js";
+
+const NOTHING = { named: {}, numbers: {}, none: [] };
+const PLAIN = { only: null, essential: false, open: false };
+
+/** The report of a text, in which each label has `said` behind its places, and cites what `cites` has. */
+function reportOf(text, said, cites) {
+    const labels = Object.keys(said);
+    const axioms = labels.filter((label) => !cites[label]);
+    const theorems = labels.filter((label) => cites[label]);
+    const marks = new Map(axioms.map((label) => [label, new Set([label])]));
+    for (const label of theorems) marks.set(label, new Set(cites[label].flatMap((other) => [...marks.get(other)])));
+    const digitsOf = (label) => {
+        let digits = "";
+        for (let at = 0; at < axioms.length; at += 4) {
+            const four = [0, 1, 2, 3].map((more) => (marks.get(label).has(axioms[at + more]) ? 8 >> more : 0));
+            digits += four.reduce((sum, bit) => sum + bit).toString(16);
+        }
+        return digits;
+    };
+    const lines = labels.map((label) => {
+        const place = text.search(new RegExp(`(?<=^|\\s)${label} \\$[ap]`));
+        return `${label}:${cites[label] ? "p" : "a"}:${place}:${text.indexOf("$.", place) + 2}:${said[label]}`;
+    });
+    return [
+        ...["mmdepend 2", `axioms ${axioms.length}`, `theorems ${theorems.length}`, "matrix"],
+        ...theorems.map((label) => `${label}:${digitsOf(label)}`),
+        "citations",
+        ...theorems.map((label) => `${label}:${cites[label].length}:${cites[label].join(" ")}`),
+        ...["statements", ...lines, "end", ""],
+    ].join("\n");
+}
+
+/** The blocks of a text. */
+export function blocksOf(text, said, cites) {
+    const report = encoded(reportOf(text, said, cites));
+    const read = readText(encoded(text), report);
+    const about = { title: "t", file: "x.mm", bytes: 1, sha256: null, maker: "x", watched: [], ...PLAIN };
+    return new Map([...packText(read, about, NOTHING), ...packReports(readReport(read, PLAIN, report))]);
+}
+
+/** The model that blocks give. */
+export function modelOf(blocks) {
+    const get = (name) => blocks.get(name);
+    return new Model({ has: (name) => blocks.has(name), get, load: async (name) => get(name) });
+}

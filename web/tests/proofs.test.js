@@ -1,0 +1,186 @@
+// Tests of proofs: they are packed, read again and carried out, and what they show is what stands in the text.
+
+import assert from "node:assert/strict";
+import { test } from "node:test";
+import { encoded } from "../packer/bytes.js";
+import { Derivation, OtherFormula, TooManySigns } from "../view/derivation.js";
+import { MOST_STEPS, Proofs, TooManySteps } from "../view/proofs.js";
+import { Abandoned, Turns } from "../view/turns.js";
+import { blocksOf, modelOf } from "./blocks.js";
+
+const HEAD = `$c wff |- ( -> ) $. $v p q r $.
+wp $f wff p $. wq $f wff q $. wr $f wff r $.
+wi $a wff ( p -> q ) $.
+ax $a |- ( p -> ( q -> p ) ) $.
+\${ min $e |- p $. maj $e |- ( p -> q ) $. mp $a |- q $. $}
+`;
+const P = " $f wp wff p";
+const PQ = `${P} $f wq wff q`;
+const SAID = {
+    wi: `${PQ} $a wff ( p -> q )`,
+    ax: `${PQ} $a |- ( p -> ( q -> p ) )`,
+    mp: `${PQ} $e min |- p $e maj |- ( p -> q ) $a |- q`,
+};
+/** `( q -> p )` of `p`, by the axiom. */
+const A1I = `${PQ} $e h |- p $p |- ( q -> p )`;
+
+/** The proofs that blocks have. */
+function proofsOf(blocks) {
+    return new Proofs(modelOf(blocks));
+}
+
+/** The proof of a theorem, carried out. */
+async function derivationOf(proofs, label) {
+    const theorem = proofs.model.labels.find(label);
+    const turns = new Turns(() => true);
+    const derivation = new Derivation(proofs, await proofs.steps(theorem, turns));
+    await derivation.run(theorem, turns);
+    return derivation;
+}
+
+/** The essential steps, or all of them, as lines: what each applies, the numbers of what it uses, and what it says. */
+function linesOf(derivation, areAll = false) {
+    const steps = areAll ? derivation.all : derivation.essential;
+    const { model } = derivation;
+    return steps.map((step) => {
+        const number = derivation.steps.numbers[step];
+        const labels = [
+            () => derivation.proofs.givenBy(number).label,
+            () => model.hypothesisLabels.at(number),
+            () => model.labels.at(number),
+        ];
+        const used = areAll ? derivation.usedBy(step) : derivation.essentialUsedBy(step);
+        const numbers = used.map((each) => steps.indexOf(each) + 1).join(",");
+        return `${labels[derivation.steps.what[step]]()} ${numbers}: ${derivation.formula(step)}`;
+    });
+}
+
+/** Sees that a proof of `a1i`, written in some way, is read. */
+async function seesA1i(proof, cites = ["wi", "ax", "mp"]) {
+    const text = `${HEAD}\${ h $e |- p $. a1i $p |- ( q -> p ) $= ${proof} $. $}`;
+    const derivation = await derivationOf(proofsOf(blocksOf(text, { ...SAID, a1i: A1I }, { a1i: cites })), "a1i");
+    assert.deepEqual(linesOf(derivation), [
+        "h : |- p",
+        "ax : |- ( p -> ( q -> p ) )",
+        "mp 1,2: |- ( q -> p )",
+    ]);
+    return derivation;
+}
+
+test("a proof in words, and one in letters", async () => {
+    const words = await seesA1i("wp wq wp wi h wp wq ax mp");
+    assert.deepEqual(linesOf(words, true), [
+        ...["wp : wff p", "wq : wff q", "wp : wff p", "wi 2,3: wff ( q -> p )", "h : |- p"],
+        ...["wp : wff p", "wq : wff q", "ax 6,7: |- ( p -> ( q -> p ) )", "mp 1,4,5,8: |- ( q -> p )"],
+    ]);
+    const letters = await seesA1i("( wi ax mp ) ABADCABEF");
+    assert.deepEqual(linesOf(letters, true), linesOf(words, true));
+});
+
+test("comments, line ends, marks of any step, labels twice and for nothing", async () => {
+    await seesA1i("$( one $) wp wq $( two $= $) wp wi h wp\nwq ax mp $( three $)");
+    await seesA1i("( wi $( a ) $) ax mp wr ) $( b $)\nAB AD\nCA $( no $) B EF");
+    await seesA1i("( wi ax mp wi ax ) ABAGCABHF");
+    await seesA1i("( wp h wi ax mp ) DBAFEABGH");
+    await seesA1i("( wi ax mp ) AZZBGDCHBEF");
+    await seesA1i("( wi ax mp ) AZBZGZDCIHZEF");
+});
+
+/** A number, from 1, in the letters of compressed proofs. */
+function spelled(number) {
+    let rest = Math.floor((number - 1) / 20);
+    let letters = String.fromCharCode(65 + ((number - 1) % 20));
+    for (; rest > 0; rest = Math.floor((rest - 1) / 5)) letters = String.fromCharCode(85 + ((rest - 1) % 5)) + letters;
+    return letters;
+}
+
+test("many marked steps, of which some are far back", async () => {
+    // Forty marked steps, each `( p -> q )`, are joined; then marked ones are repeated.
+    const size = 40;
+    const repeated = [1, 2, 1, size, 3].map((mark) => `${spelled(3 + mark)}C`);
+    const letters = "ABCZ".repeat(size) + "C".repeat(size - 1) + repeated.join("");
+    const terms = Array.from({ length: size }, () => "( p -> q )");
+    let formula = terms.reduceRight((all, term) => `( ${term} -> ${all} )`);
+    for (let more = 0; more < repeated.length; more++) formula = `( ${formula} -> ( p -> q ) )`;
+    const text = `${HEAD}deep $p wff ${formula} $= ( wi ) ${letters} $.`;
+    const said = { ...SAID, deep: `${PQ} $p wff ${formula}` };
+    const derivation = await derivationOf(proofsOf(blocksOf(text, said, { deep: ["wi"] })), "deep");
+    assert.equal(derivation.formula(derivation.formulas.length - 1), `wff ${formula}`);
+    assert.equal(derivation.all.length, 3 * size + size - 1 + repeated.length);
+});
+
+test("a `$f` behind a `$e`, a variable that only the proof has, and one that is replaced by nothing", async () => {
+    const text = `$c wff |- A $. $v p q $. we $a wff $. wa $a wff A $.
+\${ wp $f wff p $. one.h $e |- p $. wq $f wff q $. one $a |- q p $. $}
+\${ h $e |- A $. two $p |- A $= wa h we one $. $}
+\${ wy $f $( of y $) wff q $. j $e |- A $. three $p |- q A $= ( wa one ) CBAD $. $}
+`;
+    const said = {
+        we: " $a wff",
+        wa: " $a wff A",
+        one: " $f wp wff p $e one.h |- p $f wq wff q $a |- q p",
+        two: " $e h |- A $p |- A",
+        three: " $f wy wff q $e j |- A $p |- q A",
+    };
+    const proofs = proofsOf(blocksOf(text, said, { two: ["we", "wa", "one"], three: ["wa", "one"] }));
+    assert.deepEqual(linesOf(await derivationOf(proofs, "two")), ["h : |- A", "one 1: |- A"]);
+    assert.deepEqual(linesOf(await derivationOf(proofs, "three")), ["j : |- A", "one 1: |- q A"]);
+    const odd = proofs.frameOf(proofs.model.labels.find("one")).map((item) => item % 2);
+    assert.deepEqual(odd, [0, 1, 0]);
+});
+
+test("a `$f` that no assertion has", async () => {
+    const text = `$c wff |- A $. $v p r $. wp $f wff p $. wr $f wff r $. \${ all.h $e wff p $. all $a |- A $. $}
+none $p |- A $= wr wr all $.`;
+    const said = { all: " $f wp wff p $e all.h wff p $a |- A", none: " $v r $p |- A" };
+    const derivation = await derivationOf(proofsOf(blocksOf(text, said, { none: ["all"] })), "none");
+    assert.deepEqual(linesOf(derivation), ["wr : wff r", "all 1: |- A"]);
+});
+
+test("steps that prove another formula aren't shown", async () => {
+    const text = `${HEAD}\${ h $e |- p $. a1i $p |- ( q -> p ) $= wp wq wp wi h wp wq ax mp $. $}`;
+    const blocks = blocksOf(text, { ...SAID, a1i: A1I }, { a1i: ["wi", "ax", "mp"] });
+    const formulas = new TextDecoder().decode(blocks.get("formulas"));
+    blocks.set("formulas", encoded(formulas.replace(/\( q -> p \)$/, "( p -> p )")));
+    await assert.rejects(derivationOf(proofsOf(blocks), "a1i"), OtherFormula);
+    blocks.set("formulas", encoded(formulas));
+    const given = new TextDecoder().decode(blocks.get("hypothesis-formulas"));
+    blocks.set("hypothesis-formulas", encoded(given.replace("-> q", "-> p")));
+    await assert.rejects(derivationOf(proofsOf(blocks), "a1i"), OtherFormula);
+});
+
+test("formulas that double a hundred times have a limit", { timeout: 20_000 }, async () => {
+    // Each step joins the one before, which it repeats, with itself.
+    const base = "$c wff ( -> ) $. $v p q $. wp $f wff p $. wq $f wff q $. wi $a wff ( p -> q ) $.\n";
+    let letters = "AAB";
+    for (let mark = 1; mark <= 100; mark++) letters += `Z${spelled(2 + mark)}B`;
+    const said = { wi: `${PQ} $a wff ( p -> q )`, big: `${P} $p wff p` };
+    const blocks = blocksOf(`${base}big $p wff p $= ( wi ) ${letters} $.`, said, { big: ["wi"] });
+    await assert.rejects(derivationOf(proofsOf(blocks), "big"), TooManySigns);
+    const fewer = letters.slice(0, letters.indexOf(`Z${spelled(12)}`));
+    const small = blocksOf(`${base}big $p wff p $= ( wi ) ${fewer} $.`, said, { big: ["wi"] });
+    await assert.rejects(derivationOf(proofsOf(small), "big"), OtherFormula);
+});
+
+test("a proof of too many steps has a limit, and those after it are read", { timeout: 60_000 }, async () => {
+    const base = "$c wff A $. $v p $. wp $f wff p $. wa $a wff A p $.\n";
+    const letters = `A${"B".repeat(MOST_STEPS + 1)}`;
+    const text = `${base}long $p wff p $= ( wa ) ${letters} $. short $p wff A p $= wp wa $.`;
+    const said = { wa: `${P} $a wff A p`, long: `${P} $p wff p`, short: `${P} $p wff A p` };
+    const proofs = proofsOf(blocksOf(text, said, { long: ["wa"], short: ["wa"] }));
+    assert.deepEqual(linesOf(await derivationOf(proofs, "short")), ["wa : wff A p"]);
+    await assert.rejects(derivationOf(proofs, "long"), TooManySteps);
+    assert.deepEqual(linesOf(await derivationOf(proofs, "short")), ["wa : wff A p"]);
+});
+
+test("work is done in turns, and given up where nobody waits for it", async () => {
+    let isWanted = true;
+    const turns = new Turns(() => isWanted);
+    assert.equal(turns.isOver(0), false);
+    turns.began -= 1000;
+    assert.equal(turns.isOver(63), true);
+    await turns.next();
+    assert.equal(turns.isOver(63), false);
+    isWanted = false;
+    await assert.rejects(turns.next(), Abandoned);
+});

@@ -1,0 +1,37 @@
+// Tests of how formulas are shown: with spaces where the definitions have them.
+
+import assert from "node:assert/strict";
+import { test } from "node:test";
+import { Symbols, infixSymbols } from "../view/symbols.js";
+
+const TYPECODES = new Map([
+    ["A", "class"],
+    ["B", "class"],
+    ["F", "class"],
+    ["x", "setvar"],
+    ["ph", "wff"],
+]);
+const AXIOMS = ["wff F : A --> B", "wff A = B", "class ( A F B )", "wff A. x ph", "class U. A", "|- A <> B"];
+const SHOWN = { A: "𝐴", B: "𝐵", F: "𝐹", x: "𝑥", "-->": "⟶", "=": " = ", "A.": "∀", "U.": "∪ ", "(": "(", ")": ")", ":": ":" };
+
+/** How a formula without typecode is shown. */
+function shown(formula) {
+    const symbols = Object.entries(SHOWN).map(([name, text]) => [name, [[text, ""]]]);
+    const infix = infixSymbols(AXIOMS, TYPECODES);
+    return new Symbols({ symbols, alike: [] }, TYPECODES, infix).textOf(formula);
+}
+
+test("symbols that join two others are found in the axioms that build formulas", () => {
+    assert.deepEqual([...infixSymbols(AXIOMS, TYPECODES)], [":", "-->", "="]);
+});
+
+test("infix symbols have spaces on both sides, or on none", () => {
+    assert.equal(shown("F : A --> B"), "𝐹:𝐴⟶𝐵");
+    assert.equal(shown("A = B"), "𝐴 = 𝐵");
+    assert.equal(shown("U. A = B"), "∪ 𝐴 = 𝐵");
+});
+
+test("a symbol that begins a term or a formula is told from the one before", () => {
+    assert.equal(shown("A A. x"), "𝐴 ∀𝑥");
+    assert.equal(shown("( A F U. B )"), "(𝐴𝐹 ∪ 𝐵)");
+});

@@ -1,0 +1,161 @@
+// The view of a theorem's proof: its steps, each with what it uses, what it applies, and what it says.
+
+import { count, counted, element } from "./elements.js";
+import { Derivation, MOST_SIGNS, OtherFormula, TooManySigns } from "./derivation.js";
+import { MOST_STEPS, Proofs, Step, TooManySteps } from "./proofs.js";
+import { Abandoned, Turns } from "./turns.js";
+
+/** @typedef {import("./elements.js").Child} Child */
+/** @typedef {import("./elements.js").Elements} Elements */
+/** @typedef {import("./model.js").Model} Model */
+
+/** So many steps are shown at first, and more at a time. */
+const FIRST_STEPS = 40;
+const MORE_STEPS = 500;
+
+export class ProofView {
+    /**
+     * @param {Model} model
+     * @param {Elements} elements
+     */
+    constructor(model, elements) {
+        this.model = model;
+        this.elements = elements;
+        this.proofs = new Proofs(model);
+    }
+
+    /**
+     * The section of a theorem's proof, which comes as soon as it was read.
+     * @param {number} theorem
+     */
+    render(theorem) {
+        if (!this.proofs.areThere) return "";
+        const place = element("div", { "aria-busy": "true" }, this.elements.hint("The proof is being read."));
+        this.fill(place, theorem);
+        return this.elements.section("proof", "Proof", place);
+    }
+
+    /**
+     * @param {HTMLElement} place
+     * @param {number} theorem
+     */
+    async fill(place, theorem) {
+        await new Promise((resume) => setTimeout(resume)); // until it is part of the page
+        try {
+            place.replaceChildren(...(await this.made(place, theorem)));
+            place.setAttribute("aria-busy", "false");
+        } catch (error) {
+            if (error instanceof Abandoned) return;
+            place.replaceChildren(element("p", { class: "note" }, toldOf(error)));
+            place.setAttribute("aria-busy", "false");
+        }
+    }
+
+    /**
+     * @param {HTMLElement} place
+     * @param {number} theorem
+     * @returns {Promise<Child[]>}
+     */
+    async made(place, theorem) {
+        const turns = new Turns(() => place.isConnected);
+        const steps = await this.proofs.steps(theorem, turns);
+        const derivation = new Derivation(this.proofs, steps);
+        await derivation.run(theorem, turns);
+        const { all, essential } = derivation;
+        const list = element("div");
+        const put = (/** @type {boolean} */ areAll) => {
+            list.replaceChildren(areAll ? this.list(derivation, all, true) : this.list(derivation, essential, false));
+        };
+        put(false);
+        if (all.length === essential.length) return [this.told(derivation, all.length, 0), list];
+        const button = element("button", { type: "button", class: "ask", "aria-pressed": "false" });
+        button.append(`All ${counted(all.length, "step")}`);
+        button.addEventListener("click", () => {
+            const areAll = button.getAttribute("aria-pressed") === "false";
+            button.setAttribute("aria-pressed", String(areAll));
+            put(areAll);
+        });
+        const told = this.told(derivation, essential.length, all.length - essential.length);
+        told.append(" ", button);
+        return [told, list];
+    }
+
+    /**
+     * @param {Derivation} derivation
+     * @param {number} shown
+     * @param {number} others how many steps only build formulas
+     */
+    told(derivation, shown, others) {
+        const told = counted(shown, "step");
+        const more = others === 0 ? "." : `, and ${counted(others, "other")}, which only build formulas.`;
+        return this.elements.hint(`${told}${more}`, { id: "proof-told" });
+    }
+
+    /**
+     * Steps as a list, numbered from 1.
+     * @param {Derivation} derivation
+     * @param {number[]} steps
+     * @param {boolean} areAll whether all that a step uses is in the list
+     */
+    list(derivation, steps, areAll) {
+        const numberOf = new Map(steps.map((step, at) => [step, at + 1]));
+        const make = (/** @type {number} */ step) => {
+            const used = areAll ? derivation.usedBy(step) : derivation.essentialUsedBy(step);
+            const numbers = used.map((each) => String(numberOf.get(each)));
+            return this.line(derivation, step, numberOf.get(step) ?? 0, numbers);
+        };
+        const list = element("ol", { class: "lines steps", "aria-label": "Steps" });
+        return this.elements.inParts(list, steps, FIRST_STEPS, MORE_STEPS, make);
+    }
+
+    /**
+     * A step: its number, those of the steps that it uses, what it applies, and what it says.
+     * @param {Derivation} derivation
+     * @param {number} step
+     * @param {number} number
+     * @param {string[]} used
+     */
+    line(derivation, step, number, used) {
+        const hidden = (/** @type {string} */ text) => element("span", { class: "hidden" }, text);
+        const from = used.length === 0 ? "" : [hidden(" from "), used.join(", ")];
+        return element(
+            "li",
+            { class: "line step" },
+            element("span", { class: "number" }, hidden("Step "), String(number)),
+            " ",
+            element("span", { class: "from" }, ...from),
+            " ",
+            this.applied(derivation, step),
+            " ",
+            this.elements.formula(derivation.formula(step), true),
+        );
+    }
+
+    /**
+     * What a step applies: a link to an assertion, or the label of a hypothesis.
+     * @param {Derivation} derivation
+     * @param {number} step
+     */
+    applied({ steps }, step) {
+        const number = steps.numbers[step];
+        if (steps.what[step] === Step.assertion) return this.elements.link(number);
+        const isFloating = steps.what[step] === Step.floating;
+        const label = isFloating ? this.proofs.givenBy(number).label : this.model.hypothesisLabels.at(number);
+        return element("span", { class: "label" }, label);
+    }
+}
+
+/**
+ * Why no steps are shown.
+ * @param {unknown} error
+ */
+function toldOf(error) {
+    if (error instanceof TooManySteps) return `It has more than ${count(MOST_STEPS)} steps, too many to be shown here.`;
+    if (error instanceof TooManySigns) {
+        return `Its formulas have more than ${count(MOST_SIGNS)} signs together, too many to be shown here.`;
+    }
+    if (error instanceof OtherFormula) {
+        return "The steps that were read don't prove this formula. The page is at fault, so no steps are shown.";
+    }
+    return `The proof couldn't be read: ${String(error)}`;
+}

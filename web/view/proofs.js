@@ -1,0 +1,361 @@
+// Reads the steps of proofs from the blocks of the page, as codes.js of the packer says.
+
+import { CHUNK, Code, KINDS, Recent, kindOf } from "../packer/codes.js";
+import { Lists, Numbers, Texts, startsOf, textOf } from "./decode.js";
+import { firstWord } from "./model.js";
+
+/** @typedef {import("./model.js").Model} Model */
+/** @typedef {import("./turns.js").Turns} Turns */
+
+/** A proof with more steps isn't read. */
+export const MOST_STEPS = 1_000_000;
+
+/** What a step is. */
+export const Step = { floating: 0, hypothesis: 1, assertion: 2, repeated: 3 };
+
+/**
+ * The steps of a proof in order: of each what it is, and the number of the `$f`, the `$e`, the assertion, or the step
+ * that is repeated.
+ * @typedef {{ what: Uint8Array, numbers: Uint32Array }} Steps
+ */
+
+/** A proof has more than `MOST_STEPS`. */
+export class TooManySteps extends Error {}
+
+/** The mandatory `$f` of each assertion. */
+class Frames {
+    /**
+     * @param {Uint8Array} block
+     * @param {number} size how many assertions there are
+     */
+    constructor(block, size) {
+        const numbers = new Numbers(block);
+        const sizes = new Uint32Array(size);
+        /** @type {number[]} */
+        const items = [];
+        /**
+         * Of assertions in which one stands behind a `$e` how many `$e` each is behind.
+         * @type {Map<number, number[]>}
+         */
+        this.behind = new Map();
+        for (let assertion = 0; assertion < size; assertion++) {
+            const head = numbers.next();
+            sizes[assertion] = head >>> 1;
+            let expected = 0;
+            for (let left = sizes[assertion]; left > 0; left--) {
+                const number = expected + numbers.next();
+                items.push(number);
+                expected = number + 1;
+            }
+            if (head % 2 === 1) this.behind.set(assertion, Array.from({ length: head >>> 1 }, () => numbers.next()));
+        }
+        this.floating = new Lists(startsOf(sizes), Uint32Array.from(items));
+    }
+}
+
+/** The block of a chunk: its streams, each read up to a place, and where the proofs begin that were passed. */
+class Chunk {
+    /** @param {Uint8Array} block */
+    constructor(block) {
+        const numbers = new Numbers(block);
+        const sizes = Array.from({ length: KINDS + Code.recent }, () => numbers.next());
+        const starts = startsOf(sizes);
+        this.streams = sizes.map((_, at) => {
+            const [start, end] = [starts[at], starts[at + 1]];
+            return new Numbers(block.subarray(numbers.place + start, numbers.place + end));
+        });
+        /** @type {number[][]} */
+        this.places = [this.streams.map(() => 0)];
+    }
+
+    /** Notes that the next proof begins here. */
+    passProof() {
+        this.places.push(this.streams.map(({ place }) => place));
+    }
+
+    /** @param {number} proof */
+    goTo(proof) {
+        this.streams.forEach((stream, at) => (stream.place = this.places[proof][at]));
+    }
+
+    /** @param {number} kind */
+    byte(kind) {
+        const { block, place } = this.streams[kind];
+        if (place >= block.length) throw new Error("a proof of the page is damaged");
+        this.streams[kind].place++;
+        return block[place];
+    }
+
+    /** @param {number} code */
+    number(code) {
+        return code < Code.recent ? this.streams[KINDS + code].next() : 0;
+    }
+}
+
+/** The proofs of a page. */
+export class Proofs {
+    /** @param {Model} model */
+    constructor(model) {
+        this.model = model;
+        /** @type {Promise<void> | undefined} */
+        this.loading = undefined;
+        this.floating = new Texts("", 0);
+        this.frames = new Frames(new Uint8Array(0), 0);
+        /** The typecodes that `$f` have, each with its number. */
+        this.codes = new Map();
+        /**
+         * Of each kind the labels that are often used: 2 * n for the `$f` n, 2 * n + 1 for the assertion n.
+         * @type {number[][]}
+         */
+        this.frequent = [];
+        /** @type {Set<number>} */
+        this.isFrequent = new Set();
+        /** @type {Map<number, Chunk>} */
+        this.chunks = new Map();
+        /** @type {Map<number, number[]>} Of assertions the kinds of their hypotheses. */
+        this.kinds = new Map();
+    }
+
+    /** Whether the page has proofs. */
+    get areThere() {
+        return this.model.blocks.has("proof-labels");
+    }
+
+    /** Reads what all proofs need. */
+    load() {
+        this.loading ??= this.loadAll();
+        return this.loading;
+    }
+
+    async loadAll() {
+        const names = ["proof-floating", "proof-frames", "proof-labels"];
+        const [floating, frames, labels] = await Promise.all(names.map((name) => this.model.blocks.load(name)));
+        const text = textOf(floating);
+        this.floating = new Texts(text, text === "" ? 0 : text.split("\n").length);
+        for (let number = 0; number < this.floating.size; number++) {
+            const code = this.givenBy(number).code;
+            if (!this.codes.has(code)) this.codes.set(code, this.codes.size);
+        }
+        this.frames = new Frames(frames, this.model.size);
+        const numbers = new Numbers(labels);
+        this.frequent = Array.from({ length: KINDS }, (_, kind) => {
+            return kind === 0 ? [] : Array.from({ length: numbers.next() }, () => numbers.next());
+        });
+        this.isFrequent = new Set(this.frequent.flat());
+    }
+
+    /**
+     * What a `$f` says.
+     * @param {number} number
+     */
+    givenBy(number) {
+        const [label, code, variable] = this.floating.at(number).split(" ");
+        return { label, code, variable };
+    }
+
+    /**
+     * The mandatory hypotheses of an assertion in order: 2 * n for the `$f` n, 2 * n + 1 for the `$e` n.
+     * @param {number} assertion
+     */
+    frameOf(assertion) {
+        const floating = Array.from(this.frames.floating.of(assertion), (number) => 2 * number);
+        const essential = Array.from(this.model.hypotheses.of(assertion), (number) => 2 * number + 1);
+        const behind = this.frames.behind.get(assertion);
+        if (!behind) return [...floating, ...essential];
+        /** @type {number[]} */
+        const frame = [];
+        let taken = 0;
+        floating.forEach((item, at) => {
+            while (taken < behind[at]) frame.push(essential[taken++]);
+            frame.push(item);
+        });
+        return [...frame, ...essential.slice(taken)];
+    }
+
+    /**
+     * The kind of a formula, by its typecode.
+     * @param {string} formula
+     */
+    kindOf(formula) {
+        return kindOf(this.codes.get(firstWord(formula)) ?? -1);
+    }
+
+    /**
+     * The kinds of the hypotheses of an assertion.
+     * @param {number} assertion
+     */
+    kindsOf(assertion) {
+        let kinds = this.kinds.get(assertion);
+        if (!kinds) {
+            const { hypothesisFormulas } = this.model;
+            kinds = this.frameOf(assertion).map((item) => {
+                if (item % 2 === 1) return this.kindOf(hypothesisFormulas.at((item - 1) / 2));
+                return this.kindOf(this.givenBy(item / 2).code);
+            });
+            this.kinds.set(assertion, kinds);
+        }
+        return kinds;
+    }
+
+    /**
+     * What has a number of its own in the proof of a theorem: its `$e`, and what it cites and isn't often used.
+     * @param {number} theorem
+     */
+    ownOf(theorem) {
+        const own = Array.from(this.model.hypotheses.of(theorem), (number) => ({ what: Step.hypothesis, number }));
+        for (const number of this.model.cited.of(this.model.rowOf[theorem])) {
+            if (!this.isFrequent.has(2 * number + 1)) own.push({ what: Step.assertion, number });
+        }
+        return own;
+    }
+
+    /**
+     * The steps of a theorem's proof. TooManySteps where they are too many.
+     * @param {number} theorem
+     * @param {Turns} turns
+     * @returns {Promise<Steps>}
+     */
+    async steps(theorem, turns) {
+        await this.load();
+        const row = this.model.rowOf[theorem];
+        const number = Math.floor(row / CHUNK);
+        let chunk = this.chunks.get(number);
+        if (!chunk) {
+            chunk = new Chunk(await this.model.blocks.load(`proof-steps-${number}`));
+            this.chunks.set(number, chunk);
+        }
+        for (let next = chunk.places.length - 1; next < row % CHUNK; next++) {
+            chunk.goTo(next);
+            await new Backward(this, chunk, this.model.theorems[number * CHUNK + next], false).read(turns);
+            if (chunk.places.length === next + 1) chunk.passProof();
+        }
+        chunk.goTo(row % CHUNK);
+        const backward = new Backward(this, chunk, theorem, true);
+        await backward.read(turns);
+        if (chunk.places.length === (row % CHUNK) + 1) chunk.passProof();
+        return backward.forward();
+    }
+}
+
+/** Reads a proof from its last step to its first. */
+class Backward {
+    /**
+     * @param {Proofs} proofs
+     * @param {Chunk} chunk which stands where the proof begins
+     * @param {number} theorem
+     * @param {boolean} isKept whether the steps are wanted
+     */
+    constructor(proofs, chunk, theorem, isKept) {
+        this.proofs = proofs;
+        this.chunk = chunk;
+        this.isKept = isKept;
+        this.own = proofs.ownOf(theorem);
+        /** The kinds of what comes, the next one last. */
+        this.expected = [proofs.kindOf(proofs.model.formulas.at(theorem))];
+        /** @type {number[]} Of each step its kind, and its byte and number. */
+        this.kinds = [];
+        /** @type {number[]} */
+        this.bytes = [];
+        /** @type {number[]} */
+        this.numbers = [];
+    }
+
+    /** @param {Turns} turns */
+    async read(turns) {
+        const { expected, chunk } = this;
+        let kind;
+        for (let steps = 0; (kind = expected.pop()) !== undefined; steps++) {
+            const byte = chunk.byte(kind);
+            const code = byte >>> 1;
+            const number = chunk.number(code);
+            const isRepeated = code >= Code.far && code < Code.frequent;
+            const { what, number: label } = isRepeated ? NOTHING : this.labelled(kind, code, number);
+            if (what === Step.assertion) for (const each of this.proofs.kindsOf(label)) expected.push(each);
+            if (this.isKept) {
+                this.kinds.push(kind);
+                this.bytes.push(byte);
+                this.numbers.push(number);
+                if (steps === MOST_STEPS) throw new TooManySteps();
+            }
+            if (turns.isOver(steps)) await turns.next();
+        }
+    }
+
+    /**
+     * What a label is, by its code.
+     * @param {number} kind
+     * @param {number} code
+     * @param {number} number
+     */
+    labelled(kind, code, number) {
+        if (code === Code.own) return this.own[number];
+        const label = code === Code.label ? number : this.proofs.frequent[kind][code - Code.frequent];
+        return label % 2 === 0
+            ? { what: Step.floating, number: label / 2 }
+            : { what: Step.assertion, number: (label - 1) / 2 };
+    }
+
+    /**
+     * The steps from the first to the last.
+     * @returns {Steps}
+     */
+    forward() {
+        const size = this.kinds.length;
+        const what = new Uint8Array(size);
+        const numbers = new Uint32Array(size);
+        const marked = new Marked();
+        for (let step = 0; step < size; step++) {
+            const at = size - 1 - step;
+            const kind = this.kinds[at];
+            const code = this.bytes[at] >>> 1;
+            if (code >= Code.far && code < Code.frequent) {
+                what[step] = Step.repeated;
+                numbers[step] = marked.repeated(kind, code, this.numbers[at]);
+            } else {
+                const found = this.labelled(kind, code, this.numbers[at]);
+                what[step] = found.what;
+                numbers[step] = found.number;
+            }
+            if (this.bytes[at] & 1) marked.add(kind, step);
+        }
+        return { what, numbers };
+    }
+}
+
+const NOTHING = { what: Step.repeated, number: 0 };
+
+/** The steps that are repeated later. */
+class Marked {
+    constructor() {
+        /** @type {number[]} */
+        this.steps = [];
+        this.recent = Array.from({ length: KINDS }, () => new Recent());
+    }
+
+    /**
+     * @param {number} kind
+     * @param {number} step
+     */
+    add(kind, step) {
+        this.recent[kind].add(this.steps.length);
+        this.steps.push(step);
+    }
+
+    /**
+     * The step that is repeated.
+     * @param {number} kind
+     * @param {number} code
+     * @param {number} number
+     */
+    repeated(kind, code, number) {
+        const recent = this.recent[kind];
+        if (code !== Code.far) {
+            const marked = recent.items[code - Code.recent];
+            recent.use(marked);
+            return this.steps[marked];
+        }
+        const marked = this.steps.length - 1 - number;
+        recent.add(marked);
+        return this.steps[marked];
+    }
+}
