@@ -12,18 +12,21 @@ from __future__ import annotations
 import re
 from collections.abc import Iterator
 from dataclasses import dataclass
+from itertools import chain
+from string import ascii_letters, digits
 from typing import NamedTuple
 
 from query.errors import NoAnswer
 
 LABEL, SYMBOL, NUMBER = r"[A-Za-z0-9._-]++", r"[!-#%-~]++", r"(?:0|[1-9][0-9]{0,9})"
-LABELS = re.compile(rf"{LABEL}(?:\n{LABEL})*+")
-NUMBERS = re.compile(rf"{NUMBER}(?:\n{NUMBER})*+")
+LABEL_SIGNS = frozenset(f"{ascii_letters}{digits}._-")
+NUMBERS = re.compile(NUMBER)
+# Possessive is only what has no choice within: Python before 3.11.5 takes other patterns wrongly.
 SAID = re.compile(
-    rf"(?P<given>(?: \$f {LABEL} {SYMBOL} {SYMBOL}| \$e {LABEL}(?: {SYMBOL})++)*+)"
-    rf"(?P<pairs>(?: \$d {SYMBOL} {SYMBOL})*+)"
-    rf"(?: \$v(?: {SYMBOL})++(?: \$d {SYMBOL} {SYMBOL})*+)?+"
-    rf" \$[ap](?P<formula>(?: {SYMBOL})++)"
+    rf"(?P<given>(?: \$f {LABEL} {SYMBOL} {SYMBOL}| \$e {LABEL}(?: {SYMBOL})+)*)"
+    rf"(?P<pairs>(?: \$d {SYMBOL} {SYMBOL})*)"
+    rf"(?: \$v(?: {SYMBOL})+(?: \$d {SYMBOL} {SYMBOL})*)?"
+    rf" \$[ap](?P<formula>(?: {SYMBOL})+)"
 )
 PAIR = re.compile(rf" \$d ({SYMBOL}) ({SYMBOL})")
 LINE = re.compile(rf"(?P<label>{LABEL}):(?P<letter>[apo]):{NUMBER}:{NUMBER}:{SAID.pattern}")
@@ -141,10 +144,9 @@ def fields_of(section: str) -> Fields:
     if {*map(len, lines)} != {5}:
         raise Damaged
     labels, letters, places, ends, said = ([*each] for each in zip(*lines))
-    numbers = "\n".join(places), "\n".join(ends)
-    if not LABELS.fullmatch("\n".join(labels)) or not {*letters} <= {*"apo"}:
+    if not all(labels) or not {*"".join(labels)} <= LABEL_SIGNS or not {*letters} <= {*"apo"}:
         raise Damaged
-    if not all(map(NUMBERS.fullmatch, numbers)):
+    if not all(map(NUMBERS.fullmatch, chain(places, ends))):
         raise Damaged
     return Fields(labels, letters, list(map(int, places)), list(map(int, ends)), said)
 

@@ -8,7 +8,7 @@ from __future__ import annotations
 
 import re
 
-COMMENT = re.compile(rb"\$\([^$]*+(?:\$(?!\))[^$]*+)*+(?:\$\)|\Z)")
+COMMENT = re.compile(rb"\$\(.*?(?:\$\)|\Z)", re.DOTALL)
 PROOF = re.compile(rb"\$=[^$]*+\$\.")
 
 Stretch = tuple[int, int]

@@ -13,6 +13,7 @@ SCRIPTS = ["check", "test", "mmdepend", "package", "docs/ci/check-database", "te
 PYTHON = [
     *("query", str(MMQUERY), "query/tests/check", "web/build", "web/bundle.py", "web/check"),
     *("web/verifier/build", "web/verifier/check", "library/compile", "tests/library"),
+    *("packages", "packages/make", "tests/packages"),
 ]
 
 
@@ -40,6 +41,18 @@ class Code(unittest.TestCase):
 
     def test_mypy(self) -> None:
         self.accepts("mypy", "--strict", "--cache-dir=/dev/null", "query")
+
+    def test_mypy_of_the_packages(self) -> None:
+        files = [str(path) for path in sorted((TOP / "packages").glob("*.py"))]
+        self.accepts("mypy", "--strict", "--cache-dir=/dev/null", *files)
+
+    def test_patterns(self) -> None:
+        """Python before 3.11.5, as Debian 12 has it, takes a possessive group wrongly."""
+        for path in (TOP / "query").rglob("*.py"):
+            for node in ast.walk(ast.parse(path.read_text("utf-8"))):
+                if isinstance(node, ast.Call) and ast.unparse(node.func) == "re.compile":
+                    pattern = ast.unparse(node.args[0])
+                    self.assertNotRegex(pattern, r"\)[*+?]\+", f"{path.name}: {pattern}")
 
     def test_shellcheck(self) -> None:
         self.accepts("shellcheck", *SCRIPTS)
