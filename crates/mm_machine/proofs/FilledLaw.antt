@@ -1,5 +1,5 @@
 -- A formula with its variables replaced by the bodies of entries.
-use Rattle.std.proofs.Common.{◌≡◌, ℕ, zero, suc, ◌+◌, ◌-◌, ◌<◌, ◌≤◌, ◌⊎◌, inl, inr, List, [], ◌∷◌, ◌++◌}
+use Rattle.std.proofs.Common.{◌≡◌, ℕ, zero, suc, ◌+◌, ◌<◌, ◌≤◌, ◌⊎◌, inl, inr, List, [], ◌∷◌, ◌++◌}
 use Rattle.std.proofs.Common.{length, take, get_or, refl, sym, ap, ap₂, ◌∙◌, subst, arith, All}
 use Rattle.std.proofs.Common.{length-append, append-nil, nat_lt, true}
 use Rattle.std.proofs.lemmas.List.{take_more}
@@ -9,7 +9,7 @@ use Rattle.std.proofs.lemmas.Grind.{flat_map-append}
 use Rattle.std.proofs.lemmas.Bool.Decides.{nat_tests}
 use Rattle.std.proofs.lemmas.Bool.{cases_lt}
 use Rattle.mm_spec.specs.Limits.{formula_limit}
-use Rattle.mm_nodes.specs.Strings.{first_node, string_of, joined_string_of, IsBody, IsOpened}
+use Rattle.mm_nodes.specs.Strings.{first_node, string_of, joined_string_of}
 use Rattle.mm_nodes.proofs.StringLaw.{string_has_symbols}
 use Rattle.mm_rule.specs.Rule.{IsConstantBelow}
 use Rattle.mm_rule.specs.declared.rule.RulePart.{RulePart}
@@ -41,21 +41,17 @@ filled_no_longer nodes es (p ∷ parts) (suc i) =
       length-append (filled_part nodes es p) (filled_parts nodes es parts),
     )
 
--- how many bodies are written in place of premises
-abbrev pub max_opened : ℕ
-max_opened = 128
-
--- the first `i` parts were written, and there is room to take premises apart into `spare` bodies
+-- the first `i` parts were written
 pub record IsWritten (nodes : List (List ℕ)) (es : List Entry) (parts : List RulePart)
-    (list : List ℕ) (count spare symbol_count needed i : ℕ) : Type 0 where
-  pub count_le : count + spare ≤ i + max_opened
+    (list : List ℕ) (count symbol_count needed i : ℕ) : Type 0 where
+  pub count_le : count ≤ i
   pub string_is : joined_string_of nodes (take count list) ≡ filled_parts nodes es (take i parts)
   pub length_is : symbol_count ≡ length (filled_parts nodes es (take i parts))
   pub bodies_needed : All (λ b. b < first_node + needed) (take count list)
   pub needed_le_count : needed ≤ length nodes
 
 module _ (nodes : List (List ℕ)) (es : List Entry) (parts : List RulePart) where
-  pub nothing_written : (list : List ℕ) → IsWritten nodes es parts list 0 max_opened 0 0 0
+  pub nothing_written : (list : List ℕ) → IsWritten nodes es parts list 0 0 0 0
   nothing_written list = record {
     count_le = omega arith;
     string_is = refl;
@@ -70,69 +66,44 @@ module _ (nodes : List (List ℕ)) (es : List Entry) (parts : List RulePart) whe
   too_long_if_front_is i symbol_count count_is limit_lt =
       let no_longer = filled_no_longer nodes es parts i in omega (arith, no_longer, count_is, limit_lt)
 
-  module _ (list list' : List ℕ) (count spare symbol_count needed i : ℕ) (p : RulePart)
-      (written : IsWritten nodes es parts list count spare symbol_count needed i)
+  module _ (list list' : List ℕ) (count symbol_count needed i : ℕ) (p : RulePart)
+      (written : IsWritten nodes es parts list count symbol_count needed i)
       (i_lt : i < length parts) (p_is : p ≡ get_or parts i p) where
-    -- more bodies
-    pub bodies_written : (bodies : List ℕ) (more spare' needed' added : ℕ)
-        → take (count + more) list' ≡ take count list ++ bodies
-        → joined_string_of nodes bodies ≡ filled_part nodes es p
-        → added ≡ length (filled_part nodes es p)
-        → All (λ b. b < first_node + needed') bodies → needed ≤ needed' → needed' ≤ length nodes
-        → count + more + spare' ≤ i + 1 + max_opened
-        → IsWritten nodes es parts list' (count + more) spare' (symbol_count + added) needed'
-        (i + 1)
-    bodies_written bodies more spare' needed' added list_is string_is added_is are_needed needed_le
-        needed_in count_le = record {
-          count_le = count_le;
-          string_is =
-              ap (joined_string_of nodes) list_is
-              ∙ flat_map-append (string_of nodes) (take count list) bodies
-              ∙ ap₂ (λ u v. u ++ v) written.string_is string_is
-              ∙ sym (filled_take nodes es parts i p i_lt p_is);
-          length_is =
-              let front_is = written.length_is in
-              let all_is = ap length (filled_take nodes es parts i p i_lt p_is) in
-              omega (
-                arith,
-                front_is,
-                all_is,
-                added_is,
-                length-append (filled_parts nodes es (take i parts)) (filled_part nodes es p),
-              );
-          bodies_needed =
-              subst (All (λ b. b < first_node + needed')) (sym list_is)
-              (All-append (λ b. b < first_node + needed') (take count list) bodies
-              (All-weaker (λ b. b < first_node + needed) (λ b. b < first_node + needed')
-              (λ x x_lt. omega (arith, x_lt, needed_le)) (take count list) written.bodies_needed)
-              are_needed);
-          needed_le_count = needed_in;
-        }
-
-    -- what replaces a variable
-    pub opened_written : (e : Entry) (j opened_count opened_needed spare' needed' : ℕ)
-        → p ≡ Variable j → e ≡ get_or es j no_entry → IsEntry nodes e
-        → (bodies : List ℕ) × (take (count + opened_count) list' ≡ take count list ++ bodies)
-        × IsOpened nodes e.body bodies opened_count opened_needed
-        → opened_count ≤ 1 + spare → spare' ≡ spare - opened_count → needed ≤ needed'
-        → opened_needed ≤ needed' → needed' ≤ length nodes
-        → IsWritten nodes es parts list' (count + opened_count) spare' (symbol_count + e.length)
-        needed' (i + 1)
-    opened_written e j opened_count opened_needed spare' needed' p_var e_is is_entry opened count_le
-        spare_is needed_le opened_le needed_in =
-        let is_opened = opened.2 in
-        let replaced : string_of nodes e.body ≡ filled_part nodes es p =
-        ap (λ x. string_of nodes x.body) e_is ∙ ap (filled_part nodes es) (sym p_var) in
-        let room = written.count_le in
-        bodies_written opened.0 opened_count spare' needed' e.length opened.1
-        (is_opened.string_is ∙ replaced) (is_entry.length_is ∙ ap length replaced)
-        (All-weaker (λ b. b < first_node + opened_needed) (λ b. b < first_node + needed')
-        (λ b b_lt. omega (arith, b_lt, opened_le)) opened.0 is_opened.bodies_needed)
-        needed_le needed_in (omega (arith, room, count_le, spare_is))
+    -- a body more
+    pub body_written : (b needed' added : ℕ) → take (count + 1) list' ≡ take count list ++ b ∷ []
+        → string_of nodes b ≡ filled_part nodes es p → added ≡ length (string_of nodes b)
+        → b < first_node + needed' → needed ≤ needed' → needed' ≤ length nodes
+        → IsWritten nodes es parts list' (count + 1) (symbol_count + added) needed' (i + 1)
+    body_written b needed' added list_is string_is added_is b_lt needed_le needed_in = record {
+      count_le = let le = written.count_le in omega (arith, le);
+      string_is =
+          ap (joined_string_of nodes) list_is
+          ∙ flat_map-append (string_of nodes) (take count list) (b ∷ [])
+          ∙ ap₂ (λ u v. u ++ v) written.string_is (append-nil (string_of nodes b) ∙ string_is)
+          ∙ sym (filled_take nodes es parts i p i_lt p_is);
+      length_is =
+          let front_is = written.length_is in
+          let all_is = ap length (filled_take nodes es parts i p i_lt p_is) in
+          let same = ap length string_is in
+          omega (
+            arith,
+            front_is,
+            all_is,
+            same,
+            added_is,
+            length-append (filled_parts nodes es (take i parts)) (filled_part nodes es p),
+          );
+      bodies_needed =
+          subst (All (λ b. b < first_node + needed')) (sym list_is)
+          (All-push (λ b. b < first_node + needed') (take count list) b
+          (All-weaker (λ b. b < first_node + needed) (λ b. b < first_node + needed')
+          (λ x x_lt. omega (arith, x_lt, needed_le)) (take count list) written.bodies_needed) b_lt);
+      needed_le_count = needed_in;
+    }
 
     -- a part without symbols
     pub none_written : filled_part nodes es p ≡ []
-        → IsWritten nodes es parts list count spare symbol_count needed (i + 1)
+        → IsWritten nodes es parts list count symbol_count needed (i + 1)
     none_written is_empty = record {
       count_le = let le = written.count_le in omega (arith, le);
       string_is =
@@ -163,15 +134,24 @@ pub nil_if_no_length : (u : List ℕ) → length u ≡ 0 → u ≡ []
 nil_if_no_length [] none = refl
 nil_if_no_length (x ∷ u) none = absurd (omega (arith, none))
 
--- the body of an entry that has symbols behind the first
-pub is_body_of_entry : (nodes : List (List ℕ)) (e : Entry) → IsEntry nodes e → 0 < e.length
-    → IsBody nodes e.body
-is_body_of_entry nodes e is_entry some = by_case is_entry.body_is_among
+-- what an entry's body needs is there
+pub body_is_needed : (nodes : List (List ℕ)) (e : Entry) (needed : ℕ) → IsEntry nodes e
+    → 0 < e.length → (first_node ≤ e.body → first_node + needed ≡ e.body + 1)
+    → (e.body < first_node → needed ≡ 0)
+    → (e.body < first_node + needed) × (needed ≤ length nodes)
+body_is_needed nodes e needed is_entry some if_node if_symbol =
+    by_case is_entry.body_is_among (cases_lt e.body first_node)
   where
-    by_case : IsAmong e.needed e.body e.length → IsBody nodes e.body
-    by_case (inl among) =
-        let needed_le = is_entry.needed_le_count in omega (arith, among, needed_le)
-    by_case (inr none) = let no_length = none.1 in absurd (omega (arith, no_length, some))
+    by_case : IsAmong e.needed e.body e.length → (e.body < first_node) ⊎ (first_node ≤ e.body)
+        → (e.body < first_node + needed) × (needed ≤ length nodes)
+    by_case (inr none) is_node = let no_length = none.1 in absurd (omega (arith, no_length, some))
+    by_case (inl among) (inl is_symbol) =
+        let none_needed = if_symbol is_symbol in
+        (omega (arith, is_symbol), omega (arith, none_needed))
+    by_case (inl among) (inr is_node) =
+        let needed_is = if_node is_node in
+        let needed_le = is_entry.needed_le_count in
+        (omega (arith, needed_is), omega (arith, needed_is, among, needed_le))
 
 -- ---- the symbols, listed
 

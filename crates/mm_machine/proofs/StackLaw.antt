@@ -148,10 +148,3 @@ extends_by_value nodes nodes' nodes'' floor keep nodes_equal floor_le extends =
 pub on_err : {T E P : Type 0} (r : Result T E) → P → OnErr r P
 on_err (Ok x) holds = tt
 on_err (Err e) holds = holds
-
--- bodies that need few nodes need no more than are kept
-pub bodies_kept : (needed keep : ℕ) (bodies : List ℕ) → All (λ b. b < first_node + needed) bodies
-    → needed ≤ keep → All (λ b. b < first_node + keep) bodies
-bodies_kept needed keep bodies are_needed needed_le =
-    All-weaker (λ b. b < first_node + needed) (λ b. b < first_node + keep)
-    (λ b b_lt. omega (arith, b_lt, needed_le)) bodies are_needed

@@ -2,6 +2,7 @@
 
 ghost use Rattle.std.specs.Prelude.{◌≡◌, ◌<◌, ◌≤◌, ◌+◌, ◌++◌, ◌∷◌, [], All, length, take, IfSome};
 ghost use Rattle.std.specs.Prelude.{IfNone};
+ghost use Rattle.mm_nodes.specs.Strings.{first_node};
 ghost use Rattle.mm_spec.specs.Limits.{formula_limit};
 ghost use Rattle.mm_rule.specs.Rule.{IsVariableBelow};
 ghost use Rattle.mm_machine.specs.Entries.{IsEntry};
@@ -11,10 +12,6 @@ use mm_nodes::{Body, Nodes};
 use mm_rule::{PackedPart, RulePart};
 use mm_spec::FORMULA_LIMIT;
 use std::alloc::Allocator;
-
-/// How many bodies of premises are written in place of premises, all together. So formulas that
-/// have no more symbols are lists of symbols, and are compared without a walk.
-pub const MAX_OPENED: usize = 128;
 
 /// An entry. Its formula is the string of `typecode` and then that of `body`.
 #[derive(Clone, Copy, Drop)]
@@ -48,28 +45,26 @@ fn put_body(body: Body, list: &mut [Body], index: usize)
     list[index] = body;
 }
 
-/// Writes bodies at the start of a list that stand for parts with their variables replaced. What
-/// replaces a variable is taken apart while there are few bodies. Returns `None` if they have more
-/// symbols than the limit.
+/// Writes bodies at the start of a list that stand for parts with their variables replaced. Returns
+/// `None` if they have more symbols than the limit.
 #[inline(always)]
 pub fn fill<A: Allocator>(
-    nodes: &Nodes<A>,
+    _nodes: &Nodes<A>,
     premises: &[Entry],
     parts: &[PackedPart],
     list: &mut [Body],
 ) -> Option<Filled>
-    requires are_entries { All (IsEntry nodes.now) premises.now }
+    requires are_entries { All (IsEntry _nodes.now) premises.now }
     requires variables_in_range { All (IsVariableBelow (length premises.now)) parts.now }
-    requires has_room { length parts.now + MAX_OPENED ≤ length list.old }
+    requires has_room { length parts.now ≤ length list.old }
     ensures length_stays { length list.new ≡ length list.old }
-    ensures is_filled { IfSome result (λ f. IsFilled nodes.now premises.now parts.now list.new f) }
+    ensures is_filled { IfSome result (λ f. IsFilled _nodes.now premises.now parts.now list.new f) }
     ensures is_too_long { IfNone result
-        (formula_limit < length (filled_parts nodes.now premises.now parts.now)) }
+        (formula_limit < length (filled_parts _nodes.now premises.now parts.now)) }
 {
     let mut count: usize = 0;
     let mut length: usize = 0;
     let mut needed: usize = 0;
-    let mut spare: usize = MAX_OPENED;
     for part in parts {
         match part.to_part() {
             RulePart::Constant(symbol) => {
@@ -80,11 +75,10 @@ pub fn fill<A: Allocator>(
             RulePart::Variable(floating_index) => {
                 let premise = premises[floating_index as usize];
                 if premise.length > 0 {
-                    let opened = nodes.put_opened(premise.body, spare, list, count);
-                    count += opened.count;
-                    spare = spare.saturating_sub(opened.count);
+                    put_body(premise.body, list, count);
+                    count += 1;
                     length += premise.length as usize;
-                    needed = needed.max(opened.needed);
+                    needed = needed.max(nodes_for(premise.body));
                 }
             }
         }
@@ -97,4 +91,16 @@ pub fn fill<A: Allocator>(
         length,
         needed,
     })
+}
+
+/// How many nodes there have to be for a body.
+#[inline(always)]
+pub fn nodes_for(body: Body) -> usize
+    ensures needed_by_node { first_node ≤ body → first_node + result ≡ body + 1 }
+    ensures not_by_symbol { body < first_node → result ≡ 0 }
+{
+    match body.index() {
+        None => 0,
+        Some(index) => index + 1,
+    }
 }

@@ -106,15 +106,13 @@ pub fn replace_entries<A: Allocator>(
     typecode: Body,
     bodies: &[Body],
     symbol_count: u32,
-    needed: u32,
 ) -> Result<(), AllocError>
     requires is_stack { IsStack nodes.old stack.old.items }
     requires below_le_length { below ≤ vec_len stack.old }
     requires keep_le_count { keep ≤ length nodes.old }
     requires entries_are_kept { All (λ e. e.needed ≤ keep) (take below stack.old.items) }
     requires typecode_is_symbol { typecode < first_node }
-    requires bodies_needed { All (λ b. b < first_node + needed) bodies.now }
-    requires needed_le_keep { needed ≤ keep }
+    requires bodies_are_kept { All (λ b. b < first_node + keep) bodies.now }
     requires symbol_count_is { symbol_count ≡ length (joined_string_of nodes.old bodies.now) }
     requires symbol_count_lt_limit { symbol_count < formula_limit }
     ensures is_stack { IsStack nodes.new stack.new.items }
@@ -129,7 +127,7 @@ pub fn replace_entries<A: Allocator>(
 {
     stack.truncate(below);
     nodes.truncate(keep);
-    let body = nodes.make(bodies, symbol_count, needed)?;
+    let body = nodes.make(bodies, symbol_count)?;
     let entry = Entry {
         typecode,
         body,
@@ -208,6 +206,5 @@ pub fn replace_by_symbols<A: Allocator>(
         first,
         &symbols[1..],
         count as u32,
-        0,
     )
 }

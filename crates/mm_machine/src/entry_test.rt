@@ -1,6 +1,6 @@
 //! The test that entries are what the hypotheses of a rule require.
 
-ghost use Rattle.std.specs.Prelude.{◌≡◌, ◌≤◌, ◌<◌, ◌+◌, ◌∷◌, [], All, length, map, IfOk, bytes_eq};
+ghost use Rattle.std.specs.Prelude.{◌≡◌, ◌≤◌, ◌<◌, ◌∷◌, [], All, length, map, IfOk, bytes_eq};
 ghost use Rattle.std.specs.Prelude.{IfSome, drop};
 ghost use Rattle.mm_spec.specs.Limits.{formula_limit};
 ghost use Rattle.mm_spec.specs.Laws.Stack.{are_equal};
@@ -10,7 +10,7 @@ ghost use Rattle.mm_rule.specs.Rule.{IsVariableBelow, all_parts, total_stored_pa
 ghost use Rattle.mm_machine.specs.Entries.{IsEntry, entry_formula};
 ghost use Rattle.mm_machine.specs.Filled.{filled_parts};
 
-use crate::entry::{Entry, MAX_OPENED, fill};
+use crate::entry::{Entry, fill};
 use crate::flat::list_parts;
 use mm_database::Sym;
 use mm_nodes::{Body, Nodes};
@@ -29,7 +29,7 @@ fn is_body_of<A: Allocator>(
     requires are_entries { All (IsEntry nodes.old) premises.now }
     requires is_entry { IsEntry nodes.old premise.now }
     requires variables_in_range { All (IsVariableBelow (length premises.now)) parts.now }
-    requires has_room { length parts.now + MAX_OPENED ≤ length list.old }
+    requires has_room { length parts.now ≤ length list.old }
     ensures nodes_unchanged { nodes.new ≡ nodes.old }
     ensures length_stays { length list.new ≡ length list.old }
     ensures tells_equal { IfOk result
@@ -124,7 +124,7 @@ fn is_wanted_formula<A: Allocator>(
     requires are_entries { All (IsEntry nodes.old) premises.now }
     requires is_entry { IsEntry nodes.old premise.now }
     requires variables_in_range { All (IsVariableBelow (length premises.now)) wanted.now }
-    requires has_room { length wanted.now + MAX_OPENED ≤ length list.old }
+    requires has_room { length wanted.now ≤ length list.old }
     ensures nodes_unchanged { nodes.new ≡ nodes.old }
     ensures length_stays { length list.new ≡ length list.old }
     ensures tells_equal { IfOk result
@@ -174,7 +174,7 @@ pub fn premises_match<A: Allocator>(
     requires premise_count_is { length premises.now ≡ length rule.now.hypotheses }
     requires part_count_is { total_stored_part_count rule.now.hypotheses ≡ length rule.now.parts }
     requires variables_in_range { All (IsVariableBelow (length premises.now)) rule.now.parts }
-    requires has_room { length rule.now.parts + MAX_OPENED ≤ length list.old }
+    requires has_room { length rule.now.parts ≤ length list.old }
     ensures nodes_unchanged { nodes.new ≡ nodes.old }
     ensures length_stays { length list.new ≡ length list.old }
     ensures tells_match { IfOk result

@@ -1,6 +1,6 @@
 //! The step of an assertion on the entries of the stack.
 
-ghost use Rattle.std.specs.Prelude.{◌≡◌, ◌<◌, ◌≤◌, ◌+◌, ◌∷◌, All, length, take, drop, vec_len, OnOk, OnErr};
+ghost use Rattle.std.specs.Prelude.{◌≡◌, ◌<◌, ◌≤◌, ◌∷◌, All, length, take, drop, vec_len, OnOk, OnErr};
 ghost use Rattle.std.specs.Prelude.{IfErr, Ok, ℕ};
 ghost use Rattle.mm_nodes.specs.Strings.{first_node, Extends};
 ghost use Rattle.mm_spec.specs.Frame.{symbol_names};
@@ -13,7 +13,7 @@ ghost use Rattle.mm_machine.specs.Applied.{IsRefusalOf, entries_after};
 
 use crate::disjoint_cache::DisjointCache;
 use crate::distinct::DistinctVariables;
-use crate::entry::{Entry, MAX_OPENED, fill};
+use crate::entry::{Entry, fill};
 use crate::entry_stack::{nodes_to_keep, replace_by_symbols, replace_entries};
 use crate::entry_test::first_constant;
 use crate::flat::{SymbolLists, list_parts};
@@ -95,7 +95,7 @@ fn replace_by_parts<A: Allocator>(
     requires typecode_is_symbol { typecode < first_node }
     requires variables_in_range { All (IsVariableBelow (length (drop below stack.old.items)))
         parts.now }
-    requires has_room { length parts.now + MAX_OPENED ≤ length room.old }
+    requires has_room { length parts.now ≤ length room.old }
     ensures is_stack { IsStack nodes.new stack.new.items }
     ensures nodes_are_kept { Extends (take floor nodes.old) nodes.new }
     ensures entries_are { OnOk result
@@ -119,8 +119,7 @@ fn replace_by_parts<A: Allocator>(
             let bodies = &room[..filled.count];
             let first = Body::symbol(typecode.number());
             let count = filled.length as u32;
-            let needed = filled.needed as u32;
-            replace_entries(nodes, stack, below, keep, first, bodies, count, needed)?;
+            replace_entries(nodes, stack, below, keep, first, bodies, count)?;
             Ok(())
         }
     }
@@ -143,7 +142,7 @@ fn replace_by_formula<A: Allocator>(
     requires floor_le_count { floor ≤ length nodes.old }
     requires variables_in_range { All (IsVariableBelow (length (drop below stack.old.items)))
         formula.now }
-    requires has_room { length formula.now + MAX_OPENED ≤ length room.old }
+    requires has_room { length formula.now ≤ length room.old }
     ensures is_stack { IsStack nodes.new stack.new.items }
     ensures nodes_are_kept { Extends (take floor nodes.old) nodes.new }
     ensures entries_are { OnOk result
@@ -201,8 +200,7 @@ pub fn apply_rule<A: Allocator>(
         (entry_formulas nodes.old stack.old.items))) }
 {
     let formula = rule.formula();
-    let part_count = rule.parts.len().max(formula.len());
-    make_room(part_count.saturating_add(MAX_OPENED), room)?;
+    make_room(rule.parts.len().max(formula.len()), room)?;
     match test_rule(
         database, theorem, rule, nodes, stack, room, lists, distinct, cache,
     ) {

@@ -1,7 +1,7 @@
 //! The tests of an assertion's step on the entries of the stack: that each entry is what its
 //! hypothesis requires, and that the variables that have to be disjoint are.
 
-ghost use Rattle.std.specs.Prelude.{◌≡◌, ◌<◌, ◌≤◌, ◌+◌, ℕ, All, length, IfOk};
+ghost use Rattle.std.specs.Prelude.{◌≡◌, ◌<◌, ◌≤◌, ℕ, All, length, IfOk};
 ghost use Rattle.std.specs.List.{list_all};
 ghost use Rattle.mm_spec.specs.Derivation.{are_all_disjoint as disjoint_lists};
 ghost use Rattle.mm_spec.specs.Derivation.{is_disjoint_from as disjoint_symbol};
@@ -19,7 +19,7 @@ ghost use Rattle.mm_machine.specs.Applied.{TestsRule};
 
 use crate::disjoint_cache::DisjointCache;
 use crate::distinct::{DistinctVariables, Stretch};
-use crate::entry::{Entry, MAX_OPENED};
+use crate::entry::Entry;
 use crate::entry_test::premises_match;
 use crate::flat::{SymbolLists, append_body};
 use crate::reason::{Reason, StepRefused};
@@ -416,7 +416,7 @@ pub fn test_rule<A: Allocator>(
     requires are_entries { All (IsEntry nodes.old) stack.now }
     requires formulas_in_range { AreInRange (length (symbol_names database.now.statements))
         (entry_formulas nodes.old stack.now) }
-    requires has_room { length rule.now.parts + MAX_OPENED ≤ length room.old }
+    requires has_room { length rule.now.parts ≤ length room.old }
     requires cached_are_disjoint { AreDisjointAt database.now.statements theorem cache.old }
     ensures nodes_unchanged { nodes.new ≡ nodes.old }
     ensures length_stays { length room.new ≡ length room.old }

@@ -6,7 +6,7 @@ use Rattle.std.proofs.Common.{Bool}
 use Rattle.std.proofs.lemmas.List.{take-append-drop, length-take-le, take-append-le, drop_at}
 use Rattle.std.proofs.lemmas.List.{take_all}
 use Rattle.std.specs.List.{AllByRecursion}
-use Rattle.std.proofs.lemmas.List.Elements.{recursion_from_All, All-weaker}
+use Rattle.std.proofs.lemmas.List.Elements.{recursion_from_All}
 use Rattle.std.proofs.lemmas.Bool.{cases_lt}
 use Rattle.std.proofs.lemmas.Bool.Decides.{nat_tests}
 use Rattle.mm_nodes.specs.declared.heads.Head.{Head}
@@ -158,12 +158,8 @@ node_kept : (bodies bodies' : List ℕ) (heads heads' : List Head) (i : ℕ) →
 node_kept bodies bodies' heads heads' i is_node head_is end_le node_is string_is = record {
   start_le_end = subst (λ (h : Head). h.start ≤ h.end) (sym head_is) is_node.start_le_end;
   end_le_length = subst (λ (h : Head). h.end ≤ length bodies') (sym head_is) end_le;
-  bodies_needed =
-      subst (λ (bs : List ℕ). All (λ b. b < first_node + (get_or heads' i no_head).needed) bs)
-      (sym node_is)
-      (subst (λ (h : Head). All (λ b. b < first_node + h.needed) (get_or (nodes_of bodies heads) i []))
-      (sym head_is) is_node.bodies_needed);
-  needed_le = subst (λ (h : Head). h.needed ≤ i) (sym head_is) is_node.needed_le;
+  bodies_below =
+      subst (λ (bs : List ℕ). All (λ b. b < first_node + i) bs) (sym node_is) is_node.bodies_below;
   length_is = ap (λ h. h.length) head_is ∙ is_node.length_is ∙ ap length (sym string_is);
 }
 
@@ -236,8 +232,7 @@ module _ (bodies : List ℕ) (heads : List Head) (added : List ℕ) (h : Head)
     (is_store : IsStore bodies heads) (start_is : h.start ≡ length bodies)
     (end_is : h.end ≡ length (bodies ++ added))
     (length_is : h.length ≡ length (joined_string_of (nodes_of bodies heads) added))
-    (bodies_needed : All (λ b. b < first_node + h.needed) added)
-    (needed_le : h.needed ≤ length (nodes_of bodies heads))
+    (are_bodies : All (IsBody (nodes_of bodies heads)) added)
     (count_lt : length heads + 1 < first_node) where
   kept_nodes : nodes_of (bodies ++ added) heads ≡ nodes_of bodies heads
   kept_nodes = nodes_with_more bodies added heads
@@ -308,17 +303,14 @@ module _ (bodies : List ℕ) (heads : List Head) (added : List ℕ) (h : Head)
             end_le_length =
                 subst (λ (x : Head). x.end ≤ length (bodies ++ added)) (sym head_is)
                 (omega (arith, end_is));
-            bodies_needed =
-                subst (λ (bs : List ℕ). All
-                (λ b. b < first_node + (get_or (heads ++ h ∷ []) i no_head).needed) bs)
+            bodies_below =
+                let below_is : length (nodes_of bodies heads) ≡ i =
+                omega (arith, i_is, node_count) in
+                subst (λ (bs : List ℕ). All (λ b. b < first_node + i) bs)
                 (sym (ap (λ ns. get_or ns i []) nodes_pushed
                 ∙ ap (λ n. get_or (nodes_of bodies heads ++ added ∷ []) n []) i_is_node
                 ∙ get_or_behind (nodes_of bodies heads) (added ∷ []) 0 []))
-                (subst (λ (x : Head). All (λ b. b < first_node + x.needed) added) (sym head_is)
-                bodies_needed);
-            needed_le =
-                subst (λ (x : Head). x.needed ≤ i) (sym head_is)
-                (omega (arith, needed_le, i_is, node_count));
+                (subst (λ (n : ℕ). All (λ b. b < first_node + n) added) below_is are_bodies);
             length_is =
                 ap (λ x. x.length) head_is ∙ length_is
                 ∙ ap length (sym (ap (λ ns. get_or (strings_of ns) i []) nodes_pushed
@@ -356,15 +348,6 @@ module _ (bodies : List ℕ) (heads : List Head) (added : List ℕ) (h : Head)
             (joined_string_of (nodes_of bodies heads) added ∷ []) 0 []);
       }
 
--- the bodies of a node are symbols or earlier nodes
-pub bodies_below : (bodies : List ℕ) (heads : List Head) (i : ℕ) → IsNode bodies heads i
-    → All (λ b. b < first_node + i) (get_or (nodes_of bodies heads) i [])
-bodies_below bodies heads i is_node =
-    let needed_le = is_node.needed_le in
-    All-weaker (λ b. b < first_node + (get_or heads i no_head).needed) (λ b. b < first_node + i)
-    (λ b b_lt. omega (arith, b_lt, needed_le)) (get_or (nodes_of bodies heads) i [])
-    is_node.bodies_needed
-
 -- ---- what a caller sees of a body
 
 pub nothing_made : (nodes : List (List ℕ)) → length nodes < first_node
@@ -384,7 +367,7 @@ pub listed_string : (bodies : List ℕ) (heads : List Head) → AreNodes bodies 
 listed_string bodies heads are_nodes b i b_is i_lt =
     let count = length_nodes bodies heads in
     string_of_node (nodes_of bodies heads) b i b_is (omega (arith, count, i_lt))
-    (bodies_below bodies heads i (are_nodes i i_lt))
+    (are_nodes i i_lt).bodies_below
 
 -- what has symbols is a body
 pub body_if_some : (nodes : List (List ℕ)) (b : ℕ) → 0 < length (string_of nodes b)

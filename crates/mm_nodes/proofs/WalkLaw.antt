@@ -17,7 +17,7 @@ use Rattle.mm_nodes.specs.Strings.{string_of, joined_string_of, IsBody}
 use Rattle.mm_nodes.specs.Store.{nodes_of, AreNodes, IsStretch, MayPutOff, IsPlaceOf, stretch}
 use Rattle.mm_nodes.specs.Store.{stretch_bodies, stretch_string, no_head}
 use Rattle.mm_nodes.proofs.StringLaw.{node_string}
-use Rattle.mm_nodes.proofs.StoreLaw.{length_nodes, node_at, nodes_with_more, nodes_are_kept, bodies_below}
+use Rattle.mm_nodes.proofs.StoreLaw.{length_nodes, node_at, nodes_with_more, nodes_are_kept}
 use Rattle.mm_nodes.proofs.StoreLaw.{range_of_front, range_behind}
 
 slice_is_cons : (l : List ℕ) (a e : ℕ) → a < e → e ≤ length l
@@ -97,7 +97,7 @@ module _ (front bodies : List ℕ) (heads : List Head) where
       let index_is : b - first_node ≡ i = omega (arith, b_is) in
       rw (is_no_symbol, index_is)
       (node_string front (nodes_of bodies heads) i (omega (arith, count, i_lt))
-      (bodies_below bodies heads i (are_nodes i i_lt))
+      (are_nodes i i_lt).bodies_below
       ∙ ap (λ bs. front ++ joined_strings (strings_after front [] (nodes_of bodies heads)) bs)
       (node_at bodies heads i i_lt
       ∙ sym (ap₂ (slice_range bodies) is_place.0 is_place.1)))
@@ -132,7 +132,7 @@ place_is_in bodies heads i p are_nodes i_lt is_place = record {
       (node_at bodies heads i i_lt ∙ sym (ap₂ (slice_range bodies) is_place.0 is_place.1))
       (All-weaker (λ b. b < first_node + i) (λ b. b < first_node + length heads)
       (λ b b_lt. omega (arith, b_lt, i_lt)) (get_or (nodes_of bodies heads) i [])
-      (bodies_below bodies heads i (are_nodes i i_lt)));
+      (are_nodes i i_lt).bodies_below);
 }
 
 later_are_in : (bodies : List ℕ) (heads : List Head) (s : Stretch) (later later' : List Stretch)

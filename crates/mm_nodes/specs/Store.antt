@@ -5,13 +5,12 @@ use Rattle.mm_nodes.specs.declared.heads.Head.{Head}
 use Rattle.mm_nodes.specs.declared.heads.Stretch.{Stretch}
 use Rattle.mm_nodes.specs.Strings.{first_node, strings_of, joined_string_of}
 
-abbrev pub head : ℕ → ℕ → ℕ → ℕ → Head
-head start end symbol_count needed =
-    record { start = start; end = end; length = symbol_count; needed = needed }
+abbrev pub head : ℕ → ℕ → ℕ → Head
+head start end length = record { start = start; end = end; length = length }
 
 -- a node without bodies
 abbrev pub no_head : Head
-no_head = head 0 0 0 0
+no_head = head 0 0 0
 
 -- the bodies of each node
 abbrev pub nodes_of : List ℕ → List Head → List (List ℕ)
@@ -22,14 +21,11 @@ abbrev pub Follow : ℕ → List Head → ℕ → Type 0
 Follow from [] to = from ≡ to
 Follow from (h ∷ heads) to = (h.start ≡ from) × (from ≤ h.end) × Follow h.end heads to
 
--- The bodies of a node are among all. Each is a symbol or one of the nodes that are needed, which
--- are earlier. The length is right.
+-- the bodies of a node are among all, each is a symbol or an earlier node, and its length is right
 pub record IsNode (bodies : List ℕ) (heads : List Head) (i : ℕ) : Type 0 where
   pub start_le_end : (get_or heads i no_head).start ≤ (get_or heads i no_head).end
   pub end_le_length : (get_or heads i no_head).end ≤ length bodies
-  pub bodies_needed : All (λ b. b < first_node + (get_or heads i no_head).needed)
-      (get_or (nodes_of bodies heads) i [])
-  pub needed_le : (get_or heads i no_head).needed ≤ i
+  pub bodies_below : All (λ b. b < first_node + i) (get_or (nodes_of bodies heads) i [])
   pub length_is : (get_or heads i no_head).length
       ≡ length (get_or (strings_of (nodes_of bodies heads)) i [])
 

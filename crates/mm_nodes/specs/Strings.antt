@@ -1,5 +1,5 @@
 -- What strings bodies stand for.
-use Rattle.std.specs.Prelude.{ℕ, ◌+◌, ◌-◌, ◌<◌, ◌≤◌, ◌≡◌, List, [], ◌∷◌, ◌++◌, length, get_or, nat_lt}
+use Rattle.std.specs.Prelude.{ℕ, ◌+◌, ◌-◌, ◌<◌, ◌≡◌, List, [], ◌∷◌, ◌++◌, length, get_or, nat_lt}
 use Rattle.std.specs.Prelude.{if◌then◌else◌, flat_map, Bool, true, All}
 
 -- the least body that is a node: a smaller one is a symbol
@@ -45,14 +45,6 @@ IsBody nodes b = b < first_node + length nodes
 -- the second nodes begin with the first
 abbrev pub Extends : List (List ℕ) → List (List ℕ) → Type 0
 Extends nodes nodes' = (more : List (List ℕ)) × (nodes' ≡ nodes ++ more)
-
--- The bodies stand for the string of a body, and the first nodes are enough for them.
-pub record IsOpened (nodes : List (List ℕ)) (b : ℕ) (bodies : List ℕ) (count needed : ℕ) : Type 0
-  where
-    pub count_is : count ≡ length bodies
-    pub string_is : joined_string_of nodes bodies ≡ string_of nodes b
-    pub bodies_needed : All (λ x. x < first_node + needed) bodies
-    pub needed_le : needed ≤ length nodes
 
 -- A body was made that stands for the string of others. It is one of those that there are now, or
 -- none, if there are no others.

@@ -6,7 +6,7 @@ use crate::body::Body;
 
 /// Writes a body at an index of a list.
 #[inline(always)]
-pub fn put_body(body: Body, list: &mut [Body], index: usize)
+fn put_body(body: Body, list: &mut [Body], index: usize)
     requires { index < length list.old }
     ensures length_stays { length list.new ≡ length list.old }
     ensures is_written { take (index + 1) list.new ≡ take index list.old ++ body ∷ [] }

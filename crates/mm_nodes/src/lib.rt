@@ -5,8 +5,8 @@
 //! exactly if their strings are.
 //!
 //! A caller makes a [`Nodes`] once, makes bodies of others with [`Nodes::make`], compares them with
-//! [`Nodes::is_equal`], reads their symbols with [`Nodes::append_symbols`], takes a node apart with
-//! [`Nodes::put_opened`], and gives up the last nodes with [`Nodes::truncate`]. No call is recursive, however deep nodes are nested.
+//! [`Nodes::is_equal`], reads their symbols with [`Nodes::append_symbols`], and gives up the last
+//! nodes with [`Nodes::truncate`]. No call is recursive, however deep nodes are nested.
 #![tactic(auto)]
 
 mod body;
@@ -17,5 +17,4 @@ mod nodes;
 mod walk;
 
 pub use body::Body;
-pub use heads::Opened;
 pub use nodes::Nodes;

@@ -1,15 +1,14 @@
 //! The nodes.
 
 ghost use Rattle.std.specs.Prelude.{◌≡◌, ◌<◌, ◌≤◌, ◌++◌, ◌∷◌, [], length, take, All, OnOk, OnErr};
-ghost use Rattle.std.specs.Prelude.{IfOk, IfSome, bytes_eq, true, ◌+◌, ℕ, List};
+ghost use Rattle.std.specs.Prelude.{IfOk, bytes_eq, true};
 ghost use Rattle.mm_nodes.specs.Strings.{first_node, string_of, joined_string_of, IsBody, IsMade};
-ghost use Rattle.mm_nodes.specs.Strings.{Extends, IsOpened};
+ghost use Rattle.mm_nodes.specs.Strings.{Extends};
 ghost use Rattle.mm_nodes.specs.Store.{nodes_of, AreNodes};
 
 use crate::body::Body;
 use crate::body_list::BodyList;
-use crate::copy::{put_bodies, put_body};
-use crate::heads::{Head, Opened, Stretch};
+use crate::heads::{Head, Stretch};
 use crate::walk::{append_all, are_equal, bodies_of, length_of, place_of};
 use std::alloc::{AllocError, Allocator};
 use std::marker::Model;
@@ -118,18 +117,11 @@ impl<A: Allocator> Nodes<A> {
     }
 
     /// A body for the strings of other bodies, one after the other, which have `symbol_count` symbols
-    /// together and need the first `needed` nodes: one of them, if there is no other, or else a node.
-    /// Fails only if out of memory, or if there are 2^31 - 1 nodes or their bodies are 2^32 or more,
-    /// and then changes nothing.
+    /// together: one of them, if there is no other, or else a node. Fails only if out of memory, or
+    /// if there are 2^31 - 1 nodes or their bodies are 2^32 or more, and then changes nothing.
     #[inline(always)]
-    pub fn make(
-        &mut self,
-        bodies: &[Body],
-        symbol_count: u32,
-        needed: u32,
-    ) -> Result<Body, AllocError>
-        requires bodies_needed { All (λ b. b < first_node + needed) bodies.now }
-        requires needed_le_count { needed ≤ length self.old }
+    pub fn make(&mut self, bodies: &[Body], symbol_count: u32) -> Result<Body, AllocError>
+        requires are_bodies { All (IsBody self.old) bodies.now }
         requires length_is { symbol_count ≡ length (joined_string_of self.old bodies.now) }
         ensures nodes_stay { Extends self.old self.new }
         ensures nodes_unchanged { OnErr result (self.new ≡ self.old) }
@@ -139,7 +131,7 @@ impl<A: Allocator> Nodes<A> {
             return Err(AllocError);
         }
         if bodies.len() > 1 {
-            return self.push(bodies, symbol_count, needed);
+            return self.push(bodies, symbol_count);
         }
         if bodies.is_empty() {
             Ok(Body::none())
@@ -150,11 +142,10 @@ impl<A: Allocator> Nodes<A> {
 
     /// Makes a node.
     #[inline(always)]
-    fn push(&mut self, bodies: &[Body], symbol_count: u32, needed: u32) -> Result<Body, AllocError>
+    fn push(&mut self, bodies: &[Body], symbol_count: u32) -> Result<Body, AllocError>
         requires has_room { length self.old < MAX_NODES }
         requires has_bodies { 0 < length bodies.now }
-        requires bodies_needed { All (λ b. b < first_node + needed) bodies.now }
-        requires needed_le_count { needed ≤ length self.old }
+        requires are_bodies { All (IsBody self.old) bodies.now }
         requires length_is { symbol_count ≡ length (joined_string_of self.old bodies.now) }
         ensures nodes_stay { Extends self.old self.new }
         ensures nodes_unchanged { OnErr result (self.new ≡ self.old) }
@@ -170,7 +161,6 @@ impl<A: Allocator> Nodes<A> {
             start: start as u32,
             end: self.bodies.len() as u32,
             length: symbol_count,
-            needed,
         };
         match self.heads.push(head) {
             Ok(()) => Ok(Body::node(index as u32)),
@@ -208,107 +198,19 @@ impl<A: Allocator> Nodes<A> {
         self.is_equal_by_symbols(wanted, body)
     }
 
-    /// The bodies of a node; `None` for a symbol.
-    #[inline(always)]
-    fn bodies(&self, body: Body) -> Option<&[Body]>
-        ensures { IfSome result
-            (λ bs. string_of self.now body ≡ joined_string_of self.now bs.now) }
-    {
-        match body.index() {
-            None => None,
-            Some(index) => {
-                if index >= self.heads.len() {
-                    return None;
-                }
-                Some(bodies_of(&self.heads, self.bodies.as_slice(), index))
-            }
-        }
-    }
-
-    /// Writes bodies from `index` on that stand for the string of a body: those of the node, if they
-    /// are at most `most`, or otherwise the body itself.
-    #[inline(always)]
-    pub fn put_opened(&self, body: Body, most: usize, list: &mut [Body], index: usize) -> Opened
-        requires is_body { IsBody self.now body }
-        requires has_room { index + (1 + most) ≤ length list.old }
-        ensures length_stays { length list.new ≡ length list.old }
-        ensures count_le { result.count ≤ 1 + most }
-        ensures is_opened { (bodies : List ℕ)
-            × (take (index + result.count) list.new ≡ take index list.old ++ bodies)
-            × IsOpened self.now body bodies result.count result.needed }
-    {
-        match body.index() {
-            None => {
-                put_body(body, list, index);
-                Opened {
-                    count: 1,
-                    needed: 0,
-                }
-            }
-            Some(node) => self.put_node(body, node, most, list, index),
-        }
-    }
-
-    /// Writes the bodies of a node from `index` on, if they are at most `most`, or otherwise the node.
-    #[inline(always)]
-    fn put_node(
-        &self,
-        body: Body,
-        node: usize,
-        most: usize,
-        list: &mut [Body],
-        index: usize,
-    ) -> Opened
-        requires is_body { IsBody self.now body }
-        requires is_node { body ≡ first_node + node }
-        requires has_room { index + (1 + most) ≤ length list.old }
-        ensures length_stays { length list.new ≡ length list.old }
-        ensures count_le { result.count ≤ 1 + most }
-        ensures is_opened { (bodies : List ℕ)
-            × (take (index + result.count) list.new ≡ take index list.old ++ bodies)
-            × IsOpened self.now body bodies result.count result.needed }
-    {
-        let bodies = bodies_of(&self.heads, self.bodies.as_slice(), node);
-        let count = bodies.len();
-        if count > most {
-            put_body(body, list, index);
-            return Opened {
-                count: 1,
-                needed: node + 1,
-            };
-        }
-        put_bodies(bodies, list, index);
-        Opened {
-            count,
-            needed: self.heads[node].needed as usize,
-        }
-    }
-
-    /// Whether two bodies are one, or nodes with the same bodies.
-    #[inline(always)]
-    fn are_same(&self, first: Body, second: Body) -> bool
-        ensures { result ≡ true → string_of self.now second ≡ string_of self.now first }
-    {
-        if first == second {
-            return true;
-        }
-        match (self.bodies(first), self.bodies(second)) {
-            (Some(of_first), Some(of_second)) => of_first == of_second,
-            _ => false,
-        }
-    }
-
-    /// Whether these bodies are those of a node, or one that is the same as the body.
+    /// Whether these bodies are those of a node, or the body itself alone.
     #[inline(always)]
     fn is_listed(&self, wanted: &[Body], body: Body) -> bool
         ensures { result ≡ true → string_of self.now body ≡ joined_string_of self.now wanted.now }
     {
-        if wanted.len() == 1 {
-            return self.are_same(wanted[0], body);
-        }
-        match self.bodies(body) {
-            None => false,
-            Some(bodies) => bodies == wanted,
+        match body.index() {
+            None => wanted.len() == 1 && wanted[0] == body,
+            Some(index) => {
+                if index >= self.heads.len() {
+                    return false;
+                }
+                bodies_of(&self.heads, self.bodies.as_slice(), index) == wanted
+            }
         }
     }
 

@@ -1,48 +1,27 @@
 use Rattle.std.proofs.Common.{◌≡◌, ◌+◌, ◌<◌, ◌∷◌, ◌∙◌, [], get_or, length, sym, ap, subst, arith}
-use Rattle.std.proofs.Common.{append-nil}
 use Rattle.std.proofs.lemmas.List.{get_or_default}
-use Rattle.std.proofs.lemmas.List.Elements.{All-get_or, All-from_recursion}
+use Rattle.std.proofs.lemmas.List.Elements.{All-get_or}
 use Rattle.mm_nodes.specs.Strings.{first_node, string_of}
 use Rattle.mm_rule.specs.declared.rule.RulePart.TheVariants.{Constant, Variable}
 use Rattle.mm_rule.specs.Rule.{IsConstantBelow, IsVariableBelow}
 use Rattle.mm_machine.specs.Entries.{no_entry, IsEntry}
 use Rattle.mm_machine.specs.Filled.{filled_part}
-use Rattle.mm_machine.proofs.FilledLaw.{IsWritten, bodies_written, opened_written, none_written}
-use Rattle.mm_machine.proofs.FilledLaw.{is_body_of_entry}
+use Rattle.mm_machine.proofs.FilledLaw.{IsWritten, body_written, none_written, body_is_needed}
 use Rattle.mm_machine.proofs.FilledLaw.{symbol_string_is, nil_if_no_length, too_long_if_front_is}
 use Rattle.mm_machine.proofs.entry.fill.Goals.{in-Constant, in-Variable+then-premise-gt0}
 use Rattle.mm_machine.proofs.entry.fill.Goals.{in-Variable+else-premise-gt0}
 use Rattle.mm_machine.proofs.entry.fill.Goals as goal
 
-pub put_opened-opened-requires-clause-is_body : goal.put_opened-opened-requires-clause-is_body
-put_opened-opened-requires-clause-is_body g c =
-    let nodes = c.args.nodes.now in
-    let es = c.args.premises.now in
-    let i = c.loop-part.part-index in
-    let p = c.part-item.result in
-    let j = c.in-Variable.floating_index in
-    let p_is : p ≡ Variable j = sym c.to_part.ensures.part_is ∙ c.in-Variable.is in
-    let j_lt : j < length es =
-    subst (IsVariableBelow (length es)) (sym c.part-item.is ∙ p_is)
-    (c.requires.variables_in_range i p c.loop-part-test.true) in
-    let e = c.index-premises-floating_index.result in
-    let e_is : e ≡ get_or es j no_entry =
-    c.index-premises-floating_index.is ∙ get_or_default es j e no_entry j_lt in
-    is_body_of_entry nodes e
-    (subst (IsEntry nodes) (sym e_is)
-    (All-get_or (IsEntry nodes) es j no_entry j_lt c.requires.are_entries))
-    c.if-premise-gt0.true
-
 pub loop-part-preserved : goal.loop-part-preserved
 loop-part-preserved g c =
-    let nodes = c.args.nodes.now in
+    let nodes = c.args._nodes.now in
     let es = c.args.premises.now in
     let parts = c.args.parts.now in
     let i = c.loop-part.part-index in
     let p = c.part-item.result in
     let i_lt : i < length parts = c.loop-part-test.true in
     let written : IsWritten nodes es parts c.match-to_part.list c.match-to_part.count
-    c.match-to_part.spare c.match-to_part.length c.match-to_part.needed (i + 1) =
+    c.match-to_part.length c.match-to_part.needed (i + 1) =
     elim c.match-to_part.branch [
       | in-Constant w ↦
           let s = w.in-Constant.symbol in
@@ -53,18 +32,13 @@ loop-part-preserved g c =
           c.to_part.ensures.constant_is_below in
           let string_is : string_of nodes w.symbol.result ≡ s ∷ [] =
           ap (string_of nodes) b_is ∙ symbol_string_is nodes s s_lt in
-          let replaced = ap (filled_part nodes es) (sym p_is) in
-          let room = c.loop-part.invariant.is_written.count_le in
-          rw (w.list-is, w.count-is, w.length-is, w.needed-is, w.spare-is)
-          (bodies_written nodes es parts c.loop-part.list w.put_body.new.list c.loop-part.count
-          c.loop-part.spare c.loop-part.length c.loop-part.needed i p
-          c.loop-part.invariant.is_written i_lt c.part-item.is (w.symbol.result ∷ []) 1
-          c.loop-part.spare c.loop-part.needed 1 w.put_body.ensures.is_written
-          (append-nil (string_of nodes w.symbol.result) ∙ string_is ∙ replaced)
-          (ap length replaced)
-          (All-from_recursion (λ b. b < first_node + c.loop-part.needed) (w.symbol.result ∷ [])
-          (omega (arith, b_is, s_lt), tt))
-          (omega arith) c.loop-part.invariant.is_written.needed_le_count (omega (arith, room)))
+          rw (w.list-is, w.count-is, w.length-is, w.needed-is)
+          (body_written nodes es parts c.loop-part.list w.put_body.new.list c.loop-part.count
+          c.loop-part.length c.loop-part.needed i p c.loop-part.invariant.is_written i_lt
+          c.part-item.is w.symbol.result c.loop-part.needed 1 w.put_body.ensures.is_written
+          (string_is ∙ ap (filled_part nodes es) (sym p_is)) (sym (ap length string_is))
+          (omega (arith, b_is, s_lt)) (omega arith)
+          c.loop-part.invariant.is_written.needed_le_count)
       | in-Variable+then-premise-gt0 w ↦
           let j = w.in-Variable.floating_index in
           let p_is : p ≡ Variable j = sym c.to_part.ensures.part_is ∙ w.in-Variable.is in
@@ -77,17 +51,18 @@ loop-part-preserved g c =
           let is_entry : IsEntry nodes e =
           subst (IsEntry nodes) (sym e_is)
           (All-get_or (IsEntry nodes) es j no_entry j_lt c.requires.are_entries) in
-          let opened = w.put_opened-opened.ensures.is_opened in
-          let opened_le = opened.2.needed_le in
+          let is_needed = body_is_needed nodes e w.nodes_for.result is_entry w.if-premise-gt0.true
+          w.nodes_for.ensures.needed_by_node w.nodes_for.ensures.not_by_symbol in
           let needed_le = c.loop-part.invariant.is_written.needed_le_count in
-          rw (w.list-is, w.count-is, w.length-is, w.needed-is, w.spare-is)
-          (opened_written nodes es parts c.loop-part.list w.put_opened-opened.new.list
-          c.loop-part.count c.loop-part.spare c.loop-part.length c.loop-part.needed i p
-          c.loop-part.invariant.is_written i_lt c.part-item.is e j w.put_opened-opened.result.count
-          w.put_opened-opened.result.needed w.saturating_sub-spare.result w.max-needed.result p_is
-          e_is is_entry opened w.put_opened-opened.ensures.count_le w.saturating_sub-spare.ensures
-          (omega (arith, w.max-needed.ensures)) (omega (arith, w.max-needed.ensures))
-          (omega (arith, opened_le, needed_le, w.max-needed.ensures)))
+          rw (w.list-is, w.count-is, w.length-is, w.needed-is)
+          (body_written nodes es parts c.loop-part.list w.put_body-then-premise-gt0.new.list
+          c.loop-part.count c.loop-part.length c.loop-part.needed i p
+          c.loop-part.invariant.is_written i_lt c.part-item.is e.body w.max-needed.result e.length
+          w.put_body-then-premise-gt0.ensures.is_written
+          (ap (λ x. string_of nodes x.body) e_is ∙ ap (filled_part nodes es) (sym p_is))
+          is_entry.length_is (omega (arith, is_needed.0, w.max-needed.ensures))
+          (omega (arith, w.max-needed.ensures))
+          (omega (arith, is_needed.1, needed_le, w.max-needed.ensures)))
       | in-Variable+else-premise-gt0 w ↦
           let j = w.in-Variable.floating_index in
           let p_is : p ≡ Variable j = sym c.to_part.ensures.part_is ∙ w.in-Variable.is in
@@ -101,9 +76,9 @@ loop-part-preserved g c =
           subst (IsEntry nodes) (sym e_is)
           (All-get_or (IsEntry nodes) es j no_entry j_lt c.requires.are_entries) in
           let no_length = is_entry.length_is in
-          rw (w.list-is, w.count-is, w.length-is, w.needed-is, w.spare-is)
+          rw (w.list-is, w.count-is, w.length-is, w.needed-is)
           (none_written nodes es parts c.loop-part.list c.loop-part.list c.loop-part.count
-          c.loop-part.spare c.loop-part.length c.loop-part.needed i p c.loop-part.invariant.is_written i_lt
+          c.loop-part.length c.loop-part.needed i p c.loop-part.invariant.is_written i_lt
           c.part-item.is
           (sym (ap (λ x. string_of nodes x.body) e_is ∙ ap (filled_part nodes es) (sym p_is))
           ∙ nil_if_no_length (string_of nodes e.body)
@@ -114,14 +89,14 @@ loop-part-preserved g c =
 pub returns-then-length-gt-FORMULA_LIMIT-clause-is_too_long :
     goal.returns-then-length-gt-FORMULA_LIMIT-clause-is_too_long
 returns-then-length-gt-FORMULA_LIMIT-clause-is_too_long g c =
-    let nodes = c.args.nodes.now in
+    let nodes = c.args._nodes.now in
     let es = c.args.premises.now in
     let parts = c.args.parts.now in
     let i = c.loop-part.part-index in
     let p = c.part-item.result in
     let i_lt : i < length parts = c.loop-part-test.true in
     let written : IsWritten nodes es parts c.match-to_part.list c.match-to_part.count
-    c.match-to_part.spare c.match-to_part.length c.match-to_part.needed (i + 1) =
+    c.match-to_part.length c.match-to_part.needed (i + 1) =
     elim c.match-to_part.branch [
       | in-Constant w ↦
           let s = w.in-Constant.symbol in
@@ -132,18 +107,13 @@ returns-then-length-gt-FORMULA_LIMIT-clause-is_too_long g c =
           c.to_part.ensures.constant_is_below in
           let string_is : string_of nodes w.symbol.result ≡ s ∷ [] =
           ap (string_of nodes) b_is ∙ symbol_string_is nodes s s_lt in
-          let replaced = ap (filled_part nodes es) (sym p_is) in
-          let room = c.loop-part.invariant.is_written.count_le in
-          rw (w.list-is, w.count-is, w.length-is, w.needed-is, w.spare-is)
-          (bodies_written nodes es parts c.loop-part.list w.put_body.new.list c.loop-part.count
-          c.loop-part.spare c.loop-part.length c.loop-part.needed i p
-          c.loop-part.invariant.is_written i_lt c.part-item.is (w.symbol.result ∷ []) 1
-          c.loop-part.spare c.loop-part.needed 1 w.put_body.ensures.is_written
-          (append-nil (string_of nodes w.symbol.result) ∙ string_is ∙ replaced)
-          (ap length replaced)
-          (All-from_recursion (λ b. b < first_node + c.loop-part.needed) (w.symbol.result ∷ [])
-          (omega (arith, b_is, s_lt), tt))
-          (omega arith) c.loop-part.invariant.is_written.needed_le_count (omega (arith, room)))
+          rw (w.list-is, w.count-is, w.length-is, w.needed-is)
+          (body_written nodes es parts c.loop-part.list w.put_body.new.list c.loop-part.count
+          c.loop-part.length c.loop-part.needed i p c.loop-part.invariant.is_written i_lt
+          c.part-item.is w.symbol.result c.loop-part.needed 1 w.put_body.ensures.is_written
+          (string_is ∙ ap (filled_part nodes es) (sym p_is)) (sym (ap length string_is))
+          (omega (arith, b_is, s_lt)) (omega arith)
+          c.loop-part.invariant.is_written.needed_le_count)
       | in-Variable+then-premise-gt0 w ↦
           let j = w.in-Variable.floating_index in
           let p_is : p ≡ Variable j = sym c.to_part.ensures.part_is ∙ w.in-Variable.is in
@@ -156,17 +126,18 @@ returns-then-length-gt-FORMULA_LIMIT-clause-is_too_long g c =
           let is_entry : IsEntry nodes e =
           subst (IsEntry nodes) (sym e_is)
           (All-get_or (IsEntry nodes) es j no_entry j_lt c.requires.are_entries) in
-          let opened = w.put_opened-opened.ensures.is_opened in
-          let opened_le = opened.2.needed_le in
+          let is_needed = body_is_needed nodes e w.nodes_for.result is_entry w.if-premise-gt0.true
+          w.nodes_for.ensures.needed_by_node w.nodes_for.ensures.not_by_symbol in
           let needed_le = c.loop-part.invariant.is_written.needed_le_count in
-          rw (w.list-is, w.count-is, w.length-is, w.needed-is, w.spare-is)
-          (opened_written nodes es parts c.loop-part.list w.put_opened-opened.new.list
-          c.loop-part.count c.loop-part.spare c.loop-part.length c.loop-part.needed i p
-          c.loop-part.invariant.is_written i_lt c.part-item.is e j w.put_opened-opened.result.count
-          w.put_opened-opened.result.needed w.saturating_sub-spare.result w.max-needed.result p_is
-          e_is is_entry opened w.put_opened-opened.ensures.count_le w.saturating_sub-spare.ensures
-          (omega (arith, w.max-needed.ensures)) (omega (arith, w.max-needed.ensures))
-          (omega (arith, opened_le, needed_le, w.max-needed.ensures)))
+          rw (w.list-is, w.count-is, w.length-is, w.needed-is)
+          (body_written nodes es parts c.loop-part.list w.put_body-then-premise-gt0.new.list
+          c.loop-part.count c.loop-part.length c.loop-part.needed i p
+          c.loop-part.invariant.is_written i_lt c.part-item.is e.body w.max-needed.result e.length
+          w.put_body-then-premise-gt0.ensures.is_written
+          (ap (λ x. string_of nodes x.body) e_is ∙ ap (filled_part nodes es) (sym p_is))
+          is_entry.length_is (omega (arith, is_needed.0, w.max-needed.ensures))
+          (omega (arith, w.max-needed.ensures))
+          (omega (arith, is_needed.1, needed_le, w.max-needed.ensures)))
       | in-Variable+else-premise-gt0 w ↦
           let j = w.in-Variable.floating_index in
           let p_is : p ≡ Variable j = sym c.to_part.ensures.part_is ∙ w.in-Variable.is in
@@ -180,9 +151,9 @@ returns-then-length-gt-FORMULA_LIMIT-clause-is_too_long g c =
           subst (IsEntry nodes) (sym e_is)
           (All-get_or (IsEntry nodes) es j no_entry j_lt c.requires.are_entries) in
           let no_length = is_entry.length_is in
-          rw (w.list-is, w.count-is, w.length-is, w.needed-is, w.spare-is)
+          rw (w.list-is, w.count-is, w.length-is, w.needed-is)
           (none_written nodes es parts c.loop-part.list c.loop-part.list c.loop-part.count
-          c.loop-part.spare c.loop-part.length c.loop-part.needed i p c.loop-part.invariant.is_written i_lt
+          c.loop-part.length c.loop-part.needed i p c.loop-part.invariant.is_written i_lt
           c.part-item.is
           (sym (ap (λ x. string_of nodes x.body) e_is ∙ ap (filled_part nodes es) (sym p_is))
           ∙ nil_if_no_length (string_of nodes e.body)

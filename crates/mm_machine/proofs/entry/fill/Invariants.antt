@@ -5,7 +5,6 @@ use Rattle.mm_machine.proofs.entry.fill.Given as goal
 
 abbrev pub invariant-loop-part : goal.invariant-loop-part
 invariant-loop-part g l = record {
-  is_written : IsWritten l.nodes l.premises l.parts l.list l.count l.spare l.length l.needed
-      l.part-index;
+  is_written : IsWritten l._nodes l.premises l.parts l.list l.count l.length l.needed l.part-index;
   length_le_limit : l.length ≤ formula_limit;
 }

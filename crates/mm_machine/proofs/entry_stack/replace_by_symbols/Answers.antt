@@ -14,14 +14,14 @@ pub returns-then-is_empty-clause-nodes_are_kept : goal.returns-then-is_empty-cla
 returns-then-is_empty-clause-nodes_are_kept g c =
     extends_unchanged c.args.nodes.now c.args.nodes.now c.args.keep refl
 
-pub replace_entries-requires-clause-bodies_needed :
-    goal.replace_entries-requires-clause-bodies_needed
-replace_entries-requires-clause-bodies_needed g c =
+pub replace_entries-requires-clause-bodies_are_kept :
+    goal.replace_entries-requires-clause-bodies_are_kept
+replace_entries-requires-clause-bodies_are_kept g c =
     let u = c.args.symbols.now in
-    All-take (λ s. s < first_node + 0) _ _
-    (All-drop (λ s. s < first_node + 0) 1 u
-    (All-weaker (λ s. s < first_node) (λ s. s < first_node + 0) (λ s s_lt. omega (arith, s_lt)) u
-    c.requires.are_symbols))
+    All-take (λ s. s < first_node + c.args.keep) _ _
+    (All-drop (λ s. s < first_node + c.args.keep) 1 u
+    (All-weaker (λ s. s < first_node) (λ s. s < first_node + c.args.keep)
+    (λ s s_lt. omega (arith, s_lt)) u c.requires.are_symbols))
 
 pub replace_entries-requires-clause-symbol_count_is :
     goal.replace_entries-requires-clause-symbol_count_is

@@ -7,7 +7,7 @@ use Rattle.mm_machine.specs.declared.entry.Entry.{Entry}
 use Rattle.mm_machine.specs.Entries.{entry, IsEntry, IsStack, entry_formulas}
 use Rattle.mm_machine.proofs.EntryLaw.{formulas_are_kept, made_is_entry}
 use Rattle.mm_machine.proofs.EntryLaw.{made_formula, entry_formulas_take, entry_formulas_push}
-use Rattle.mm_machine.proofs.StackLaw.{stack_kept, stack_pushed, on_err, bodies_kept}
+use Rattle.mm_machine.proofs.StackLaw.{stack_kept, stack_pushed, on_err}
 use Rattle.mm_machine.proofs.entry_stack.replace_entries.Goals as goal
 
 pub make-requires-clause-length_is : goal.make-requires-clause-length_is
@@ -16,8 +16,7 @@ make-requires-clause-length_is g c =
     c.requires.symbol_count_is
     ∙ ap length (sym (ap (λ ns. joined_string_of ns bodies) c.truncate-2.ensures.nodes_are_taken
     ∙ joined_when_cut c.args.nodes.now c.args.keep bodies c.requires.keep_le_count
-    (bodies_kept c.args.needed c.args.keep c.args.bodies.now c.requires.bodies_needed
-    c.requires.needed_le_keep)))
+    c.requires.bodies_are_kept))
 
 pub returns-in_err-body-clause-is_stack : goal.returns-in_err-body-clause-is_stack
 returns-in_err-body-clause-is_stack g c =
@@ -104,8 +103,7 @@ returns-clause-is_stack g c =
     let strings_are : joined_string_of c.truncate-2.new.self bodies
     ≡ joined_string_of nodes bodies =
     ap (λ ns. joined_string_of ns bodies) c.truncate-2.ensures.nodes_are_taken
-    ∙ joined_when_cut nodes keep bodies c.requires.keep_le_count (bodies_kept c.args.needed c.args.keep c.args.bodies.now c.requires.bodies_needed
-    c.requires.needed_le_keep) in
+    ∙ joined_when_cut nodes keep bodies c.requires.keep_le_count c.requires.bodies_are_kept in
     subst (IsStack c.make.new.self)
     (sym (c.in_ok-push.ensures.items ∙ ap (λ (xs : List Entry). xs ++ e ∷ []) c.truncate.ensures.items))
     (stack_pushed c.make.new.self (take below es) e
@@ -133,8 +131,7 @@ returns-clause-formulas_are g c =
     let strings_are : joined_string_of c.truncate-2.new.self bodies
     ≡ joined_string_of nodes bodies =
     ap (λ ns. joined_string_of ns bodies) c.truncate-2.ensures.nodes_are_taken
-    ∙ joined_when_cut nodes keep bodies c.requires.keep_le_count (bodies_kept c.args.needed c.args.keep c.args.bodies.now c.requires.bodies_needed
-    c.requires.needed_le_keep) in
+    ∙ joined_when_cut nodes keep bodies c.requires.keep_le_count c.requires.bodies_are_kept in
     ap (entry_formulas c.make.new.self)
     (c.in_ok-push.ensures.items ∙ ap (λ (xs : List Entry). xs ++ e ∷ []) c.truncate.ensures.items)
     ∙ entry_formulas_push c.make.new.self (take below es) e
