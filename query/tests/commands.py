@@ -29,6 +29,8 @@ WORDS: dict[str, tuple[str, ...]] = {
     "why": ("DB", "a2", "ax-1"),
     "way-out": ("DB", "a2", "ax-1"),
     "frees": ("DB", "ax-1"),
+    "spare": ("DB", "ax-1"),
+    "repeats": ("DB",),
     "top": ("DB",),
     "within": ("DB", "ax-1"),
     "same": ("DB", "a2"),
@@ -52,7 +54,7 @@ WORDS: dict[str, tuple[str, ...]] = {
 WITHOUT_DATABASE = {"cache"}
 MENDING = {"set-proof"}
 # Those that write to standard output only where there is something to say.
-MAY_BE_SILENT = {"unfinished", "export", "mathboxes", "gate", "same", "uncited"}
+MAY_BE_SILENT = {"spare", "unfinished", "export", "mathboxes", "gate", "same", "uncited"}
 
 
 def words_of(name: str, database: str) -> list[str]:

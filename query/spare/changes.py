@@ -1,0 +1,275 @@
+"""The proofs of a database changed, so that theorems rest on fewer axioms: the theorems in file
+order, each with what those before it lost."""
+
+from __future__ import annotations
+
+from collections.abc import Iterator
+from dataclasses import dataclass, field
+
+from query import progress
+from query.database import Database
+from query.rules import is_discouraged, is_proof_discouraged
+from query.spare.library import Library, Rule, bits_of
+from query.spare.proofs import Proof, Step, Unfit, run
+from query.spare.search import MOST_GIVEN, Conventions, Search, Shelf, Steps, World
+from query.spare.writing import Writer, laid_out, width_of
+
+LAST = ("ALT", "OLD")
+"""How labels end of statements that nothing new should cite."""
+MOST_SYMBOLS = 400
+"""Of a formula so many symbols are shown."""
+
+
+@dataclass(frozen=True)
+class Wanted:
+    """What is asked for, and what of the conventions is set aside."""
+
+    typecode: str
+    axioms: tuple[str, ...] = ()
+    theorems: frozenset[str] | None = None
+    """Whose proofs may be changed; None for all."""
+    cites_discouraged: bool = False
+    cites_old: bool = False
+    cites_mathboxes: bool = False
+    changes_discouraged: bool = False
+
+
+@dataclass(frozen=True, slots=True)
+class Replaced:
+    """A step of a proof that cites another statement now. `old` are the labels that it cited."""
+
+    old: tuple[str, ...]
+    new: str
+    formula: str
+
+
+@dataclass(slots=True)
+class Change:
+    """What became of a theorem: which axioms it loses, and where its own proof is another one what
+    stands in its place between `$=` and `$.`, and which steps were replaced."""
+
+    theorem: str
+    loses: tuple[str, ...]
+    proof: bytes | None = None
+    old_length: int = 0
+    replaced: list[Replaced] = field(default_factory=list)
+
+
+class Place:
+    """Where the proof of a theorem stands: `start` is the byte behind its `$=`, `end` that of its
+    `$.`."""
+
+    def __init__(self, data: bytes, place: int, end: int) -> None:
+        from query.bare import bare
+
+        text = bare(data[place:end])
+        self.start = place + text.index(b"$=") + 2
+        self.end = end - 2
+        self.has_comment = text != data[place:end] and b"$(" in data[self.start : self.end]
+
+
+class Changer:
+    """Changes the proofs of a database."""
+
+    def __init__(self, database: Database, wanted: Wanted) -> None:
+        progress.now(f"reading the formulas of {database.name}")
+        self.text = database.text
+        self.wanted = wanted
+        self.library = Library(self.text, wanted.typecode)
+        self.numbers = {rule.label: rule.number for rule in self.library.rules}
+        self.names = [rule.label for rule in self.library.rules]
+        prepared = database.prepared
+        assert prepared.marks is not None and prepared.cites is not None
+        self.columns = prepared.columns
+        nodes = prepared.theorems + prepared.columns
+        cites = prepared.cites
+        self.cites = {
+            self.numbers[label]: [self.numbers[nodes[node]] for node in cites[row]]
+            for row, label in enumerate(prepared.theorems)
+        }
+        self.bit_of = {label: 1 << place for place, label in enumerate(self.columns)}
+        self.world = World(self.rests(prepared.theorems))
+        self.old_rests = list(self.world.rests)
+        self.shelf = Shelf(self.library, conventions_of(self.library, wanted))
+        self.writer = Writer(self.library, self.syntax())
+        self.width = width_of(self.proofs())
+
+    def rests(self, theorems: list[str]) -> list[int]:
+        """For each assertion the axioms on which it rests."""
+        found = [self.bit_of.get(label, 0) for label in self.names]
+        for label in theorems:
+            number = self.numbers[label]
+            for cited in self.cites[number]:
+                found[number] |= found[cited]
+        return found
+
+    def syntax(self) -> list[int]:
+        """The theorems of the syntax that any proof may cite."""
+        return [
+            one.number
+            for one in self.text.assertions
+            if one.kind == "p"
+            and one.typecode != self.wanted.typecode
+            and self.text.box(one) is None
+            and not is_discouraged(self.text, one)
+        ]
+
+    def proofs(self) -> Iterator[bytes]:
+        """The proofs that are compressed, as they stand."""
+        data = self.text.data
+        for one in self.text.assertions:
+            if one.kind == "p":
+                place = Place(data, one.place, one.end)
+                proof = data[place.start : place.end]
+                if proof.lstrip().startswith(b"("):
+                    yield proof
+
+    def changes(self) -> Iterator[Change]:
+        """What becomes of each theorem that loses one of the axioms."""
+        wanted = 0
+        for label in self.wanted.axioms:
+            wanted |= self.bit_of[label]
+        for count, (number, cited) in enumerate(self.cites.items()):
+            if count % 1000 == 0:
+                progress.now(f"searching, {count} of {len(self.cites)} theorems are done")
+            old = self.old_rests[number]
+            if not old & wanted:
+                continue
+            rests = self.resting(cited)
+            change = self.changed(number, rests, wanted) if rests & wanted else None
+            if change is None and rests != self.world.rests[number]:
+                self.world.change(number, rests)
+            lost = old & ~self.world.rests[number]
+            if change is None and lost:
+                change = Change(self.names[number], ())
+            if change is not None:
+                change.loses = tuple(self.columns[place] for place in bits_of(lost))
+                yield change
+
+    def resting(self, cited: list[int]) -> int:
+        """The axioms on which rests what cites these."""
+        rests = 0
+        for number in cited:
+            rests |= self.world.rests[number]
+        return rests
+
+    def changed(self, number: int, rests: int, wanted: int) -> Change | None:
+        """The change of a theorem whose proof can be another one; None where none is found. `rests`
+        are the axioms on which it rests with its old one."""
+        one = self.text.assertions[number]
+        rule = self.library.rules[number]
+        if not rule.is_logical or one.is_open or not self.may_change(number):
+            return None
+        place = Place(self.text.data, one.place, one.end)
+        first = len(self.library.trees)
+        try:
+            if place.has_comment:
+                return None
+            proof = run(self.library, self.numbers, rule, self.text.proof(one))
+            if not self.needs(proof, wanted):
+                return None
+            search = Search(self.shelf, self.world, rule, proof)
+            steps = self.best(search, wanted & rests, rests)
+            return None if steps is None else self.made(rule, proof, steps, place, rests)
+        except Unfit:
+            return None
+        finally:
+            self.library.trees.forget(first)
+
+    def may_change(self, number: int) -> bool:
+        """Whether the proof of a theorem may be changed."""
+        one = self.text.assertions[number]
+        if self.wanted.theorems is not None and one.label not in self.wanted.theorems:
+            return False
+        return self.wanted.changes_discouraged or not is_proof_discouraged(self.text, one)
+
+    def needs(self, proof: Proof, wanted: int) -> bool:
+        """Whether a step whose formula is proved cites what rests on these axioms."""
+        rests = self.world.rests
+        return any(rests[step.rule] & wanted for steps in proof.steps.values() for step in steps)
+
+    def best(self, search: Search, axioms: int, rests: int) -> Steps | None:
+        """A proof without as many of the axioms as are found, all at once or else one after the
+        other, in the order in which they are wanted."""
+        steps = search.without(axioms, rests)
+        if steps is not None or axioms.bit_count() == 1:
+            return steps
+        lost = 0
+        for label in self.wanted.axioms:
+            bit = self.bit_of[label]
+            if bit & axioms:
+                found = search.without(lost | bit, rests)
+                if found is not None:
+                    steps, lost = found, lost | bit
+        return steps
+
+    def made(
+        self, rule: Rule, proof: Proof, steps: Steps, place: Place, rests: int
+    ) -> Change | None:
+        """The change of a proof into other steps; None where it would rest on what it didn't."""
+        labels, letters = self.writer.words(rule, proof, steps)
+        numbers = [self.numbers[label] for label in labels if label in self.numbers]
+        new = self.resting(numbers)
+        if new & ~rests:
+            return None
+        self.world.change(rule.number, new)
+        old = self.text.data[place.start : place.end]
+        written = laid_out(labels, letters, old, self.width)
+        change = Change(rule.label, (), written, len(old))
+        for tree in used(proof, steps):
+            step, was = steps[tree], proof.steps.get(tree, {})
+            if step is not None and step not in was:
+                change.replaced.append(self.replaced(tree, step, was))
+        return change
+
+    def replaced(self, tree: int, step: Step, was: dict[Step, None]) -> Replaced:
+        """What stands in place of the steps by which a formula was proved."""
+        symbols = self.library.grammar.written(tree, MOST_SYMBOLS)
+        formula = " ".join([self.wanted.typecode, *symbols])
+        labels = dict.fromkeys(self.names[each.rule] for each in was)
+        return Replaced(tuple(labels), self.names[step.rule], formula)
+
+
+def conventions_of(library: Library, wanted: Wanted) -> Conventions:
+    """Which statements may be cited."""
+    text = library.text
+    citable = main = 0
+    boxes: dict[int, int] = {}
+    for one in text.assertions:
+        bit = 1 << one.number
+        box = None if wanted.cites_mathboxes else text.box(one)
+        if box is None:
+            main |= bit
+        else:
+            boxes[box] = boxes.get(box, 0) | bit
+        if is_fit(library.rules[one.number]) and (wanted.cites_old or not one.label.endswith(LAST)):
+            if wanted.cites_discouraged or not is_discouraged(text, one):
+                citable |= bit
+
+    def box_of(number: int) -> int | None:
+        return None if wanted.cites_mathboxes else text.box(text.assertions[number])
+
+    return Conventions(citable, main, boxes, box_of)
+
+
+def is_fit(rule: Rule) -> bool:
+    """Whether a rule can be cited in place of another."""
+    essential = rule.essential()
+    if not rule.is_logical or rule.tree < 0 or len(essential) > MOST_GIVEN:
+        return False
+    return all(each.number >= 0 for each in essential)
+
+
+def used(proof: Proof, steps: Steps) -> list[int]:
+    """The formulas that a proof has by these steps, in the order in which they were found."""
+    seen: set[int] = set()
+    left = [proof.root]
+    while left:
+        tree = left.pop()
+        if tree in seen:
+            continue
+        seen.add(tree)
+        step = steps[tree]
+        if step is not None:
+            left += step.premises
+    return [tree for tree in steps if tree in seen]
