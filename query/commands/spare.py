@@ -30,6 +30,8 @@ step      the formula of the step, of at most 400 symbols
 bytes     of a direct one, how much longer its proof is
 chapter   the number of the header under which it stands
 
+With --shorter these are the proofs that get shorter by that, whatever axioms they lose.
+
 Several AXIOMs are tried together, and one after the other in this order where a proof can't do
 without all of them. The answer is judged before it is given: the program verifies the database with
 the new proofs, which has to have the same statements, and in which the theorems have to lose just
@@ -52,6 +54,9 @@ def configure(parser: argparse.ArgumentParser) -> None:
     add_database(parser)
     parser.add_argument("axiom", metavar="AXIOM", nargs="*")
     parser.add_argument("--all", action="store_true", help="every axiom, the last one first")
+    parser.add_argument(
+        "--shorter", action="store_true", help="proofs that get shorter, whatever they lose"
+    )
     parser.add_argument(
         "--theorem", metavar="T", action="append", default=[], help="change only the proof of T"
     )
@@ -95,8 +100,10 @@ def wanted_of(database: Database, arguments: argparse.Namespace) -> Wanted:
         dependence.row(label)
     if axioms and arguments.all:
         raise NoAnswer("an AXIOM and --all exclude one another")
-    if not axioms and not arguments.all and not theorems:
-        raise NoAnswer("an AXIOM is wanted, or --theorem T, or --all")
+    if arguments.shorter and (axioms or arguments.all):
+        raise NoAnswer("--shorter and axioms exclude one another")
+    if not axioms and not arguments.all and not theorems and not arguments.shorter:
+        raise NoAnswer("an AXIOM is wanted, or --theorem T, or --all, or --shorter")
     return Wanted(
         arguments.only,
         tuple(axioms or reversed(dependence.axioms)),
@@ -105,6 +112,7 @@ def wanted_of(database: Database, arguments: argparse.Namespace) -> Wanted:
         arguments.cite_old,
         arguments.cite_mathboxes,
         arguments.change_discouraged,
+        arguments.shorter,
     )
 
 
@@ -136,7 +144,7 @@ def rows_of(database: Database, changes: list[Change]) -> list[list[Value]]:
     rows: list[list[Value]] = []
     for change in changes:
         label = change.theorem
-        loses = [axiom for axiom in change.loses if axiom in axioms]
+        loses = [axiom for axiom in change.loses if axiom in axioms] or None
         chapter = chapter_of(database.text, label)
         if change.proof is None:
             rows.append(["cascade", label, loses, None, None, None, None, chapter])

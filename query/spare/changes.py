@@ -11,7 +11,7 @@ from query.database import Database
 from query.rules import is_discouraged, is_proof_discouraged
 from query.spare.library import Library, Rule, bits_of
 from query.spare.proofs import Proof, Step, Unfit, run
-from query.spare.search import MOST_GIVEN, Conventions, Search, Shelf, Steps, World
+from query.spare.search import MOST_GIVEN, Conventions, Options, Search, Shelf, Steps, World
 from query.spare.writing import Writer, laid_out, width_of
 
 LAST = ("ALT", "OLD")
@@ -32,6 +32,8 @@ class Wanted:
     cites_old: bool = False
     cites_mathboxes: bool = False
     changes_discouraged: bool = False
+    is_shorter: bool = False
+    """Whether proofs are wanted that are shorter, whatever they lose."""
 
 
 @dataclass(frozen=True, slots=True)
@@ -125,24 +127,29 @@ class Changer:
                     yield proof
 
     def changes(self) -> Iterator[Change]:
-        """What becomes of each theorem that loses one of the axioms."""
+        """What becomes of each theorem that loses one of the axioms, or whose proof gets
+        shorter."""
         wanted = 0
         for label in self.wanted.axioms:
             wanted |= self.bit_of[label]
+        found = 0
         for count, (number, cited) in enumerate(self.cites.items()):
-            if count % 1000 == 0:
-                progress.now(f"searching, {count} of {len(self.cites)} theorems are done")
+            if count % 100 == 0:
+                progress.now(f"{count} of {len(self.cites)} theorems done, {found} new proofs")
             old = self.old_rests[number]
-            if not old & wanted:
+            if not old & wanted and not self.wanted.is_shorter:
                 continue
             rests = self.resting(cited)
-            change = self.changed(number, rests, wanted) if rests & wanted else None
+            change = None
+            if rests & wanted or self.wanted.is_shorter:
+                change = self.changed(number, rests, wanted)
             if change is None and rests != self.world.rests[number]:
                 self.world.change(number, rests)
             lost = old & ~self.world.rests[number]
             if change is None and lost:
                 change = Change(self.names[number], ())
             if change is not None:
+                found += change.proof is not None
                 change.loses = tuple(self.columns[place] for place in bits_of(lost))
                 yield change
 
@@ -162,14 +169,15 @@ class Changer:
             return None
         place = Place(self.text.data, one.place, one.end)
         first = len(self.library.trees)
+        steps: Steps | None = None
         try:
             if place.has_comment:
                 return None
             proof = run(self.library, self.numbers, rule, self.text.proof(one))
-            if not self.needs(proof, wanted):
-                return None
-            search = Search(self.shelf, self.world, rule, proof)
-            steps = self.best(search, wanted & rests, rests)
+            if self.wanted.is_shorter:
+                steps = Options(self.shelf, self.world, rule, proof, rests).shortest()
+            elif self.needs(proof, wanted):
+                steps = self.best(rule, proof, wanted & rests, rests)
             return None if steps is None else self.made(rule, proof, steps, place, rests)
         except Unfit:
             return None
@@ -188,9 +196,14 @@ class Changer:
         rests = self.world.rests
         return any(rests[step.rule] & wanted for steps in proof.steps.values() for step in steps)
 
-    def best(self, search: Search, axioms: int, rests: int) -> Steps | None:
-        """A proof without as many of the axioms as are found, all at once or else one after the
-        other, in the order in which they are wanted."""
+    def best(self, rule: Rule, proof: Proof, axioms: int, rests: int) -> Steps | None:
+        """A proof without as many of the axioms as are found: all at once that it can do without
+        one by one, or else one after the other, in the order in which they are wanted."""
+        if axioms.bit_count() > 1:
+            axioms &= Options(self.shelf, self.world, rule, proof, rests).losable()
+        if not axioms:
+            return None
+        search = Search(self.shelf, self.world, rule, proof)
         steps = search.without(axioms, rests)
         if steps is not None or axioms.bit_count() == 1:
             return steps
@@ -206,20 +219,27 @@ class Changer:
     def made(
         self, rule: Rule, proof: Proof, steps: Steps, place: Place, rests: int
     ) -> Change | None:
-        """The change of a proof into other steps; None where it would rest on what it didn't."""
+        """The change of a proof into other steps; None where it would rest on what it didn't, or
+        isn't shorter where that is wanted."""
         labels, letters = self.writer.words(rule, proof, steps)
         numbers = [self.numbers[label] for label in labels if label in self.numbers]
         new = self.resting(numbers)
         if new & ~rests:
             return None
-        self.world.change(rule.number, new)
         old = self.text.data[place.start : place.end]
         written = laid_out(labels, letters, old, self.width)
         change = Change(rule.label, (), written, len(old))
-        for tree in used(proof, steps):
+        formulas = used(proof, steps)
+        for tree in formulas:
             step, was = steps[tree], proof.steps.get(tree, {})
             if step is not None and step not in was:
                 change.replaced.append(self.replaced(tree, step, was))
+        if self.wanted.is_shorter:
+            left = sum(steps[tree] is not None for tree in formulas)
+            has_other_steps = change.replaced or left < len(proof.steps)
+            if not has_other_steps or len(written) >= len(old):
+                return None
+        self.world.change(rule.number, new)
         return change
 
     def replaced(self, tree: int, step: Step, was: dict[Step, None]) -> Replaced:

@@ -346,6 +346,67 @@ class Search:
         return True
 
 
+class Options(Search):
+    """All steps by which the formulas of a proof follow from one another, its own and others."""
+
+    def __init__(self, shelf: Shelf, world: World, theorem: Rule, proof: Proof, rests: int) -> None:
+        super().__init__(shelf, world, theorem, proof)
+        self.rests = rests
+        self.steps: dict[int, dict[Step, None]] = {}
+        for tree in self.keys:
+            self.free.add(tree, None, self.keys[tree])
+        self.tree = -1
+        wanted = self.may_be & ~world.blocked(rests)
+        flags = f"{wanted:0{theorem.number}b}"[::-1]
+        for self.tree in proof.steps:
+            self.steps[self.tree] = dict(proof.steps[self.tree])
+            for number, bound in shelf.index.find(self.tree, wanted, flags):
+                self.cited(shelf.citable[number], bound)
+
+    def is_enough(self, citable: Citable, binding: Binding, premises: list[int]) -> bool:
+        """Notes a step, and goes on."""
+        if self.tree not in premises:
+            self.steps[self.tree][step_of(citable, binding, premises)] = None
+        return False
+
+    def losable(self) -> int:
+        """The axioms that the theorem can do without, each of them alone."""
+        rests = self.world.rests
+        resting = dict.fromkeys(self.steps, self.rests)
+        resting.update(dict.fromkeys(self.proof.given, 0))
+        is_changed = True
+        while is_changed:
+            is_changed = False
+            for tree, steps in self.steps.items():
+                least = resting[tree]
+                for step in steps:
+                    needed = rests[step.rule]
+                    for premise in step.premises:
+                        needed |= resting[premise]
+                    least &= needed
+                if least != resting[tree]:
+                    resting[tree] = least
+                    is_changed = True
+        return self.rests & ~resting[self.proof.root]
+
+    def shortest(self) -> Steps:
+        """A proof with as few steps as there can be, where each is counted as often as it is
+        used."""
+        count: dict[int, int] = dict.fromkeys(self.proof.given, 0)
+        found: Steps = dict.fromkeys(self.proof.given)
+        is_changed = True
+        while is_changed:
+            is_changed = False
+            for tree, steps in self.steps.items():
+                for step in steps:
+                    if all(premise in count for premise in step.premises):
+                        size = 1 + sum(count[premise] for premise in step.premises)
+                        if tree not in count or size < count[tree]:
+                            count[tree], found[tree] = size, step
+                            is_changed = True
+        return found
+
+
 def step_of(citable: Citable, binding: Binding, premises: list[int]) -> Step:
     """The step in which a statement is cited."""
     filled = iter(premises)

@@ -9,6 +9,8 @@ from query.context import Context
 from query.options import Options
 from query.spare.changes import Change, Changer, Wanted
 from query.spare.judge import judge, rewritten
+from query.spare.proofs import run
+from query.spare.search import Options as Steps
 from query.tests.world import World
 from query.text import Text
 
@@ -341,3 +343,43 @@ class ByChance(World):
                 direct += sum(each.proof is not None for each in changes)
                 cascades += sum(each.proof is None for each in changes)
         self.assertGreater(min(direct, cascades, kept), 40)
+
+    def test_each_axiom(self) -> None:
+        """Which axioms a theorem can do without one by one, found for all of them at once."""
+        counts = [0, 0]
+        for seed in range(15):
+            path = str(self.room / self.write("chance.mm", Maker(seed).text(30)))
+            database = Context(uses_cache=False).database(path, Options())
+            changer = Changer(database, Wanted("|-", tuple(database.axioms())))
+            before = self.marks(path)
+            everything = Everything(changer.text, before)
+            for one in changer.text.assertions:
+                if one.kind == "a":
+                    continue
+                rule = changer.library.rules[one.number]
+                proof = run(changer.library, changer.numbers, rule, changer.text.proof(one))
+                rests = changer.world.rests[one.number]
+                options = Steps(changer.shelf, changer.world, rule, proof, rests)
+                found = options.losable()
+                for axiom in before[one.label]:
+                    is_lost = bool(found & changer.bit_of[axiom])
+                    wanted = everything.is_freed(one, axiom)
+                    self.assertEqual(is_lost, wanted, f"{seed} {axiom} {one.label}")
+                    counts[wanted] += 1
+        self.assertGreater(min(counts), 20)
+
+    def test_several_axioms_and_shorter_proofs(self) -> None:
+        """What is found is judged, and proofs that get shorter do."""
+        found = shorter = 0
+        for seed in range(15):
+            path = str(self.room / self.write("chance.mm", Maker(seed).text(50)))
+            changes, _, data = self.freed(path, ("bad", "five", "tr", "k"))
+            found += len(changes)
+            database = Context(uses_cache=False).database(path, Options())
+            several = list(Changer(database, Wanted("|-", is_shorter=True)).changes())
+            judge(database, rewritten(database.text, several), several)
+            for each in several:
+                if each.proof is not None:
+                    self.assertLess(len(each.proof), each.old_length)
+                    shorter += 1
+        self.assertGreater(min(found, shorter), 20)
