@@ -7,11 +7,12 @@ from query import progress
 from query.commands import Command
 from query.context import Context
 from query.database import Dependence
+from query.filters import Test
 from query.options import Options, add_database
 from query.output import Value
 from query.rules import is_discouraged
 from query.spare.changes import LAST, Wanted, conventions_of, is_fit
-from query.spare.library import Library, Rule
+from query.spare.library import Library, Rule, library_of
 from query.spare.repeats import Finder
 from query.spare.search import Shelf
 
@@ -51,13 +52,13 @@ def configure(parser: argparse.ArgumentParser) -> None:
     )
 
 
-def theorems_of(library: Library, with_kept: bool) -> Iterator[Rule]:
-    """The theorems that may be listed."""
+def theorems_of(library: Library, with_kept: bool, keeps: Test) -> Iterator[Rule]:
+    """The theorems that may be listed, of those that pass a test."""
     for one in library.text.assertions:
         rule = library.rules[one.number]
         if one.number % 1000 == 0:
             progress.now(f"searching, {one.number} of {len(library.rules)} assertions are done")
-        if one.kind == "p" and is_fit(rule):
+        if one.kind == "p" and keeps(one.label) and is_fit(rule):
             is_kept = one.label.endswith(LAST) or is_discouraged(library.text, one)
             if with_kept or not is_kept:
                 yield rule
@@ -72,9 +73,9 @@ def run(context: Context, arguments: argparse.Namespace) -> int:
     dependence = database.dependence()
     kept: bool = arguments.kept
     wanted = Wanted(arguments.only, cites_discouraged=kept, cites_old=kept)
-    library = Library(database.text, arguments.only)
+    library = library_of(database, arguments.only)
     shelf = Shelf(library, conventions_of(library, wanted))
-    found = Finder(library, shelf).repeats(theorems_of(library, kept))
+    found = Finder(library, shelf).repeats(theorems_of(library, kept, context.keeps()))
     rows = [[one.theorem, one.earlier, one.how] for one in found]
     context.table(
         COLUMNS,

@@ -8,7 +8,8 @@ from query.database import Database
 from query.errors import NoAnswer, nearest, shown
 from query.options import Options, add_database
 from query.output import Value
-from query.spare.changes import Change, Changer, Place, Wanted
+from query.spare.changes import Changer, Place, Wanted
+from query.spare.kept import Change
 from query.spare.files import see_missing, write_new
 from query.spare.judge import judge, rewritten
 from query.text import Text

@@ -3,19 +3,24 @@ order, each with what those before it lost."""
 
 from __future__ import annotations
 
+import time
 from collections.abc import Iterator
-from dataclasses import dataclass, field
+from dataclasses import asdict, dataclass
 
 from query import progress
-from query.database import Database
+from query.database import Database, key_of
 from query.rules import is_discouraged, is_proof_discouraged
-from query.spare.library import Library, Rule, bits_of
+from query.spare import kept as kept_changes
+from query.spare.kept import Change, Replaced
+from query.spare.library import Library, Rule, bits_of, library_of
 from query.spare.proofs import Proof, Step, Unfit, run
 from query.spare.search import MOST_GIVEN, Conventions, Options, Search, Shelf, Steps, World
 from query.spare.writing import Writer, laid_out, width_of
 
 LAST = ("ALT", "OLD")
 """How labels end of statements that nothing new should cite."""
+SECONDS = 60
+"""After so many seconds what was found is kept."""
 MOST_SYMBOLS = 400
 """Of a formula so many symbols are shown."""
 
@@ -35,26 +40,10 @@ class Wanted:
     is_shorter: bool = False
     """Whether proofs are wanted that are shorter, whatever they lose."""
 
-
-@dataclass(frozen=True, slots=True)
-class Replaced:
-    """A step of a proof that cites another statement now. `old` are the labels that it cited."""
-
-    old: tuple[str, ...]
-    new: str
-    formula: str
-
-
-@dataclass(slots=True)
-class Change:
-    """What became of a theorem: which axioms it loses, and where its own proof is another one what
-    stands in its place between `$=` and `$.`, and which steps were replaced."""
-
-    theorem: str
-    loses: tuple[str, ...]
-    proof: bytes | None = None
-    old_length: int = 0
-    replaced: list[Replaced] = field(default_factory=list)
+    def fields(self) -> dict[str, object]:
+        """What tells it from others."""
+        theorems = None if self.theorems is None else sorted(self.theorems)
+        return {**asdict(self), "theorems": theorems}
 
 
 class Place:
@@ -74,10 +63,9 @@ class Changer:
     """Changes the proofs of a database."""
 
     def __init__(self, database: Database, wanted: Wanted) -> None:
-        progress.now(f"reading the formulas of {database.name}")
         self.text = database.text
         self.wanted = wanted
-        self.library = Library(self.text, wanted.typecode)
+        self.library = library_of(database, wanted.typecode)
         self.numbers = {rule.label: rule.number for rule in self.library.rules}
         self.names = [rule.label for rule in self.library.rules]
         prepared = database.prepared
@@ -95,6 +83,12 @@ class Changer:
         self.shelf = Shelf(self.library, conventions_of(self.library, wanted))
         self.writer = Writer(self.library, self.syntax())
         self.width = width_of(self.proofs())
+        self.axioms = 0
+        for label in wanted.axioms:
+            self.axioms |= self.bit_of[label]
+        fields = [f"{name} {value}" for name, value in sorted(wanted.fields().items())]
+        key = key_of(kept_changes.FORM, "changes", database.key, *fields)
+        self.key = key if database.uses_cache else None
 
     def rests(self, theorems: list[str]) -> list[int]:
         """For each assertion the axioms on which it rests."""
@@ -127,31 +121,54 @@ class Changer:
                     yield proof
 
     def changes(self) -> Iterator[Change]:
-        """What becomes of each theorem that loses one of the axioms, or whose proof gets
-        shorter."""
-        wanted = 0
-        for label in self.wanted.axioms:
-            wanted |= self.bit_of[label]
-        found = 0
+        """What becomes of each theorem that loses one of the axioms, or whose proof gets shorter.
+        It is kept from time to time."""
+        begun, kept = kept_changes.load(self.key) if self.key is not None else (0, {})
+        found: list[Change] = []
+        new, stored = 0, time.monotonic()
         for count, (number, cited) in enumerate(self.cites.items()):
             if count % 100 == 0:
-                progress.now(f"{count} of {len(self.cites)} theorems done, {found} new proofs")
-            old = self.old_rests[number]
-            if not old & wanted and not self.wanted.is_shorter:
-                continue
-            rests = self.resting(cited)
-            change = None
-            if rests & wanted or self.wanted.is_shorter:
-                change = self.changed(number, rests, wanted)
-            if change is None and rests != self.world.rests[number]:
-                self.world.change(number, rests)
-            lost = old & ~self.world.rests[number]
-            if change is None and lost:
-                change = Change(self.names[number], ())
+                progress.now(f"{count} of {len(self.cites)} theorems done, {new} new proofs")
+            if count < begun:
+                change = self.known(number, cited, kept.get(self.names[number]))
+            else:
+                if time.monotonic() - stored >= SECONDS and self.key is not None:
+                    kept_changes.store(self.key, count, found)
+                    stored = time.monotonic()
+                change = self.change(number, cited)
             if change is not None:
-                found += change.proof is not None
-                change.loses = tuple(self.columns[place] for place in bits_of(lost))
+                new += change.proof is not None
+                found.append(change)
                 yield change
+        if self.key is not None and begun < len(self.cites):
+            kept_changes.store(self.key, len(self.cites), found)
+
+    def known(self, number: int, cited: list[int], change: Change | None) -> Change | None:
+        """What is known already of a theorem."""
+        if change is not None and change.proof is not None:
+            cited = [self.numbers[each] for each in change.labels() if each in self.numbers]
+        rests = self.resting(cited)
+        if rests != self.world.rests[number]:
+            self.world.change(number, rests)
+        return change
+
+    def change(self, number: int, cited: list[int]) -> Change | None:
+        """What becomes of a theorem, which cites these."""
+        old = self.old_rests[number]
+        if not old & self.axioms and not self.wanted.is_shorter:
+            return None
+        rests = self.resting(cited)
+        change = None
+        if rests & self.axioms or self.wanted.is_shorter:
+            change = self.changed(number, rests, self.axioms)
+        if change is None and rests != self.world.rests[number]:
+            self.world.change(number, rests)
+        lost = old & ~self.world.rests[number]
+        if change is None and lost:
+            change = Change(self.names[number], ())
+        if change is not None:
+            change.loses = tuple(self.columns[place] for place in bits_of(lost))
+        return change
 
     def resting(self, cited: list[int]) -> int:
         """The axioms on which rests what cites these."""

@@ -17,7 +17,7 @@ from query.errors import NoAnswer
 from query.program import Refused
 from query.report import Prepared
 from query.source import Source
-from query.spare.changes import Change
+from query.spare.kept import Change
 from query.text import Text
 
 

@@ -3,18 +3,23 @@
 from __future__ import annotations
 
 import re
-from collections.abc import Iterator, Sequence
+from array import array
+from collections.abc import Iterator, Mapping, Sequence
 from dataclasses import dataclass, field
+from itertools import chain
 from typing import NamedTuple
 
 from query.assertions import PAIR, Assertion, Hypothesis
+from query import cache, progress
 from query.bare import bare
+from query.database import Database, key_of
 from query.spare.grammar import Form, Grammar
 from query.spare.trees import Code, Trees
 from query.text import Text
 
-FLOATING = re.compile(rb"([A-Za-z0-9._-]+)\s+\$f\s+([^\s$]+)\s+([^\s$]+)\s+\$\.")
-DUMMIES = re.compile(r" \$v ((?:[^ $]+ ?)+)")
+FLOATING = re.compile(rb"(?<!\S)([\w.-]++)\s++\$f\s++([^\s$]++)\s++([^\s$]++)\s++\$\.")
+FORM = 1
+"""Counts the forms in which trees are kept, and the ways in which formulas are parsed."""
 
 
 class Given(NamedTuple):
@@ -48,15 +53,17 @@ class Rule:
 
 
 class Library:
-    """All assertions. `typecode` is that of what is proved; all others are of the syntax."""
+    """All assertions. `typecode` is that of what is proved; all others are of the syntax. `kept` is
+    what another library of the same text had found."""
 
-    def __init__(self, text: Text, typecode: str) -> None:
+    def __init__(self, text: Text, typecode: str, kept: Mapping[str, bytes] | None = None) -> None:
         self.text = text
         self.typecode_proved = typecode
         self.trees = Trees()
         self.grammar = Grammar(self.trees)
         self.floating = floating_of(text.data)
         self._parsed: dict[tuple[str, str], int] = {}
+        self._known = self.restored(kept) if kept is not None else iter(())
         self.rules: list[Rule] = []
         typecodes: dict[str, str] = {}
         self._is_fixed = all(
@@ -102,9 +109,37 @@ class Library:
     def parsed(self, formula: str, leaves: dict[str, int], scope: str) -> int:
         """The tree of a formula."""
         key = (formula, scope)
-        if key not in self._parsed:
-            self._parsed[key] = self.grammar.parsed(formula.split(" ")[1:], leaves)
-        return self._parsed[key]
+        found = self._parsed.get(key)
+        if found is None:
+            found = next(self._known, None)
+            if found is None:
+                found = self.grammar.parsed(formula.split(" ")[1:], leaves)
+            self._parsed[key] = found
+        return found
+
+    def parts(self) -> dict[str, bytes] | None:
+        """What can be kept of all trees: what they are made of, and which are the formulas that
+        were parsed, in order. None where a formula isn't one of the syntax."""
+        if any(form.label is None for form in self.grammar.forms):
+            return None
+        trees = self.trees
+        return {
+            "heads": array("q", trees.heads).tobytes(),
+            "counts": array("q", map(len, trees.parts)).tobytes(),
+            "parts": array("q", chain.from_iterable(trees.parts)).tobytes(),
+            "formulas": array("q", self._parsed.values()).tobytes(),
+        }
+
+    def restored(self, kept: Mapping[str, bytes]) -> Iterator[int]:
+        """Makes the trees that were kept. Returns those of the formulas."""
+        numbers = {name: array("q") for name in kept}
+        for name, each in numbers.items():
+            each.frombytes(kept[name])
+        place = 0
+        for head, count in zip(numbers["heads"], numbers["counts"]):
+            self.trees.made((head, *numbers["parts"][place : place + count]))
+            place += count
+        return iter(numbers["formulas"])
 
     def code(self, rule: Rule) -> Code:
         """The pattern of a rule's formula."""
@@ -121,6 +156,18 @@ class Library:
         names = {self.grammar.variables[slot][1]: slot for slot in rule.slots}
         frame = self.text.assertions[rule.number].frame()
         return [(names[one], names[other]) for one, other in frame.pairs()]
+
+
+def library_of(database: Database, typecode: str) -> Library:
+    """The library of a database, whose trees are kept."""
+    progress.now(f"reading the formulas of {database.name}")
+    key = key_of(FORM, "trees", database.key, typecode)
+    kept = cache.load(key) if database.uses_cache else None
+    library = Library(database.text, typecode, kept)
+    parts = library.parts() if database.uses_cache and kept is None else None
+    if parts is not None:
+        cache.store(key, parts)
+    return library
 
 
 class Scope:

@@ -77,16 +77,14 @@ class World:
 
     def __init__(self, rests: list[int]) -> None:
         self.rests = rests
-        self.columns: dict[int, int] = {}
-        flags: dict[int, bytearray] = {}
+        self.all = 0
+        for bits in rests:
+            self.all |= bits
+        flags = {axiom: bytearray(b"0" * len(rests)) for axiom in bits_of(self.all)}
         for number, bits in enumerate(rests):
             for axiom in bits_of(bits):
-                flags.setdefault(axiom, bytearray(b"0" * len(rests)))[number] = 49
-        for axiom, each in flags.items():
-            self.columns[axiom] = int(each[::-1], 2)
-        self.all = 0
-        for axiom in self.columns:
-            self.all |= 1 << axiom
+                flags[axiom][number] = ord("1")
+        self.columns = {axiom: int(each[::-1], 2) for axiom, each in flags.items()}
         self._blocked: dict[int, int] = {}
 
     def change(self, number: int, rests: int) -> None:

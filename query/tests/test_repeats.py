@@ -131,7 +131,10 @@ class ByChance(World):
             library = Library(database.text, "|-")
             wanted = Wanted("|-", cites_discouraged=True, cites_old=True)
             finder = Finder(library, Shelf(library, conventions_of(library, wanted)))
-            found = {one.theorem: one for one in finder.repeats(theorems_of(library, True))}
+            found = {
+                one.theorem: one
+                for one in finder.repeats(theorems_of(library, True, lambda label: True))
+            }
             tried = Tried(told_of(database.data()))
             logical = [one for one in tried.text.assertions if one.typecode == "|-"]
             for number, one in enumerate(logical):

@@ -1,6 +1,7 @@
 """What `spare` answers and writes, which conventions it keeps, and that nothing wrong is answered
 where the search is broken by hand."""
 
+import os
 import re
 import shutil
 import subprocess
@@ -13,9 +14,11 @@ from query.cli import parser_of
 from query.commands import command
 from query.context import Context
 from query.errors import NoAnswer
+from query.options import Options
 from query.output import Output
 from query.spare import changes, judge, proofs, search, writing
-from query.spare.changes import Change, Changer
+from query.spare.changes import Changer, Wanted
+from query.spare.kept import Change, Replaced
 from query.tests.world import DATABASES, World
 from query.text import Text
 
@@ -230,7 +233,7 @@ def all_with(edit: Callable[[Change], Change]) -> Callable[[Changer], list[Chang
 
 def wrong_label(change: Change) -> Change:
     """A change whose rows name another statement."""
-    change.replaced = [changes.Replaced(each.old, "near", each.formula) for each in change.replaced]
+    change.replaced = [Replaced(each.old, "near", each.formula) for each in change.replaced]
     return change
 
 
@@ -339,6 +342,48 @@ class Broken(World):
                     self.answer("bad")
             self.assertIn("what was found isn't so: ", str(why.exception))
             self.assertFalse((self.room / "new.mm").exists())
+
+
+class Kept(World):
+    """Trees that were kept."""
+
+    def test_the_same_answer(self) -> None:
+        self.write("db.mm", SPARE)
+        first = self.query("spare", "db.mm", "--all")
+        kept = len(list((self.cache / "mmquery").iterdir()))
+        self.assertEqual(kept, 3)
+        self.assertEqual(self.query("spare", "db.mm", "--all"), first)
+        self.assertEqual(self.query("spare", "db.mm", "--all", "--no-cache"), first)
+        self.assertEqual(len(list((self.cache / "mmquery").iterdir())), kept)
+        words = ("spare", "db.mm", "bad", "--theorem", "t1", "--write")
+        self.assertEqual(self.query(*words, "one.mm"), self.query(*words, "two.mm"))
+        self.assertEqual((self.room / "two.mm").read_text(), NEW)
+        self.assertEqual(self.query("repeats", "db.mm"), self.query("repeats", "db.mm"))
+
+    def test_a_search_goes_on(self) -> None:
+        """It is interrupted at each theorem, and tries none twice."""
+        path = str(self.room / self.write("db.mm", SPARE))
+        names = {"XDG_CACHE_HOME": str(self.cache), "XDG_CONFIG_HOME": str(self.config)}
+        tried: list[int] = []
+        real = Changer.change
+
+        def change(self: Changer, number: int, cited: list[int]) -> Change | None:
+            tried.append(number)
+            if len(tried) % 2:
+                raise InterruptedError
+            return real(self, number, cited)
+
+        with mock.patch.dict(os.environ, names), mock.patch.object(changes, "SECONDS", 0):
+            database = Context().database(path, Options())
+            wanted = Wanted("|-", ("bad", "near"))
+            with mock.patch.object(Changer, "change", change):
+                for _ in range(3):
+                    with self.assertRaises(InterruptedError):
+                        list(Changer(database, wanted).changes())
+                found = list(Changer(database, wanted).changes())
+        self.assertEqual(len(tried), 6, tried)
+        self.assertEqual([each.theorem for each in found], ["t1", "t2"])
+        judge.judge(database, judge.rewritten(database.text, found), found)
 
 
 @unittest.skipUnless(

@@ -7,7 +7,8 @@ from dataclasses import dataclass, field
 from query.assertions import Assertion
 from query.context import Context
 from query.options import Options
-from query.spare.changes import Change, Changer, Wanted
+from query.spare.changes import Changer, Wanted
+from query.spare.kept import Change
 from query.spare.judge import judge, rewritten
 from query.spare.proofs import run
 from query.spare.search import Options as Steps
