@@ -163,6 +163,7 @@ class Free:
     def __init__(self, trees: Trees) -> None:
         self.trees = trees
         self.steps: Steps = {}
+        self.order: list[int] = []
         self.by_key: dict[Key, list[int]] = {}
         self.by_first: dict[tuple[int, int], list[int]] = {}
         self.by_last: dict[tuple[int, int], list[int]] = {}
@@ -171,6 +172,7 @@ class Free:
     def add(self, tree: int, step: Step | None, keys: set[Key]) -> None:
         """Adds a formula."""
         self.steps[tree] = step
+        self.order.append(tree)
         self.came[None] = len(self.steps)
         for key in keys:
             self.by_key.setdefault(key, []).append(tree)
@@ -188,7 +190,7 @@ class Free:
             return () if known is None or known not in self.steps else (known,)
         key = premise.key
         if key is None:
-            return tuple(self.steps)
+            return self.order
         least: Sequence[int] = self.by_key.get(key, ())
         for variable, by_part in ((premise.first, self.by_first), (premise.last, self.by_last)):
             part = binding.get(variable)

@@ -178,6 +178,20 @@ class Spare(World):
         self.assertIn("$= wp wpp", text)
         self.assertEqual(self.query("verify", "new.mm").status, 0)
 
+    def test_deep_formulas(self) -> None:
+        """Formulas that are nested as deeply as they are long, on either side."""
+        for before, after in (("( p -> ", " )"), ("( ", " -> p )")):
+            deep = f"{before * 4000}p{after * 4000}"
+            text = SPARE + f"d $a |- ( {deep} -> p ) $.\n"
+            text += f"${{ e.1 $e |- {deep} $. e $p |- ( {deep} -> ( q -> q ) ) $=\n"
+            steps = ["wp"] * 4001 + ["wi"] * 4000
+            if before != "( p -> ":
+                steps = ["wp", *["wp", "wi"] * 4000]
+            steps += ["wq", "wq", "wi", "e.1", "wq", "bad", "both"]
+            self.write("deep.mm", f"{text}{' '.join(steps)} $. $}}\n")
+            rows = self.rows("deep.mm", "bad")
+            self.assertEqual([row[:5] for row in rows], [row[:5] for row in ROWS])
+
     def test_a_detour(self) -> None:
         """The axiom is cited for what the theorem says already."""
         text = BASE + "${ d.1 $e |- p $. d.2 $e |- q $. drop $a |- q $. $}\n"
