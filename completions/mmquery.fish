@@ -146,6 +146,7 @@ complete -c mmquery -n '__fish_seen_subcommand_from frees' -l no-cache -d 'keep 
 complete -c mmquery -n '__fish_seen_subcommand_from frees' -s h -l help -d 'show this page'
 complete -c mmquery -n '__fish_seen_subcommand_from spare' -l all -d 'every axiom, the last one first'
 complete -c mmquery -n '__fish_seen_subcommand_from spare' -l shorter -d 'proofs that get shorter, whatever they lose'
+complete -c mmquery -n '__fish_seen_subcommand_from spare' -l new-steps -d 'take instances of statements without hypotheses as new steps, too'
 complete -c mmquery -n '__fish_seen_subcommand_from spare' -l theorem -r -d 'change only the proof of T'
 complete -c mmquery -n '__fish_seen_subcommand_from spare' -l write -r -d 'the file to make, with the new proofs'
 complete -c mmquery -n '__fish_seen_subcommand_from spare' -l proof -r -d 'print the theorem T with its new proof'

@@ -25,7 +25,7 @@ how       direct:  the proof of the theorem is another one; a row for each step 
           cascade: its proof stays, and something that it cites rests on less
 theorem   its label
 loses     the axioms on which it no longer rests, also others than AXIOM
-replaced  what the step cited; none where steps were only left out
+replaced  what the step cited; none where it is a new one, or where steps were only left out
 by        what it cites now
 step      the formula of the step, of at most 400 symbols
 bytes     of a direct one, how much longer its proof is
@@ -57,6 +57,11 @@ def configure(parser: argparse.ArgumentParser) -> None:
     parser.add_argument("--all", action="store_true", help="every axiom, the last one first")
     parser.add_argument(
         "--shorter", action="store_true", help="proofs that get shorter, whatever they lose"
+    )
+    parser.add_argument(
+        "--new-steps",
+        action="store_true",
+        help="take instances of statements without hypotheses as new steps, too",
     )
     parser.add_argument(
         "--theorem", metavar="T", action="append", default=[], help="change only the proof of T"
@@ -101,8 +106,8 @@ def wanted_of(database: Database, arguments: argparse.Namespace) -> Wanted:
         dependence.row(label)
     if axioms and arguments.all:
         raise NoAnswer("an AXIOM and --all exclude one another")
-    if arguments.shorter and (axioms or arguments.all):
-        raise NoAnswer("--shorter and axioms exclude one another")
+    if arguments.shorter and (axioms or arguments.all or arguments.new_steps):
+        raise NoAnswer("--shorter excludes axioms and --new-steps")
     if not axioms and not arguments.all and not theorems and not arguments.shorter:
         raise NoAnswer("an AXIOM is wanted, or --theorem T, or --all, or --shorter")
     return Wanted(
@@ -113,6 +118,7 @@ def wanted_of(database: Database, arguments: argparse.Namespace) -> Wanted:
         arguments.cite_old,
         arguments.cite_mathboxes,
         arguments.change_discouraged,
+        arguments.new_steps,
         arguments.shorter,
     )
 
@@ -152,7 +158,7 @@ def rows_of(database: Database, changes: list[Change]) -> list[list[Value]]:
             continue
         longer = len(change.proof) - change.old_length
         steps: list[list[Value]] = [
-            [list(each.old), each.new, each.formula] for each in change.replaced
+            [list(each.old) or None, each.new, each.formula] for each in change.replaced
         ]
         for step in steps or [[None, None, None]]:
             rows.append(["direct", label, loses, *step, longer, chapter])

@@ -37,6 +37,8 @@ class Wanted:
     cites_old: bool = False
     cites_mathboxes: bool = False
     changes_discouraged: bool = False
+    has_new_steps: bool = False
+    """Whether instances of statements without hypotheses may be new steps."""
     is_shorter: bool = False
     """Whether proofs are wanted that are shorter, whatever they lose."""
 
@@ -83,6 +85,10 @@ class Changer:
         self.shelf = Shelf(self.library, conventions_of(self.library, wanted))
         self.writer = Writer(self.library, self.syntax())
         self.width = width_of(self.proofs())
+        self.closed = 0
+        if wanted.has_new_steps:
+            for number, citable in self.shelf.citable.items():
+                self.closed |= 0 if citable.premises else 1 << number
         self.axioms = 0
         for label in wanted.axioms:
             self.axioms |= self.bit_of[label]
@@ -216,11 +222,12 @@ class Changer:
     def best(self, rule: Rule, proof: Proof, axioms: int, rests: int) -> Steps | None:
         """A proof without as many of the axioms as are found: all at once that it can do without
         one by one, or else one after the other, in the order in which they are wanted."""
-        if axioms.bit_count() > 1:
+        if axioms.bit_count() > 1 and not self.closed:
             axioms &= Options(self.shelf, self.world, rule, proof, rests).losable()
         if not axioms:
             return None
         search = Search(self.shelf, self.world, rule, proof)
+        search.closed = self.closed
         steps = search.without(axioms, rests)
         if steps is not None or axioms.bit_count() == 1:
             return steps

@@ -20,6 +20,8 @@ from query.spare.trees import Binding, Code, Trees
 
 MOST_GIVEN = 50
 """A statement with more `$e` hypotheses isn't cited in place of another."""
+MOST_NEW = 20_000
+"""So many formulas are tried as new steps of one proof."""
 MOST_TRIED = 5000
 """So many formulas are tried as premises of one statement for one formula."""
 
@@ -201,7 +203,10 @@ class Free:
 
 
 class Search:
-    """The search in one proof."""
+    """The search in one proof. With `closed`, the statements without hypotheses of which instances
+    may be new steps."""
+
+    closed = 0
 
     def __init__(self, shelf: Shelf, world: World, theorem: Rule, proof: Proof) -> None:
         self.shelf = shelf
@@ -216,13 +221,19 @@ class Search:
         self.tried: dict[int, int] = {}
         self.free = Free(self.trees)
         self.left = 0
+        self.flags, self.wanted_closed = "", 0
+        self.new: dict[int, bool] = {}
 
     def without(self, axioms: int, rests: int) -> Steps | None:
         """A proof that does without these axioms, and rests on no others than `rests`; None where
         none is found."""
-        wanted = self.may_be & ~self.world.blocked(rests & ~axioms)
-        flags = f"{wanted:0{self.theorem.number}b}"[::-1]
-        self.candidates, self.tried = {}, {}
+        may_be = self.may_be
+        if self.closed:
+            may_be = self.shelf.conventions.allowed(self.theorem.number)
+        wanted = may_be & ~self.world.blocked(rests & ~axioms)
+        self.flags = flags = f"{wanted:0{self.theorem.number}b}"[::-1]
+        self.wanted_closed = wanted & self.closed
+        self.candidates, self.tried, self.new = {}, {}, {}
         self.free = Free(self.trees)
         for tree in self.proof.given:
             self.free.add(tree, None, self.keys[tree])
@@ -269,7 +280,8 @@ class Search:
         when = free.came.__getitem__
         for one, bound in self.candidates[tree]:
             came = [*map(when, one.keys)]
-            if min(came) and max(came) > before if came else before < 0:
+            is_worth = before < 0 if not came else min(came) > 0 and max(came) > before
+            if is_worth or (before < 0 and self.wanted_closed):
                 step = self.cited(one, bound)
                 if step is not None:
                     return step
@@ -301,12 +313,18 @@ class Search:
         least: Sequence[int] = ()
         for premise in left:
             formulas = self.free.like(premise, binding)
+            if not formulas and self.wanted_closed:
+                formulas = self.new_step(premise, binding)
+                if not formulas and not premise.variables <= binding.keys():
+                    continue
             if not formulas:
                 return False
             if not least or len(formulas) < len(least):
                 least, chosen = formulas, premise
             if len(least) == 1:
                 break
+        if not least:
+            return False
         left = [premise for premise in left if premise is not chosen]
         for formula in least:
             self.left -= 1
@@ -321,6 +339,23 @@ class Search:
             for variable in new:
                 del binding[variable]
         return False
+
+    def new_step(self, premise: Premise, binding: Binding) -> Sequence[int]:
+        """A premise whose variables are bound, as a new step that cites a statement without
+        hypotheses; nothing where there is none."""
+        if not premise.variables <= binding.keys() or len(self.new) >= MOST_NEW:
+            return ()
+        tree = self.trees.bound_instance(premise.code, binding)
+        if tree not in self.new:
+            self.new[tree] = False
+            for number, bound in self.shelf.index.find(tree, self.wanted_closed, self.flags):
+                citable = self.shelf.citable[number]
+                filled = dict(zip(citable.slots, bound))
+                if not citable.premises and self.keeps_distinct(citable, filled):
+                    self.new[tree] = True
+                    self.free.add(tree, step_of(citable, filled, []), keys_of(self.trees, tree))
+                    break
+        return (tree,) if self.new[tree] else ()
 
     def match(self, pattern: int, formula: int, binding: Binding) -> list[int] | None:
         """Binds the variables of a premise's pattern."""

@@ -105,6 +105,18 @@ class Trees:
                 stack.append(self.made((head,)))
         return stack[0]
 
+    def bound_instance(self, code: Code, binding: Binding) -> int:
+        """The tree of a pattern all of whose variables are bound."""
+        stack: list[int] = []
+        for head, count in code:
+            if count < 0:
+                stack.append(binding[~head])
+                continue
+            key = (head, *(stack[-count:] if count else ()))
+            del stack[len(stack) - count :]
+            stack.append(self.made(key))
+        return stack[0]
+
     def known_instance(self, code: Code, binding: Binding) -> int | None:
         """The tree of a pattern all of whose variables are bound; None where there is no such tree
         yet."""

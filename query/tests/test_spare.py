@@ -178,6 +178,23 @@ class Spare(World):
         self.assertIn("$= wp wpp", text)
         self.assertEqual(self.query("verify", "new.mm").status, 0)
 
+    def test_new_steps(self) -> None:
+        """What another statement needs isn't proved yet."""
+        text = BASE + "${ w.1 $e |- ( q -> q ) $. w.2 $e |- p $. w $a |- ( q -> p ) $. $}\n"
+        text += "${ v.1 $e |- p $. v $a |- ( q -> p ) $. $}\n"
+        text += "${ t.1 $e |- p $. t $p |- ( ( q -> p ) -> ( r -> p ) ) $=\n"
+        text += "wq wp wi wr wp wi wp wq t.1 v wp wr wr i t.1 w both $. $}\n"
+        self.write("steps.mm", text)
+        self.assertEqual(self.rows("steps.mm", "v"), [])
+        rows = self.rows("steps.mm", "v", "--new-steps", "--write", "new.mm")
+        wanted = [
+            ["direct", "t", "v", "-", "i", "|- ( q -> q )"],
+            ["direct", "t", "v", "v", "w", "|- ( q -> p )"],
+        ]
+        self.assertEqual([row[:6] for row in rows], wanted)
+        self.assertEqual(self.query("verify", "new.mm").status, 0)
+        self.refuses("spare", "steps.mm", "--shorter", "--new-steps", why="--shorter excludes")
+
     def test_deep_formulas(self) -> None:
         """Formulas that are nested as deeply as they are long, on either side."""
         for before, after in (("( p -> ", " )"), ("( ", " -> p )")):

@@ -310,10 +310,13 @@ def subterms(term: Term) -> set[Term]:
 class ByChance(World):
     """The same theorems are freed."""
 
-    def freed(self, path: str, axioms: tuple[str, ...]) -> tuple[list[Change], Text, bytes]:
+    def freed(
+        self, path: str, axioms: tuple[str, ...], new_steps: bool = False
+    ) -> tuple[list[Change], Text, bytes]:
         """What the search finds, judged."""
         database = Context(uses_cache=False).database(path, Options())
-        changes = list(Changer(database, Wanted("|-", axioms)).changes())
+        wanted = Wanted("|-", axioms, has_new_steps=new_steps)
+        changes = list(Changer(database, wanted).changes())
         data = rewritten(database.text, changes)
         judge(database, data, changes)
         return changes, database.text, data
@@ -384,3 +387,13 @@ class ByChance(World):
                     self.assertLess(len(each.proof), each.old_length)
                     shorter += 1
         self.assertGreater(min(found, shorter), 20)
+
+    def test_new_steps(self) -> None:
+        """With new steps more is found, and it is judged."""
+        found = more = 0
+        for seed in range(20):
+            path = str(self.room / self.write("chance.mm", Maker(seed).text(40)))
+            for axiom in ("bad", "tr"):
+                found += len(self.freed(path, (axiom,))[0])
+                more += len(self.freed(path, (axiom,), True)[0])
+        self.assertGreater(more, found)
