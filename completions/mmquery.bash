@@ -5,10 +5,10 @@ _mmquery() {
     if [ "$word" = = ]; then word=; elif [ "$before" = = ]; then
         before=${COMP_WORDS[COMP_CWORD - 2]}; fi
     if [ "$COMP_CWORD" -eq 1 ]; then
-        words='verify rests falls cites cited-by uncited why way-out frees top within same compare review history gate chapters order unfinished discouraged mathboxes definitions move graph picture page set-proof export cache --help --version'
+        words='verify rests falls cites cited-by uncited why way-out frees spare repeats top within same compare review history gate chapters order unfinished discouraged mathboxes definitions move graph picture page set-proof export cache --help --version'
     else
         case ${COMP_WORDS[1]}:$before in
-            verify:--format | rests:--format | falls:--format | cites:--format | cited-by:--format | uncited:--format | why:--format | way-out:--format | frees:--format | top:--format | within:--format | same:--format | compare:--format | history:--format | chapters:--format | order:--format | unfinished:--format | discouraged:--format | mathboxes:--format | definitions:--format | move:--format | export:--format | cache:--format) words='text tsv csv json' ;;
+            verify:--format | rests:--format | falls:--format | cites:--format | cited-by:--format | uncited:--format | why:--format | way-out:--format | frees:--format | spare:--format | repeats:--format | top:--format | within:--format | same:--format | compare:--format | history:--format | chapters:--format | order:--format | unfinished:--format | discouraged:--format | mathboxes:--format | definitions:--format | move:--format | export:--format | cache:--format) words='text tsv csv json' ;;
             review:--format) words='text tsv csv json markdown' ;;
             gate:--format) words='text json github markdown' ;;
             graph:--as) words='dot graphml edges' ;;
@@ -24,6 +24,8 @@ _mmquery() {
                     why:-*) words='--all --essential --open --format --no-cache -h --help' ;;
                     way-out:-*) words='--keep --keep-wrappers --essential --open --format --before --main --mathbox --under --like --not --among --no-cache -h --help' ;;
                     frees:-*) words='--most --keep --keep-wrappers --essential --open --format --before --main --mathbox --under --like --not --among --no-cache -h --help' ;;
+                    spare:-*) words='--all --shorter --new-steps --theorem --write --proof --only --open --cite-discouraged --cite-old --cite-mathboxes --change-discouraged --format --no-cache -h --help' ;;
+                    repeats:-*) words='--only --open --kept --format --before --main --mathbox --under --like --not --among --no-cache -h --help' ;;
                     top:-*) words='--theorems --below --against --only --all --axioms --ignore-definitions --essential --open --format --before --main --mathbox --under --like --not --among --no-cache -h --help' ;;
                     within:-*) words='--list --only --all --axioms --ignore-definitions --essential --open --format --before --main --mathbox --under --like --not --among --no-cache -h --help' ;;
                     same:-*) words='--only --all --axioms --ignore-definitions --essential --open --format --before --main --mathbox --under --like --not --among --no-cache -h --help' ;;

@@ -51,6 +51,12 @@ MODULES: dict[str, dict[str, str]] = {
         "way-out": "the smallest change that frees THEOREM of ON",
         "frees": "what new proofs of THEOREMs free of ON, or which would free most",
     },
+    "spare": {
+        "spare": "theorems that can do without AXIOMs, with new proofs of them",
+    },
+    "repeats": {
+        "repeats": "theorems that say what an earlier statement says",
+    },
     "ranking": {
         "top": "which axioms are used most, or least",
         "within": "which theorems rest on no more than the LABELs",

@@ -31,6 +31,8 @@ WORDS: dict[str, tuple[str, ...]] = {
     "why": ("DB", "a2", "ax-1"),
     "way-out": ("DB", "a2", "ax-1"),
     "frees": ("DB", "ax-1"),
+    "spare": ("DB", "ax-1"),
+    "repeats": ("DB",),
     "top": ("DB",),
     "within": ("DB", "ax-1"),
     "same": ("DB", "a2"),
@@ -58,7 +60,9 @@ MENDING = {"set-proof"}
 # Those that take only a file that git keeps, and tell a fault in a row.
 OF_GIT = {"history"}
 # Those that write to standard output only where there is something to say.
-MAY_BE_SILENT = {"unfinished", "definitions", "export", "mathboxes", "gate", "same", "uncited"}
+MAY_BE_SILENT = {
+    *("spare", "unfinished", "definitions", "export", "mathboxes", "gate", "same", "uncited"),
+}
 
 
 def keep_in_git(folder: Path) -> None:

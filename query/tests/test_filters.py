@@ -18,6 +18,7 @@ LISTS: dict[str, list[str]] = {
     "uncited": [],
     "way-out": ["ax-2"],
     "frees": ["ax-2"],
+    "repeats": [],
     "top": [],
     "within": ["ax-1"],
     "same": ["five"],

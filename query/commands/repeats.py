@@ -1,0 +1,103 @@
+"""`repeats`: theorems that say what an earlier statement says, or a special case of it."""
+
+import argparse
+from collections.abc import Iterator
+
+from query import progress
+from query.commands import Command
+from query.context import Context
+from query.database import Dependence
+from query.filters import Test
+from query.options import Options, add_database
+from query.output import Value
+from query.rules import is_discouraged
+from query.spare.changes import LAST, Wanted, conventions_of, is_fit
+from query.spare.library import Library, Rule, library_of
+from query.spare.repeats import Finder
+from query.spare.search import Shelf
+
+COLUMNS = ("theorem", "earlier", "how", "only", "besides")
+
+PAGE = """
+Lists the theorems that say what a statement before them says, or a special case of it, in file
+order. They may be dropped or moved up, or kept as an alternative.
+
+theorem  its label
+earlier  that of the statement, an axiom or a theorem; of several the nearest, and the first one
+how      same:     both say the same, but for the names of variables
+         weaker:   the same, with more hypotheses or more conditions of distinct variables
+         instance: what the earlier one says with other formulas for its variables
+only     the axioms on which the theorem rests, and the earlier one doesn't
+besides  the axioms on which the earlier one rests, and the theorem doesn't
+
+Theorems aren't listed whose label ends in ALT or OLD or that are discouraged, nor what repeats
+these, but with --kept. Neither is what repeats a statement of another mathbox.
+
+  $ mmquery repeats set.mm
+  $ mmquery repeats iset.mm --main
+"""
+
+
+def configure(parser: argparse.ArgumentParser) -> None:
+    """Adds the words and options."""
+    add_database(parser)
+    parser.add_argument(
+        "--only", metavar="T", default="|-", help="the axioms are those of typecode T (else: |-)"
+    )
+    parser.add_argument(
+        "--open", action="store_true", help="a theorem whose proof is ? counts as an axiom"
+    )
+    parser.add_argument(
+        "--kept", action="store_true", help="also labels that end in ALT or OLD, and discouraged"
+    )
+
+
+def theorems_of(library: Library, with_kept: bool, keeps: Test) -> Iterator[Rule]:
+    """The theorems that may be listed, of those that pass a test."""
+    for one in library.text.assertions:
+        rule = library.rules[one.number]
+        if one.number % 1000 == 0:
+            progress.now(f"searching, {one.number} of {len(library.rules)} assertions are done")
+        if one.kind == "p" and keeps(one.label) and is_fit(rule):
+            is_kept = one.label.endswith(LAST) or is_discouraged(library.text, one)
+            if with_kept or not is_kept:
+                yield rule
+
+
+def run(context: Context, arguments: argparse.Namespace) -> int:
+    """Answers."""
+    database = context.database(
+        arguments.database, Options(only=arguments.only, open=arguments.open)
+    )
+    database.data()  # no report has one
+    dependence = database.dependence()
+    kept: bool = arguments.kept
+    wanted = Wanted(arguments.only, cites_discouraged=kept, cites_old=kept)
+    library = library_of(database, arguments.only)
+    shelf = Shelf(library, conventions_of(library, wanted))
+    found = Finder(library, shelf).repeats(theorems_of(library, kept, context.keeps()))
+    rows = [[one.theorem, one.earlier, one.how] for one in found]
+    context.table(
+        COLUMNS,
+        [[*row, *rests_apart(dependence, row[0], row[1])] for row in rows],
+        f"{database.name}: no theorem says what an earlier statement says",
+        "theorem",
+    )
+    return 0
+
+
+def rests_apart(dependence: Dependence, theorem: str, earlier: str) -> list[Value]:
+    """The axioms on which one rests and the other doesn't, both ways."""
+    rests = []
+    for label in (theorem, earlier):
+        row = dependence.rows.get(label)
+        columns = [dependence.columns[label]] if row is None else dependence.rests(row)
+        rests.append([dependence.axioms[column] for column in columns])
+    some, others = rests
+    return [
+        [axiom for axiom in some if axiom not in others] or None,
+        [axiom for axiom in others if axiom not in some] or None,
+    ]
+
+
+COMMANDS = [Command("repeats", PAGE, configure, run, lists=True)]

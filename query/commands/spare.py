@@ -1,0 +1,187 @@
+"""`spare`: theorems that can do without axioms, with the proofs that do."""
+
+import argparse
+
+from query.commands import Command
+from query.context import Context
+from query.database import Database
+from query.errors import NoAnswer, nearest, shown
+from query.options import Options, add_database
+from query.output import Value
+from query.spare.changes import Changer, Place, Wanted
+from query.spare.kept import Change
+from query.spare.files import see_missing, write_new
+from query.spare.judge import judge, rewritten
+from query.text import Text
+
+COLUMNS = ("how", "theorem", "loses", "replaced", "by", "step", "bytes", "chapter")
+
+PAGE = """
+Lists the theorems that can do without AXIOM, in file order: their proofs cite statements that stand
+before them in place of others, or they cite theorems whose proofs do. Nothing is gained by that: a
+statement is only cited where the theorem rests on all of its axioms anyway.
+
+how       direct:  the proof of the theorem is another one; a row for each step that is replaced
+          cascade: its proof stays, and something that it cites rests on less
+theorem   its label
+loses     the axioms on which it no longer rests, also others than AXIOM
+replaced  what the step cited; none where it is a new one, or where steps were only left out
+by        what it cites now
+step      the formula of the step, of at most 400 symbols
+bytes     of a direct one, how much longer its proof is
+chapter   the number of the header under which it stands
+
+With --shorter these are the proofs that get shorter by that, whatever axioms they lose.
+
+Several AXIOMs are tried together, and one after the other in this order where a proof can't do
+without all of them. The answer is judged before it is given: the program verifies the database with
+the new proofs, which has to have the same statements, and in which the theorems have to lose just
+these axioms and gain none. If something isn't so, there is no answer.
+
+Nothing is cited that is discouraged, that has a label which ends in ALT or OLD, or that stands in
+another mathbox; and no proof is changed whose modification is discouraged. Options set each of
+these aside. A proof with a comment between its $= and $. isn't changed.
+
+--write makes a new file: all is as in DATABASE but the proofs that are changed, which are
+compressed. --proof prints one of them, from the label of its theorem to the end.
+
+  $ mmquery spare set.mm ax-13 --write new.mm
+  $ mmquery spare set.mm ax-10 ax-13 --theorem eujust
+"""
+
+
+def configure(parser: argparse.ArgumentParser) -> None:
+    """Adds the words and options."""
+    add_database(parser)
+    parser.add_argument("axiom", metavar="AXIOM", nargs="*")
+    parser.add_argument("--all", action="store_true", help="every axiom, the last one first")
+    parser.add_argument(
+        "--shorter", action="store_true", help="proofs that get shorter, whatever they lose"
+    )
+    parser.add_argument(
+        "--new-steps",
+        action="store_true",
+        help="take instances of statements without hypotheses as new steps, too",
+    )
+    parser.add_argument(
+        "--theorem", metavar="T", action="append", default=[], help="change only the proof of T"
+    )
+    parser.add_argument("--write", metavar="NEW", help="the file to make, with the new proofs")
+    parser.add_argument("--proof", metavar="T", help="print the theorem T with its new proof")
+    parser.add_argument(
+        "--only", metavar="T", default="|-", help="the axioms are those of typecode T (else: |-)"
+    )
+    parser.add_argument(
+        "--open", action="store_true", help="a theorem whose proof is ? counts as an axiom"
+    )
+    add_conventions(parser)
+
+
+def add_conventions(parser: argparse.ArgumentParser) -> None:
+    """Adds the options that set conventions aside."""
+    parser.add_argument(
+        "--cite-discouraged", action="store_true", help="cite what is discouraged, too"
+    )
+    parser.add_argument(
+        "--cite-old", action="store_true", help="cite labels that end in ALT or OLD, too"
+    )
+    parser.add_argument(
+        "--cite-mathboxes", action="store_true", help="cite what stands in other mathboxes, too"
+    )
+    parser.add_argument(
+        "--change-discouraged",
+        action="store_true",
+        help="change proofs whose modification is discouraged, too",
+    )
+
+
+def wanted_of(database: Database, arguments: argparse.Namespace) -> Wanted:
+    """What is asked for. NoAnswer where a label isn't there, or nothing is asked for."""
+    dependence = database.dependence()
+    axioms: list[str] = list(dict.fromkeys(arguments.axiom))
+    theorems: list[str] = arguments.theorem
+    for label in axioms:
+        dependence.column(label)
+    for label in theorems:
+        dependence.row(label)
+    if axioms and arguments.all:
+        raise NoAnswer("an AXIOM and --all exclude one another")
+    if arguments.shorter and (axioms or arguments.all or arguments.new_steps):
+        raise NoAnswer("--shorter excludes axioms and --new-steps")
+    if not axioms and not arguments.all and not theorems and not arguments.shorter:
+        raise NoAnswer("an AXIOM is wanted, or --theorem T, or --all, or --shorter")
+    return Wanted(
+        arguments.only,
+        tuple(axioms or reversed(dependence.axioms)),
+        frozenset(theorems) or None,
+        arguments.cite_discouraged,
+        arguments.cite_old,
+        arguments.cite_mathboxes,
+        arguments.change_discouraged,
+        arguments.new_steps,
+        arguments.shorter,
+    )
+
+
+def run(context: Context, arguments: argparse.Namespace) -> int:
+    """Answers."""
+    database = context.database(
+        arguments.database, Options(only=arguments.only, open=arguments.open)
+    )
+    database.data()  # no report has one
+    if arguments.write is not None:
+        see_missing(arguments.write)
+    wanted = wanted_of(database, arguments)
+    changes = list(Changer(database, wanted).changes())
+    data = rewritten(database.text, changes)
+    judge(database, data, changes)
+    if arguments.proof is not None:
+        context.out.text(new_statement(database, changes, arguments.proof))
+    else:
+        empty = f"{database.name}: no theorem was found that can do without"
+        context.table(COLUMNS, rows_of(database, changes), empty)
+    if arguments.write is not None:
+        write_new(arguments.write, data)
+    return 0
+
+
+def rows_of(database: Database, changes: list[Change]) -> list[list[Value]]:
+    """The rows of the answer."""
+    axioms = set(database.axioms())
+    rows: list[list[Value]] = []
+    for change in changes:
+        label = change.theorem
+        loses = [axiom for axiom in change.loses if axiom in axioms] or None
+        chapter = chapter_of(database.text, label)
+        if change.proof is None:
+            rows.append(["cascade", label, loses, None, None, None, None, chapter])
+            continue
+        longer = len(change.proof) - change.old_length
+        steps: list[list[Value]] = [
+            [list(each.old) or None, each.new, each.formula] for each in change.replaced
+        ]
+        for step in steps or [[None, None, None]]:
+            rows.append(["direct", label, loses, *step, longer, chapter])
+    return rows
+
+
+def chapter_of(text: Text, label: str) -> str | None:
+    """The number of the header under which a theorem stands."""
+    header = text.header(text.by_label[label])
+    return None if header is None else text.headers[header].number
+
+
+def new_statement(database: Database, changes: list[Change], label: str) -> str:
+    """A theorem with its new proof. NoAnswer where it has none."""
+    text = database.text
+    for change in changes:
+        if change.theorem == label and change.proof is not None:
+            one = text.by_label[label]
+            place = Place(text.data, one.place, one.end)
+            data = text.data[one.place : place.start] + change.proof + b"$."
+            return data.decode("latin-1") + "\n"
+    known = [change.theorem for change in changes if change.proof is not None]
+    raise NoAnswer(f"{database.name}: no new proof of '{shown(label)}'{nearest(label, known, 0.8)}")
+
+
+COMMANDS = [Command("spare", PAGE, configure, run)]

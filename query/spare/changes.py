@@ -1,0 +1,319 @@
+"""The proofs of a database changed, so that theorems rest on fewer axioms: the theorems in file
+order, each with what those before it lost."""
+
+from __future__ import annotations
+
+import time
+from collections.abc import Iterator
+from dataclasses import asdict, dataclass
+
+from query import progress
+from query.database import Database, key_of
+from query.rules import is_discouraged, is_proof_discouraged
+from query.spare import kept as kept_changes
+from query.spare.kept import Change, Replaced
+from query.spare.library import Library, Rule, bits_of, library_of
+from query.spare.proofs import Proof, Step, Unfit, run
+from query.spare.search import MOST_GIVEN, Conventions, Options, Search, Shelf, Steps, World
+from query.spare.writing import Writer, laid_out, width_of
+
+LAST = ("ALT", "OLD")
+"""How labels end of statements that nothing new should cite."""
+SECONDS = 60
+"""After so many seconds what was found is kept."""
+MOST_SYMBOLS = 400
+"""Of a formula so many symbols are shown."""
+
+
+@dataclass(frozen=True)
+class Wanted:
+    """What is asked for, and what of the conventions is set aside."""
+
+    typecode: str
+    axioms: tuple[str, ...] = ()
+    theorems: frozenset[str] | None = None
+    """Whose proofs may be changed; None for all."""
+    cites_discouraged: bool = False
+    cites_old: bool = False
+    cites_mathboxes: bool = False
+    changes_discouraged: bool = False
+    has_new_steps: bool = False
+    """Whether instances of statements without hypotheses may be new steps."""
+    is_shorter: bool = False
+    """Whether proofs are wanted that are shorter, whatever they lose."""
+
+    def fields(self) -> dict[str, object]:
+        """What tells it from others."""
+        theorems = None if self.theorems is None else sorted(self.theorems)
+        return {**asdict(self), "theorems": theorems}
+
+
+class Place:
+    """Where the proof of a theorem stands: `start` is the byte behind its `$=`, `end` that of its
+    `$.`."""
+
+    def __init__(self, data: bytes, place: int, end: int) -> None:
+        from query.bare import bare
+
+        text = bare(data[place:end])
+        self.start = place + text.index(b"$=") + 2
+        self.end = end - 2
+        self.has_comment = text != data[place:end] and b"$(" in data[self.start : self.end]
+
+
+class Changer:
+    """Changes the proofs of a database."""
+
+    def __init__(self, database: Database, wanted: Wanted) -> None:
+        self.text = database.text
+        self.wanted = wanted
+        self.library = library_of(database, wanted.typecode)
+        self.numbers = {rule.label: rule.number for rule in self.library.rules}
+        self.names = [rule.label for rule in self.library.rules]
+        prepared = database.prepared
+        assert prepared.marks is not None and prepared.cites is not None
+        self.columns = prepared.columns
+        nodes = prepared.theorems + prepared.columns
+        cites = prepared.cites
+        self.cites = {
+            self.numbers[label]: [self.numbers[nodes[node]] for node in cites[row]]
+            for row, label in enumerate(prepared.theorems)
+        }
+        self.bit_of = {label: 1 << place for place, label in enumerate(self.columns)}
+        self.world = World(self.rests(prepared.theorems))
+        self.old_rests = list(self.world.rests)
+        self.shelf = Shelf(self.library, conventions_of(self.library, wanted))
+        self.writer = Writer(self.library, self.syntax())
+        self.width = width_of(self.proofs())
+        self.closed = 0
+        if wanted.has_new_steps:
+            for number, citable in self.shelf.citable.items():
+                self.closed |= 0 if citable.premises else 1 << number
+        self.axioms = 0
+        for label in wanted.axioms:
+            self.axioms |= self.bit_of[label]
+        fields = [f"{name} {value}" for name, value in sorted(wanted.fields().items())]
+        key = key_of(kept_changes.FORM, "changes", database.key, *fields)
+        self.key = key if database.uses_cache else None
+
+    def rests(self, theorems: list[str]) -> list[int]:
+        """For each assertion the axioms on which it rests."""
+        found = [self.bit_of.get(label, 0) for label in self.names]
+        for label in theorems:
+            number = self.numbers[label]
+            for cited in self.cites[number]:
+                found[number] |= found[cited]
+        return found
+
+    def syntax(self) -> list[int]:
+        """The theorems of the syntax that any proof may cite."""
+        return [
+            one.number
+            for one in self.text.assertions
+            if one.kind == "p"
+            and one.typecode != self.wanted.typecode
+            and self.text.box(one) is None
+            and not is_discouraged(self.text, one)
+        ]
+
+    def proofs(self) -> Iterator[bytes]:
+        """The proofs that are compressed, as they stand."""
+        data = self.text.data
+        for one in self.text.assertions:
+            if one.kind == "p":
+                place = Place(data, one.place, one.end)
+                proof = data[place.start : place.end]
+                if proof.lstrip().startswith(b"("):
+                    yield proof
+
+    def changes(self) -> Iterator[Change]:
+        """What becomes of each theorem that loses one of the axioms, or whose proof gets shorter.
+        It is kept from time to time."""
+        begun, kept = kept_changes.load(self.key) if self.key is not None else (0, {})
+        found: list[Change] = []
+        new, stored = 0, time.monotonic()
+        for count, (number, cited) in enumerate(self.cites.items()):
+            if count % 100 == 0:
+                progress.now(f"{count} of {len(self.cites)} theorems done, {new} new proofs")
+            if count < begun:
+                change = self.known(number, cited, kept.get(self.names[number]))
+            else:
+                if time.monotonic() - stored >= SECONDS and self.key is not None:
+                    kept_changes.store(self.key, count, found)
+                    stored = time.monotonic()
+                change = self.change(number, cited)
+            if change is not None:
+                new += change.proof is not None
+                found.append(change)
+                yield change
+        if self.key is not None and begun < len(self.cites):
+            kept_changes.store(self.key, len(self.cites), found)
+
+    def known(self, number: int, cited: list[int], change: Change | None) -> Change | None:
+        """What is known already of a theorem."""
+        if change is not None and change.proof is not None:
+            cited = [self.numbers[each] for each in change.labels() if each in self.numbers]
+        rests = self.resting(cited)
+        if rests != self.world.rests[number]:
+            self.world.change(number, rests)
+        return change
+
+    def change(self, number: int, cited: list[int]) -> Change | None:
+        """What becomes of a theorem, which cites these."""
+        old = self.old_rests[number]
+        if not old & self.axioms and not self.wanted.is_shorter:
+            return None
+        rests = self.resting(cited)
+        change = None
+        if rests & self.axioms or self.wanted.is_shorter:
+            change = self.changed(number, rests, self.axioms)
+        if change is None and rests != self.world.rests[number]:
+            self.world.change(number, rests)
+        lost = old & ~self.world.rests[number]
+        if change is None and lost:
+            change = Change(self.names[number], ())
+        if change is not None:
+            change.loses = tuple(self.columns[place] for place in bits_of(lost))
+        return change
+
+    def resting(self, cited: list[int]) -> int:
+        """The axioms on which rests what cites these."""
+        rests = 0
+        for number in cited:
+            rests |= self.world.rests[number]
+        return rests
+
+    def changed(self, number: int, rests: int, wanted: int) -> Change | None:
+        """The change of a theorem whose proof can be another one; None where none is found. `rests`
+        are the axioms on which it rests with its old one."""
+        one = self.text.assertions[number]
+        rule = self.library.rules[number]
+        if not rule.is_logical or one.is_open or not self.may_change(number):
+            return None
+        place = Place(self.text.data, one.place, one.end)
+        first = len(self.library.trees)
+        steps: Steps | None = None
+        try:
+            if place.has_comment:
+                return None
+            proof = run(self.library, self.numbers, rule, self.text.proof(one))
+            if self.wanted.is_shorter:
+                steps = Options(self.shelf, self.world, rule, proof, rests).shortest()
+            elif self.needs(proof, wanted):
+                steps = self.best(rule, proof, wanted & rests, rests)
+            return None if steps is None else self.made(rule, proof, steps, place, rests)
+        except Unfit:
+            return None
+        finally:
+            self.library.trees.forget(first)
+
+    def may_change(self, number: int) -> bool:
+        """Whether the proof of a theorem may be changed."""
+        one = self.text.assertions[number]
+        if self.wanted.theorems is not None and one.label not in self.wanted.theorems:
+            return False
+        return self.wanted.changes_discouraged or not is_proof_discouraged(self.text, one)
+
+    def needs(self, proof: Proof, wanted: int) -> bool:
+        """Whether a step whose formula is proved cites what rests on these axioms."""
+        rests = self.world.rests
+        return any(rests[step.rule] & wanted for steps in proof.steps.values() for step in steps)
+
+    def best(self, rule: Rule, proof: Proof, axioms: int, rests: int) -> Steps | None:
+        """A proof without as many of the axioms as are found: all at once that it can do without
+        one by one, or else one after the other, in the order in which they are wanted."""
+        if axioms.bit_count() > 1 and not self.closed:
+            axioms &= Options(self.shelf, self.world, rule, proof, rests).losable()
+        if not axioms:
+            return None
+        search = Search(self.shelf, self.world, rule, proof)
+        search.closed = self.closed
+        steps = search.without(axioms, rests)
+        if steps is not None or axioms.bit_count() == 1:
+            return steps
+        lost = 0
+        for label in self.wanted.axioms:
+            bit = self.bit_of[label]
+            if bit & axioms:
+                found = search.without(lost | bit, rests)
+                if found is not None:
+                    steps, lost = found, lost | bit
+        return steps
+
+    def made(
+        self, rule: Rule, proof: Proof, steps: Steps, place: Place, rests: int
+    ) -> Change | None:
+        """The change of a proof into other steps; None where it would rest on what it didn't, or
+        isn't shorter where that is wanted."""
+        labels, letters = self.writer.words(rule, proof, steps)
+        numbers = [self.numbers[label] for label in labels if label in self.numbers]
+        new = self.resting(numbers)
+        if new & ~rests:
+            return None
+        old = self.text.data[place.start : place.end]
+        written = laid_out(labels, letters, old, self.width)
+        change = Change(rule.label, (), written, len(old))
+        formulas = used(proof, steps)
+        for tree in formulas:
+            step, was = steps[tree], proof.steps.get(tree, {})
+            if step is not None and step not in was:
+                change.replaced.append(self.replaced(tree, step, was))
+        if self.wanted.is_shorter:
+            left = sum(steps[tree] is not None for tree in formulas)
+            has_other_steps = change.replaced or left < len(proof.steps)
+            if not has_other_steps or len(written) >= len(old):
+                return None
+        self.world.change(rule.number, new)
+        return change
+
+    def replaced(self, tree: int, step: Step, was: dict[Step, None]) -> Replaced:
+        """What stands in place of the steps by which a formula was proved."""
+        symbols = self.library.grammar.written(tree, MOST_SYMBOLS)
+        formula = " ".join([self.wanted.typecode, *symbols])
+        labels = dict.fromkeys(self.names[each.rule] for each in was)
+        return Replaced(tuple(labels), self.names[step.rule], formula)
+
+
+def conventions_of(library: Library, wanted: Wanted) -> Conventions:
+    """Which statements may be cited."""
+    text = library.text
+    citable = main = 0
+    boxes: dict[int, int] = {}
+    for one in text.assertions:
+        bit = 1 << one.number
+        box = None if wanted.cites_mathboxes else text.box(one)
+        if box is None:
+            main |= bit
+        else:
+            boxes[box] = boxes.get(box, 0) | bit
+        if is_fit(library.rules[one.number]) and (wanted.cites_old or not one.label.endswith(LAST)):
+            if wanted.cites_discouraged or not is_discouraged(text, one):
+                citable |= bit
+
+    def box_of(number: int) -> int | None:
+        return None if wanted.cites_mathboxes else text.box(text.assertions[number])
+
+    return Conventions(citable, main, boxes, box_of)
+
+
+def is_fit(rule: Rule) -> bool:
+    """Whether a rule can be cited in place of another."""
+    essential = rule.essential()
+    if not rule.is_logical or rule.tree < 0 or len(essential) > MOST_GIVEN:
+        return False
+    return all(each.number >= 0 for each in essential)
+
+
+def used(proof: Proof, steps: Steps) -> list[int]:
+    """The formulas that a proof has by these steps, in the order in which they were found."""
+    seen: set[int] = set()
+    left = [proof.root]
+    while left:
+        tree = left.pop()
+        if tree in seen:
+            continue
+        seen.add(tree)
+        step = steps[tree]
+        if step is not None:
+            left += step.premises
+    return [tree for tree in steps if tree in seen]

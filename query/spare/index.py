@@ -1,0 +1,111 @@
+"""An index over trees: which statements have a formula that becomes a given one."""
+
+from __future__ import annotations
+
+from dataclasses import dataclass, field
+
+from query.spare.grammar import Grammar
+from query.spare.library import bits_of
+from query.spare.trees import Trees
+
+MANY = 12
+"""Of so many statements with one formula the wanted ones are found by bits."""
+
+Left = tuple[int, "Left | None"]
+"""Trees that are still to be matched: the first one, and the others."""
+Key = tuple[int, int, int]
+"""A head, and those of its first and its last part; -1 where any will do."""
+ANY = -1
+
+
+@dataclass(slots=True)
+class Branch:
+    """A place in formulas that begin alike. `slots` are variables by the number of their first
+    occurrence, each with its typecode."""
+
+    heads: dict[int, Branch] = field(default_factory=dict)
+    slots: dict[tuple[int, str], Branch] = field(default_factory=dict)
+    statements: list[int] = field(default_factory=list)
+    bits: int = 0
+
+
+class Index:
+    """Statements by their formulas. A statement is found with the trees that stand for the
+    variables of its formula, in the order of their first occurrence."""
+
+    def __init__(self, trees: Trees, grammar: Grammar) -> None:
+        self.trees = trees
+        self.grammar = grammar
+        self.first = Branch()
+
+    def add(self, statement: int, pattern: int) -> list[int]:
+        """Adds a statement. Returns its variables in this order."""
+        slots: dict[int, int] = {}
+        branch, left = self.first, [pattern]
+        while left:
+            tree = left.pop()
+            head = self.trees.heads[tree]
+            if head < 0:
+                slot = (slots.setdefault(~head, len(slots)), self.grammar.variables[~head][0])
+                branch = branch.slots.setdefault(slot, Branch())
+            else:
+                branch = branch.heads.setdefault(head, Branch())
+                left += reversed(self.trees.parts[tree])
+        branch.statements.append(statement)
+        branch.bits |= 1 << statement
+        return list(slots)
+
+    def find(self, tree: int, wanted: int, flags: str) -> list[tuple[int, tuple[int, ...]]]:
+        """The statements whose formula becomes a tree, of those wanted: `wanted` has their bits,
+        and `flags` a `1` for each of them."""
+        heads, parts, typecode = self.trees.heads, self.trees.parts, self.grammar.typecode
+        found: list[tuple[int, tuple[int, ...]]] = []
+        work: list[tuple[Branch, Left | None, tuple[int, ...]]] = [(self.first, (tree, None), ())]
+        while work:
+            branch, left, bound = work.pop()
+            if left is None:
+                found += [(statement, bound) for statement in chosen(branch, wanted, flags)]
+                continue
+            one, rest = left
+            head = heads[one]
+            following = branch.heads.get(head)
+            if following is not None:
+                more = rest
+                for part in reversed(parts[one]):
+                    more = (part, more)
+                work.append((following, more, bound))
+            for (slot, kind), following in branch.slots.items():
+                if slot < len(bound):
+                    if bound[slot] == one:
+                        work.append((following, rest, bound))
+                elif typecode(one) == kind:
+                    work.append((following, rest, (*bound, one)))
+        return found
+
+
+def chosen(branch: Branch, wanted: int, flags: str) -> list[int]:
+    """The statements of a branch that are wanted."""
+    if len(branch.statements) > MANY:
+        return list(bits_of(branch.bits & wanted))
+    count = len(flags)
+    return [each for each in branch.statements if each < count and flags[each] == "1"]
+
+
+def key_of(trees: Trees, tree: int) -> Key | None:
+    """The key of a pattern, None where that is a variable."""
+    head = trees.heads[tree]
+    if head < 0:
+        return None
+    parts = trees.parts[tree]
+    if not parts:
+        return head, ANY, ANY
+    return head, max(ANY, trees.heads[parts[0]]), max(ANY, trees.heads[parts[-1]])
+
+
+def keys_of(trees: Trees, tree: int) -> set[Key]:
+    """The keys of all patterns that could become a tree."""
+    key = key_of(trees, tree)
+    if key is None:
+        return set()
+    head, first, last = key
+    return {key, (head, ANY, last), (head, first, ANY), (head, ANY, ANY)}

@@ -1,0 +1,63 @@
+"""What a search has found so far, which is kept, so that one that was interrupted goes on."""
+
+from __future__ import annotations
+
+import json
+from collections.abc import Sequence
+from dataclasses import asdict, dataclass, field
+
+from query import cache
+
+FORM = 1
+"""Counts the forms in which changes are kept, and the ways in which they are sought."""
+
+
+@dataclass(frozen=True, slots=True)
+class Replaced:
+    """A step of a proof that cites another statement now. `old` are the labels that it cited."""
+
+    old: tuple[str, ...]
+    new: str
+    formula: str
+
+
+@dataclass(slots=True)
+class Change:
+    """What became of a theorem: which axioms it loses, and where its own proof is another one what
+    stands in its place between `$=` and `$.`, and which steps were replaced."""
+
+    theorem: str
+    loses: tuple[str, ...]
+    proof: bytes | None = None
+    old_length: int = 0
+    replaced: list[Replaced] = field(default_factory=list)
+
+    def labels(self) -> list[str]:
+        """The labels in brackets of the new proof."""
+        words = (self.proof or b"( )").decode("latin-1").split()
+        return words[1 : words.index(")")]
+
+
+def store(key: str, done: int, changes: Sequence[Change]) -> None:
+    """Keeps what was found in so many theorems."""
+    fields = [asdict(change) for change in changes]
+    for each in fields:
+        if each["proof"] is not None:
+            each["proof"] = each["proof"].decode("latin-1")
+    cache.store(key, {"done": str(done).encode(), "changes": json.dumps(fields).encode()})
+
+
+def load(key: str) -> tuple[int, dict[str, Change]]:
+    """In how many theorems what was found."""
+    parts = cache.load(key)
+    if parts is None:
+        return 0, {}
+    found = {}
+    for each in json.loads(parts["changes"]):
+        proof = None if each["proof"] is None else each["proof"].encode("latin-1")
+        steps = [
+            Replaced(tuple(one["old"]), one["new"], one["formula"]) for one in each["replaced"]
+        ]
+        loses = tuple(each["loses"])
+        found[each["theorem"]] = Change(each["theorem"], loses, proof, each["old_length"], steps)
+    return int(parts["done"]), found

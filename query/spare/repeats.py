@@ -1,0 +1,86 @@
+"""Theorems that say what an earlier statement says, or a special case of it."""
+
+from __future__ import annotations
+
+from collections.abc import Iterator
+from dataclasses import dataclass
+
+from query.spare.library import Library, Rule
+from query.spare.proofs import Proof, Step
+from query.spare.search import Citable, Search, Shelf, World, step_of
+from query.spare.trees import Binding
+
+HOW = ("same", "weaker", "instance")
+"""How a theorem says what an earlier statement says, the nearest first."""
+
+
+@dataclass(frozen=True, slots=True)
+class Repeat:
+    """A theorem, and the statement before it that says as much. `how` is one of HOW."""
+
+    theorem: str
+    earlier: str
+    how: str
+
+
+class Ways(Search):
+    """All steps by which statements before a theorem prove it from its own hypotheses."""
+
+    def __init__(self, shelf: Shelf, world: World, theorem: Rule, proof: Proof) -> None:
+        super().__init__(shelf, world, theorem, proof)
+        self.found: list[Step] = []
+        for tree in proof.given:
+            self.free.add(tree, None, self.keys[tree])
+
+    def is_enough(self, citable: Citable, binding: Binding, premises: list[int]) -> bool:
+        """Notes a step, and goes on."""
+        self.found.append(step_of(citable, binding, premises))
+        return False
+
+    def all(self, tree: int) -> list[Step]:
+        """The steps for a formula."""
+        flags = f"{self.may_be:0{self.theorem.number}b}"[::-1]
+        for number, bound in self.shelf.index.find(tree, self.may_be, flags):
+            citable = self.shelf.citable[number]
+            if all(key is None or key in self.free.by_key for key in citable.keys):
+                self.cited(citable, bound)
+        return self.found
+
+
+class Finder:
+    """Finds what repeats what."""
+
+    def __init__(self, library: Library, shelf: Shelf) -> None:
+        self.library = library
+        self.shelf = shelf
+        self.world = World([])
+
+    def repeat(self, theorem: Rule) -> Repeat | None:
+        """What a theorem repeats, of several the nearest, and of these the first one."""
+        given = {each.number: each.label for each in theorem.essential()}
+        proof = Proof(self.library.scope(theorem), given, theorem.tree, {theorem.tree: {}})
+        best: tuple[int, int] | None = None
+        for step in Ways(self.shelf, self.world, theorem, proof).all(theorem.tree):
+            found = (HOW.index(self.how(theorem, step)), step.rule)
+            best = found if best is None else min(best, found)
+        if best is None:
+            return None
+        return Repeat(theorem.label, self.library.rules[best[1]].label, HOW[best[0]])
+
+    def how(self, theorem: Rule, step: Step) -> str:
+        """How a theorem says what a statement says that would prove it in one step."""
+        rule, heads = self.library.rules[step.rule], self.library.trees.heads
+        named = [tree for one, tree in zip(rule.given, step.trees) if one.is_floating]
+        if len({*named}) < len(named) or any(heads[tree] >= 0 for tree in named):
+            return "instance"
+        has_same_given = len({*step.premises}) == len({each.number for each in theorem.essential()})
+        pairs = self.library.pairs
+        has_same_pairs = len({*pairs(rule)}) == len({*pairs(theorem)})
+        return "same" if has_same_given and has_same_pairs else "weaker"
+
+    def repeats(self, theorems: Iterator[Rule]) -> Iterator[Repeat]:
+        """What of these theorems repeats something."""
+        for theorem in theorems:
+            found = self.repeat(theorem)
+            if found is not None:
+                yield found

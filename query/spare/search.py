@@ -1,0 +1,451 @@
+"""The search for proofs that can do without axioms.
+
+A formula of a proof is *free* of axioms where it is a hypothesis; or where what the proof cites for
+it doesn't rest on them, and its premises are free; or where some statement before the theorem
+becomes it, doesn't rest on them, has its premises among the free formulas, and keeps the conditions
+of distinct variables. This is repeated until nothing is added. A statement is only cited where the
+theorem rests on all of its axioms anyway, so nothing is gained.
+"""
+
+from __future__ import annotations
+
+from collections import defaultdict
+from collections.abc import Callable, Sequence
+from dataclasses import dataclass
+
+from query.spare.index import Index, Key, key_of, keys_of
+from query.spare.library import Library, Rule, bits_of
+from query.spare.proofs import Proof, Step
+from query.spare.trees import Binding, Code, Trees
+
+MOST_GIVEN = 50
+"""A statement with more `$e` hypotheses isn't cited in place of another."""
+MOST_NEW = 20_000
+"""So many formulas are tried as new steps of one proof."""
+MOST_TRIED = 5000
+"""So many formulas are tried as premises of one statement for one formula."""
+
+Steps = dict[int, Step | None]
+"""For each free formula the step by which it is; None for a hypothesis."""
+
+
+@dataclass(slots=True)
+class Premise:
+    """A `$e` hypothesis of a statement that may be cited: its tree, its place among the `$e`, its
+    key, its variables, its code, and which variable its first part is, and its last; -1 where that
+    is none."""
+
+    pattern: int
+    place: int
+    key: Key | None
+    variables: frozenset[int]
+    code: Code
+    first: int
+    last: int
+
+
+@dataclass(slots=True)
+class Citable:
+    """A statement that may be cited. `slots` are the variables of its formula in the order of the
+    index, `premises` its `$e`, first those that have no other variables, `keys` those of these, and
+    `pairs` those of its variables that must be distinct."""
+
+    rule: Rule
+    slots: list[int]
+    premises: list[Premise]
+    keys: list[Key | None]
+    pairs: list[tuple[int, int]]
+
+
+@dataclass(slots=True)
+class Conventions:
+    """Which statements may be cited in a theorem, as bits by their number: those that are citable
+    at all, and of these the ones that stand in no mathbox and in each one."""
+
+    citable: int
+    main: int
+    boxes: dict[int, int]
+    box_of: Callable[[int], int | None]
+
+    def allowed(self, theorem: int) -> int:
+        """Those that stand before a theorem and may be cited there."""
+        box = self.box_of(theorem)
+        places = self.main if box is None else self.main | self.boxes[box]
+        return self.citable & places & ((1 << theorem) - 1)
+
+
+class World:
+    """On which axioms each assertion rests, while proofs are changed. Axioms are bits."""
+
+    def __init__(self, rests: list[int]) -> None:
+        self.rests = rests
+        self.all = 0
+        for bits in rests:
+            self.all |= bits
+        flags = {axiom: bytearray(b"0" * len(rests)) for axiom in bits_of(self.all)}
+        for number, bits in enumerate(rests):
+            for axiom in bits_of(bits):
+                flags[axiom][number] = ord("1")
+        self.columns = {axiom: int(each[::-1], 2) for axiom, each in flags.items()}
+        self._blocked: dict[int, int] = {}
+
+    def change(self, number: int, rests: int) -> None:
+        """An assertion rests on less now."""
+        for axiom in bits_of(self.rests[number] & ~rests):
+            self.columns[axiom] &= ~(1 << number)
+        self.rests[number] = rests
+        self._blocked.clear()
+
+    def blocked(self, allowed: int) -> int:
+        """The assertions that rest on an axiom that isn't allowed."""
+        found = self._blocked.get(allowed)
+        if found is None:
+            found = 0
+            for axiom in bits_of(self.all & ~allowed):
+                found |= self.columns[axiom]
+            self._blocked[allowed] = found
+        return found
+
+
+class Shelf:
+    """All statements that may be cited, by their formulas."""
+
+    def __init__(self, library: Library, conventions: Conventions) -> None:
+        self.library = library
+        self.conventions = conventions
+        self.index = Index(library.trees, library.grammar)
+        self.citable: dict[int, Citable] = {}
+        self.needing: dict[Key, int] = {}
+        for number in bits_of(conventions.citable):
+            self.add(library.rules[number])
+
+    def add(self, rule: Rule) -> None:
+        """Adds a statement."""
+        slots = self.index.add(rule.number, rule.tree)
+        essential = enumerate(each.number for each in rule.essential())
+        premises = [self.premise(place, pattern) for place, pattern in essential]
+        bound = set(slots)
+        premises.sort(key=lambda each: not each.variables <= bound)
+        keys = [each.key for each in premises]
+        pairs = self.library.pairs(rule)
+        self.citable[rule.number] = Citable(rule, slots, premises, keys, pairs)
+        for key in keys:
+            if key is not None:
+                self.needing[key] = self.needing.get(key, 0) | 1 << rule.number
+
+    def premise(self, place: int, pattern: int) -> Premise:
+        """A hypothesis of a statement."""
+        trees = self.library.trees
+        variables = frozenset(bits_of(trees.variables(pattern)))
+        code, key = trees.open_code(pattern), key_of(trees, pattern)
+        return Premise(pattern, place, key, variables, code, *ends_of(trees, pattern))
+
+    def lacking(self, keys: set[Key]) -> int:
+        """The statements with a hypothesis that no formula with these keys becomes."""
+        found = 0
+        for key, bits in self.needing.items():
+            if key not in keys:
+                found |= bits
+        return found
+
+
+def ends_of(trees: Trees, pattern: int) -> tuple[int, int]:
+    """Which variables are the first and the last part of a pattern; -1 where none is."""
+    parts = trees.parts[pattern]
+    if not parts:
+        return -1, -1
+    first, last = trees.heads[parts[0]], trees.heads[parts[-1]]
+    return max(-1, ~first), max(-1, ~last)
+
+
+class Free:
+    """The free formulas of a proof, in order: all, by their keys, and by their head with the first
+    or the last part. For each key it is known when a formula with it came last; 0 for never."""
+
+    def __init__(self, trees: Trees) -> None:
+        self.trees = trees
+        self.steps: Steps = {}
+        self.order: list[int] = []
+        self.by_key: dict[Key, list[int]] = {}
+        self.by_first: dict[tuple[int, int], list[int]] = {}
+        self.by_last: dict[tuple[int, int], list[int]] = {}
+        self.came: defaultdict[Key | None, int] = defaultdict(int)
+
+    def add(self, tree: int, step: Step | None, keys: set[Key]) -> None:
+        """Adds a formula."""
+        self.steps[tree] = step
+        self.order.append(tree)
+        self.came[None] = len(self.steps)
+        for key in keys:
+            self.by_key.setdefault(key, []).append(tree)
+            self.came[key] = len(self.steps)
+        parts = self.trees.parts[tree]
+        if parts:
+            head = self.trees.heads[tree]
+            self.by_first.setdefault((head, parts[0]), []).append(tree)
+            self.by_last.setdefault((head, parts[-1]), []).append(tree)
+
+    def like(self, premise: Premise, binding: Binding) -> Sequence[int]:
+        """The formulas that a premise may be, not many more than it can be."""
+        if premise.variables <= binding.keys():
+            known = self.trees.known_instance(premise.code, binding)
+            return () if known is None or known not in self.steps else (known,)
+        key = premise.key
+        if key is None:
+            return self.order
+        least: Sequence[int] = self.by_key.get(key, ())
+        for variable, by_part in ((premise.first, self.by_first), (premise.last, self.by_last)):
+            part = binding.get(variable)
+            if part is not None:
+                found = by_part.get((key[0], part), ())
+                least = found if len(found) < len(least) else least
+        return least
+
+
+class Search:
+    """The search in one proof. With `closed`, the statements without hypotheses of which instances
+    may be new steps."""
+
+    closed = 0
+
+    def __init__(self, shelf: Shelf, world: World, theorem: Rule, proof: Proof) -> None:
+        self.shelf = shelf
+        self.world = world
+        self.theorem = theorem
+        self.proof = proof
+        self.trees = shelf.library.trees
+        self.keys = {tree: keys_of(self.trees, tree) for tree in (*proof.given, *proof.steps)}
+        lacking = shelf.lacking(set[Key]().union(*self.keys.values()))
+        self.may_be = shelf.conventions.allowed(theorem.number) & ~lacking
+        self.candidates: dict[int, list[tuple[Citable, tuple[int, ...]]]] = {}
+        self.tried: dict[int, int] = {}
+        self.free = Free(self.trees)
+        self.left = 0
+        self.flags, self.wanted_closed = "", 0
+        self.new: dict[int, bool] = {}
+
+    def without(self, axioms: int, rests: int) -> Steps | None:
+        """A proof that does without these axioms, and rests on no others than `rests`; None where
+        none is found."""
+        may_be = self.may_be
+        if self.closed:
+            may_be = self.shelf.conventions.allowed(self.theorem.number)
+        wanted = may_be & ~self.world.blocked(rests & ~axioms)
+        self.flags = flags = f"{wanted:0{self.theorem.number}b}"[::-1]
+        self.wanted_closed = wanted & self.closed
+        self.candidates, self.tried, self.new = {}, {}, {}
+        self.free = Free(self.trees)
+        for tree in self.proof.given:
+            self.free.add(tree, None, self.keys[tree])
+        left = list(self.proof.steps)
+        while True:
+            before = len(left)
+            left = [tree for tree in left if not self.is_freed(tree, axioms, wanted, flags)]
+            if self.proof.root in self.free.steps:
+                return self.free.steps
+            if len(left) == before:
+                return None
+
+    def is_freed(self, tree: int, axioms: int, wanted: int, flags: str) -> bool:
+        """Whether a formula is free now."""
+        step = self.own(tree, axioms)
+        if step is None:
+            step = self.other(tree, wanted, flags)
+        if step is not None:
+            self.free.add(tree, step, self.keys[tree])
+        return step is not None
+
+    def own(self, tree: int, axioms: int) -> Step | None:
+        """A step of the proof itself by which a formula is free."""
+        free = self.free.steps
+        for step in self.proof.steps[tree]:
+            if not self.world.rests[step.rule] & axioms and all(
+                premise in free for premise in step.premises
+            ):
+                return step
+        return None
+
+    def other(self, tree: int, wanted: int, flags: str) -> Step | None:
+        """A step with another statement by which a formula is free. What was tried before is tried
+        again only where a formula came that a premise may be."""
+        free = self.free
+        if tree not in self.candidates:
+            found = self.shelf.index.find(tree, wanted, flags)
+            citable = self.shelf.citable
+            self.candidates[tree] = [(citable[number], bound) for number, bound in sorted(found)]
+        before = self.tried.get(tree, -1)
+        self.tried[tree] = count = len(free.steps)
+        if before == count:
+            return None
+        when = free.came.__getitem__
+        for one, bound in self.candidates[tree]:
+            came = [*map(when, one.keys)]
+            is_worth = before < 0 if not came else min(came) > 0 and max(came) > before
+            if is_worth or (before < 0 and self.wanted_closed):
+                step = self.cited(one, bound)
+                if step is not None:
+                    return step
+        return None
+
+    def cited(self, citable: Citable, bound: tuple[int, ...]) -> Step | None:
+        """The step in which a statement is cited; None where a premise isn't free, or variables
+        aren't distinct."""
+        binding = dict(zip(citable.slots, bound))
+        self.left = MOST_TRIED
+        premises: list[int] = [-1] * len(citable.premises)
+        if not self.has_premises(citable, citable.premises, binding, premises):
+            return None
+        return step_of(citable, binding, premises)
+
+    def is_enough(self, citable: Citable, binding: Binding, premises: list[int]) -> bool:
+        """Whether this step is taken, where there may be others with the same statement."""
+        return True
+
+    def has_premises(
+        self, citable: Citable, left: list[Premise], binding: Binding, premises: list[int]
+    ) -> bool:
+        """Finds the premises that are left among the free formulas, next the one that can be the
+        fewest, and binds the variables that only they have. There are at most MOST_GIVEN, one
+        within the other."""
+        if not left:
+            is_one = self.keeps_distinct(citable, binding)
+            return is_one and self.is_enough(citable, binding, premises)
+        least: Sequence[int] = ()
+        for premise in left:
+            formulas = self.free.like(premise, binding)
+            if not formulas and self.wanted_closed:
+                formulas = self.new_step(premise, binding)
+                if not formulas and not premise.variables <= binding.keys():
+                    continue
+            if not formulas:
+                return False
+            if not least or len(formulas) < len(least):
+                least, chosen = formulas, premise
+            if len(least) == 1:
+                break
+        if not least:
+            return False
+        left = [premise for premise in left if premise is not chosen]
+        for formula in least:
+            self.left -= 1
+            if self.left < 0:
+                return False
+            new = self.match(chosen.pattern, formula, binding)
+            if new is None:
+                continue
+            premises[chosen.place] = formula
+            if self.has_premises(citable, left, binding, premises):
+                return True
+            for variable in new:
+                del binding[variable]
+        return False
+
+    def new_step(self, premise: Premise, binding: Binding) -> Sequence[int]:
+        """A premise whose variables are bound, as a new step that cites a statement without
+        hypotheses; nothing where there is none."""
+        if not premise.variables <= binding.keys() or len(self.new) >= MOST_NEW:
+            return ()
+        tree = self.trees.bound_instance(premise.code, binding)
+        if tree not in self.new:
+            self.new[tree] = False
+            for number, bound in self.shelf.index.find(tree, self.wanted_closed, self.flags):
+                citable = self.shelf.citable[number]
+                filled = dict(zip(citable.slots, bound))
+                if not citable.premises and self.keeps_distinct(citable, filled):
+                    self.new[tree] = True
+                    self.free.add(tree, step_of(citable, filled, []), keys_of(self.trees, tree))
+                    break
+        return (tree,) if self.new[tree] else ()
+
+    def match(self, pattern: int, formula: int, binding: Binding) -> list[int] | None:
+        """Binds the variables of a premise's pattern."""
+        if self.trees.heads[pattern] < 0:
+            typecode = self.shelf.library.grammar.typecode
+            if typecode(pattern) != typecode(formula):
+                return None
+        return self.trees.match(pattern, formula, binding)
+
+    def keeps_distinct(self, citable: Citable, binding: Binding) -> bool:
+        """Whether the theorem has the conditions of distinct variables that a citation needs."""
+        if not citable.pairs:
+            return True
+        apart = self.proof.scope.apart()
+        variables = self.trees.variables
+        for one, other in citable.pairs:
+            some, others = variables(binding[one]), variables(binding[other])
+            if some & others:
+                return False
+            for first in bits_of(some):
+                if any((first, second) not in apart for second in bits_of(others)):
+                    return False
+        return True
+
+
+class Options(Search):
+    """All steps by which the formulas of a proof follow from one another, its own and others."""
+
+    def __init__(self, shelf: Shelf, world: World, theorem: Rule, proof: Proof, rests: int) -> None:
+        super().__init__(shelf, world, theorem, proof)
+        self.rests = rests
+        self.steps: dict[int, dict[Step, None]] = {}
+        for tree in self.keys:
+            self.free.add(tree, None, self.keys[tree])
+        self.tree = -1
+        wanted = self.may_be & ~world.blocked(rests)
+        flags = f"{wanted:0{theorem.number}b}"[::-1]
+        for self.tree in proof.steps:
+            self.steps[self.tree] = dict(proof.steps[self.tree])
+            for number, bound in shelf.index.find(self.tree, wanted, flags):
+                self.cited(shelf.citable[number], bound)
+
+    def is_enough(self, citable: Citable, binding: Binding, premises: list[int]) -> bool:
+        """Notes a step, and goes on."""
+        if self.tree not in premises:
+            self.steps[self.tree][step_of(citable, binding, premises)] = None
+        return False
+
+    def losable(self) -> int:
+        """The axioms that the theorem can do without, each of them alone."""
+        rests = self.world.rests
+        resting = dict.fromkeys(self.steps, self.rests)
+        resting.update(dict.fromkeys(self.proof.given, 0))
+        is_changed = True
+        while is_changed:
+            is_changed = False
+            for tree, steps in self.steps.items():
+                least = resting[tree]
+                for step in steps:
+                    needed = rests[step.rule]
+                    for premise in step.premises:
+                        needed |= resting[premise]
+                    least &= needed
+                if least != resting[tree]:
+                    resting[tree] = least
+                    is_changed = True
+        return self.rests & ~resting[self.proof.root]
+
+    def shortest(self) -> Steps:
+        """A proof with as few steps as there can be, where each is counted as often as it is
+        used."""
+        count: dict[int, int] = dict.fromkeys(self.proof.given, 0)
+        found: Steps = dict.fromkeys(self.proof.given)
+        is_changed = True
+        while is_changed:
+            is_changed = False
+            for tree, steps in self.steps.items():
+                for step in steps:
+                    if all(premise in count for premise in step.premises):
+                        size = 1 + sum(count[premise] for premise in step.premises)
+                        if tree not in count or size < count[tree]:
+                            count[tree], found[tree] = size, step
+                            is_changed = True
+        return found
+
+
+def step_of(citable: Citable, binding: Binding, premises: list[int]) -> Step:
+    """The step in which a statement is cited."""
+    filled = iter(premises)
+    trees = tuple(
+        binding[each.number] if each.is_floating else next(filled) for each in citable.rule.given
+    )
+    return Step(citable.rule.number, trees, tuple(premises))

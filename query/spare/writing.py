@@ -1,0 +1,182 @@
+"""Compressed proofs: of what was found, and laid out as the other proofs of the database are."""
+
+from __future__ import annotations
+
+import re
+from collections import Counter
+from collections.abc import Iterable
+from dataclasses import dataclass, field
+
+from query.spare.library import Library, Rule
+from query.spare.proofs import Proof, Step
+from query.spare.search import Steps
+
+WIDTH = 79
+INDENT = b"      "
+SAMPLE = 4000
+"""Of so many proofs the lines are measured."""
+START = re.compile(rb"[ \t]*(?P<end>\r?\n)(?P<indent>[ \t]*)\S")
+SECOND = re.compile(rb"[^\n]*?(?P<end>\r?\n)(?P<indent>[ \t]*)\S")
+
+Item = int
+"""A tree that has to be built, or a formula that has to be proved, as `~tree`."""
+
+
+class Writer:
+    """Writes proofs."""
+
+    def __init__(self, library: Library, is_usable: Iterable[int]) -> None:
+        self.library = library
+        self.abbreviations: dict[int, list[Rule]] = {}
+        for number in is_usable:
+            rule = library.rules[number]
+            if rule.form is None and not rule.is_logical and rule.tree >= 0:
+                head = library.trees.heads[rule.tree]
+                if head >= 0:
+                    self.abbreviations.setdefault(head, []).append(rule)
+
+    def words(self, theorem: Rule, proof: Proof, steps: Steps) -> tuple[list[str], str]:
+        """The labels in brackets and the letters of a proof."""
+        return Writing(self, theorem, proof, steps).words()
+
+
+@dataclass(slots=True)
+class Node:
+    """An item of a proof: the label that makes it of others, and how often it is used."""
+
+    label: str
+    parts: list[Item]
+    uses: int = 0
+    mark: int = -1
+
+
+@dataclass(slots=True)
+class Writing:
+    """One proof while it is written."""
+
+    writer: Writer
+    theorem: Rule
+    proof: Proof
+    steps: Steps
+    nodes: dict[Item, Node] = field(default_factory=dict)
+
+    def words(self) -> tuple[list[str], str]:
+        """The labels and the letters."""
+        root = ~self.proof.root
+        numbers = {each.label: place for place, each in enumerate(self.theorem.given)}
+        mandatory = len(numbers)
+        for item in self.ordered(root):
+            numbers.setdefault(self.nodes[item].label, len(numbers))
+        letters: list[str] = []
+        marks = len(numbers)
+        left = [(root, False)]
+        while left:
+            item, is_built = left.pop()
+            node = self.nodes[item]
+            if node.mark >= 0:
+                letters.append(letters_of(node.mark))
+            elif not is_built:
+                left.append((item, True))
+                left += [(part, False) for part in reversed(node.parts)]
+            else:
+                letters.append(letters_of(numbers[node.label]))
+                if node.parts and node.uses > 1:
+                    letters.append("Z")
+                    node.mark = marks
+                    marks += 1
+        return list(numbers)[mandatory:], "".join(letters)
+
+    def ordered(self, root: Item) -> list[Item]:
+        """All items, parts before what is made of them, and how often each is used."""
+        order: list[Item] = []
+        left = [(root, False)]
+        while left:
+            item, is_done = left.pop()
+            if is_done:
+                order.append(item)
+                continue
+            node = self.nodes.get(item)
+            if node is None:
+                node = self.nodes[item] = self.node(item)
+                left.append((item, True))
+                left += [(part, False) for part in reversed(node.parts)]
+            node.uses += 1
+        return order
+
+    def node(self, item: Item) -> Node:
+        """How an item is made."""
+        library = self.writer.library
+        if item < 0:
+            step = self.steps[~item]
+            if step is None:
+                return Node(self.proof.given[~item], [])
+            return self.citation(step)
+        head = library.trees.heads[item]
+        if head < 0:
+            return Node(self.proof.scope.labels[~head], [])
+        for rule in self.writer.abbreviations.get(head, ()):
+            binding: dict[int, int] = {}
+            if rule.number < self.theorem.number:
+                if library.trees.match(rule.tree, item, binding) is not None:
+                    return Node(rule.label, [binding[slot] for slot in rule.slots])
+        label = library.grammar.forms[head].label
+        assert label is not None
+        return Node(label, list(library.trees.parts[item]))
+
+    def citation(self, step: Step) -> Node:
+        """How a citation is made."""
+        rule = self.writer.library.rules[step.rule]
+        parts = [tree if one.is_floating else ~tree for one, tree in zip(rule.given, step.trees)]
+        return Node(rule.label, parts)
+
+
+def letters_of(number: int) -> str:
+    """A number of a compressed proof, from 0, in letters."""
+    letters = chr(ord("A") + number % 20)
+    number //= 20
+    while number:
+        number -= 1
+        letters = chr(ord("U") + number % 5) + letters
+        number //= 5
+    return letters
+
+
+def width_of(proofs: Iterable[bytes]) -> int:
+    """How wide the lines of compressed proofs are: the commonest width of those that aren't the
+    last of their proof."""
+    counts: Counter[int] = Counter()
+    for number, proof in enumerate(proofs):
+        if number == SAMPLE:
+            break
+        counts.update(len(line.rstrip(b"\r")) for line in proof.split(b"\n")[1:-1])
+    common = counts.most_common(1)
+    return common[0][0] if common else WIDTH
+
+
+def laid_out(labels: list[str], letters: str, old: bytes, width: int) -> bytes:
+    """A proof as it stands between `$=` and `$.`, begun as the old one is."""
+    match = START.match(old) or SECOND.match(old)
+    end, indent = (match["end"], match["indent"]) if match else (b"\n", INDENT)
+    lines = [bytearray(indent)]
+    for word in ["(", *labels, ")"]:
+        line = lines[-1]
+        if len(line) > len(indent):
+            if len(line) + 1 + len(word) > width:
+                lines.append(bytearray(indent))
+            else:
+                line += b" "
+        lines[-1] += word.encode()
+    room = max(1, width - len(indent))
+    place = 0
+    if len(lines[-1]) + 1 < width:
+        lines[-1] += b" "
+        place = width - len(lines[-1])
+        lines[-1] += letters[:place].encode()
+    while place < len(letters):
+        lines.append(bytearray(indent + letters[place : place + room].encode()))
+        place += room
+    lines.append(bytearray(indent))
+    if len(lines[-2]) + 3 <= width:
+        lines.pop()
+        lines[-1] += b" "
+    return end + end.join(lines)

@@ -1,0 +1,153 @@
+"""What `repeats` says, against trying everything in databases made by chance."""
+
+import itertools
+
+from query.assertions import Assertion
+from query.commands.repeats import theorems_of
+from query.context import Context
+from query.options import Options
+from query.spare.changes import Wanted, conventions_of
+from query.spare.library import Library
+from query.spare.repeats import HOW, Finder
+from query.spare.search import Shelf
+from query.tests.test_spare_search import SETS, Everything, Maker, Term, filled, parsed, variables
+from query.tests.world import World, told_of
+from query.text import Text
+
+TEXT = """$c ( ) -> |- wff $.
+$v p q r $.
+wp $f wff p $. wq $f wff q $. wr $f wff r $.
+wi $a wff ( p -> q ) $.
+ax $a |- ( p -> p ) $.
+ay $a |- ( p -> ( q -> q ) ) $.
+${ $d p q $. az $a |- ( p -> ( q -> p ) ) $. $}
+t1 $p |- ( q -> q ) $= wq ax $.
+t2 $p |- ( ( p -> q ) -> ( p -> q ) ) $= wp wq wi ax $.
+${ t3.1 $e |- p $. t3 $p |- ( r -> r ) $= wr ax $. $}
+${ $d p q $. t4 $p |- ( q -> ( p -> p ) ) $= wq wp ay $. $}
+${ $d q r $. t5 $p |- ( r -> ( q -> r ) ) $= wr wq az $. $}
+t6OLD $p |- ( r -> r ) $= wr ax $.
+$( (New usage is discouraged.) $)
+t7 $p |- ( r -> r ) $= wr ax $.
+$( New. $)
+${ m.1 $e |- p $. m.2 $e |- ( p -> q ) $. m $a |- q $. $}
+${ n.1 $e |- ( r -> q ) $. n.2 $e |- r $. n $p |- q $= wr wq n.2 n.1 m $. $}
+"""
+
+
+class Repeats(World):
+    """Over a small database."""
+
+    def rows(self, *words: str) -> list[list[str]]:
+        """The rows of an answer."""
+        lines = self.answers("repeats", "--format", "tsv", *words)
+        self.assertEqual(lines[0].split("\t"), ["theorem", "earlier", "how", "only", "besides"])
+        return [line.split("\t") for line in lines[1:]]
+
+    def test_small(self) -> None:
+        self.write("db.mm", TEXT)
+        wanted = [
+            ["t1", "ax", "same", "-", "-"],
+            ["t2", "ax", "instance", "-", "-"],
+            ["t3", "ax", "weaker", "-", "-"],
+            ["t4", "ay", "weaker", "-", "-"],
+            ["t5", "az", "same", "-", "-"],
+            ["n", "m", "same", "-", "-"],
+        ]
+        self.assertEqual(self.rows("db.mm"), wanted)
+        kept = [["t6OLD", "ax", "same", "-", "-"], ["t7", "ax", "same", "-", "-"]]
+        self.assertEqual(self.rows("db.mm", "--kept"), [*wanted[:5], *kept, *wanted[5:]])
+        self.assertEqual(self.rows("db.mm", "--like", "t*", "--not", "t1,t2,t3"), wanted[3:5])
+
+    def test_what_each_rests_on(self) -> None:
+        text = TEXT[: TEXT.index("t1 $p")]
+        text += "u $a |- ( q -> q ) $. v $p |- ( q -> q ) $= wq u $.\n"
+        self.write("db.mm", text)
+        self.assertEqual(self.rows("db.mm"), [["v", "ax", "same", "u", "ax"]])
+        self.refuses("repeats", "db.mm", "--only", "x", why="no axiom of typecode 'x'")
+        self.write("report", self.report("db.mm"))
+        self.refuses("repeats", "report", why="a report, where the database is wanted")
+        self.write("none.mm", text[: text.index("u $a")] + "w $p |- ( p -> ( q -> p ) ) $= ? $.\n")
+        came = self.query("repeats", "none.mm")
+        self.assertEqual(came.status, 2)
+
+
+class Tried:
+    """What repeats what, by trying everything."""
+
+    def __init__(self, text: Text) -> None:
+        self.text = text
+        self.everything = Everything(text, {})
+
+    def how(self, theorem: Assertion, earlier: Assertion) -> str | None:
+        """How a theorem says what an earlier statement says."""
+        given = {parsed(one) for one in self.given(theorem)}
+        term = parsed(theorem.formula)
+        parts: list[Term] = sorted(
+            {part for each in given | {term} for part in subterms_of(each)}, key=str
+        )
+        if not self.everything.has_step(theorem, earlier.label, term, given, parts):
+            return None
+        return self.renamed(theorem, earlier, given) or "instance"
+
+    def given(self, one: Assertion) -> list[str]:
+        """The `$e` hypotheses of an assertion."""
+        return [each.formula for each in one.frame().hypotheses() if each.kind == "e"]
+
+    def renamed(self, theorem: Assertion, earlier: Assertion, given: set[Term]) -> str | None:
+        """Whether the earlier statement with other names of variables is the theorem, or says more;
+        None for neither."""
+        other, premises = parsed(earlier.formula), [parsed(one) for one in self.given(earlier)]
+        names = sorted(set().union(variables(other), *map(variables, premises)))
+        own = sorted(set().union(*map(variables, [parsed(theorem.formula), *given])))
+        for chosen in itertools.permutations(own, len(names)):
+            binding: dict[str, Term] = dict(zip(names, chosen))
+            if any((name in SETS) != (binding[name] in SETS) for name in names):
+                continue
+            ones = {filled(each, binding) for each in premises}
+            if filled(other, binding) != parsed(theorem.formula) or not ones <= given:
+                continue
+            if self.everything.keeps(theorem, earlier.label, binding):
+                pairs = [len([*one.frame().pairs()]) for one in (theorem, earlier)]
+                return "same" if ones == given and pairs[0] == pairs[1] else "weaker"
+        return None
+
+
+def subterms_of(term: Term) -> set[Term]:
+    """A term and its parts."""
+    if isinstance(term, str):
+        return {term}
+    return {term, *subterms_of(term[1]), *subterms_of(term[2])}
+
+
+class ByChance(World):
+    """The same theorems are listed, in the same way."""
+
+    def test_all(self) -> None:
+        counts = dict.fromkeys((*HOW, None), 0)
+        for seed in range(15):
+            path = str(self.room / self.write("chance.mm", Maker(seed).text(40)))
+            database = Context(uses_cache=False).database(path, Options())
+            library = Library(database.text, "|-")
+            wanted = Wanted("|-", cites_discouraged=True, cites_old=True)
+            finder = Finder(library, Shelf(library, conventions_of(library, wanted)))
+            found = {
+                one.theorem: one
+                for one in finder.repeats(theorems_of(library, True, lambda label: True))
+            }
+            tried = Tried(told_of(database.data()))
+            logical = [one for one in tried.text.assertions if one.typecode == "|-"]
+            for number, one in enumerate(logical):
+                if one.kind == "a":
+                    continue
+                hows = [(tried.how(one, other), other.label) for other in logical[:number]]
+                best = min(
+                    (HOW.index(how), place) if how is not None else (len(HOW), place)
+                    for place, (how, _) in enumerate(hows)
+                )
+                how, label = hows[best[1]]
+                counts[how] += 1
+                same = found.get(one.label)
+                told = None if same is None else (same.how, same.earlier)
+                self.assertEqual(told, None if how is None else (how, label), f"{seed} {one.label}")
+        self.assertGreater(min(counts.values()), 5, counts)
