@@ -41,6 +41,7 @@ function core() {
  */
 export async function report(text, request = {}) {
     if (!(text instanceof Uint8Array)) throw new TypeError("the database is no Uint8Array");
+    if (![undefined, 1, 2].includes(request.form)) throw new TypeError("there is no such form");
     const said = Object.fromEntries(Object.entries(request).filter(([, value]) => value !== undefined));
     const answer = await answered(await core(), text.length, (bytes) => bytes().set(text), said);
     if (answer.status === REFUSED) throw new Refused(answer.report);
