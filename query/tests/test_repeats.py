@@ -47,15 +47,15 @@ class Repeats(World):
     def test_small(self) -> None:
         self.write("db.mm", TEXT)
         wanted = [
-            ["t1", "ax", "same", "-", "-"],
-            ["t2", "ax", "instance", "-", "-"],
-            ["t3", "ax", "weaker", "-", "-"],
-            ["t4", "ay", "weaker", "-", "-"],
-            ["t5", "az", "same", "-", "-"],
-            ["n", "m", "same", "-", "-"],
+            ["t1", "ax", "same", "", ""],
+            ["t2", "ax", "instance", "", ""],
+            ["t3", "ax", "weaker", "", ""],
+            ["t4", "ay", "weaker", "", ""],
+            ["t5", "az", "same", "", ""],
+            ["n", "m", "same", "", ""],
         ]
         self.assertEqual(self.rows("db.mm"), wanted)
-        kept = [["t6OLD", "ax", "same", "-", "-"], ["t7", "ax", "same", "-", "-"]]
+        kept = [["t6OLD", "ax", "same", "", ""], ["t7", "ax", "same", "", ""]]
         self.assertEqual(self.rows("db.mm", "--kept"), [*wanted[:5], *kept, *wanted[5:]])
         self.assertEqual(self.rows("db.mm", "--like", "t*", "--not", "t1,t2,t3"), wanted[3:5])
 

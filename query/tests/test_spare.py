@@ -52,7 +52,7 @@ ${{ $d p q $. t3 $p |- ( ( p -> ( q -> p ) ) -> ( p -> ( p -> p ) ) ) $=
 NEW = SPARE.replace("( wi i bad both ) AACBBCADBEF", "( wi i both ) AACBBCADBDE")
 ROWS = [
     ["direct", "t1", "bad", "bad", "i", "|- ( q -> q )", "-4", "0.1"],
-    ["cascade", "t2", "bad", "-", "-", "-", "-", "0.1"],
+    ["cascade", "t2", "bad", "", "", "", "", "0.1"],
 ]
 NAMES = ["how", "theorem", "loses", "replaced", "by", "step", "bytes", "chapter"]
 
@@ -188,7 +188,7 @@ class Spare(World):
         self.assertEqual(self.rows("steps.mm", "v"), [])
         rows = self.rows("steps.mm", "v", "--new-steps", "--write", "new.mm")
         wanted = [
-            ["direct", "t", "v", "-", "i", "|- ( q -> q )"],
+            ["direct", "t", "v", "", "i", "|- ( q -> q )"],
             ["direct", "t", "v", "v", "w", "|- ( q -> p )"],
         ]
         self.assertEqual([row[:6] for row in rows], wanted)
@@ -215,7 +215,7 @@ class Spare(World):
         proof = "wq wq wi wp wp wi wq bad wp i drop"
         self.write("long.mm", f"{text}t $p |- ( p -> p ) $= {proof} $.\n")
         [row] = self.rows("long.mm", "bad", "--write", "new.mm")
-        self.assertEqual(row[:6], ["direct", "t", "bad drop", "-", "-", "-"])
+        self.assertEqual(row[:6], ["direct", "t", "bad drop", "", "", ""])
         wanted = f"{text}t $p |- ( p -> p ) $= ( i ) AB $.\n"
         self.assertEqual((self.room / "new.mm").read_text().split(), wanted.split())
 
