@@ -124,8 +124,12 @@ class Statuses(World):
                         (came.out, came.err), (whole.out, whole.err), f"{words}, {size}"
                     )
                     self.assertEqual(came.status, whole.status)
-                kept = list((self.cache / "mmquery").glob("*"))
-                self.assertTrue(size == LIMITS[-1] or not kept, f"{words}, {size}")
+                kept = [each.stat().st_size for each in (self.cache / "mmquery").glob("*")]
+                self.assertTrue(all(each <= size for each in kept), f"{words}, {size}")
+                # That `spare` found nothing is kept in less.
+                self.assertTrue(
+                    size == LIMITS[-1] or not kept or words[0] == "spare", f"{words}, {size}"
+                )
 
     def test_the_answer_goes_to_a_file_that_may_not_grow(self) -> None:
         for words in self.all_words():
