@@ -36,11 +36,11 @@ module _ (db : List Statement) (t : ℕ) (steps : List PlacedStep) where
   -- no step is performed yet
   pub no_step_performed : (m : MachineState) (rules : RuleLists) (noted : List ℕ)
       (cache : KnownPairs)
-      → (symbol_count : ℕ)
-      → AreOfDatabase db symbol_count rules → AreStepsOf db t steps → m
-      ≡ machine_state [] [] [] symbol_count → noted ≡ []
+      → (variables : List Bool)
+      → AreOfDatabase db variables rules → AreStepsOf db t steps → m
+      ≡ machine_state [] [] [] variables → noted ≡ []
       → AreDisjointAt db t cache → HasPerformed db t steps 0 (checker_state m rules noted cache)
-  no_step_performed m rules noted cache symbol_count of_database steps_are machine_is noted_is_nil
+  no_step_performed m rules noted cache variables of_database steps_are machine_is noted_is_nil
       are_disjoint_at =
       record {
         is_at_theorem = record {
@@ -49,7 +49,7 @@ module _ (db : List Statement) (t : ℕ) (steps : List PlacedStep) where
           pairs_are_disjoint = are_disjoint_at;
         };
         are_steps = steps_are;
-        has_run = no_step_has_run db t steps m noted symbol_count machine_is noted_is_nil;
+        has_run = no_step_has_run db t steps m noted variables machine_is noted_is_nil;
       }
     where
       t_lt_length : (o : Option Statement) → slice_get db t ≡ o

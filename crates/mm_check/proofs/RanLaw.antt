@@ -202,11 +202,11 @@ module _ (db : List Statement) (t : ℕ) (steps : List PlacedStep) (i : ℕ) (c 
 
   pub has_performed_after_step : (d : CheckerState) (m : MachineState) (b : Bool)
       → is_marked steps i ≡ b
-      → Performs db t a c d → IsAtTheorem db t d → m ≡ with_mark b i d.machine → m.symbol_count
-      ≡ d.machine.symbol_count
+      → Performs db t a c d → IsAtTheorem db t d → m ≡ with_mark b i d.machine → m.variables
+      ≡ d.machine.variables
       → HasPerformed db t steps (i + 1) (checker_state m d.rules d.noted d.cache)
-  has_performed_after_step d m b is_b performs is_at_theorem m_is symbol_count_stays = record {
-    is_at_theorem = rw symbol_count_stays is_at_theorem;
+  has_performed_after_step d m b is_b performs is_at_theorem m_is variables_stay = record {
+    is_at_theorem = rw variables_stay is_at_theorem;
     are_steps = has_performed.are_steps;
     has_run = has_run_after_step d m b is_b performs m_is;
   }
@@ -214,7 +214,7 @@ module _ (db : List Statement) (t : ℕ) (steps : List PlacedStep) (i : ℕ) (c 
 -- no step so far
 pub no_step_has_run : (db : List Statement) (t : ℕ) (steps : List PlacedStep) (s : MachineState)
     → (noted : List ℕ)
-    → (w : ℕ)
+    → (w : List Bool)
     → s ≡ machine_state [] [] [] w → noted ≡ [] → HasRun db t steps 0 s noted
 no_step_has_run db t steps s noted w s_is noted_is_nil = rw s_is (record {
   ends = [];

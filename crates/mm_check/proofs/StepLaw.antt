@@ -29,7 +29,7 @@ module _ (db : List Statement) (t : ℕ) where
       → get_or c.machine.marks n 0 ≡ j
       → m
       ≡ machine_state (c.machine.stack ++ get_or c.machine.formulas n [] ∷ []) c.machine.marks
-      c.machine.formulas c.machine.symbol_count
+      c.machine.formulas c.machine.variables
       → Performs db t (marked j) c (checker_state m c.rules c.noted c.cache)
   repeated_step_performs c j n m n_lt_length mark_is entries_are =
       let out : Option Formula → Result (List Formula) Reason =

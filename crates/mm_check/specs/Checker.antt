@@ -1,7 +1,6 @@
 -- What a checker holds, and how far it is with a proof.
-use Rattle.std.specs.Prelude.{◌≡◌, ℕ, ◌<◌, ◌&&◌, ◌||◌, List, length, Ok}
+use Rattle.std.specs.Prelude.{◌≡◌, ℕ, ◌<◌, ◌&&◌, ◌||◌, Bool, List, length, Ok}
 use Rattle.mm_spec.specs.Statement.{Statement}
-use Rattle.mm_spec.specs.Frame.{symbol_names}
 use Rattle.mm_spec.specs.Derivation.{Formula, is_member}
 use Rattle.mm_spec.specs.Steps.{Step, PlacedStep}
 use Rattle.mm_spec.specs.Citation.{context_at}
@@ -10,6 +9,7 @@ use Rattle.mm_spec.specs.Laws.Stack.{step_entries}
 use Rattle.mm_rule.specs.Assertions.{is_assertion_at}
 use Rattle.mm_rules.specs.Rules.{RuleLists, AreRules}
 use Rattle.mm_machine.specs.DisjointCache.{KnownPairs, AreDisjointAt}
+use Rattle.mm_machine.specs.Masks.{AreVariablesOf}
 use Rattle.mm_machine.specs.State.{MachineState}
 use Rattle.mm_machine.specs.Applied.{IsRefusalOf}
 use Rattle.mm_machine.specs.declared.reason.StepRefused.{StepRefused}
@@ -28,27 +28,28 @@ abbrev pub checker_state : MachineState → RuleLists → List ℕ → KnownPair
 checker_state machine rules noted cache =
     record { machine = machine; rules = rules; noted = noted; cache = cache }
 
--- the number of symbols and the rules are those of the database, whose frames are complete
-pub record AreOfDatabase (db : List Statement) (symbol_count : ℕ) (rules : RuleLists) : Type 0 where
-  pub symbol_count_is : symbol_count ≡ length (symbol_names db)
+-- the variables and the rules are those of the database, whose frames are complete
+pub record AreOfDatabase (db : List Statement) (variables : List Bool) (rules : RuleLists)
+    : Type 0 where
+  pub are_variables : AreVariablesOf db variables
   pub rules_are : AreRules db rules
   pub frames_are_complete : AreComplete db
 
 -- the checker is made for the theorems of the database
 abbrev pub IsMadeFor : List Statement → CheckerState → Type 0
-IsMadeFor db c = AreOfDatabase db c.machine.symbol_count c.rules
+IsMadeFor db c = AreOfDatabase db c.machine.variables c.rules
 
--- the symbols and the rules are those of the database, and the pairs are disjoint at the theorem
-pub record AreAtTheorem (db : List Statement) (t symbol_count : ℕ) (rules : RuleLists)
+-- the variables and the rules are those of the database, and the pairs are disjoint at the theorem
+pub record AreAtTheorem (db : List Statement) (t : ℕ) (variables : List Bool) (rules : RuleLists)
     (cache : KnownPairs) :
     Type 0 where
-  pub made_for : AreOfDatabase db symbol_count rules
+  pub made_for : AreOfDatabase db variables rules
   pub theorem_lt_length : t < length db
   pub pairs_are_disjoint : AreDisjointAt db t cache
 
 -- the checker is made for the database, and its pairs of symbols are disjoint at the theorem
 abbrev pub IsAtTheorem : List Statement → ℕ → CheckerState → Type 0
-IsAtTheorem db t c = AreAtTheorem db t c.machine.symbol_count c.rules c.cache
+IsAtTheorem db t c = AreAtTheorem db t c.machine.variables c.rules c.cache
 
 -- the checker has performed the first `i` steps of the theorem's proof
 pub record HasPerformed (db : List Statement) (t : ℕ) (steps : List PlacedStep) (i : ℕ)

@@ -202,7 +202,7 @@ no_stretches db nodes es = record {
 
 -- ---- the test of pairs
 
-constant_is_disjoint_from : (db : List Statement) (t s : ℕ) → is_variable_number db s ≡ false
+pub constant_is_disjoint_from : (db : List Statement) (t s : ℕ) → is_variable_number db s ≡ false
     → (v : List ℕ) → is_disjoint_from (context_at db t) s v ≡ true
 constant_is_disjoint_from db t s is_constant [] = refl
 constant_is_disjoint_from db t s is_constant (x ∷ v) =
@@ -210,7 +210,7 @@ constant_is_disjoint_from db t s is_constant (x ∷ v) =
     (not (a && is_variable_number db x) || (not (s == x) && (context_at db t).is_disjoint s x))
     && b) is_constant (constant_is_disjoint_from db t s is_constant v)
 
-is_disjoint_from_constant : (db : List Statement) (t s r : ℕ) → is_variable_number db r ≡ false
+pub is_disjoint_from_constant : (db : List Statement) (t s r : ℕ) → is_variable_number db r ≡ false
     → are_disjoint (context_at db t) s r ≡ true
 is_disjoint_from_constant db t s r is_constant =
     ap (λ b. not b || (not (s == r) && (context_at db t).is_disjoint s r))

@@ -161,7 +161,7 @@ module _ (nodes kept nodes' : List (List ℕ)) (bodies : List ℕ) (e : Entry)
 -- the entry, with another number of nodes that are needed
 pub entry_with_needed : (nodes : List (List ℕ)) (e : Entry) (n : ℕ) → IsEntry nodes e
     → n ≤ length nodes → (e.body < first_node + e.needed → e.body < first_node + n)
-    → IsEntry nodes (entry e.typecode e.body e.length n)
+    → IsEntry nodes (entry e.typecode e.body e.length n e.mask)
 entry_with_needed nodes e n is_entry n_le body_lt = record {
   has_typecode = is_entry.has_typecode;
   body_is_among = by_case is_entry.body_is_among;
@@ -175,12 +175,12 @@ entry_with_needed nodes e n is_entry n_le body_lt = record {
     by_case (inr none) = inr none
 
 -- an entry without symbols
-module _ (nodes : List (List ℕ)) (n : ℕ) (count_lt : length nodes < first_node)
+module _ (nodes : List (List ℕ)) (n mask : ℕ) (count_lt : length nodes < first_node)
     (n_le : n ≤ length nodes) where
   no_body_string : string_of nodes no_body ≡ []
   no_body_string = no_string nodes no_body 2147483647 refl (omega (arith, count_lt))
 
-  pub nothing_is_entry : IsEntry nodes (entry no_body no_body 0 n)
+  pub nothing_is_entry : IsEntry nodes (entry no_body no_body 0 n mask)
   nothing_is_entry = record {
     has_typecode = inr (refl, no_body_string, no_body_string);
     body_is_among = inr (refl, refl);
@@ -189,5 +189,21 @@ module _ (nodes : List (List ℕ)) (n : ℕ) (count_lt : length nodes < first_no
     length_lt_limit = omega arith;
   }
 
-  pub nothing_formula : entry_formula nodes (entry no_body no_body 0 n) ≡ []
+  pub nothing_formula : entry_formula nodes (entry no_body no_body 0 n mask) ≡ []
   nothing_formula = ap₂ (λ u v. u ++ v) no_body_string no_body_string
+
+-- an entry of a typecode and one symbol
+module _ (nodes : List (List ℕ)) (t s n mask : ℕ) (t_lt : t < first_node) (s_lt : s < first_node)
+    (n_le : n ≤ length nodes) where
+  pub pair_is_entry : IsEntry nodes (entry t s 1 n mask)
+  pair_is_entry = record {
+    has_typecode = inl t_lt;
+    body_is_among = inl (omega (arith, s_lt));
+    needed_le_count = n_le;
+    length_is = ap length (sym (symbol_string_is nodes s s_lt));
+    length_lt_limit = omega arith;
+  }
+
+  pub pair_formula : entry_formula nodes (entry t s 1 n mask) ≡ t ∷ s ∷ []
+  pair_formula =
+      ap₂ (λ u v. u ++ v) (symbol_string_is nodes t t_lt) (symbol_string_is nodes s s_lt)

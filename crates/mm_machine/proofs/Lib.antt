@@ -7,6 +7,7 @@ pub mod DisjointLaw
 pub mod DistinctLaw
 pub mod FlagRowsLaw
 pub mod MarksLaw
+mod OwnersLaw
 mod FilledLaw
 mod EntryFitLaw
 mod EntryTestLaw
@@ -15,3 +16,4 @@ mod EntryLaw
 mod StackLaw
 mod StepLaw
 mod MachineLaw
+mod MaskedLaw

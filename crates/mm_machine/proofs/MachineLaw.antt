@@ -24,16 +24,16 @@ use Rattle.mm_machine.proofs.StepLaw.{formula_at_in_range, replaced_in_range}
 use Rattle.mm_machine.proofs.EntryRuleLaw.{entry_formula_is_at}
 
 pub empty_machine : (nodes : List (List ℕ)) (stack : List Entry) (marks : List ℕ)
-    (marked : List Entry) (symbol_count : ℕ) → nodes ≡ [] → stack ≡ [] → marks ≡ [] → marked ≡ []
-    → symbol_count ≤ first_node → IsMachine nodes stack marks marked 0 symbol_count
-empty_machine nodes stack marks marked symbol_count nodes_are stack_is marks_are marked_are
+    (marked : List Entry) (variables : List Bool) → nodes ≡ [] → stack ≡ [] → marks ≡ [] → marked ≡ []
+    → length variables ≤ first_node → IsMachine nodes stack marks marked 0 variables
+empty_machine nodes stack marks marked variables nodes_are stack_is marks_are marked_are
     count_le =
     rw (nodes_are, stack_is, marks_are, marked_are) (record {
       is_stack = no_stack [] (omega arith);
-      stack_in_range = All-nil (λ f. All (λ s. s < symbol_count) f);
+      stack_in_range = All-nil (λ f. All (λ s. s < length variables) f);
       marked_are_entries = All-nil (IsEntry []);
       marked_are_kept = All-nil (λ e. e.needed ≤ 0);
-      marked_in_range = All-nil (λ f. All (λ s. s < symbol_count) f);
+      marked_in_range = All-nil (λ f. All (λ s. s < length variables) f);
       floor_le_count = omega arith;
       symbol_count_le = count_le;
       marks_rise = λ i j i_le_j j_lt. absurd (omega (arith, j_lt));
@@ -41,7 +41,7 @@ empty_machine nodes stack marks marked symbol_count nodes_are stack_is marks_are
     })
 
 module _ (nodes : List (List ℕ)) (stack : List Entry) (marks : List ℕ) (marked : List Entry)
-    (floor symbol_count : ℕ) (is_machine : IsMachine nodes stack marks marked floor symbol_count)
+    (floor : ℕ) (variables : List Bool) (is_machine : IsMachine nodes stack marks marked floor variables)
   where
     -- with another stack, where the marked entries have what they need
     module _ (nodes' : List (List ℕ)) (stack' : List Entry) (is_stack' : IsStack nodes' stack')
@@ -52,8 +52,8 @@ module _ (nodes : List (List ℕ)) (stack : List Entry) (marks : List ℕ) (mark
           is_machine.floor_le_count is_stack'.count_lt is_machine.marked_are_entries
           is_machine.marked_are_kept
 
-      pub machine_with_stack : AreInRange symbol_count (entry_formulas nodes' stack')
-          → IsMachine nodes' stack' marks marked floor symbol_count
+      pub machine_with_stack : AreInRange (length variables) (entry_formulas nodes' stack')
+          → IsMachine nodes' stack' marks marked floor variables
       machine_with_stack in_range =
           let taken = length-take-le floor nodes is_machine.floor_le_count in
           let count = ap length nodes_are_kept.1 in
@@ -66,7 +66,7 @@ module _ (nodes : List (List ℕ)) (stack : List Entry) (marks : List ℕ) (mark
                 is_machine.marked_are_kept;
             marked_are_kept = is_machine.marked_are_kept;
             marked_in_range =
-                subst (AreInRange symbol_count) (sym marked_formulas_stay)
+                subst (AreInRange (length variables)) (sym marked_formulas_stay)
                 is_machine.marked_in_range;
             floor_le_count =
                 omega (arith, taken, count, length-append (take floor nodes) nodes_are_kept.0);
@@ -77,7 +77,7 @@ module _ (nodes : List (List ℕ)) (stack : List Entry) (marks : List ℕ) (mark
 
     -- with a greater floor
     pub machine_with_floor : (floor' : ℕ) → floor ≤ floor' → floor' ≤ length nodes
-        → IsMachine nodes stack marks marked floor' symbol_count
+        → IsMachine nodes stack marks marked floor' variables
     machine_with_floor floor' floor_le le_count = record {
       is_stack = is_machine.is_stack;
       stack_in_range = is_machine.stack_in_range;
@@ -94,8 +94,8 @@ module _ (nodes : List (List ℕ)) (stack : List Entry) (marks : List ℕ) (mark
 
     -- with a marked entry more
     pub machine_with_marked : (e : Entry) → IsEntry nodes e → e.needed ≤ floor
-        → All (λ s. s < symbol_count) (entry_formula nodes e)
-        → IsMachine nodes stack marks (marked ++ e ∷ []) floor symbol_count
+        → All (λ s. s < length variables) (entry_formula nodes e)
+        → IsMachine nodes stack marks (marked ++ e ∷ []) floor variables
     machine_with_marked e is_entry is_kept in_range = record {
       is_stack = is_machine.is_stack;
       stack_in_range = is_machine.stack_in_range;
@@ -103,8 +103,8 @@ module _ (nodes : List (List ℕ)) (stack : List Entry) (marks : List ℕ) (mark
       marked_are_kept =
           All-push (λ x. x.needed ≤ floor) marked e is_machine.marked_are_kept is_kept;
       marked_in_range =
-          subst (AreInRange symbol_count) (sym (entry_formulas_push nodes marked e))
-          (All-push (λ f. All (λ s. s < symbol_count) f) (entry_formulas nodes marked)
+          subst (AreInRange (length variables)) (sym (entry_formulas_push nodes marked e))
+          (All-push (λ f. All (λ s. s < length variables) f) (entry_formulas nodes marked)
           (entry_formula nodes e) is_machine.marked_in_range in_range);
       floor_le_count = is_machine.floor_le_count;
       symbol_count_le = is_machine.symbol_count_le;
@@ -116,7 +116,7 @@ module _ (nodes : List (List ℕ)) (stack : List Entry) (marks : List ℕ) (mark
 
     -- with a mark more
     pub machine_with_mark : (step : ℕ) → length marks < length marked → All (λ j. j < step) marks
-        → IsMachine nodes stack (marks ++ step ∷ []) marked floor symbol_count
+        → IsMachine nodes stack (marks ++ step ∷ []) marked floor variables
     machine_with_mark step has_entry marks_lt = record {
       is_stack = is_machine.is_stack;
       stack_in_range = is_machine.stack_in_range;
@@ -142,21 +142,21 @@ module _ (nodes : List (List ℕ)) (stack : List Entry) (marks : List ℕ) (mark
           (let le = is_machine.floor_le_count in omega (arith, le, keep_is)) nodes_are_kept
 
       pub pushed_machine : OnErr r (entry_formulas nodes' stack'
-          ≡ take below (entry_formulas nodes stack)) → All (λ s. s < symbol_count) f
-          → IsMachine nodes' stack' marks marked floor symbol_count
+          ≡ take below (entry_formulas nodes stack)) → All (λ s. s < length variables) f
+          → IsMachine nodes' stack' marks marked floor variables
       pushed_machine formulas_if_err f_in_range =
           machine_with_stack nodes' stack' is_stack' kept
-          (replaced_in_range symbol_count r (entry_formulas nodes stack)
+          (replaced_in_range (length variables) r (entry_formulas nodes stack)
           (entry_formulas nodes' stack') below symbols is_machine.stack_in_range
-          (subst (All (λ s. s < symbol_count)) (sym symbols_are) f_in_range) formulas_if_ok
+          (subst (All (λ s. s < length variables)) (sym symbols_are) f_in_range) formulas_if_ok
           formulas_if_err)
 
       pub pushed_state : (s : MachineState)
           → machine_state (entry_formulas nodes stack) marks (entry_formulas nodes marked)
-          symbol_count ≡ s
+          variables ≡ s
           → OnOk r (machine_state (entry_formulas nodes' stack') marks
-          (entry_formulas nodes' marked) symbol_count
-          ≡ machine_state (s.stack ++ f ∷ []) s.marks s.formulas s.symbol_count)
+          (entry_formulas nodes' marked) variables
+          ≡ machine_state (s.stack ++ f ∷ []) s.marks s.formulas s.variables)
       pushed_state s s_is = by_answer r formulas_if_ok
         where
           all_taken : take below (entry_formulas nodes stack) ≡ entry_formulas nodes stack
@@ -167,14 +167,14 @@ module _ (nodes : List (List ℕ)) (stack : List Entry) (marks : List ℕ) (mark
           by_answer : (r : Result T E) → OnOk r (entry_formulas nodes' stack'
               ≡ take below (entry_formulas nodes stack) ++ symbols ∷ [])
               → OnOk r (machine_state (entry_formulas nodes' stack') marks
-              (entry_formulas nodes' marked) symbol_count
-              ≡ machine_state (s.stack ++ f ∷ []) s.marks s.formulas s.symbol_count)
+              (entry_formulas nodes' marked) variables
+              ≡ machine_state (s.stack ++ f ∷ []) s.marks s.formulas s.variables)
           by_answer (Ok x) formulas_are =
-              ap₂ (λ (fs gs : List Formula). machine_state fs marks gs symbol_count)
+              ap₂ (λ (fs gs : List Formula). machine_state fs marks gs variables)
               (formulas_are
               ∙ ap₂ (λ (fs : List Formula) (g : Formula). fs ++ g ∷ []) all_taken symbols_are)
               (marked_formulas_stay nodes' stack' is_stack' kept)
-              ∙ ap (λ s. machine_state (s.stack ++ f ∷ []) s.marks s.formulas s.symbol_count) s_is
+              ∙ ap (λ s. machine_state (s.stack ++ f ∷ []) s.marks s.formulas s.variables) s_is
           by_answer (Err e) formulas_are = tt
 
     -- after a marked formula was pushed again
@@ -185,30 +185,30 @@ module _ (nodes : List (List ℕ)) (stack : List Entry) (marks : List ℕ) (mark
       formula_is : entry_formula nodes e ≡ entry_formula nodes (get_or marked i no_entry)
       formula_is = formula_stays ∙ ap (entry_formula nodes) m_is
 
-      pub repeated_machine : IsMachine nodes (stack ++ e ∷ []) marks marked floor symbol_count
+      pub repeated_machine : IsMachine nodes (stack ++ e ∷ []) marks marked floor variables
       repeated_machine =
           machine_with_stack nodes (stack ++ e ∷ [])
           (stack_pushed nodes stack e is_machine.is_stack is_entry needs_all)
           (drop floor nodes, sym (take-append-drop floor nodes))
-          (subst (AreInRange symbol_count) (sym (entry_formulas_push nodes stack e))
-          (All-push (λ f. All (λ s. s < symbol_count) f) (entry_formulas nodes stack)
+          (subst (AreInRange (length variables)) (sym (entry_formulas_push nodes stack e))
+          (All-push (λ f. All (λ s. s < length variables) f) (entry_formulas nodes stack)
           (entry_formula nodes e) is_machine.stack_in_range
-          (subst (All (λ s. s < symbol_count)) (sym formula_is)
-          (formula_at_in_range symbol_count nodes marked i is_machine.marked_in_range i_lt))))
+          (subst (All (λ s. s < length variables)) (sym formula_is)
+          (formula_at_in_range (length variables) nodes marked i is_machine.marked_in_range i_lt))))
 
       pub repeated_state : (step : ℕ) (s : MachineState)
           → machine_state (entry_formulas nodes stack) marks (entry_formulas nodes marked)
-          symbol_count ≡ s → i < length marks → get_or marks i 0 ≡ step
+          variables ≡ s → i < length marks → get_or marks i 0 ≡ step
           → Repeats step s (machine_state (entry_formulas nodes (stack ++ e ∷ [])) marks
-          (entry_formulas nodes marked) symbol_count)
+          (entry_formulas nodes marked) variables)
       repeated_state step s s_is i_lt_marks is_mark =
           subst (λ z. Repeats step z (machine_state (entry_formulas nodes (stack ++ e ∷ [])) marks
-          (entry_formulas nodes marked) symbol_count)) s_is (
+          (entry_formulas nodes marked) variables)) s_is (
             i,
             (let count = length-map marked (entry_formula nodes) in omega (arith, count, i_lt)),
             i_lt_marks,
             is_mark,
-            ap (λ fs. machine_state fs marks (entry_formulas nodes marked) symbol_count)
+            ap (λ fs. machine_state fs marks (entry_formulas nodes marked) variables)
                 (entry_formulas_push nodes stack e
                 ∙ ap (λ f. entry_formulas nodes stack ++ f ∷ [])
                 (formula_is ∙ entry_formula_is_at nodes marked i i_lt)),
@@ -223,22 +223,22 @@ top_is_last (f ∷ g ∷ fs) (suc i) count_is = top_is_last (g ∷ fs) i (omega 
 
 -- the state after a mark more
 pub marked_state : (nodes : List (List ℕ)) (stack : List Entry) (marks : List ℕ)
-    (marked : List Entry) (symbol_count : ℕ) (i step : ℕ) (m e : Entry) (s : MachineState)
-    → machine_state (entry_formulas nodes stack) marks (entry_formulas nodes marked) symbol_count ≡ s
+    (marked : List Entry) (variables : List Bool) (i step : ℕ) (m e : Entry) (s : MachineState)
+    → machine_state (entry_formulas nodes stack) marks (entry_formulas nodes marked) variables ≡ s
     → length stack ≡ i + 1 → m ≡ get_or stack i no_entry
     → entry_formula nodes e ≡ entry_formula nodes m
     → machine_state (entry_formulas nodes stack) (marks ++ step ∷ [])
-    (entry_formulas nodes (marked ++ e ∷ [])) symbol_count ≡ with_mark true step s
-marked_state nodes stack marks marked symbol_count i step m e s s_is count_is m_is formula_stays =
+    (entry_formulas nodes (marked ++ e ∷ [])) variables ≡ with_mark true step s
+marked_state nodes stack marks marked variables i step m e s s_is count_is m_is formula_stays =
     let count = length-map stack (entry_formula nodes) in
     let formula_is : entry_formula nodes e ≡ top (entry_formulas nodes stack) =
     formula_stays ∙ ap (entry_formula nodes) m_is
     ∙ entry_formula_is_at nodes stack i (omega (arith, count_is))
     ∙ sym (top_is_last (entry_formulas nodes stack) i (omega (arith, count, count_is))) in
-    ap (λ fs. machine_state (entry_formulas nodes stack) (marks ++ step ∷ []) fs symbol_count)
+    ap (λ fs. machine_state (entry_formulas nodes stack) (marks ++ step ∷ []) fs variables)
     (entry_formulas_push nodes marked e ∙ ap (λ f. entry_formulas nodes marked ++ f ∷ []) formula_is)
     ∙ ap (λ s. machine_state s.stack (s.marks ++ step ∷ []) (s.formulas ++ top s.stack ∷ [])
-    s.symbol_count) s_is
+    s.variables) s_is
 
 -- there is one entry
 pub one_formula : (nodes : List (List ℕ)) (stack : List Entry) (e : Entry)
@@ -252,10 +252,10 @@ one_formula nodes (x ∷ y ∷ stack) e count_is e_is = absurd (omega (arith, co
 pub is_applied_if_kept : {T : Type 0} (db : List Statement) (t a : ℕ) (s s' : MachineState)
     → (r : Result T StepRefused) → OnOk r (applied db t a s.stack ≡ Ok s'.stack)
     → OnOk r (0 < length s'.stack) → IfErr r (λ e. IsRefusalOf e (applied db t a s.stack))
-    → s'.marks ≡ s.marks → s'.formulas ≡ s.formulas → s'.symbol_count ≡ s.symbol_count
+    → s'.marks ≡ s.marks → s'.formulas ≡ s.formulas → s'.variables ≡ s.variables
     → IsApplied db t a s s' r
 is_applied_if_kept db t a s s' (Ok x) entries_are has_entry refusal_is_right marks_stay
-    formulas_stay symbol_count_stays = record {
+    formulas_stay variables_stay = record {
       applies_if_ok = record {
         entries_are = entries_are;
         has_entry = has_entry;
@@ -263,13 +263,13 @@ is_applied_if_kept db t a s s' (Ok x) entries_are has_entry refusal_is_right mar
         formulas_stay = formulas_stay;
       };
       refusal_is_right = refusal_is_right;
-      symbol_count_stays = symbol_count_stays;
+      variables_stay = variables_stay;
     }
 is_applied_if_kept db t a s s' (Err e) entries_are has_entry refusal_is_right marks_stay
-    formulas_stay symbol_count_stays = record {
+    formulas_stay variables_stay = record {
       applies_if_ok = entries_are;
       refusal_is_right = refusal_is_right;
-      symbol_count_stays = symbol_count_stays;
+      variables_stay = variables_stay;
     }
 
 -- ---- the only entry
@@ -305,25 +305,25 @@ no_long_entry nodes (e ∷ stack) f are_entries limit_lt is_only =
 -- ---- a mark more
 
 module _ (nodes : List (List ℕ)) (stack : List Entry) (marks : List ℕ) (marked : List Entry)
-    (floor symbol_count : ℕ) (is_machine : IsMachine nodes stack marks marked floor symbol_count)
+    (floor : ℕ) (variables : List Bool) (is_machine : IsMachine nodes stack marks marked floor variables)
     (n floor' : ℕ) (m e : Entry) (n_lt : n < length stack) (m_is : m ≡ get_or stack n no_entry)
     (is_entry : IsEntry nodes e) (formula_stays : entry_formula nodes e ≡ entry_formula nodes m)
     (floor_is : floor' ≡ max floor e.needed) where
-  pub marked_machine : IsMachine nodes stack marks (marked ++ e ∷ []) floor' symbol_count
+  pub marked_machine : IsMachine nodes stack marks (marked ++ e ∷ []) floor' variables
   marked_machine =
       let le_count = is_entry.needed_le_count in
       let floor_le = is_machine.floor_le_count in
-      machine_with_marked nodes stack marks marked floor' symbol_count
-      (machine_with_floor nodes stack marks marked floor symbol_count is_machine floor'
+      machine_with_marked nodes stack marks marked floor' variables
+      (machine_with_floor nodes stack marks marked floor variables is_machine floor'
       (omega (arith, floor_is)) (omega (arith, floor_is, le_count, floor_le)))
       e is_entry (omega (arith, floor_is))
-      (subst (All (λ s. s < symbol_count))
+      (subst (All (λ s. s < length variables))
       (sym (formula_stays ∙ ap (entry_formula nodes) m_is))
-      (formula_at_in_range symbol_count nodes stack n is_machine.stack_in_range n_lt))
+      (formula_at_in_range (length variables) nodes stack n is_machine.stack_in_range n_lt))
 
   pub machine_after_mark : (step : ℕ) → All (λ j. j < step) marks
-      → IsMachine nodes stack (marks ++ step ∷ []) (marked ++ e ∷ []) floor' symbol_count
+      → IsMachine nodes stack (marks ++ step ∷ []) (marked ++ e ∷ []) floor' variables
   machine_after_mark step marks_lt =
       let enough = is_machine.enough_marked in
-      machine_with_mark nodes stack marks (marked ++ e ∷ []) floor' symbol_count marked_machine step
+      machine_with_mark nodes stack marks (marked ++ e ∷ []) floor' variables marked_machine step
       (omega (arith, enough, length-append marked (e ∷ []))) marks_lt

@@ -72,7 +72,7 @@ module _ (nodes : List (List ℕ)) (es : List Entry) (below : ℕ) (parts : List
           let length_is = ap length out_is in
           omega (arith, length_is, length-append (take below (entry_formulas nodes es)) (filled ∷ []))
 
-entry_formulas_drop : (nodes : List (List ℕ)) (n : ℕ) (es : List Entry)
+pub entry_formulas_drop : (nodes : List (List ℕ)) (n : ℕ) (es : List Entry)
     → drop n (entry_formulas nodes es) ≡ entry_formulas nodes (drop n es)
 entry_formulas_drop nodes zero es = refl
 entry_formulas_drop nodes (suc n) [] = refl

@@ -52,4 +52,4 @@ pub record IsApplied {T : Type 0} (db : List Statement) (t a : ℕ) (s s' : Mach
     (answer : Result T StepRefused) : Type 0 where
   pub applies_if_ok : OnOk answer (Applies db t a s s')
   pub refusal_is_right : IfErr answer (λ e. IsRefusalOf e (applied db t a s.stack))
-  pub symbol_count_stays : s'.symbol_count ≡ s.symbol_count
+  pub variables_stay : s'.variables ≡ s.variables

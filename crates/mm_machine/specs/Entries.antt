@@ -5,13 +5,19 @@ use Rattle.mm_spec.specs.Limits.{formula_limit}
 use Rattle.mm_nodes.specs.Strings.{first_node, no_body, string_of}
 use Rattle.mm_machine.specs.declared.entry.Entry.{Entry}
 
-abbrev pub entry : ℕ → ℕ → ℕ → ℕ → Entry
-entry typecode body symbol_count needed =
-    record { typecode = typecode; body = body; length = symbol_count; needed = needed }
+abbrev pub entry : ℕ → ℕ → ℕ → ℕ → ℕ → Entry
+entry typecode body symbol_count needed mask =
+    record {
+      typecode = typecode;
+      body = body;
+      length = symbol_count;
+      needed = needed;
+      mask = mask;
+    }
 
 -- an entry of no symbols
 abbrev pub no_entry : Entry
-no_entry = entry no_body no_body 0 0
+no_entry = entry no_body no_body 0 0 0
 
 -- the formula of an entry
 abbrev pub entry_formula : List (List ℕ) → Entry → Formula

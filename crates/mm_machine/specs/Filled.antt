@@ -9,6 +9,7 @@ use Rattle.mm_rule.specs.declared.rule.RulePart.TheVariants.{Constant, Variable}
 use Rattle.mm_machine.specs.declared.entry.Entry.{Entry}
 use Rattle.mm_machine.specs.declared.entry.Filled.{Filled}
 use Rattle.mm_machine.specs.Entries.{no_entry}
+use Rattle.mm_machine.specs.Masks.{IncludesPart}
 
 -- what replaces the variable of hypothesis `j`; `es` are the entries of the hypotheses
 abbrev pub body_string_at : List (List ℕ) → List Entry → ℕ → List ℕ
@@ -31,6 +32,7 @@ pub record IsFilled (nodes : List (List ℕ)) (es : List Entry) (parts : List Ru
   pub length_le_limit : f.length ≤ formula_limit
   pub bodies_needed : All (λ b. b < first_node + f.needed) (take f.count list)
   pub needed_le_count : f.needed ≤ length nodes
+  pub includes_masks : All (IncludesPart es f.mask) parts
 
 -- the symbols are the parts with each variable replaced, and there are no more than the limit
 pub record IsListed (nodes : List (List ℕ)) (es : List Entry) (parts : List RulePart)

@@ -1,4 +1,5 @@
 pub mod Entries
+pub mod Masks
 pub mod Filled
 pub mod FlagRows
 pub mod DisjointCache

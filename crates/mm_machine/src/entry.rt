@@ -24,6 +24,8 @@ pub struct Entry {
     pub length: u32,
     /// How many nodes there are for this entry and those below it.
     pub needed: u32,
+    /// The variables of its formula, as `Owners` tells them.
+    pub mask: u64,
 }
 
 /// How many bodies stand for a formula, and how many symbols they have.
@@ -33,6 +35,8 @@ pub struct Filled {
     pub length: usize,
     /// How many nodes there are for these bodies.
     pub needed: usize,
+    /// The variables of the formula, as `Owners` tells them.
+    pub mask: u64,
 }
 
 /// Writes a body at an index of a list.
@@ -65,6 +69,7 @@ pub fn fill<A: Allocator>(
     let mut count: usize = 0;
     let mut length: usize = 0;
     let mut needed: usize = 0;
+    let mut mask: u64 = 0;
     for part in parts {
         match part.to_part() {
             RulePart::Constant(symbol) => {
@@ -74,6 +79,7 @@ pub fn fill<A: Allocator>(
             }
             RulePart::Variable(floating_index) => {
                 let premise = premises[floating_index as usize];
+                mask |= premise.mask;
                 if premise.length > 0 {
                     put_body(premise.body, list, count);
                     count += 1;
@@ -90,6 +96,7 @@ pub fn fill<A: Allocator>(
         count,
         length,
         needed,
+        mask,
     })
 }
 

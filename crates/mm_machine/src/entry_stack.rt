@@ -5,6 +5,7 @@ ghost use Rattle.std.specs.Prelude.{OnOk, OnErr};
 ghost use Rattle.mm_spec.specs.Limits.{formula_limit};
 ghost use Rattle.mm_nodes.specs.Strings.{first_node, joined_string_of, Extends};
 ghost use Rattle.mm_machine.specs.Entries.{IsEntry, IsStack, entry_formula, entry_formulas};
+ghost use Rattle.mm_machine.specs.Masks.{entry_masks};
 
 use crate::entry::Entry;
 use mm_nodes::{Body, Nodes};
@@ -51,6 +52,7 @@ pub fn for_top<A: Allocator>(nodes: &Nodes<A>, entry: Entry) -> Entry
     requires { IsEntry nodes.now entry }
     ensures is_entry { IsEntry nodes.now result }
     ensures formula_stays { entry_formula nodes.now result ≡ entry_formula nodes.now entry }
+    ensures mask_stays { result.mask ≡ entry.mask }
     ensures needs_all { result.needed ≡ length nodes.now }
 {
     Entry {
@@ -58,6 +60,7 @@ pub fn for_top<A: Allocator>(nodes: &Nodes<A>, entry: Entry) -> Entry
         body: entry.body,
         length: entry.length,
         needed: nodes.count() as u32,
+        mask: entry.mask,
     }
 }
 
@@ -67,6 +70,7 @@ pub fn for_itself<A: Allocator>(_nodes: &Nodes<A>, entry: Entry) -> Entry
     requires { IsEntry _nodes.now entry }
     ensures is_entry { IsEntry _nodes.now result }
     ensures formula_stays { entry_formula _nodes.now result ≡ entry_formula _nodes.now entry }
+    ensures mask_stays { result.mask ≡ entry.mask }
 {
     let needed = needed_for_body(entry.body, entry.needed);
     Entry {
@@ -74,6 +78,7 @@ pub fn for_itself<A: Allocator>(_nodes: &Nodes<A>, entry: Entry) -> Entry
         body: entry.body,
         length: entry.length,
         needed,
+        mask: entry.mask,
     }
 }
 
@@ -106,6 +111,7 @@ pub fn replace_entries<A: Allocator>(
     typecode: Body,
     bodies: &[Body],
     symbol_count: u32,
+    mask: u64,
 ) -> Result<(), AllocError>
     requires is_stack { IsStack nodes.old stack.old.items }
     requires below_le_length { below ≤ vec_len stack.old }
@@ -124,6 +130,10 @@ pub fn replace_entries<A: Allocator>(
     ensures formulas_below_stay { OnErr result
         (entry_formulas nodes.new stack.new.items
         ≡ take below (entry_formulas nodes.old stack.old.items)) }
+    ensures masks_are { OnOk result
+        (entry_masks stack.new.items ≡ take below (entry_masks stack.old.items) ++ mask ∷ []) }
+    ensures masks_below_stay { OnErr result
+        (entry_masks stack.new.items ≡ take below (entry_masks stack.old.items)) }
 {
     stack.truncate(below);
     nodes.truncate(keep);
@@ -133,6 +143,7 @@ pub fn replace_entries<A: Allocator>(
         body,
         length: symbol_count,
         needed: nodes.count() as u32,
+        mask,
     };
     stack.push(entry)?;
     Ok(())
@@ -145,6 +156,7 @@ fn replace_by_nothing<A: Allocator>(
     nodes: &Nodes<A>,
     stack: &mut Vec<Entry, A>,
     below: usize,
+    mask: u64,
 ) -> Result<(), AllocError>
     requires is_stack { IsStack nodes.now stack.old.items }
     requires below_le_length { below ≤ vec_len stack.old }
@@ -155,6 +167,10 @@ fn replace_by_nothing<A: Allocator>(
     ensures formulas_below_stay { OnErr result
         (entry_formulas nodes.now stack.new.items
         ≡ take below (entry_formulas nodes.now stack.old.items)) }
+    ensures masks_are { OnOk result
+        (entry_masks stack.new.items ≡ take below (entry_masks stack.old.items) ++ mask ∷ []) }
+    ensures masks_below_stay { OnErr result
+        (entry_masks stack.new.items ≡ take below (entry_masks stack.old.items)) }
 {
     stack.truncate(below);
     let nothing = Body::none();
@@ -163,6 +179,46 @@ fn replace_by_nothing<A: Allocator>(
         body: nothing,
         length: 0,
         needed: nodes.count() as u32,
+        mask,
+    };
+    stack.push(entry)?;
+    Ok(())
+}
+
+/// Replaces the entries from index `below` on by one whose formula is a typecode and one symbol, as
+/// most hypotheses are.
+#[inline(always)]
+pub fn replace_by_pair<A: Allocator>(
+    nodes: &Nodes<A>,
+    stack: &mut Vec<Entry, A>,
+    below: usize,
+    typecode: Body,
+    symbol: Body,
+    mask: u64,
+) -> Result<(), AllocError>
+    requires is_stack { IsStack nodes.now stack.old.items }
+    requires below_le_length { below ≤ vec_len stack.old }
+    requires typecode_is_symbol { typecode < first_node }
+    requires is_symbol { symbol < first_node }
+    ensures is_stack { IsStack nodes.now stack.new.items }
+    ensures formulas_are { OnOk result
+        (entry_formulas nodes.now stack.new.items
+        ≡ take below (entry_formulas nodes.now stack.old.items) ++ (typecode ∷ symbol ∷ []) ∷ []) }
+    ensures formulas_below_stay { OnErr result
+        (entry_formulas nodes.now stack.new.items
+        ≡ take below (entry_formulas nodes.now stack.old.items)) }
+    ensures masks_are { OnOk result
+        (entry_masks stack.new.items ≡ take below (entry_masks stack.old.items) ++ mask ∷ []) }
+    ensures masks_below_stay { OnErr result
+        (entry_masks stack.new.items ≡ take below (entry_masks stack.old.items)) }
+{
+    stack.truncate(below);
+    let entry = Entry {
+        typecode,
+        body: symbol,
+        length: 1,
+        needed: nodes.count() as u32,
+        mask,
     };
     stack.push(entry)?;
     Ok(())
@@ -177,6 +233,7 @@ pub fn replace_by_symbols<A: Allocator>(
     below: usize,
     keep: usize,
     symbols: &[Body],
+    mask: u64,
 ) -> Result<(), AllocError>
     requires is_stack { IsStack nodes.old stack.old.items }
     requires below_le_length { below ≤ vec_len stack.old }
@@ -192,9 +249,13 @@ pub fn replace_by_symbols<A: Allocator>(
     ensures formulas_below_stay { OnErr result
         (entry_formulas nodes.new stack.new.items
         ≡ take below (entry_formulas nodes.old stack.old.items)) }
+    ensures masks_are { OnOk result
+        (entry_masks stack.new.items ≡ take below (entry_masks stack.old.items) ++ mask ∷ []) }
+    ensures masks_below_stay { OnErr result
+        (entry_masks stack.new.items ≡ take below (entry_masks stack.old.items)) }
 {
     if symbols.is_empty() {
-        return replace_by_nothing(nodes, stack, below);
+        return replace_by_nothing(nodes, stack, below, mask);
     }
     let count = symbols.len() - 1;
     let first = symbols[0];
@@ -206,5 +267,6 @@ pub fn replace_by_symbols<A: Allocator>(
         first,
         &symbols[1..],
         count as u32,
+        mask,
     )
 }

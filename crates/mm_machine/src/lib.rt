@@ -18,6 +18,7 @@ mod entry_test;
 mod flag_rows;
 mod flat;
 mod machine;
+mod owners;
 mod reason;
 mod rule_step;
 mod rule_test;

@@ -10,13 +10,15 @@ ghost use Rattle.mm_rule.specs.Rule.{IsCompiled};
 ghost use Rattle.mm_machine.specs.DisjointCache.{AreDisjointAt};
 ghost use Rattle.mm_machine.specs.State.{machine_state, with_mark, Repeats, IsRising};
 ghost use Rattle.mm_machine.specs.Applied.{IsApplied};
+ghost use Rattle.mm_machine.specs.Masks.{AreVariablesOf};
 
 use crate::disjoint_cache::DisjointCache;
 use crate::distinct::DistinctVariables;
 use crate::entry::Entry;
-use crate::entry_stack::{for_itself, for_top, replace_by_symbols};
+use crate::entry_stack::{for_itself, for_top, replace_by_pair, replace_by_symbols};
 use crate::entry_test::has_symbols;
 use crate::flat::{SymbolLists, list_symbols};
+use crate::owners::Owners;
 use crate::reason::{Reason, StepRefused};
 use crate::rule_step::apply_rule;
 use mm_database::{Database, Sym};
@@ -49,8 +51,8 @@ pub struct Machine<A: Allocator> {
     lists: SymbolLists<A>,
     /// The variables of the premises of a step, if their formulas are long.
     distinct: DistinctVariables<A>,
-    /// How many symbols the database has.
-    symbol_count: usize,
+    /// The variables of which the masks of the entries speak.
+    owners: Owners<A>,
 }
 
 /// Dropped in one call: docs/PROOFS.md, "What a check costs".
@@ -66,22 +68,22 @@ impl<A: Allocator> Drop for Machine<A> {
             room: _,
             lists: _,
             distinct: _,
-            symbol_count: _,
+            owners: _,
         } = self;
     }
 }
 
 impl<A: Allocator> Model for Machine<A> {
     ghost use Rattle.mm_machine.specs.Entries.{entry_formulas};
-    ghost use Rattle.mm_machine.specs.State.{MachineState, machine_state, IsMachine};
+    ghost use Rattle.mm_machine.specs.State.{MachineState, machine_state, IsMaskedMachine};
 
     ghost Value = { MachineState };
 
     ghost view = { λ m. machine_state (entry_formulas m.nodes m.stack.items) m.marks.items
-        (entry_formulas m.nodes m.marked.items) m.symbol_count };
+        (entry_formulas m.nodes m.marked.items) m.owners.variables };
 
-    ghost invariant = { λ m. IsMachine m.nodes m.stack.items m.marks.items m.marked.items m.floor
-        m.symbol_count };
+    ghost invariant = { λ m. IsMaskedMachine m.nodes m.stack.items m.marks.items m.marked.items
+        m.floor m.owners };
 }
 
 /// The index of `mark` among `marks`, which are in ascending order: where the slots say, or
@@ -106,12 +108,13 @@ fn index_of_mark(marks: &[usize], mark: usize, slots: &[u32]) -> usize
 }
 
 impl<A: Allocator> Machine<A> {
-    /// A machine without entries, for `symbol_count` symbols.
-    pub fn new(alloc: A, symbol_count: usize) -> Result<Self, AllocError>
+    /// A machine without entries, for the symbols of a database.
+    pub fn new(alloc: A, database: &Database<A>) -> Result<Self, AllocError>
     where
         A: Copy,
-        requires { symbol_count ≤ first_node }
-        ensures { IfOk result (λ m. m ≡ machine_state [] [] [] symbol_count) }
+        ensures is_empty { IfOk result (λ m. m ≡ machine_state [] [] [] m.variables) }
+        ensures are_variables { IfOk result
+            (λ m. AreVariablesOf database.now.statements m.variables) }
     {
         let slots = vec![in alloc; 0; MARK_SLOTS]?;
         Ok(Machine {
@@ -123,14 +126,14 @@ impl<A: Allocator> Machine<A> {
             slots,
             room: Vec::new(alloc),
             lists: SymbolLists::new(alloc),
-            distinct: DistinctVariables::new(alloc, symbol_count)?,
-            symbol_count,
+            distinct: DistinctVariables::new(alloc, database.symbol_count() as usize)?,
+            owners: Owners::new(alloc, database)?,
         })
     }
 
     /// Removes all entries and marks, and keeps the memory of the lists, except that of long ones.
     pub fn restart(&mut self)
-        ensures { self.new ≡ machine_state [] [] [] self.old.symbol_count }
+        ensures { self.new ≡ machine_state [] [] [] self.old.variables }
     {
         self.nodes.clear();
         empty(&mut self.stack);
@@ -140,31 +143,38 @@ impl<A: Allocator> Machine<A> {
         empty(&mut self.room);
         self.lists.empty();
         self.distinct.empty();
+        self.owners.clear();
     }
 
     /// Pushes a formula, which may have as many symbols as the limit.
     #[inline(always)]
     pub fn push(&mut self, formula: &[Sym]) -> Result<(), AllocError>
-        requires in_range { All (λ s. s < self.old.symbol_count) formula.now }
+        requires in_range { All (λ s. s < length self.old.variables) formula.now }
         requires length_le_limit { length formula.now ≤ formula_limit }
         ensures pushes_formula { OnOk result
             (self.new
             ≡ machine_state (self.old.stack ++ formula.now ∷ []) self.old.marks self.old.formulas
-            self.old.symbol_count) }
-        ensures symbol_count_stays { self.new.symbol_count ≡ self.old.symbol_count }
+            self.old.variables) }
+        ensures variables_stay { self.new.variables ≡ self.old.variables }
     {
-        list_symbols(formula, &mut self.lists.bodies)?;
+        let mask = self.owners.mask_of(formula);
         let below = self.stack.len();
+        if formula.len() == 2 {
+            let typecode = Body::symbol(formula[0].number());
+            let symbol = Body::symbol(formula[1].number());
+            return replace_by_pair(&self.nodes, &mut self.stack, below, typecode, symbol, mask);
+        }
+        list_symbols(formula, &mut self.lists.bodies)?;
         let keep = self.nodes.count();
         let symbols = &self.lists.bodies;
-        replace_by_symbols(&mut self.nodes, &mut self.stack, below, keep, symbols)
+        replace_by_symbols(&mut self.nodes, &mut self.stack, below, keep, symbols, mask)
     }
 
     /// Pushes the formula of the earlier, marked step again.
     pub fn repeat(&mut self, step: u32) -> Result<(), AllocError>
         requires { Contains self.old.marks step }
         ensures repeats_step { OnOk result (Repeats step self.old self.new) }
-        ensures symbol_count_stays { self.new.symbol_count ≡ self.old.symbol_count }
+        ensures variables_stay { self.new.variables ≡ self.old.variables }
     {
         let index = index_of_mark(&self.marks, step as usize, &self.slots);
         let entry = for_top(&self.nodes, self.marked[index]);
@@ -177,7 +187,7 @@ impl<A: Allocator> Machine<A> {
         requires has_entry { 0 < length self.old.stack }
         requires marks_lt_step { All (λ j. j < step) self.old.marks }
         ensures marks_step { OnOk result (self.new ≡ with_mark true step self.old) }
-        ensures symbol_count_stays { self.new.symbol_count ≡ self.old.symbol_count }
+        ensures variables_stay { self.new.variables ≡ self.old.variables }
     {
         let top = self.stack[self.stack.len() - 1];
         let entry = for_itself(&self.nodes, top);
@@ -199,8 +209,7 @@ impl<A: Allocator> Machine<A> {
     ) -> Result<(), StepRefused>
         requires theorem_lt_length { theorem < length database.now.statements }
         requires is_compiled { IsCompiled database.now.statements rule.now }
-        requires symbol_count_is { self.old.symbol_count
-            ≡ length (symbol_names database.now.statements) }
+        requires are_variables { AreVariablesOf database.now.statements self.old.variables }
         requires cached_are_disjoint { AreDisjointAt database.now.statements theorem cache.old }
         ensures cached_are_disjoint { AreDisjointAt database.now.statements theorem cache.new }
         ensures is_applied { IsApplied database.now.statements theorem rule.now.assertion self.old
@@ -224,8 +233,7 @@ impl<A: Allocator> Machine<A> {
     ) -> Result<(), StepRefused>
         requires is_compiled { IsCompiled database.now.statements rule.now }
         requires no_hypotheses { length rule.now.hypotheses ≡ 0 }
-        requires symbol_count_is { self.old.symbol_count
-            ≡ length (symbol_names database.now.statements) }
+        requires are_variables { AreVariablesOf database.now.statements self.old.variables }
         ensures is_applied { IsApplied database.now.statements _theorem rule.now.assertion self.old
             self.new
             result }
@@ -251,8 +259,7 @@ impl<A: Allocator> Machine<A> {
     ) -> Result<(), StepRefused>
         requires theorem_lt_length { theorem < length database.now.statements }
         requires is_compiled { IsCompiled database.now.statements rule.now }
-        requires symbol_count_is { self.old.symbol_count
-            ≡ length (symbol_names database.now.statements) }
+        requires are_variables { AreVariablesOf database.now.statements self.old.variables }
         requires cached_are_disjoint { AreDisjointAt database.now.statements theorem cache.old }
         ensures cached_are_disjoint { AreDisjointAt database.now.statements theorem cache.new }
         ensures is_applied { IsApplied database.now.statements theorem rule.now.assertion self.old
@@ -269,6 +276,7 @@ impl<A: Allocator> Machine<A> {
             &mut self.room,
             &mut self.lists,
             &mut self.distinct,
+            &self.owners,
             cache,
         )
     }
@@ -283,7 +291,7 @@ impl<A: Allocator> Machine<A> {
     /// Whether the only entry has this formula, which may have as many symbols as the limit.
     pub fn is_only(&mut self, formula: &[Sym]) -> Result<bool, AllocError>
         requires one_entry { length self.old.stack ≡ 1 }
-        requires in_range { All (λ s. s < self.old.symbol_count) formula.now }
+        requires in_range { All (λ s. s < length self.old.variables) formula.now }
         ensures is_unchanged { self.new ≡ self.old }
         ensures is_only_entry { IfOk result (λ r. r ≡ true → self.old.stack ≡ formula.now ∷ []) }
         ensures is_other { IfOk result

@@ -8,6 +8,7 @@ ghost use Rattle.mm_rule.specs.declared.rule.RulePart.TheVariants.{Constant};
 ghost use Rattle.mm_rule.specs.Rule.{IsVariableBelow, IsConstantBelow, IsCompiled};
 ghost use Rattle.mm_machine.specs.DisjointCache.{AreDisjointAt};
 ghost use Rattle.mm_machine.specs.Entries.{IsStack, AreInRange, entry_formulas};
+ghost use Rattle.mm_machine.specs.Masks.{AreVariablesOf, AreAllMasked, StayMasked, entry_masks};
 ghost use Rattle.mm_machine.specs.State.{applied};
 ghost use Rattle.mm_machine.specs.Applied.{IsRefusalOf, entries_after};
 
@@ -17,6 +18,7 @@ use crate::entry::{Entry, fill};
 use crate::entry_stack::{nodes_to_keep, replace_by_symbols, replace_entries};
 use crate::entry_test::first_constant;
 use crate::flat::{SymbolLists, list_parts};
+use crate::owners::{OTHERS, Owners};
 use crate::reason::{Reason, StepRefused};
 use crate::rule_test::test_rule;
 use mm_database::{Database, Sym};
@@ -27,6 +29,9 @@ use std::alloc::{AllocError, Allocator};
 
 /// How much longer than required the list of bodies becomes when it grows.
 const SPARE_ROOM: usize = 256;
+
+/// The mask of a formula whose variables nobody asked for.
+const ALL_BITS: u64 = 1u64 << OTHERS;
 
 /// Makes a list at least so long.
 #[inline(always)]
@@ -67,13 +72,15 @@ fn replace_by_listed<A: Allocator>(
     ensures stay_in_range { OnErr result ((w : ℕ)
         → AreInRange w (entry_formulas nodes.old stack.old.items)
         → AreInRange w (entry_formulas nodes.new stack.new.items)) }
+    ensures stay_masked { StayMasked formula.now nodes.old stack.old.items nodes.new
+        stack.new.items }
 {
     let is_within_limit = list_parts(nodes, &stack[below..], formula, symbols)?;
     if !is_within_limit {
         return Err(StepRefused::Fault(Reason::TooLong));
     }
     let keep = nodes_to_keep(nodes, stack, below, floor);
-    replace_by_symbols(nodes, stack, below, keep, symbols)?;
+    replace_by_symbols(nodes, stack, below, keep, symbols, ALL_BITS)?;
     Ok(())
 }
 
@@ -107,6 +114,8 @@ fn replace_by_parts<A: Allocator>(
     ensures stay_in_range { OnErr result ((w : ℕ)
         → AreInRange w (entry_formulas nodes.old stack.old.items)
         → AreInRange w (entry_formulas nodes.new stack.new.items)) }
+    ensures stay_masked { StayMasked (Constant typecode ∷ parts.now) nodes.old stack.old.items
+        nodes.new stack.new.items }
 {
     match fill(nodes, &stack[below..], parts, room) {
         None => Err(StepRefused::Fault(Reason::TooLong)),
@@ -119,7 +128,7 @@ fn replace_by_parts<A: Allocator>(
             let bodies = &room[..filled.count];
             let first = Body::symbol(typecode.number());
             let count = filled.length as u32;
-            replace_entries(nodes, stack, below, keep, first, bodies, count)?;
+            replace_entries(nodes, stack, below, keep, first, bodies, count, filled.mask)?;
             Ok(())
         }
     }
@@ -153,6 +162,8 @@ fn replace_by_formula<A: Allocator>(
     ensures stay_in_range { OnErr result ((w : ℕ)
         → AreInRange w (entry_formulas nodes.old stack.old.items)
         → AreInRange w (entry_formulas nodes.new stack.new.items)) }
+    ensures stay_masked { StayMasked formula.now nodes.old stack.old.items nodes.new
+        stack.new.items }
 {
     match first_constant(formula) {
         None => replace_by_listed(below, formula, floor, nodes, stack, symbols),
@@ -175,6 +186,7 @@ pub fn apply_rule<A: Allocator>(
     room: &mut Vec<Body, A>,
     lists: &mut SymbolLists<A>,
     distinct: &mut DistinctVariables<A>,
+    owners: &Owners<A>,
     cache: &mut DisjointCache<A>,
 ) -> Result<(), StepRefused>
     requires theorem_lt_length { theorem < length database.now.statements }
@@ -183,7 +195,14 @@ pub fn apply_rule<A: Allocator>(
     requires floor_le_count { floor ≤ length nodes.old }
     requires formulas_in_range { AreInRange (length (symbol_names database.now.statements))
         (entry_formulas nodes.old stack.old.items) }
+    requires are_variables { AreVariablesOf database.now.statements owners.now.variables }
+    requires owners_in_range { All (λ s. s < length (symbol_names database.now.statements))
+        owners.now.symbols }
+    requires are_masked { AreAllMasked owners.now.variables owners.now.symbols
+        (entry_masks stack.old.items) (entry_formulas nodes.old stack.old.items) }
     requires cached_are_disjoint { AreDisjointAt database.now.statements theorem cache.old }
+    ensures are_masked { AreAllMasked owners.now.variables owners.now.symbols
+        (entry_masks stack.new.items) (entry_formulas nodes.new stack.new.items) }
     ensures is_stack { IsStack nodes.new stack.new.items }
     ensures nodes_are_kept { Extends (take floor nodes.old) nodes.new }
     ensures formulas_in_range { AreInRange (length (symbol_names database.now.statements))
@@ -202,7 +221,7 @@ pub fn apply_rule<A: Allocator>(
     let formula = rule.formula();
     make_room(rule.parts.len().max(formula.len()), room)?;
     match test_rule(
-        database, theorem, rule, nodes, stack, room, lists, distinct, cache,
+        database, theorem, rule, nodes, stack, room, lists, distinct, owners, cache,
     ) {
         Err(refused) => Err(refused),
         Ok(below) => {

@@ -1,7 +1,7 @@
 //! The tests of an assertion's step on the entries of the stack: that each entry is what its
 //! hypothesis requires, and that the variables that have to be disjoint are.
 
-ghost use Rattle.std.specs.Prelude.{◌≡◌, ◌<◌, ◌≤◌, ℕ, All, length, IfOk};
+ghost use Rattle.std.specs.Prelude.{◌≡◌, ◌<◌, ◌≤◌, ℕ, All, length, IfOk, true};
 ghost use Rattle.std.specs.List.{list_all};
 ghost use Rattle.mm_spec.specs.Derivation.{are_all_disjoint as disjoint_lists};
 ghost use Rattle.mm_spec.specs.Derivation.{is_disjoint_from as disjoint_symbol};
@@ -15,6 +15,8 @@ ghost use Rattle.mm_nodes.specs.Strings.{string_of};
 ghost use Rattle.mm_machine.specs.Distinct.{IsStretch, stretch_at};
 ghost use Rattle.mm_machine.specs.Entries.{IsEntry, AreInRange, entry_formulas};
 ghost use Rattle.mm_machine.specs.Filled.{body_string_at};
+ghost use Rattle.mm_machine.specs.Masks.{AreVariablesOf, AreAllMasked, AreMasked, entry_masks};
+ghost use Rattle.mm_machine.specs.Masks.{IsApartFrom, AreApart};
 ghost use Rattle.mm_machine.specs.Applied.{TestsRule};
 
 use crate::disjoint_cache::DisjointCache;
@@ -22,14 +24,15 @@ use crate::distinct::{DistinctVariables, Stretch};
 use crate::entry::Entry;
 use crate::entry_test::premises_match;
 use crate::flat::{SymbolLists, append_body};
+use crate::owners::{OTHERS, Owners};
 use crate::reason::{Reason, StepRefused};
 use mm_database::{Database, Sym};
 use mm_nodes::{Body, Nodes};
 use mm_rule::Rule;
 use std::alloc::{AllocError, Allocator};
 
-/// How many pairs of symbols a step tests at most before it looks for the variables of its premises
-/// first, each once.
+/// How many pairs of symbols, or of bits of masks, a step tests at most before it looks for the
+/// variables of its premises first, each once.
 const MAX_SYMBOL_PAIRS: usize = 4_096;
 
 /// Whether two symbols are disjoint at the theorem: they aren't both variables, or an active `$d`
@@ -340,6 +343,87 @@ fn bodies_are_disjoint<A: Allocator>(
     Ok(are_all_disjoint(database, theorem, front, rest, cache))
 }
 
+/// Whether a symbol is known to be disjoint from all variables of a mask: each has a bit of its own.
+#[inline(always)]
+fn is_apart_from<A: Allocator>(
+    database: &Database<A>,
+    theorem: u32,
+    symbol: Sym,
+    owners: &[Sym],
+    mask: u64,
+    cache: &mut DisjointCache<A>,
+) -> bool
+    requires theorem_lt_length { theorem < length database.now.statements }
+    requires is_symbol { symbol < length (symbol_names database.now.statements) }
+    requires owners_in_range { All (λ s. s < length (symbol_names database.now.statements))
+        owners.now }
+    requires cached_are_disjoint { AreDisjointAt database.now.statements theorem cache.old }
+    ensures are_apart { result ≡ true
+        → IsApartFrom database.now.statements theorem owners.now symbol mask }
+    ensures cached_are_disjoint { AreDisjointAt database.now.statements theorem cache.new }
+{
+    let mut rest = mask;
+    for _bit in 0..OTHERS {
+        if rest == 0 {
+            return true;
+        }
+        let index = rest.trailing_zeros() as usize;
+        if index >= OTHERS || index >= owners.len() {
+            return false;
+        }
+        if !are_disjoint(database, theorem, symbol, owners[index], cache) {
+            return false;
+        }
+        rest &= !(1u64 << index);
+    }
+    rest == 0
+}
+
+/// Whether all variables of a mask are known to be disjoint from all variables of another: each has
+/// a bit of its own.
+#[inline(always)]
+fn are_apart_by_masks<A: Allocator>(
+    database: &Database<A>,
+    theorem: u32,
+    owners: &[Sym],
+    first: u64,
+    second: u64,
+    cache: &mut DisjointCache<A>,
+) -> bool
+    requires theorem_lt_length { theorem < length database.now.statements }
+    requires owners_in_range { All (λ s. s < length (symbol_names database.now.statements))
+        owners.now }
+    requires cached_are_disjoint { AreDisjointAt database.now.statements theorem cache.old }
+    ensures are_apart { result ≡ true
+        → AreApart database.now.statements theorem owners.now first second }
+    ensures cached_are_disjoint { AreDisjointAt database.now.statements theorem cache.new }
+{
+    if (first | second) >> OTHERS != 0 {
+        return false;
+    }
+    let mut rest = first;
+    for _bit in 0..OTHERS {
+        if rest == 0 {
+            return true;
+        }
+        let index = rest.trailing_zeros() as usize;
+        if index >= OTHERS || index >= owners.len() {
+            return false;
+        }
+        if !is_apart_from(database, theorem, owners[index], owners, second, cache) {
+            return false;
+        }
+        rest &= !(1u64 << index);
+    }
+    rest == 0
+}
+
+/// How many pairs of a bit of one mask and a bit of the other there are.
+#[inline(always)]
+fn bit_pairs(first: u64, second: u64) -> usize {
+    (first.count_ones() as usize).saturating_mul(second.count_ones() as usize)
+}
+
 /// Whether for each pair of variables, each variable in what replaces the first is disjoint from
 /// each variable in what replaces the second. Where there are many pairs of symbols, those of each
 /// formula that are variables are looked for first.
@@ -352,6 +436,7 @@ fn keeps_disjoint<A: Allocator>(
     pairs: &[(u32, u32)],
     lists: &mut SymbolLists<A>,
     distinct: &mut DistinctVariables<A>,
+    owners: &Owners<A>,
     cache: &mut DisjointCache<A>,
 ) -> Result<bool, AllocError>
     requires theorem_lt_length { theorem < length database.now.statements }
@@ -359,6 +444,11 @@ fn keeps_disjoint<A: Allocator>(
         (entry_formulas nodes.old premises.now) }
     requires pairs_in_range { All
         (λ (p : ℕ × ℕ). (p.0 < length premises.now) × (p.1 < length premises.now)) pairs.now }
+    requires are_variables { AreVariablesOf database.now.statements owners.now.variables }
+    requires owners_in_range { All (λ s. s < length (symbol_names database.now.statements))
+        owners.now.symbols }
+    requires are_masked { AreAllMasked owners.now.variables owners.now.symbols
+        (entry_masks premises.now) (entry_formulas nodes.old premises.now) }
     requires cached_are_disjoint { AreDisjointAt database.now.statements theorem cache.old }
     ensures nodes_unchanged { nodes.new ≡ nodes.old }
     ensures tells_disjoint { IfOk result
@@ -373,6 +463,19 @@ fn keeps_disjoint<A: Allocator>(
     for pair in pairs {
         let first = premises[pair.0 as usize];
         let second = premises[pair.1 as usize];
+        count = count.saturating_add(bit_pairs(first.mask, second.mask));
+        if count <= MAX_SYMBOL_PAIRS
+            && are_apart_by_masks(
+                database,
+                theorem,
+                owners.symbols(),
+                first.mask,
+                second.mask,
+                cache,
+            )
+        {
+            continue;
+        }
         let symbol_pairs = (first.length as usize).saturating_mul(second.length as usize);
         count = count.saturating_add(symbol_pairs);
         if count > MAX_SYMBOL_PAIRS {
@@ -409,6 +512,7 @@ pub fn test_rule<A: Allocator>(
     room: &mut [Body],
     lists: &mut SymbolLists<A>,
     distinct: &mut DistinctVariables<A>,
+    owners: &Owners<A>,
     cache: &mut DisjointCache<A>,
 ) -> Result<usize, StepRefused>
     requires theorem_lt_length { theorem < length database.now.statements }
@@ -417,6 +521,11 @@ pub fn test_rule<A: Allocator>(
     requires formulas_in_range { AreInRange (length (symbol_names database.now.statements))
         (entry_formulas nodes.old stack.now) }
     requires has_room { length rule.now.parts ≤ length room.old }
+    requires are_variables { AreVariablesOf database.now.statements owners.now.variables }
+    requires owners_in_range { All (λ s. s < length (symbol_names database.now.statements))
+        owners.now.symbols }
+    requires are_masked { AreAllMasked owners.now.variables owners.now.symbols
+        (entry_masks stack.now) (entry_formulas nodes.old stack.now) }
     requires cached_are_disjoint { AreDisjointAt database.now.statements theorem cache.old }
     ensures nodes_unchanged { nodes.new ≡ nodes.old }
     ensures length_stays { length room.new ≡ length room.old }
@@ -436,7 +545,7 @@ pub fn test_rule<A: Allocator>(
     }
     let pairs = rule.pairs();
     let is_disjoint = keeps_disjoint(
-        database, theorem, nodes, premises, pairs, lists, distinct, cache,
+        database, theorem, nodes, premises, pairs, lists, distinct, owners, cache,
     )?;
     if !is_disjoint {
         return Err(StepRefused::Fault(Reason::NotDisjoint));

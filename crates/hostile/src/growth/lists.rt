@@ -1,11 +1,12 @@
 //! The lists in which layers keep what they find: if an element is refused, nothing was appended.
 
+use super::proofs::database_of;
 use super::{MOST_GROWTHS, was_refused};
 use crate::heap::Refusing;
 use mm_lists::Lists;
 use mm_machine::{DisjointCache, Machine};
 use mm_proof::{Step, Steps};
-use mm_stmt::Sym;
+use mm_stmt::{Database, Sym};
 use std::alloc::{AllocError, Allocator, Global};
 use std::process::Abort;
 
@@ -95,8 +96,14 @@ fn pairs_without_memory(rt: HostRuntime) {
 }
 
 /// Whether a formula that is marked and repeated is then one of two entries.
-fn is_repeated(heap: &Refusing<Global>) -> Result<bool, AllocError> {
-    let mut machine = Machine::new(heap, 3)?;
+fn is_repeated<'h>(
+    heap: &'h Refusing<Global>,
+    database: &Database<'static, &'h Refusing<Global>>,
+) -> Result<bool, AllocError> {
+    if database.symbol_count() < 3 {
+        return Ok(false);
+    }
+    let mut machine = Machine::new(heap, database)?;
     let formula = [Sym::new(0), Sym::new(2), Sym::new(1)];
     machine.push(&formula)?;
     machine.mark(0)?;
@@ -106,24 +113,29 @@ fn is_repeated(heap: &Refusing<Global>) -> Result<bool, AllocError> {
 }
 
 /// Whether `is_repeated` says so, or `None` if the machine ran out of memory.
-fn repeated(heap: &Refusing<Global>) -> Option<bool> {
-    match is_repeated(heap) {
+fn repeated<'h>(
+    heap: &'h Refusing<Global>,
+    database: &Database<'static, &'h Refusing<Global>>,
+) -> Option<bool> {
+    match is_repeated(heap, database) {
         Ok(is_right) => Some(is_right),
         Err(_) => None,
     }
 }
 
 #[test]
-fn entries_without_memory(rt: HostRuntime) {
+fn entries_without_memory(rt: HostRuntime) -> Result<(), AllocError> {
     let heap = Refusing::new(rt.alloc());
+    let database = database_of(&rt, &heap)?;
     for growth in 1..MOST_GROWTHS {
         heap.refuse(growth);
-        let refused = was_refused(&rt, &heap, repeated(&heap));
-        assert!(&rt; repeated(&heap) == Some(true));
+        let refused = was_refused(&rt, &heap, repeated(&heap, &database));
+        assert!(&rt; repeated(&heap, &database) == Some(true));
         if !refused {
-            assert!(&rt; growth > 8);
-            return;
+            assert!(&rt; growth > 10);
+            return Ok(());
         }
     }
     assert!(&rt; false);
+    Ok(())
 }

@@ -1,4 +1,5 @@
 use Rattle.std.proofs.Common.{◌≡◌, ◌+◌, ◌<◌, ◌∷◌, ◌∙◌, [], get_or, length, sym, ap, subst, arith}
+use Rattle.std.proofs.Common.{All, take}
 use Rattle.std.proofs.lemmas.List.{get_or_default}
 use Rattle.std.proofs.lemmas.List.Elements.{All-get_or}
 use Rattle.mm_nodes.specs.Strings.{first_node, string_of}
@@ -6,8 +7,10 @@ use Rattle.mm_rule.specs.declared.rule.RulePart.TheVariants.{Constant, Variable}
 use Rattle.mm_rule.specs.Rule.{IsConstantBelow, IsVariableBelow}
 use Rattle.mm_machine.specs.Entries.{no_entry, IsEntry}
 use Rattle.mm_machine.specs.Filled.{filled_part}
+use Rattle.mm_machine.specs.Masks.{IncludesPart}
 use Rattle.mm_machine.proofs.FilledLaw.{IsWritten, body_written, none_written, body_is_needed}
 use Rattle.mm_machine.proofs.FilledLaw.{symbol_string_is, nil_if_no_length, too_long_if_front_is}
+use Rattle.mm_machine.proofs.OwnersLaw.{includes_more, includes_variable, itself_included}
 use Rattle.mm_machine.proofs.entry.fill.Goals.{in-Constant, in-Variable+then-premise-gt0}
 use Rattle.mm_machine.proofs.entry.fill.Goals.{in-Variable+else-premise-gt0}
 use Rattle.mm_machine.proofs.entry.fill.Goals as goal
@@ -84,7 +87,42 @@ loop-part-preserved g c =
           ∙ nil_if_no_length (string_of nodes e.body)
           (omega (arith, no_length, w.if-premise-gt0.false))))
     ] in
-    record { is_written = written; length_le_limit = c.if-length-gt-FORMULA_LIMIT.false }
+    let so_far = c.loop-part.invariant.includes_masks in
+    let included : All (IncludesPart es c.match-to_part.mask) (take (i + 1) parts) =
+    elim c.match-to_part.branch [
+      | in-Constant w ↦
+          let p_is : p ≡ Constant w.in-Constant.symbol =
+          sym c.to_part.ensures.part_is ∙ w.in-Constant.is in
+          rw w.mask-is
+          (includes_more es parts i c.loop-part.mask c.loop-part.mask p i_lt c.part-item.is
+          (itself_included c.loop-part.mask)
+          (subst (IncludesPart es c.loop-part.mask) (sym p_is) tt) so_far)
+      | in-Variable+then-premise-gt0 w ↦
+          let j = w.in-Variable.floating_index in
+          let p_is : p ≡ Variable j = sym c.to_part.ensures.part_is ∙ w.in-Variable.is in
+          let j_lt : j < length es =
+          subst (IsVariableBelow (length es)) (sym c.part-item.is ∙ p_is)
+          (c.requires.variables_in_range i p i_lt) in
+          rw w.mask-is
+          (includes_variable es parts i c.loop-part.mask p i_lt c.part-item.is j p_is
+          w.index-premises-floating_index.result
+          (w.index-premises-floating_index.is ∙ get_or_default es j _ no_entry j_lt) so_far)
+      | in-Variable+else-premise-gt0 w ↦
+          let j = w.in-Variable.floating_index in
+          let p_is : p ≡ Variable j = sym c.to_part.ensures.part_is ∙ w.in-Variable.is in
+          let j_lt : j < length es =
+          subst (IsVariableBelow (length es)) (sym c.part-item.is ∙ p_is)
+          (c.requires.variables_in_range i p i_lt) in
+          rw w.mask-is
+          (includes_variable es parts i c.loop-part.mask p i_lt c.part-item.is j p_is
+          w.index-premises-floating_index.result
+          (w.index-premises-floating_index.is ∙ get_or_default es j _ no_entry j_lt) so_far)
+    ] in
+    record {
+      is_written = written;
+      length_le_limit = c.if-length-gt-FORMULA_LIMIT.false;
+      includes_masks = included;
+    }
 
 pub returns-then-length-gt-FORMULA_LIMIT-clause-is_too_long :
     goal.returns-then-length-gt-FORMULA_LIMIT-clause-is_too_long

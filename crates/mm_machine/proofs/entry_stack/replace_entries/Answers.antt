@@ -7,6 +7,8 @@ use Rattle.mm_machine.specs.declared.entry.Entry.{Entry}
 use Rattle.mm_machine.specs.Entries.{entry, IsEntry, IsStack, entry_formulas}
 use Rattle.mm_machine.proofs.EntryLaw.{formulas_are_kept, made_is_entry}
 use Rattle.mm_machine.proofs.EntryLaw.{made_formula, entry_formulas_take, entry_formulas_push}
+use Rattle.mm_machine.specs.Masks.{entry_masks}
+use Rattle.mm_machine.proofs.OwnersLaw.{masks_take, masks_push}
 use Rattle.mm_machine.proofs.StackLaw.{stack_kept, stack_pushed, on_err}
 use Rattle.mm_machine.proofs.entry_stack.replace_entries.Goals as goal
 
@@ -99,7 +101,8 @@ returns-clause-is_stack g c =
     let count_lt : length c.make.new.self < first_node =
     omega (arith, c.count.ensures.count_is, c.count.ensures.count_lt) in
     let bodies = c.args.bodies.now in
-    let e : Entry = entry c.args.typecode c.in_ok-body.body c.args.symbol_count c.count.result in
+    let e : Entry = entry c.args.typecode c.in_ok-body.body c.args.symbol_count c.count.result
+    c.args.mask in
     let strings_are : joined_string_of c.truncate-2.new.self bodies
     ≡ joined_string_of nodes bodies =
     ap (λ ns. joined_string_of ns bodies) c.truncate-2.ensures.nodes_are_taken
@@ -127,7 +130,8 @@ returns-clause-formulas_are g c =
     let count_lt : length c.make.new.self < first_node =
     omega (arith, c.count.ensures.count_is, c.count.ensures.count_lt) in
     let bodies = c.args.bodies.now in
-    let e : Entry = entry c.args.typecode c.in_ok-body.body c.args.symbol_count c.count.result in
+    let e : Entry = entry c.args.typecode c.in_ok-body.body c.args.symbol_count c.count.result
+    c.args.mask in
     let strings_are : joined_string_of c.truncate-2.new.self bodies
     ≡ joined_string_of nodes bodies =
     ap (λ ns. joined_string_of ns bodies) c.truncate-2.ensures.nodes_are_taken
@@ -144,3 +148,25 @@ returns-clause-formulas_are g c =
     (made_formula nodes c.truncate-2.new.self c.make.new.self bodies e
     c.in_ok-body.ensures.is_made strings_are c.requires.typecode_is_symbol
     c.requires.symbol_count_is c.requires.symbol_count_lt_limit c.count.ensures.count_is)
+
+pub returns-in_err-body-clause-masks_below_stay : goal.returns-in_err-body-clause-masks_below_stay
+returns-in_err-body-clause-masks_below_stay g c =
+    on_err c.from_residual.result
+    (ap entry_masks c.truncate.ensures.items ∙ masks_take c.args.below c.args.stack.now.items)
+
+pub returns-in_err-push-clause-masks_below_stay : goal.returns-in_err-push-clause-masks_below_stay
+returns-in_err-push-clause-masks_below_stay g c =
+    on_err c.from_residual-in_err-push.result
+    (ap entry_masks (c.in_err-push.ensures.items ∙ c.truncate.ensures.items)
+    ∙ masks_take c.args.below c.args.stack.now.items)
+
+pub returns-clause-masks_are : goal.returns-clause-masks_are
+returns-clause-masks_are g c =
+    let es = c.args.stack.now.items in
+    let below = c.args.below in
+    let e : Entry = entry c.args.typecode c.in_ok-body.body c.args.symbol_count c.count.result
+    c.args.mask in
+    ap entry_masks
+    (c.in_ok-push.ensures.items ∙ ap (λ (xs : List Entry). xs ++ e ∷ []) c.truncate.ensures.items)
+    ∙ masks_push (take below es) e
+    ∙ ap (λ (ms : List ℕ). ms ++ c.args.mask ∷ []) (masks_take below es)

@@ -1,4 +1,4 @@
-use Rattle.std.proofs.Common.{List, Ok, subst, refl, arith}
+use Rattle.std.proofs.Common.{List, ℕ, All, Ok, sym, subst, refl, arith}
 use Rattle.mm_machine.specs.declared.entry.Entry.{Entry}
 use Rattle.mm_machine.specs.Applied.{TestsRule, IsRefusalOf}
 use Rattle.mm_machine.specs.State.{applied}
@@ -6,6 +6,8 @@ use Rattle.mm_machine.specs.Entries.{entry_formulas}
 use Rattle.mm_machine.proofs.StackLaw.{extends_unchanged, extends_by_value}
 use Rattle.mm_machine.proofs.StepLaw.{step_if_ok, step_has_entry, step_refusal_is_right}
 use Rattle.mm_machine.proofs.StepLaw.{step_in_range}
+use Rattle.mm_machine.specs.Masks.{IsNoVariable, AreAllMasked, entry_masks}
+use Rattle.mm_machine.proofs.OwnersLaw.{rule_has_no_variables}
 use Rattle.mm_machine.proofs.rule_step.apply_rule.Goals as goal
 
 pub returns-in_err-make_room-clause-nodes_are_kept :
@@ -78,3 +80,15 @@ returns-in-Ok-clause-nodes_are_kept g c =
     extends_by_value c.args.nodes.now c.test_rule.new.nodes c.replace_by_formula.new.nodes
     c.args.floor c.args.floor c.test_rule.ensures.nodes_unchanged (omega arith)
     c.replace_by_formula.ensures.nodes_are_kept
+
+pub returns-in-Ok-clause-are_masked : goal.returns-in-Ok-clause-are_masked
+returns-in-Ok-clause-are_masked g c =
+    let vs = c.args.owners.now.variables in
+    let owners = c.args.owners.now.symbols in
+    let es = c.args.stack.now.items in
+    c.replace_by_formula.ensures.stay_masked.stay vs owners
+    (subst (All (IsNoVariable vs)) (sym c.formula-formula.ensures)
+    (rule_has_no_variables c.args.database.now.statements vs c.args.rule.now
+    c.requires.are_variables c.requires.is_compiled))
+    (subst (λ (ns : List (List ℕ)). AreAllMasked vs owners (entry_masks es) (entry_formulas ns es))
+    (sym c.test_rule.ensures.nodes_unchanged) c.requires.are_masked)

@@ -1,4 +1,4 @@
-use Rattle.std.proofs.Common.{◌≡◌, ℕ, ◌<◌, ◌∙◌, IfOk, List, All, false, length, get_or, sym, ap₂, subst}
+use Rattle.std.proofs.Common.{◌≡◌, ℕ, ◌<◌, ◌∙◌, IfOk, List, All, false, length, get_or, sym, ap, ap₂, subst}
 use Rattle.std.specs.List.{list_all}
 use Rattle.std.proofs.lemmas.List.{get_or_default}
 use Rattle.std.proofs.lemmas.List.Folds.{list_all_at}
@@ -8,6 +8,8 @@ use Rattle.mm_spec.specs.Frame.{symbol_names}
 use Rattle.mm_nodes.specs.Strings.{string_of}
 use Rattle.mm_machine.specs.Entries.{no_entry}
 use Rattle.mm_machine.specs.Filled.{body_string_at}
+use Rattle.mm_machine.specs.Masks.{AreApart}
+use Rattle.mm_machine.proofs.OwnersLaw.{list_all_next, disjoint_if_apart, body_masked}
 use Rattle.mm_machine.proofs.StepLaw.{body_in_range}
 use Rattle.mm_machine.proofs.rule_test.keeps_disjoint.Goals as goal
 
@@ -74,3 +76,44 @@ returns-then-not-are_disjoint-clause-tells_disjoint g c =
     (λ (q : ℕ × ℕ). are_all_disjoint context (body_string_at nodes es q.0)
     (body_string_at nodes es q.1))
     c.args.pairs.now c.loop-pair.pair-index (0, 0) c.loop-pair-test.true pair_fails)
+
+pub loop-pair-preserved-then-are_apart_by_masks : goal.loop-pair-preserved-then-are_apart_by_masks
+loop-pair-preserved-then-are_apart_by_masks g c =
+    let db = c.args.database.now.statements in
+    let w = length (symbol_names db) in
+    let vs = c.args.owners.now.variables in
+    let owners = c.args.owners.now.symbols in
+    let nodes = c.args.nodes.now in
+    let es = c.args.premises.now in
+    let p = get_or c.args.pairs.now c.loop-pair.pair-index (0, 0) in
+    let in_range = c.requires.pairs_in_range c.loop-pair.pair-index (0, 0) c.loop-pair-test.true in
+    let e = c.index-premises-pair.result in
+    let f = c.index-premises-pair-in-loop-pair.result in
+    let e_is : e ≡ get_or es p.0 no_entry =
+    c.index-premises-pair.is ∙ get_or_default es p.0 e no_entry in_range.0 in
+    let f_is : f ≡ get_or es p.1 no_entry =
+    c.index-premises-pair-in-loop-pair.is ∙ get_or_default es p.1 f no_entry in_range.1 in
+    let apart : AreApart db c.args.theorem owners (get_or es p.0 no_entry).mask
+    (get_or es p.1 no_entry).mask =
+    subst (λ m. AreApart db c.args.theorem owners m (get_or es p.1 no_entry).mask)
+    (ap (λ x. x.mask) e_is)
+    (subst (λ m. AreApart db c.args.theorem owners e.mask m) (ap (λ x. x.mask) f_is)
+    (subst (λ (os : List ℕ). AreApart db c.args.theorem os e.mask f.mask) c.symbols.ensures
+    (c.are_apart_by_masks.ensures.are_apart c.if-are_apart_by_masks.true))) in
+    record {
+      nodes_stay = c.loop-pair.invariant.nodes_stay;
+      so_far =
+          list_all_next
+          (λ (q : ℕ × ℕ). are_all_disjoint (context_at db c.args.theorem)
+          (body_string_at nodes es q.0) (body_string_at nodes es q.1))
+          c.args.pairs.now c.loop-pair.pair-index (0, 0) c.loop-pair-test.true
+          c.loop-pair.invariant.so_far
+          (disjoint_if_apart db c.args.theorem vs owners c.requires.are_variables
+          (get_or es p.0 no_entry).mask (get_or es p.1 no_entry).mask (body_string_at nodes es p.0)
+          (body_string_at nodes es p.1) apart
+          (body_masked vs owners nodes es p.0 c.requires.are_masked in_range.0)
+          (body_in_range w nodes es p.0 c.requires.formulas_in_range in_range.0)
+          (body_masked vs owners nodes es p.1 c.requires.are_masked in_range.1)
+          (body_in_range w nodes es p.1 c.requires.formulas_in_range in_range.1));
+      cache = c.are_apart_by_masks.ensures.cached_are_disjoint;
+    }

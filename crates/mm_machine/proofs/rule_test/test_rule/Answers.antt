@@ -7,6 +7,7 @@ use Rattle.mm_spec.specs.Frame.{symbol_names}
 use Rattle.mm_machine.specs.Filled.{body_string_at}
 use Rattle.mm_machine.proofs.StepLaw.{formulas_by_value}
 use Rattle.mm_machine.proofs.EntryRuleLaw.{rule_test_by_stack, applied_is_too_few}
+use Rattle.mm_machine.proofs.OwnersLaw.{premises_masked}
 use Rattle.mm_machine.proofs.rule_test.test_rule.Goals as goal
 
 pub returns-then-stack-hypotheses-clause-tests_rule :
@@ -86,3 +87,9 @@ keeps_disjoint-requires-clause-formulas_in_range g c =
     formulas_by_value (length (symbol_names c.args.database.now.statements)) c.args.nodes.now
     c.premises_match.new.nodes c.args.stack.now _ c.premises_match.ensures.nodes_unchanged
     c.requires.formulas_in_range
+
+pub keeps_disjoint-requires-clause-are_masked : goal.keeps_disjoint-requires-clause-are_masked
+keeps_disjoint-requires-clause-are_masked g c =
+    premises_masked c.args.owners.now.variables c.args.owners.now.symbols c.args.nodes.now
+    c.premises_match.new.nodes c.args.stack.now c.args.stack.now _
+    c.premises_match.ensures.nodes_unchanged refl c.requires.are_masked

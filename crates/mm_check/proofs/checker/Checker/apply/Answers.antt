@@ -21,7 +21,7 @@ returns-in_err-apply-clause-at_theorem g c =
     subst (λ (s : CheckerState). IsAtTheorem c.args.database.now.statements c.args.theorem s)
     (sym c.self.view_is) c.requires.at_theorem in
     record {
-      made_for = rw c.apply.ensures.is_applied.symbol_count_stays is_at_theorem.made_for;
+      made_for = rw c.apply.ensures.is_applied.variables_stay is_at_theorem.made_for;
       theorem_lt_length = is_at_theorem.theorem_lt_length;
       pairs_are_disjoint = c.apply.ensures.cached_are_disjoint;
     }
@@ -46,7 +46,7 @@ returns-clause-at_theorem g c =
     subst (λ (s : CheckerState). IsAtTheorem c.args.database.now.statements c.args.theorem s)
     (sym c.self.view_is) c.requires.at_theorem in
     record {
-      made_for = rw c.apply.ensures.is_applied.symbol_count_stays is_at_theorem.made_for;
+      made_for = rw c.apply.ensures.is_applied.variables_stay is_at_theorem.made_for;
       theorem_lt_length = is_at_theorem.theorem_lt_length;
       pairs_are_disjoint = c.apply.ensures.cached_are_disjoint;
     }

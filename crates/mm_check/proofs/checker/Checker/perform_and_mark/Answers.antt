@@ -30,7 +30,7 @@ returns-in_ok-mark-clause-has_performed g c =
     c.in_default.ensures.performs)
     (subst (λ (s : CheckerState). IsAtTheorem db t s) (sym c.self.view_is)
     c.perform.ensures.at_theorem)
-    c.in_ok-mark.ensures.marks_step c.mark.ensures.symbol_count_stays
+    c.in_ok-mark.ensures.marks_step c.mark.ensures.variables_stay
 
 pub returns-else-is_marked-clause-has_performed : goal.returns-else-is_marked-clause-has_performed
 returns-else-is_marked-clause-has_performed g c =

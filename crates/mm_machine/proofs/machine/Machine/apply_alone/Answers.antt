@@ -19,7 +19,7 @@ returns-then-symbols-gt-FORMULA_LIMIT g c =
             applied_alone_is_too_long db c.args._theorem c.args.rule.now c.requires.is_compiled
             c.requires.no_hypotheses
             c.args.self.now.stack (omega (arith, length_is, c.if-symbols-gt-FORMULA_LIMIT.true));
-        symbol_count_stays = refl;
+        variables_stay = refl;
       };
     }
 
@@ -33,7 +33,7 @@ returns-in-Ok g c =
     in
     let length_is = ap length symbols_are in
     let state_after = machine_state (es ++ symbols ∷ []) state_before.marks state_before.formulas
-    state_before.symbol_count
+    state_before.variables
     in
     record {
       is_applied = record {
@@ -51,6 +51,6 @@ returns-in-Ok g c =
               formulas_stay = refl;
             });
         refusal_is_right = tt;
-        symbol_count_stays = c.in-Ok.ensures.symbol_count_stays;
+        variables_stay = c.in-Ok.ensures.variables_stay;
       };
     }

@@ -7,7 +7,7 @@ pub returns-then-formula-gt-FORMULA_LIMIT-clause-is_other :
     goal.returns-then-formula-gt-FORMULA_LIMIT-clause-is_other
 returns-then-formula-gt-FORMULA_LIMIT-clause-is_other g c = λ is_false is_only.
     no_long_entry c.self.inside.nodes c.self.inside.stack.items c.args.formula.now
-    c.self.invariant.is_stack.are_entries c.if-formula-gt-FORMULA_LIMIT.true
+    c.self.invariant.is_machine.is_stack.are_entries c.if-formula-gt-FORMULA_LIMIT.true
     (ap (λ s. s.stack) c.self.view_is ∙ is_only)
 
 pub returns-clause-is_only_entry : goal.returns-clause-is_only_entry

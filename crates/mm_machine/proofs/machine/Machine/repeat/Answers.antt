@@ -2,13 +2,14 @@ use Rattle.std.proofs.Common.{◌≡◌, ◌<◌, ◌∙◌, length, get_or, ap,
 use Rattle.std.proofs.lemmas.List.{get_or_default}
 use Rattle.mm_machine.specs.Entries.{no_entry}
 use Rattle.mm_machine.proofs.MachineLaw.{repeated_machine, repeated_state}
+use Rattle.mm_machine.proofs.OwnersLaw.{masks_with_repeated}
 use Rattle.mm_machine.proofs.machine.Machine.repeat.Goals as goal
 
 pub invariant_of-self-2 : goal.invariant_of-self-2
 invariant_of-self-2 g c =
     let i = c.self.inside in
     let index = c.index_of_mark-index.result in
-    let enough = c.self.invariant.enough_marked in
+    let enough = c.self.invariant.is_machine.enough_marked in
     let index_lt : index < length i.marked.items =
     let lengths_equal = ap length c.deref.ensures.value in
     omega (arith, c.index_of_mark-index.ensures.index_lt_length, enough, lengths_equal) in
@@ -16,16 +17,23 @@ invariant_of-self-2 g c =
     let m_is : m ≡ get_or i.marked.items index no_entry =
     c.index.ensures ∙ get_or_default i.marked.items index m no_entry index_lt in
     rw c.in_ok-push.ensures.items
-    (repeated_machine i.nodes i.stack.items i.marks.items i.marked.items i.floor i.symbol_count
-    c.self.invariant index m c.for_top-entry.result index_lt m_is
-    c.for_top-entry.ensures.is_entry c.for_top-entry.ensures.formula_stays
-    c.for_top-entry.ensures.needs_all)
+    (record {
+      is_machine =
+          repeated_machine i.nodes i.stack.items i.marks.items i.marked.items i.floor
+          i.owners.variables c.self.invariant.is_machine index m c.for_top-entry.result index_lt
+          m_is c.for_top-entry.ensures.is_entry c.for_top-entry.ensures.formula_stays
+          c.for_top-entry.ensures.needs_all;
+      has_masks =
+          masks_with_repeated i.nodes i.stack.items i.marked.items i.owners
+          c.self.invariant.has_masks index m c.for_top-entry.result index_lt m_is
+          c.for_top-entry.ensures.formula_stays c.for_top-entry.ensures.mask_stays;
+    })
 
 pub returns-clause-repeats_step : goal.returns-clause-repeats_step
 returns-clause-repeats_step g c =
     let i = c.self.inside in
     let index = c.index_of_mark-index.result in
-    let enough = c.self.invariant.enough_marked in
+    let enough = c.self.invariant.is_machine.enough_marked in
     let index_lt_marks : index < length i.marks.items =
     let lengths_equal = ap length c.deref.ensures.value in
     omega (arith, c.index_of_mark-index.ensures.index_lt_length, lengths_equal) in
@@ -34,8 +42,8 @@ returns-clause-repeats_step g c =
     let m_is : m ≡ get_or i.marked.items index no_entry =
     c.index.ensures ∙ get_or_default i.marked.items index m no_entry index_lt in
     rw c.in_ok-push.ensures.items
-    (repeated_state i.nodes i.stack.items i.marks.items i.marked.items i.floor i.symbol_count
-    c.self.invariant index m c.for_top-entry.result index_lt m_is
+    (repeated_state i.nodes i.stack.items i.marks.items i.marked.items i.floor i.owners.variables
+    c.self.invariant.is_machine index m c.for_top-entry.result index_lt m_is
     c.for_top-entry.ensures.is_entry c.for_top-entry.ensures.formula_stays
     c.for_top-entry.ensures.needs_all c.args.step c.args.self.now c.self.view_is index_lt_marks
     (ap (λ ms. get_or ms index 0) (sym c.deref.ensures.value)

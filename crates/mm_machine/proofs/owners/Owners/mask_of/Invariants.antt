@@ -1,0 +1,14 @@
+use Rattle.std.proofs.Common.{◌≡◌, ◌<◌, All, length, take}
+use Rattle.mm_machine.specs.Masks.{AreMasked}
+use Rattle.mm_machine.specs.FlagRows.{Extends}
+use Rattle.mm_machine.proofs.owners.Owners.mask_of.Given as goal
+
+abbrev pub invariant-loop-symbol : goal.invariant-loop-symbol
+invariant-loop-symbol g l = record {
+  variables_stay : l.self.variables ≡ l.fn.self.variables;
+  extends : Extends l.fn.self.symbols l.self.symbols;
+  stay_in_range : All (λ s. s < length l.fn.self.variables) l.fn.self.symbols
+      → All (λ s. s < length l.fn.self.variables) l.self.symbols;
+  are_masked : AreMasked l.fn.self.variables l.self.symbols l.mask
+      (take l.symbol-index l.formula);
+}
