@@ -193,7 +193,7 @@ def hold_descriptors() -> None:
         try:
             os.fstat(number)
         except OSError:
-            os.open("/dev/null", os.O_WRONLY if number == 0 else os.O_RDONLY)
+            os.open(os.devnull, os.O_WRONLY if number == 0 else os.O_RDONLY)
 
 
 def main(words: list[str]) -> NoReturn:

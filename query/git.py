@@ -25,12 +25,15 @@ NO_COMMIT = "0" * 40
 FULL_ID = re.compile(r"(?:[0-9a-f]{40}|[0-9a-f]{64})(?![^:^~@])")
 HEAD = re.compile(r"HEAD(?![^:^~@])")
 
+NOWHERE = "/dev/null"
+"""The file that is empty. Git knows it by this name on each system."""
+
 SETTINGS = (
     "safe.bareRepository=explicit",
     "protocol.allow=never",
     "core.fsmonitor=false",
-    "core.hooksPath=/dev/null",
-    "core.attributesFile=/dev/null",
+    f"core.hooksPath={NOWHERE}",
+    f"core.attributesFile={NOWHERE}",
     "core.commitGraph=false",
     "core.warnAmbiguousRefs=true",
     "submodule.recurse=false",
@@ -42,7 +45,7 @@ SURROUNDINGS = {
     "LC_ALL": "C",
     "GIT_ALLOW_PROTOCOL": "none",
     "GIT_ATTR_NOSYSTEM": "1",
-    "GIT_GRAFT_FILE": os.devnull,
+    "GIT_GRAFT_FILE": NOWHERE,
     "GIT_NO_LAZY_FETCH": "1",
     "GIT_NO_REPLACE_OBJECTS": "1",
     "GIT_OPTIONAL_LOCKS": "0",
