@@ -1,5 +1,7 @@
 /* mmdepend as a library: which axioms each theorem of a Metamath database rests on, verified.
  *
+ * This header is C99, and C++98.
+ *
  * Each call works on the calling thread alone, in memory that the caller lends. It calls nothing of
  * the caller's, keeps nothing between calls, and may run in several threads at once, each with
  * memory of its own.
