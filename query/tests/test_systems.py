@@ -16,6 +16,7 @@ from unittest import mock
 
 from query import source, system, temporary
 from query.commands import names
+from query.config import read_config
 from query.tests.commands import NEWER, WHOLE, keep_in_git, words_of
 from query.tests.lacking import ALL, MODULES
 from query.tests.test_statuses import has_ended, wait_for
@@ -182,6 +183,42 @@ class Lacking(World):
                 (place / "object").write_bytes(b"")
                 (place / "object").chmod(0o400)
         self.assertFalse(place.exists())
+
+
+class EndsOfLines(World):
+    """Lines that end as on Windows."""
+
+    def test_of_a_database(self) -> None:
+        for ends, name in ((WHOLE, "line"), (WHOLE.replace("\n", "\r\n"), "both")):
+            (self.room / name).mkdir()
+            self.write(f"{name}/db.mm", ends)
+        for name in ALIKE:
+            line, both = (self.query(*words_of(name, f"{ends}/db.mm")) for ends in ("line", "both"))
+            self.assertEqual(both.out, line.out.replace("line/", "both/"), name)
+            self.assertIn(line.status, (0, 1), line.err)
+
+    def test_of_a_list_of_labels(self) -> None:
+        self.write("db.mm", WHOLE)
+        self.write("list", "ax-1\r\n# a comment\r\nax-mp\r\n")
+        self.assertEqual(
+            self.answers("within", "db.mm", "--list", "list"),
+            self.answers("within", "db.mm", "ax-1", "ax-mp"),
+        )
+
+    def test_of_the_file_of_the_gate(self) -> None:
+        text = 'watch = ["a"]\n\n[rules]\nopen = false\n\n[claims]\n"t" = ["a"] # why\n'
+        plain, other = (
+            read_config(each.encode(), "c") for each in (text, text.replace("\n", "\r\n"))
+        )
+        self.assertEqual(other, plain)
+        self.assertEqual(plain.claims[0].line, 7)
+
+
+ALIKE = (
+    *("verify", "rests", "falls", "cites", "why", "way-out", "frees", "top", "same", "uncited"),
+    *("chapters", "order", "unfinished", "discouraged", "mathboxes", "definitions", "repeats"),
+)
+"""Commands that answer nothing of the bytes of the text."""
 
 
 class Words(unittest.TestCase):
