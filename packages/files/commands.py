@@ -21,8 +21,8 @@ def run(line: list[str]) -> NoReturn:
 
 
 def node() -> str | None:
-    """Where Node is; None where it isn't. It isn't taken from a folder of PATH that is relative, nor
-    from the working folder, in which Windows looks first."""
+    """Where Node is; None where it isn't. It isn't taken from a folder of PATH that is relative,
+    nor from the working folder, in which Windows looks first."""
     name = "node.exe" if os.name == "nt" else "node"
     for folder in os.environ.get("PATH", os.defpath).split(os.pathsep):
         if os.path.isabs(folder) and (found := shutil.which(os.path.join(folder, name))):

@@ -9,6 +9,7 @@ import sqlite3
 import stat
 import subprocess
 import sys
+import tempfile
 import unittest
 from collections.abc import Iterator
 from pathlib import Path
@@ -17,6 +18,7 @@ from unittest import mock
 from query import source, system, temporary
 from query.commands import names
 from query.config import read_config
+from query.program import located
 from query.tests.commands import NEWER, WHOLE, keep_in_git, words_of
 from query.tests.lacking import ALL, MODULES
 from query.tests.test_statuses import has_ended, wait_for
@@ -230,6 +232,23 @@ class Words(unittest.TestCase):
             self.assertFalse(source.is_of_git("c:set.mm"))
             self.assertTrue(source.is_of_git("main:set.mm"))
         self.assertTrue(source.is_of_git("C:\\set.mm"))
+
+    def test_commands(self) -> None:
+        """No command is taken from the working folder, as it would be if PATH weren't asked."""
+        here = os.getcwd()
+        with tempfile.TemporaryDirectory() as folder, mock.patch.object(os, "name", "nt"):
+            for name in ("node.exe", "git"):
+                descriptor = os.open(os.path.join(folder, name), os.O_CREAT, 0o755)
+                os.close(descriptor)
+            os.chdir(folder)
+            try:
+                with mock.patch.dict(os.environ, PATH=f".{os.pathsep}{os.pathsep}/nowhere"):
+                    self.assertIsNone(located("node"))
+                with mock.patch.dict(os.environ, PATH=folder):
+                    self.assertEqual(located("node"), os.path.join(folder, "node.exe"))
+                    self.assertIsNone(located("git"))
+            finally:
+                os.chdir(here)
 
 
 PORTABLE = {
