@@ -1,9 +1,9 @@
 """Runs mmquery in a Python that lacks what not every system has.
 
-usage: python3 -IB lacking.py NAME,NAME.. WORD..
+usage: python3 -ISB lacking.py NAME,NAME.. WORD..
 
 NAME is a call or a constant, such as `os.fork`; a module, such as `fcntl`; or `/dev/fd`, where no
-open file has a name then. What is taken away stays so for what the standard library loads later.
+open file has a name then. -S keeps modules of others from loading what looks at the system before.
 """
 
 import os

@@ -46,7 +46,7 @@ class Lacking(World):
     def without(self, lacking: tuple[str, ...], *words: str, given: bytes = b"") -> Came:
         """Runs mmquery in a Python that lacks these. Nothing that was kept is taken."""
         shutil.rmtree(self.cache / "mmquery", ignore_errors=True)
-        start = (sys.executable, "-IB", str(LACKING), ",".join(lacking))
+        start = (sys.executable, "-ISB", str(LACKING), ",".join(lacking))
         return self.ran(*start, *words, given=given)
 
     def agree(self, lacking: tuple[str, ...], *words: str, given: bytes = b"") -> Came:
@@ -158,7 +158,7 @@ class Lacking(World):
         for words in (("compare", "HEAD:db.mm", "-"), ("history", "db.mm", "HEAD")):
             (self.room / "pids").unlink(missing_ok=True)
             process = subprocess.Popen(
-                [sys.executable, "-IB", str(LACKING), ",".join(ALL), *words],
+                [sys.executable, "-ISB", str(LACKING), ",".join(ALL), *words],
                 cwd=self.room,
                 env=self.surroundings(MMDEPEND="./slow"),
                 stdin=subprocess.DEVNULL,
