@@ -6,8 +6,8 @@ NAME is a call or a constant, such as `os.fork`; a module, such as `fcntl`; or `
 open file has a name then. -S keeps modules of others from loading what looks at the system before.
 """
 
+import importlib
 import os
-import signal
 import sys
 from pathlib import Path
 
@@ -30,6 +30,7 @@ NAMES = {
         *("SIGUSR1", "SIGUSR2", "SIGCHLD", "pthread_sigmask", "pthread_kill", "SIG_BLOCK"),
         *("SIG_UNBLOCK", "SIG_SETMASK", "sigwait", "sigpending", "siginterrupt"),
     ),
+    "fcntl": ("F_SETPIPE_SZ",),
 }
 """What Python has on Linux alone, on some systems, or not on Windows. What the standard library
 itself calls on Linux to start a program is left."""
@@ -54,7 +55,7 @@ def take_away(name: str) -> None:
     elif attribute in SETS:
         setattr(os, attribute, set())
     else:
-        vars({"os": os, "signal": signal}[module]).pop(attribute, None)
+        vars(importlib.import_module(module)).pop(attribute, None)
 
 
 def main(names: str, words: list[str]) -> None:

@@ -28,7 +28,7 @@ LACKING = Path(__file__).resolve().parent / "lacking.py"
 SOME = (
     *("os.fork", "os.memfd_create", "os.geteuid", "os.O_CLOEXEC", "os.O_NOFOLLOW"),
     *("os.O_NONBLOCK", "os.sched_getaffinity", "os.link", "os.supports_fd", "/dev/fd", "fcntl"),
-    *("signal.setitimer", "signal.SIGHUP", "signal.pthread_sigmask"),
+    *("signal.setitimer", "signal.SIGHUP", "signal.pthread_sigmask", "fcntl.F_SETPIPE_SZ"),
 )
 """What mmquery uses where it is there, each of which is taken away by itself too."""
 
@@ -83,6 +83,21 @@ class Lacking(World):
             ("history", "db.mm", "v1..HEAD"),
         ):
             self.agree(ALL, *words)
+
+    def test_on_a_terminal(self) -> None:
+        """Where standard error is one, a line may say there what is being done."""
+        reading, writing = os.openpty()
+        self.addCleanup(os.close, reading)
+        done = subprocess.run(
+            [sys.executable, "-ISB", str(LACKING), ",".join(ALL), "rests", "db.mm", "a2"],
+            cwd=self.room,
+            env=self.surroundings(),
+            stdout=subprocess.PIPE,
+            stderr=writing,
+            check=False,
+        )
+        os.close(writing)
+        self.assertEqual((done.returncode, done.stdout), (0, b"ax-1\nax-mp\n"))
 
     def test_links_and_pipes_are_refused(self) -> None:
         self.agree(ALL, "gate", "--base", "HEAD", "db.mm")
