@@ -89,7 +89,6 @@ class Blocks(unittest.TestCase):
 TITLE = {1: "####", 2: "#*#*", 3: "=-=-", 4: "-.-."}
 """How a header of each level begins."""
 THEOREMS = {
-    "id": "ax-1",
     "2p2e4": "df-4",
     "eujust": "ax-10",
     "ax13v": "ax-13",
@@ -104,7 +103,7 @@ THEOREMS = {
     "fodom": "axac3",
     "axreg2": "ax-reg",
     "r1pw": "axreg2",
-    "r1pwALT": "id",
+    "r1pwALT": "ax-1",
 }
 """Theorems of set.mm that the pages name, each with what it cites here."""
 
@@ -115,25 +114,26 @@ def header(level: int, title: str) -> str:
     return f"$(\n{line}\n  {title}\n{line}\n$)\n"
 
 
+AXIOMS = "ax-1 ax-2 ax-3 ax-10 ax-13 ax-ext ax-reg ax-inf2 ax-ac2 df-4"
+START = """$c wff |- ( -> ) $.
+$v p q $.
+wp $f wff p $.
+wq $f wff q $.
+wi $a wff ( p -> q ) $.
+${ min $e |- p $. maj $e |- ( p -> q ) $. ax-mp $a |- q $. $}
+id $p |- ( p -> ( p -> p ) ) $= wp wp ax-0 $.
+"""
+
+
 def stand_in() -> str:
-    """A database in which each command of the pages has an answer."""
-    lines = ["$c wff |- ( -> ) $.", "$v p q $.", "wp $f wff p $.", "wq $f wff q $."]
-    lines += ["wi $a wff ( p -> q ) $."]
-    names = "ax-1 ax-2 ax-3 ax-10 ax-13 ax-ext ax-reg ax-inf2 ax-ac2 df-4"
-    for level, title in ((1, "One"), (1, "Two"), (1, "Three"), (2, "A"), (2, "B"), (3, "a")):
-        lines.append(header(level, title))
-    for number, name in enumerate(names.split()):
-        formula = "( p -> " * (number + 1) + "( q -> p )" + " )" * (number + 1)
-        lines.append(f"{name} $a |- {formula} $.")
-    lines.append("${ min $e |- p $. maj $e |- ( p -> q ) $. ax-mp $a |- q $. $}")
+    """A database in which each command of the pages has an answer. All axioms that it has of
+    set.mm's names state the same, and so do the theorems but `id`."""
+    formula = "|- ( p -> ( q -> p ) )"
+    lines = [header(1, "One"), START.replace("id $p", f"ax-0 $a {formula} $.\nid $p")]
+    lines += [header(1, "Two"), header(1, "Three"), header(2, "A"), header(2, "B"), header(3, "a")]
+    lines += [f"{name} $a {formula} $." for name in AXIOMS.split()]
     lines.append(header(3, "b"))
-    said: dict[str, str] = {each.split()[0]: each for each in lines if " $a |- " in each}
-    for name, cited in THEOREMS.items():
-        formula = said[cited].split(" |- ")[1].split(" $")[0]
-        if cited == "id":
-            formula = said["r1pw"].split(" |- ")[1].split(" $")[0]
-        said[name] = f"{name} $p |- {formula} $= wp wq {cited} $."
-        lines.append(said[name])
+    lines += [f"{name} $p {formula} $= wp wq {cited} $." for name, cited in THEOREMS.items()]
     lines.append(header(1, "Mathbox for A B"))
     return "\n".join(lines) + "\n"
 
@@ -165,7 +165,7 @@ class Commands(World):
 
     def test_the_stand_in(self) -> None:
         """It is a database of which the page's first example is true."""
-        self.assertIn("set.mm: valid, 12 axioms", self.query("verify", "set.mm").out)
+        self.assertIn("set.mm: valid, 13 axioms", self.query("verify", "set.mm").out)
         chain = "zorn numth3 cardeqv axac3 ax-ac2".split()
         self.assertEqual(self.answers("why", "set.mm", "zorn", "ax-ac2"), chain)
 
@@ -174,7 +174,6 @@ class Commands(World):
 
     def test_cookbook(self) -> None:
         self.assertGreater(self.all_answer("docs/COOKBOOK.md"), 50)
-        self.assertEqual(self.ran("bash", "-c", "cat report", PATH=self.path).out, "")
 
     def test_blocks_of_the_cookbook(self) -> None:
         for block in blocks():
