@@ -63,7 +63,10 @@ def branch_of(word: str) -> Branch:
     is_revision = is_of_git(word)
     if not is_revision and not os.path.lexists(word):
         raise NoAnswer(f"{shown(word)}: there is no such file")
-    repository = repository_of(Path.cwd())
+    try:
+        repository = repository_of(Path.cwd())
+    except NoAnswer as why:
+        raise NoAnswer(f"{why}; without git name two files: mmquery gate OLD NEW") from None
     if is_revision:
         revision, path = place_of(word)
         commit = repository.commit(revision)
