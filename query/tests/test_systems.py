@@ -1,6 +1,7 @@
 """mmquery where the system lacks what Linux has. What Windows and macOS do besides isn't tried."""
 
 import ast
+import lzma
 import ntpath
 import os
 import shutil
@@ -154,6 +155,19 @@ class Lacking(World):
             if "unshare" in came.err or "mount" in came.err:
                 self.skipTest("unshare may not hide a folder here")
             self.assertEqual(came, whole, f"{words}")
+
+    def test_modules_that_python_lacks(self) -> None:
+        """They are named, in one line."""
+        self.write("db.mm.xz", lzma.compress(WHOLE.encode()))
+        for name, words in {
+            "lzma": ("rests", "db.mm.xz", "a2"),
+            "sqlite3": words_of("export", "db.mm"),
+        }.items():
+            self.assertEqual(self.query(*words).status, 0)
+            came = self.without((name,), *words)
+            said = f"mmquery: this Python lacks the module {name}\n"
+            self.assertEqual((came.status, came.out, came.err), (2, "", said))
+            self.assertEqual(self.without((name,), "rests", "db.mm", "a2").status, 0)
 
     def test_nothing_is_kept_where_files_have_no_owner(self) -> None:
         self.assertEqual(self.without(("os.geteuid",), "rests", "db.mm", "a2").status, 0)
