@@ -15,7 +15,7 @@ from pathlib import Path
 
 from query.config import FILE_NAME, Config, load_config, read_config
 from query.errors import NoAnswer, shown
-from query.git import Repository, repository_of, short
+from query.git import NoRepository, Repository, repository_of, short
 from query.objects import Objects, id_of
 from query.rules import Finding
 from query.source import is_of_git, path_from_top, place_of, read_plainly
@@ -65,7 +65,7 @@ def branch_of(word: str) -> Branch:
         raise NoAnswer(f"{shown(word)}: there is no such file")
     try:
         repository = repository_of(Path.cwd())
-    except NoAnswer as why:
+    except NoRepository as why:
         raise NoAnswer(f"{why}; without git name two files: mmquery gate OLD NEW") from None
     if is_revision:
         revision, path = place_of(word)

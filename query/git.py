@@ -56,6 +56,10 @@ SURROUNDINGS = {
 what a partial clone lacks."""
 
 
+class NoRepository(NoAnswer):
+    """A folder lies in no repository."""
+
+
 @dataclass(frozen=True)
 class Repository:
     """A repository: `folder` is git's own, and `top` that of the working tree, or `folder` itself
@@ -240,7 +244,7 @@ def see_no_link_to_here() -> None:
 
 
 def repository_of(folder: Path) -> Repository:
-    """The repository in which a folder lies; it may be bare. NoAnswer where there is none.
+    """The repository in which a folder lies; it may be bare. NoRepository where there is none.
 
     It is found by the name `.git`, which nothing that is committed can have. A folder with the
     files of a bare repository is one only where it lies in no other repository.
@@ -258,7 +262,7 @@ def repository_of(folder: Path) -> Repository:
         if is_git_folder(each):
             inner = inner or each
     if inner is None:
-        raise NoAnswer(f"{shown(str(folder))}: not a git repository")
+        raise NoRepository(f"{shown(str(folder))}: not a git repository")
     return discovered(inner)
 
 
