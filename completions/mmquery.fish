@@ -18,7 +18,7 @@ complete -c mmquery -n __fish_use_subcommand -a same -d 'which theorems rest on 
 complete -c mmquery -n __fish_use_subcommand -a compare -d 'what is new, gone, renamed, and what came to rest on an axiom or no longer does'
 complete -c mmquery -n __fish_use_subcommand -a review -d 'what a change does to the theorems, one line for each, or as a comment'
 complete -c mmquery -n __fish_use_subcommand -a history -d 'how much rested on AXIOMs in each revision, or since when T does'
-complete -c mmquery -n __fish_use_subcommand -a gate -d 'the check of a pull request: what the base and its mmdepend.toml ask for'
+complete -c mmquery -n __fish_use_subcommand -a gate -d 'whether a pull request keeps the rules that the base'\''s mmdepend.toml sets'
 complete -c mmquery -n __fish_use_subcommand -a chapters -d 'headers, with how many theorems below each rest on axioms'
 complete -c mmquery -n __fish_use_subcommand -a order -d 'axioms and theorems in one list, in file order'
 complete -c mmquery -n __fish_use_subcommand -a unfinished -d 'theorems that are left open, and what rests on them'

@@ -3,6 +3,8 @@
  *     cc example.c $(pkg-config --cflags --libs mmdepend) -o example
  *     ./example FILE [PARTS [ROOM [OUT]]]
  *
+ * It is C11, since `aligned_alloc` is; for the header C99 is enough.
+ *
  * PARTS are matrix, counts, usage, citations and statements, with commas between them, or all: the
  * first three.
  * ROOM and OUT are how many bytes of memory are lent at first; where they are too few, more are. The

@@ -1,5 +1,7 @@
 /* mmdepend as a library: which axioms each theorem of a Metamath database rests on, verified.
  *
+ * This header is C99, and C++98.
+ *
  * Each call works on the calling thread alone, in memory that the caller lends. It calls nothing of
  * the caller's, keeps nothing between calls, and may run in several threads at once, each with
  * memory of its own.
@@ -69,8 +71,8 @@ enum mmdepend_form {
  *
  * room: comes back whole; only with MMDEPEND_NO_MEMORY it may come back with no unit, and then take
  *     it as given up.
- * text: the database, `text_len` bytes. Of more than 2,147,483,648 bytes only these are read, and
- *     they are refused.
+ * text: the database, `text_len` bytes. More than 2,147,483,647 are refused (E00); no more of them
+ *     is read than one byte beyond that limit.
  * only: the typecode of the axioms that are columns, and of the citations and statements that are
  *     listed, in UTF-8, if `has_only`; else all are.
  * sections: one or more bits of mmdepend_section.

@@ -28,6 +28,8 @@ PARTS = {"all": 7, "matrix": 1, "counts": 2, "usage": 4, "citations": 8, "statem
 USAGE = PARTS["usage"]
 NAMES = ("libmmdepend.so.0", "libmmdepend.so")
 UNIT = 16
+# How memory is taken of which only this process has use. Windows gives no other.
+PRIVATE = {"flags": mmap.MAP_PRIVATE | mmap.MAP_ANONYMOUS} if os.name == "posix" else {}
 # The room that is lent at first, for a byte of the text, and the least of it.
 ROOM_FOR_A_BYTE = 6
 LEAST = 1 << 20
@@ -128,8 +130,7 @@ class Memory:
     def __init__(self, size: int) -> None:
         self.size = max(size, mmap.PAGESIZE)
         try:
-            flags = mmap.MAP_PRIVATE | mmap.MAP_ANONYMOUS
-            self.pages = mmap.mmap(-1, self.size, flags=flags)
+            self.pages = mmap.mmap(-1, self.size, **PRIVATE)
         except (OSError, OverflowError, ValueError):
             raise MemoryError(f"the system gives no {self.size} bytes of memory") from None
 

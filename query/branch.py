@@ -15,7 +15,7 @@ from pathlib import Path
 
 from query.config import FILE_NAME, Config, load_config, read_config
 from query.errors import NoAnswer, shown
-from query.git import Repository, repository_of, short
+from query.git import NoRepository, Repository, repository_of, short
 from query.objects import Objects, id_of
 from query.rules import Finding
 from query.source import is_of_git, path_from_top, place_of, read_plainly
@@ -63,7 +63,10 @@ def branch_of(word: str) -> Branch:
     is_revision = is_of_git(word)
     if not is_revision and not os.path.lexists(word):
         raise NoAnswer(f"{shown(word)}: there is no such file")
-    repository = repository_of(Path.cwd())
+    try:
+        repository = repository_of(Path.cwd())
+    except NoRepository as why:
+        raise NoAnswer(f"{why}; without git name two files: mmquery gate OLD NEW") from None
     if is_revision:
         revision, path = place_of(word)
         commit = repository.commit(revision)

@@ -17,7 +17,7 @@ import os
 import re
 import time
 
-from query import secret, signals
+from query import secret, signals, system
 
 MOST = 1_000_000_000
 FORM = b"mmquery result 3\n"
@@ -81,7 +81,7 @@ def read_whole(path: str) -> bytes:
         state = os.fstat(descriptor)
         if secret.wrong_owner(state, 0o022) is not None or state.st_size > MOST:
             raise OSError("isn't the user's own")
-        os.utime(descriptor)
+        system.note_use(descriptor)
         return file.readall()
 
 
@@ -129,7 +129,7 @@ def store(key: str, parts: dict[str, bytes]) -> None:
 
 def write_new(path: str, data: bytes) -> None:
     """Writes a file that isn't there yet."""
-    descriptor = os.open(path, os.O_WRONLY | os.O_CREAT | os.O_EXCL | os.O_CLOEXEC, 0o600)
+    descriptor = os.open(path, system.MAKING, 0o600)
     try:
         view = memoryview(data)
         while view:

@@ -15,7 +15,7 @@ from query import cache, progress, secret
 from query.database import Database, Dependence, from_parts, to_parts
 from query.errors import NoAnswer
 from query.graph import Graph
-from query.parallel import Task
+from query.parallel import begun
 from query.program import Refused
 from query.statements import Pairer, Pairing
 from query.text import Text
@@ -78,7 +78,7 @@ def sides(old: Database, new: Database) -> tuple[Side, Side]:
     progress.now(f"verifying {old.name} and {new.name}")
     if any(each.uses_cache and not each.is_report for each in both):
         secret.made()  # here, since a process of its own may be ended while it makes one
-    tasks = [None if each.is_report else Task(partial(prepare, each)) for each in both]
+    tasks = [None if each.is_report else begun(partial(prepare, each)) for each in both]
     try:
         for each, task in zip(both, tasks):
             if task is not None:

@@ -193,7 +193,7 @@ def hold_descriptors() -> None:
         try:
             os.fstat(number)
         except OSError:
-            os.open("/dev/null", os.O_WRONLY if number == 0 else os.O_RDONLY)
+            os.open(os.devnull, os.O_WRONLY if number == 0 else os.O_RDONLY)
 
 
 def main(words: list[str]) -> NoReturn:
@@ -212,6 +212,8 @@ def main(words: list[str]) -> NoReturn:
     except OSError as error:
         place = f"{shown(os.fsdecode(error.filename))}: " if error.filename else ""
         status = no_answer(place + reason(error))
+    except ModuleNotFoundError as error:  # some systems leave out sqlite3, lzma or bz2
+        status = no_answer(f"this Python lacks the module {error.name}")
     except Exception as error:  # a traceback would end with status 1, which is the answer no
         status = no_answer(f"a fault of mmquery itself: {described(error)}")
     os._exit(status)

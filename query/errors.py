@@ -28,12 +28,17 @@ def shown(text: str, kept: str = "") -> str:
 
 
 def nearest(word: str, known: Iterable[str], cutoff: float = 0.5) -> str:
-    """Which of the known words is meant, as the end of a sentence; empty where none is near. Of
-    many words only those are compared that begin alike."""
+    """Which of the known words is meant, as the end of a sentence; empty where none is near. One
+    that differs in capital letters alone is nearest. Of many words only those are compared that
+    begin alike."""
     import difflib
 
     words = list(known)
-    if len(words) > FEW:
+    alike = next((each for each in words if each.lower() == word.lower()), None)
+    if alike is not None:
+        words = [alike]
+        cutoff = 0
+    elif len(words) > FEW:
         words = [each for each in words if each[:1] == word[:1] and abs(len(each) - len(word)) < 4]
     near = difflib.get_close_matches(word, words[:MANY], n=1, cutoff=cutoff)
     return f"; did you mean {shown(near[0])}?" if near else ""

@@ -7,14 +7,13 @@ whole one of the program would fill the cache after some twenty revisions of set
 from __future__ import annotations
 
 import json
-import os
 from array import array
 from collections import deque
 from collections.abc import Iterator, Sequence
 from dataclasses import asdict, dataclass, replace
 from functools import partial
 
-from query import cache, progress
+from query import cache, progress, system
 from query.database import Database, key_of, numbers_of
 from query.errors import NoAnswer, shown
 from query.git import short
@@ -22,7 +21,7 @@ from query.history import Revision
 from query.marks import columns_of
 from query.objects import Objects
 from query.options import Options
-from query.parallel import Task
+from query.parallel import Task, begun
 from query.program import Refused
 from query.report import Prepared
 from query.source import Source, unpacked
@@ -70,11 +69,11 @@ def figures_of(
     """What each revision says, in their order."""
     waiting = deque(found)
     tasks: deque[Task] = deque()
-    at_once = min(AT_ONCE, len(os.sched_getaffinity(0)))
+    at_once = min(AT_ONCE, system.processors())
     try:
         for number in range(len(found)):
             while waiting and len(tasks) < at_once:
-                tasks.append(Task(partial(written, objects, waiting.popleft(), question)))
+                tasks.append(begun(partial(written, objects, waiting.popleft(), question)))
             progress.now(f"verifying revision {number + 1} of {len(found)}")
             yield Figures(**json.loads(tasks[0].result()))
             tasks.popleft()

@@ -25,12 +25,15 @@ NO_COMMIT = "0" * 40
 FULL_ID = re.compile(r"(?:[0-9a-f]{40}|[0-9a-f]{64})(?![^:^~@])")
 HEAD = re.compile(r"HEAD(?![^:^~@])")
 
+NOWHERE = "/dev/null"
+"""The file that is empty. Git knows it by this name on each system."""
+
 SETTINGS = (
     "safe.bareRepository=explicit",
     "protocol.allow=never",
     "core.fsmonitor=false",
-    "core.hooksPath=/dev/null",
-    "core.attributesFile=/dev/null",
+    f"core.hooksPath={NOWHERE}",
+    f"core.attributesFile={NOWHERE}",
     "core.commitGraph=false",
     "core.warnAmbiguousRefs=true",
     "submodule.recurse=false",
@@ -42,7 +45,7 @@ SURROUNDINGS = {
     "LC_ALL": "C",
     "GIT_ALLOW_PROTOCOL": "none",
     "GIT_ATTR_NOSYSTEM": "1",
-    "GIT_GRAFT_FILE": os.devnull,
+    "GIT_GRAFT_FILE": NOWHERE,
     "GIT_NO_LAZY_FETCH": "1",
     "GIT_NO_REPLACE_OBJECTS": "1",
     "GIT_OPTIONAL_LOCKS": "0",
@@ -51,6 +54,10 @@ SURROUNDINGS = {
 """The same as variables. A setting `protocol.ext.allow` of a repository would go before
 `protocol.allow`, but not before GIT_ALLOW_PROTOCOL, which also keeps an older git from fetching
 what a partial clone lacks."""
+
+
+class NoRepository(NoAnswer):
+    """A folder lies in no repository."""
 
 
 @dataclass(frozen=True)
@@ -237,7 +244,7 @@ def see_no_link_to_here() -> None:
 
 
 def repository_of(folder: Path) -> Repository:
-    """The repository in which a folder lies; it may be bare. NoAnswer where there is none.
+    """The repository in which a folder lies; it may be bare. NoRepository where there is none.
 
     It is found by the name `.git`, which nothing that is committed can have. A folder with the
     files of a bare repository is one only where it lies in no other repository.
@@ -255,7 +262,7 @@ def repository_of(folder: Path) -> Repository:
         if is_git_folder(each):
             inner = inner or each
     if inner is None:
-        raise NoAnswer(f"{shown(str(folder))}: not a git repository")
+        raise NoRepository(f"{shown(str(folder))}: not a git repository")
     return discovered(inner)
 
 

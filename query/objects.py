@@ -9,18 +9,17 @@ from __future__ import annotations
 
 import hashlib
 import os
-import shutil
 import subprocess
-import tempfile
 import unicodedata
 from collections.abc import Mapping
+from contextlib import ExitStack
 from dataclasses import dataclass
 from pathlib import Path
 from types import TracebackType
 
-from query import signals
+from query import temporary
 from query.errors import NoAnswer, shown
-from query.git import Repository, call, said, short
+from query.git import NOWHERE, Repository, call, said, short
 
 ATTRIBUTES = "* merge -text -ident !filter !eol !working-tree-encoding\n"
 """These go before all that `.gitattributes` of a commit say: texts are merged as texts."""
@@ -52,16 +51,13 @@ class Objects:
     def __init__(self, repository: Repository) -> None:
         self.repository = repository
         self.folder = Path()
-        self.number = 0
+        self.opened = ExitStack()
 
     def __enter__(self) -> Objects:
-        self.folder = Path(tempfile.mkdtemp(prefix="mmquery-"))
-        self.number = signals.at_stop(self.remove)
-        try:
+        with ExitStack() as opened:
+            self.folder = opened.enter_context(temporary.folder())
             self.make()
-        except BaseException:
-            self.__exit__(None, None, None)
-            raise
+            self.opened = opened.pop_all()
         return self
 
     def __exit__(
@@ -70,12 +66,7 @@ class Objects:
         error: BaseException | None,
         trace: TracebackType | None,
     ) -> None:
-        self.remove()
-        signals.forget(self.number)
-
-    def remove(self) -> None:
-        """Removes the repository of our own."""
-        shutil.rmtree(self.folder, ignore_errors=True)
+        self.opened.close()
 
     def make(self) -> None:
         """Makes the repository of our own."""
@@ -101,7 +92,7 @@ class Objects:
         more = {
             "HOME": own,
             "XDG_CONFIG_HOME": own,
-            "GIT_CONFIG_GLOBAL": os.devnull,
+            "GIT_CONFIG_GLOBAL": NOWHERE,
             "GIT_CONFIG_NOSYSTEM": "1",
             "GIT_INDEX_FILE": str(self.folder / "index"),
             **NOBODY,

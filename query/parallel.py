@@ -1,34 +1,69 @@
-"""Work that another process does while this one goes on, since one of Python uses one processor."""
+"""Work that another process does while this one goes on, since one of Python uses one processor.
+
+Where a process can't make a copy of itself, this one does the work when its result is wanted.
+"""
 
 from __future__ import annotations
 
-import fcntl
 import os
 import signal
 from collections.abc import Callable
-from contextlib import suppress
-from typing import NoReturn
+from typing import NoReturn, Protocol
 
-from query import signals
+from query import signals, system
 from query.errors import NoAnswer
 from query.program import PIPE
 
 DONE, WITHOUT_ANSWER = b"+", b"-"
 
 
-class Task:
-    """Work that was begun: a function that returns bytes, in a copy of this process.
+class Task(Protocol):
+    """Work that is to be done: a function that returns bytes. What it does to objects may be seen
+    afterwards or not, so nothing may depend on it."""
+
+    def result(self) -> bytes:
+        """Waits for what the work returns. NoAnswer where it raised that, or ended otherwise."""
+
+    def stop(self) -> None:
+        """Ends the work, where its result isn't wanted any more."""
+
+
+def begun(work: Callable[[], bytes]) -> Task:
+    """Begins work in a copy of this process, or leaves it for later where there are no copies."""
+    if system.has_copies():
+        return Copy(work)
+    return Later(work)
+
+
+class Later:
+    """Work that this process does when its result is wanted."""
+
+    def __init__(self, work: Callable[[], bytes]) -> None:
+        self.work = work
+
+    def result(self) -> bytes:
+        """Does the work."""
+        try:
+            return self.work()
+        except NoAnswer as why:
+            raise NoAnswer(str(why)) from None
+
+    def stop(self) -> None:
+        """Does nothing: the work was done, or never begun."""
+
+
+class Copy:
+    """Work in a copy of this process.
 
     What the work does to objects stays in the copy. Its standard output and error go nowhere.
     """
 
     def __init__(self, work: Callable[[], bytes]) -> None:
         self.reading, writing = os.pipe()
-        with suppress(OSError):  # a smaller one will do
-            fcntl.fcntl(writing, fcntl.F_SETPIPE_SZ, PIPE)
+        system.widen(writing, PIPE)
         self.is_over = False
         with signals.held():
-            self.process = os.fork()
+            self.process = system.copy()
             if self.process == 0:
                 os.close(self.reading)
                 _do(work, writing)

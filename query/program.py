@@ -8,7 +8,7 @@ from collections.abc import Mapping, Sequence
 from dataclasses import dataclass
 from functools import cached_property
 
-from query import signals
+from query import signals, system
 from query.errors import NoAnswer, shown
 from query.output import reason
 from query.source import Source
@@ -60,8 +60,8 @@ class Running:
     ) -> None:
         import subprocess
 
-        self.errors = os.memfd_create("mmquery", os.MFD_CLOEXEC) if is_kept else None
         with signals.held():
+            self.errors = system.unnamed() if is_kept else None
             try:
                 self.process = subprocess.Popen(
                     [path, *words],
@@ -154,10 +154,13 @@ def devnull() -> int:
 
 def located(command: str) -> str | None:
     """Where a command is. A folder of PATH that is relative to the working folder doesn't count,
-    since whoever fills that folder could bring a command."""
-    folders = os.environ.get("PATH", os.defpath).split(os.pathsep)
-    path = os.pathsep.join(folder for folder in folders if os.path.isabs(folder))
-    return shutil.which(command, path=path)
+    since whoever fills that folder could bring a command; nor does the working folder itself, in
+    which Windows looks first."""
+    name = f"{command}.exe" if os.name == "nt" else command
+    for folder in os.environ.get("PATH", os.defpath).split(os.pathsep):
+        if os.path.isabs(folder) and (found := shutil.which(os.path.join(folder, name))):
+            return found
+    return None
 
 
 def without_node() -> dict[str, str]:

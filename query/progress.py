@@ -1,9 +1,9 @@
 """A line on standard error, on a terminal alone, while a command takes longer than a second."""
 
 import os
-import signal
 from types import FrameType
 
+from query import system
 from query.errors import shown
 
 _doing = "working"
@@ -32,17 +32,17 @@ def _put(text: str) -> None:
 
 
 def begin() -> None:
-    """From now on the line is shown after a second, where standard error is a terminal."""
+    """From now on the line is shown after a second, where standard error is a terminal and the
+    system has a clock for it."""
     if os.isatty(2):
-        signal.signal(signal.SIGALRM, _show)
-        signal.setitimer(signal.ITIMER_REAL, 1)
+        system.after(1, _show)
 
 
 def end() -> None:
     """Takes the line away."""
     global _is_shown
     if os.isatty(2):
-        signal.setitimer(signal.ITIMER_REAL, 0)
+        system.not_after()
     if _is_shown:
         _put("\r\x1b[K")
     _is_shown = False

@@ -11,6 +11,8 @@ import os
 import stat
 from pathlib import Path
 
+from query import system
+
 SIZE = 32
 NAME = "secret"
 
@@ -33,6 +35,8 @@ def place() -> str | None:
 
 def wrong_folder(path: str) -> str | None:
     """Why a folder isn't the user's own; None where it is, or isn't there yet."""
+    if system.user() is None:
+        return "this system doesn't tell whose it is"
     if any(is_in_checkout(each) for each in {os.path.abspath(path), os.path.realpath(path)}):
         return "it lies in a git checkout"
     try:
@@ -50,7 +54,7 @@ def wrong_folder(path: str) -> str | None:
 
 def wrong_owner(state: os.stat_result, mode: int) -> str | None:
     """Why a file isn't the user's own; `mode` are the rights that nobody else may have."""
-    if state.st_uid != os.geteuid():
+    if state.st_uid != system.user():
         return "it belongs to somebody else"
     if state.st_mode & mode:
         return "others may change it" if mode == 0o022 else "others may read it"
@@ -74,8 +78,7 @@ def said(error: OSError) -> str:
 
 def opened(path: str) -> int:
     """A file to be read, if it is one and no link. OSError where it isn't."""
-    flags = os.O_RDONLY | os.O_CLOEXEC | os.O_NOFOLLOW | os.O_NONBLOCK
-    descriptor = os.open(path, flags)
+    descriptor = system.opened(path)
     if not stat.S_ISREG(os.fstat(descriptor).st_mode):
         os.close(descriptor)
         raise OSError("isn't a file")
@@ -137,11 +140,11 @@ def make(path: str) -> None:
     that can't be done."""
     os.makedirs(os.path.dirname(path), mode=0o700, exist_ok=True)
     new = f"{path}.{os.getpid()}-{os.urandom(6).hex()}"
-    descriptor = os.open(new, os.O_WRONLY | os.O_CREAT | os.O_EXCL | os.O_CLOEXEC, 0o600)
+    descriptor = os.open(new, system.MAKING, 0o600)
     try:
         os.write(descriptor, os.urandom(SIZE))
         os.fsync(descriptor)
-        os.link(new, path)
+        system.link(new, path)
     except FileExistsError:
         pass  # another process was first, and its secret holds
     finally:

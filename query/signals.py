@@ -10,7 +10,8 @@ from collections.abc import Callable, Iterator
 from contextlib import contextmanager
 from types import FrameType
 
-STOPPING = (signal.SIGINT, signal.SIGTERM, signal.SIGHUP)
+from query import system
+from query.system import STOPPING
 
 _to_do: dict[int, Callable[[], None]] = {}
 _count = 0
@@ -80,4 +81,4 @@ def listen() -> None:
     for number in STOPPING:
         if signal.getsignal(number) is not signal.SIG_IGN:
             signal.signal(number, _stop)
-    signal.pthread_sigmask(signal.SIG_UNBLOCK, STOPPING)
+    system.let_in(STOPPING)

@@ -7,6 +7,7 @@ import zlib
 from dataclasses import dataclass
 from typing import TYPE_CHECKING
 
+from query import signals, system
 from query.errors import NoAnswer, shown
 from query.output import reason
 
@@ -37,12 +38,13 @@ class Source:
         """A descriptor from which the bytes can be read, for the program. OSError where none can be
         made, NoAnswer where the file was changed."""
         if self.path is not None:
-            descriptor = os.open(self.path, os.O_RDONLY | os.O_CLOEXEC)
+            descriptor = os.open(self.path, system.READING)
             if stamp_of(descriptor) != self.stamp:
                 os.close(descriptor)
                 self.changed()
             return descriptor
-        descriptor = os.memfd_create("mmquery", os.MFD_CLOEXEC)
+        with signals.held():
+            descriptor = system.unnamed()
         view = memoryview(self.data)
         while view:
             view = view[os.write(descriptor, view) :]
@@ -52,7 +54,7 @@ class Source:
     def see_unchanged(self) -> None:
         """NoAnswer where the file was changed since it was read."""
         if self.path is not None:
-            descriptor = os.open(self.path, os.O_RDONLY | os.O_CLOEXEC)
+            descriptor = os.open(self.path, system.READING)
             stamp = stamp_of(descriptor)
             os.close(descriptor)
             if stamp != self.stamp:
@@ -85,7 +87,7 @@ def opened(word: str) -> Source:
     if is_of_git(word):
         return Source(name, unpacked(name, of_git(word)))
     try:
-        descriptor = os.open(word, os.O_RDONLY | os.O_CLOEXEC)
+        descriptor = os.open(word, system.READING)
     except FileNotFoundError:
         raise NoAnswer(f"{name}: there is no such file") from None
     except OSError as error:
@@ -114,7 +116,7 @@ def read_plainly(path: "Path") -> bytes | None:
     or can't be read."""
     name = shown(str(path))
     try:
-        descriptor = os.open(path, os.O_RDONLY | os.O_CLOEXEC | os.O_NOFOLLOW)
+        descriptor = system.opened(path)
     except FileNotFoundError:
         return None
     except OSError as error:
@@ -139,10 +141,11 @@ def read_all(descriptor: int, name: str) -> bytes:
 def is_of_git(word: str) -> bool:
     """Whether a word is `REV:PATH`, and no file. NoAnswer where it could be both.
 
-    A word that begins with `/`, `./` or `../` is always a file, and one that begins with the full
-    id of a commit never.
+    A word that begins with `/`, `./` or `../` is always a file, as is one that begins with a drive
+    of Windows, and one that begins with the full id of a commit never.
     """
-    if ":" not in word or word.startswith(("/", "./", "../")):
+    is_plain = word.startswith(("/", "./", "../")) or os.path.splitdrive(word)[0]
+    if ":" not in word or is_plain:
         return False
     from pathlib import Path
 

@@ -9,7 +9,7 @@ from collections.abc import Iterable, Iterator
 from dataclasses import dataclass
 from itertools import chain, islice
 
-from query import signals
+from query import signals, system
 from query.database import Dependence
 from query.errors import NoAnswer, shown
 from query.output import reason
@@ -194,7 +194,7 @@ def export(content: Content, path: str) -> list[tuple[str, int]]:
     new = os.path.join(folder, f".{base}.{os.getpid()}-{os.urandom(6).hex()}")
     number = signals.at_stop(lambda: os.unlink(new))
     try:
-        os.close(os.open(new, os.O_WRONLY | os.O_CREAT | os.O_EXCL | os.O_CLOEXEC, 0o666))
+        os.close(os.open(new, system.MAKING, 0o666))
         counts = fill(content, new)
         os.replace(new, path)
     except OSError as error:

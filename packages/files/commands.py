@@ -20,15 +20,25 @@ def run(line: list[str]) -> NoReturn:
     os.execv(line[0], line)
 
 
+def node() -> str | None:
+    """Where Node is; None where it isn't. It isn't taken from a folder of PATH that is relative,
+    nor from the working folder, in which Windows looks first."""
+    name = "node.exe" if os.name == "nt" else "node"
+    for folder in os.environ.get("PATH", os.defpath).split(os.pathsep):
+        if os.path.isabs(folder) and (found := shutil.which(os.path.join(folder, name))):
+            return found
+    return None
+
+
 def mmdepend() -> NoReturn:
     """The program: the native one where the package has it, and else the one for Node."""
     native = PACKED / "mmdepend"
     if native.exists():
         run([str(native), *sys.argv[1:]])
-    node = shutil.which("node")
-    if node is None:
+    place = node()
+    if place is None:
         sys.exit("mmdepend: this package needs the command node, of Node 18 or later")
-    run([node, str(PACKED / "mmdepend.mjs"), *sys.argv[1:]])
+    run([place, str(PACKED / "mmdepend.mjs"), *sys.argv[1:]])
 
 
 def mmquery() -> NoReturn:

@@ -74,7 +74,7 @@ MODULES: dict[str, dict[str, str]] = {
         "history": "how much rested on AXIOMs in each revision, or since when T does",
     },
     "gate": {
-        "gate": "the check of a pull request: what the base and its mmdepend.toml ask for",
+        "gate": "whether a pull request keeps the rules that the base's mmdepend.toml sets",
     },
     "structure": {
         "chapters": "headers, with how many theorems below each rest on axioms",

@@ -33,9 +33,10 @@ WAY_OUT_PAGE = """
 Shows the smallest change that frees THEOREM of ON, an axiom or a theorem, as far as citations tell.
 
 of       THEOREM
-what     applies: on the way to ON, the proof of `theorem` applies it, or what is kept
-         first: one of the fewest citations that have to go, of all such sets that next to THEOREM
-         last: the same, of the set next to ON
+what     applies: `theorem`, on a way from THEOREM to ON, cites ON itself, or what is kept
+         first: one of the citations that have to go, as few as possible; where there is a choice,
+         those nearest to THEOREM
+         last: the same, but those nearest to ON
 theorem  who cites
 cited    what is cited
 

@@ -16,7 +16,8 @@ All together take at most 1 GB; the ones used longest ago go first. It is always
 them. Each has a code that is made with the user's secret, $XDG_CONFIG_HOME/mmquery/secret, else
 ~/.config/mmquery/secret, so nothing that somebody else put there is believed. Nothing is kept or
 taken where the folder or the secret lies in a git checkout, is a link, belongs to somebody else or
-may be changed by others, or where others may read the secret; standard error says so.
+may be changed by others, where others may read the secret, or where the system doesn't tell to whom
+a file belongs; standard error says so.
 
 show     the folder, how many results are in it, and how many bytes they take (the default)
 clear    removes them

@@ -3,14 +3,16 @@ program for Node makes it."""
 
 import argparse
 import os
-from contextlib import ExitStack
+from collections.abc import Iterator
+from contextlib import ExitStack, contextmanager
 
-from query import progress
+from query import progress, system, temporary
 from query.commands import Command
 from query.context import Context
 from query.database import Database
 from query.errors import NoAnswer
 from query.options import Options, add_choice_of_citations, add_database
+from query.source import Source
 
 PAGE = """
 Writes one HTML file to standard output. It loads nothing else and needs no server; a browser of
@@ -77,20 +79,35 @@ def node() -> str:
     return found
 
 
+@contextmanager
+def handed(sources: list[Source]) -> Iterator[tuple[list[str], list[int]]]:
+    """Names by which Node opens the sources, and the open files that it has to get for that. Where
+    open files have no names, these are names of copies in a folder of ours."""
+    with ExitStack() as opened:
+        descriptors = []
+        for source in sources:
+            descriptors.append(source.opened())
+            opened.callback(os.close, descriptors[-1])
+        names = [name for each in descriptors if (name := system.name_of(each))]
+        if len(names) == len(sources):
+            yield names, descriptors
+            return
+        folder = opened.enter_context(temporary.folder())
+        copies = [folder / f"{number}.mm" for number in range(len(sources))]
+        for source, copy in zip(sources, copies):
+            copy.write_bytes(source.data)
+        yield [str(copy) for copy in copies], []
+
+
 def made(databases: list[Database], words: list[str]) -> bytes:
     """The page that the program makes of the database, beside an older one where there are two.
     NoAnswer where it makes none."""
     from query.program import Running, devnull, without_node
 
-    with ExitStack() as opened:
-        places = {}
-        for database in databases:
-            descriptor = database.source.opened()
-            opened.callback(os.close, descriptor)
-            places[descriptor] = f"/dev/fd/{descriptor}"
-        first, *others = places.values()
+    with handed([database.source for database in databases]) as (places, passed):
+        first, *others = places
         line = [program(), "page", *words, *(f"--against={place}" for place in others), first]
-        running = Running(node(), line, devnull(), True, tuple(places), without_node())
+        running = Running(node(), line, devnull(), True, passed, without_node())
         out, errors, status = running.ended()
     for database in databases:
         database.source.see_unchanged()
@@ -98,9 +115,7 @@ def made(databases: list[Database], words: list[str]) -> bytes:
         return out
     if status < 0:
         raise NoAnswer(f"{databases[0].name}: the program was ended by signal {-status}")
-    raise NoAnswer(
-        told(errors.decode("utf-8", "replace"), databases, list(places.values()), status)
-    )
+    raise NoAnswer(told(errors.decode("utf-8", "replace"), databases, places, status))
 
 
 def told(said: str, databases: list[Database], places: list[str], status: int) -> str:

@@ -4,7 +4,7 @@ from __future__ import annotations
 
 import os
 
-from query import signals
+from query import signals, system
 from query.errors import NoAnswer, shown
 from query.output import reason
 
@@ -33,7 +33,7 @@ def write_new(path: str, data: bytes) -> None:
 
 def fill(path: str, data: bytes) -> None:
     """Makes a file with these bytes."""
-    descriptor = os.open(path, os.O_WRONLY | os.O_CREAT | os.O_EXCL | os.O_CLOEXEC, 0o666)
+    descriptor = os.open(path, system.MAKING, 0o666)
     with open(descriptor, "wb", buffering=0) as file:
         view = memoryview(data)
         while view:

@@ -41,6 +41,7 @@ class CommandLine(World):
 
     def test_unknown_words_are_named_with_the_nearest(self) -> None:
         self.refuses("rest", "small.mm", why="no command rest; did you mean rests?")
+        self.refuses("rests", "small.mm", "WI2", why="'WI2'; did you mean wi2?")
         self.refuses("xyzzy", why="no command xyzzy")
         self.refuses("rests", "small.mm", "a2", "--esential", why="did you mean --essential?")
         self.refuses("rests", "--formt=json", "small.mm", "a2", why="did you mean --format?")

@@ -187,7 +187,7 @@ class NoAnswers(Repositories):
         word = str(outside / "db.mm")
         self.has_no_answer("--base", "main", word, why="not in the repository")
         room, self.room = self.room, outside
-        self.has_no_answer("--base", "main", "db.mm", why="not a git repository")
+        self.has_no_answer("--base", "main", "db.mm", why="not a git repository; without git")
         self.room = room
         self.assertEqual(self.gate("db.mm", str(outside / "db.mm"), status=0), [])
 

@@ -1,0 +1,126 @@
+"""What some systems lack, with what is done there instead.
+
+No other module of `mmquery` calls what isn't in Python on every system. `query.tests.test_systems`
+takes away each of these, and finds the calls of others by their names.
+"""
+
+from __future__ import annotations
+
+import errno
+import os
+import signal
+import stat
+from collections.abc import Callable, Sequence
+from types import FrameType
+
+BINARY = getattr(os, "O_BINARY", 0)
+"""Without it Windows changes the ends of lines."""
+READING = os.O_RDONLY | BINARY
+"""For `os.open`: a file that is read. It stays with this process, as all that Python opens."""
+MAKING = os.O_WRONLY | os.O_CREAT | os.O_EXCL | BINARY
+"""For `os.open`: a file that isn't there yet, and is written."""
+
+STOPPING: tuple[signal.Signals, ...] = tuple(
+    getattr(signal, name) for name in ("SIGINT", "SIGTERM", "SIGHUP") if hasattr(signal, name)
+)
+"""The signals that end a command. Windows has no SIGHUP."""
+
+
+def unnamed() -> int:
+    """A descriptor of an empty file that has no name, so that nobody else can open it.
+
+    It is in memory, and where the system has no such files in the folder for temporary ones. There
+    it may have a name for a moment: who calls this holds signals back.
+    """
+    if hasattr(os, "memfd_create"):
+        return os.memfd_create("mmquery", os.MFD_CLOEXEC)
+    from tempfile import TemporaryFile
+
+    with TemporaryFile(prefix="mmquery-") as file:
+        return os.dup(file.fileno())
+
+
+def name_of(descriptor: int) -> str | None:
+    """By which name another program opens a file of ours that it is given; None where by none."""
+    name = f"/dev/fd/{descriptor}"
+    return name if os.name == "posix" and os.path.exists(name) else None
+
+
+def opened(path: str | os.PathLike[str]) -> int:
+    """A file to be read that is no link. OSError where it can't be opened, or is a link. A pipe is
+    opened at once, whoever writes to it."""
+    flags = READING | getattr(os, "O_NONBLOCK", 0)
+    if hasattr(os, "O_NOFOLLOW"):
+        return os.open(path, flags | os.O_NOFOLLOW)
+    before = os.lstat(path)
+    if stat.S_ISLNK(before.st_mode):
+        raise OSError(errno.ELOOP, os.strerror(errno.ELOOP))
+    descriptor = os.open(path, flags)
+    if not os.path.samestat(before, os.fstat(descriptor)):
+        os.close(descriptor)
+        raise OSError(errno.ELOOP, os.strerror(errno.ELOOP))
+    return descriptor
+
+
+def user() -> int | None:
+    """The number of the user; None where files don't tell whose they are."""
+    return os.geteuid() if hasattr(os, "geteuid") else None
+
+
+def link(path: str, other: str) -> None:
+    """Gives a file a second name. OSError where that can't be, and where there is such a name."""
+    if not hasattr(os, "link"):
+        raise OSError(errno.ENOTSUP, os.strerror(errno.ENOTSUP))
+    os.link(path, other)
+
+
+def note_use(descriptor: int) -> None:
+    """Gives a file the time of now, where that can be done."""
+    if os.utime in os.supports_fd:
+        os.utime(descriptor)
+
+
+def processors() -> int:
+    """How many processors this process may use."""
+    if hasattr(os, "sched_getaffinity"):
+        return len(os.sched_getaffinity(0))
+    return os.cpu_count() or 1
+
+
+def has_copies() -> bool:
+    """Whether a process can make a copy of itself."""
+    return hasattr(os, "fork")
+
+
+def copy() -> int:
+    """Makes a copy of this process. Returns its number, and 0 in the copy."""
+    return os.fork()
+
+
+def widen(pipe: int, size: int) -> None:
+    """Lets a pipe hold so many bytes, where that can be; a smaller one will do."""
+    try:
+        import fcntl
+
+        fcntl.fcntl(pipe, fcntl.F_SETPIPE_SZ, size)
+    except (ImportError, AttributeError, OSError):
+        pass
+
+
+def let_in(signals: Sequence[int]) -> None:
+    """Lets signals in that were held back when this process began."""
+    if hasattr(signal, "pthread_sigmask"):
+        signal.pthread_sigmask(signal.SIG_UNBLOCK, signals)
+
+
+def after(seconds: int, action: Callable[[int, FrameType | None], None]) -> None:
+    """Has something done once after so many seconds; never, where there is no such clock."""
+    if hasattr(signal, "setitimer"):
+        signal.signal(signal.SIGALRM, action)
+        signal.setitimer(signal.ITIMER_REAL, seconds)
+
+
+def not_after() -> None:
+    """Takes back what was to be done then."""
+    if hasattr(signal, "setitimer"):
+        signal.setitimer(signal.ITIMER_REAL, 0)
