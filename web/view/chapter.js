@@ -24,7 +24,7 @@ export class ChapterView {
         this.model = model;
         this.elements = elements;
         this.overview = overview;
-        this.watched = model.facts.watched.map((label) => model.columnOf[model.labels.find(label) ?? 0]);
+        this.watched = model.facts.watched.map((label) => model.columnOf[model.numberOf(label) ?? 0]);
     }
 
     /**

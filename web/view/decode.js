@@ -93,12 +93,15 @@ export function textOf(block) {
     return new TextDecoder().decode(block);
 }
 
-/** A block that is a row of numbers, read from its beginning. */
+/** A block of the page isn't what the packer writes. */
+export class Damaged extends Error {}
+
+/** A block that is a row of numbers, read from a place on. Damaged where it ends within a number. */
 export class Numbers {
     /** @param {Uint8Array} block */
-    constructor(block) {
+    constructor(block, place = 0) {
         this.block = block;
-        this.place = 0;
+        this.place = place;
     }
 
     next() {
@@ -108,6 +111,7 @@ export class Numbers {
             const byte = this.block[this.place++];
             number += (byte & 0x7f) * scale;
             if (byte < 0x80) return number;
+            if (byte === undefined) throw new Damaged("a block ends too early");
             scale *= 0x80;
         }
     }
@@ -206,18 +210,6 @@ export class Texts {
             else high = middle;
         }
         return low;
-    }
-
-    /**
-     * The line that is just this text, or undefined.
-     * @param {string} line
-     */
-    find(line) {
-        if (this.size === 0 || line.includes("\n")) return undefined;
-        if (this.at(0) === line) return 0;
-        if (this.text.endsWith(`\n${line}`)) return this.size - 1;
-        const place = this.text.indexOf(`\n${line}\n`) + 1;
-        return place === 0 ? undefined : this.lineAt(place);
     }
 }
 

@@ -56,7 +56,7 @@ export class DifferenceView {
      * @param {string} label
      */
     old(label) {
-        const number = this.model.labels.find(label);
+        const number = this.model.numberOf(label);
         return number === undefined ? element("code", { class: "label" }, label) : this.elements.link(number);
     }
 

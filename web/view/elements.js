@@ -201,12 +201,13 @@ export class Elements {
     }
 
     /**
-     * The beginning of a formula, as much of it as fits into a line or two.
+     * A formula, or its beginning where it is longer than that: as much as fits into a line or two, unless more is said.
      * @param {string} text
      */
-    shortFormula(text) {
-        if (text.length <= LONGEST_FOUND) return this.formula(text);
-        const made = this.formula(text.slice(0, text.lastIndexOf(" ", LONGEST_FOUND)));
+    shortFormula(text, isExplained = false, longest = LONGEST_FOUND) {
+        if (text.length <= longest) return this.formula(text, isExplained);
+        const space = text.lastIndexOf(" ", longest);
+        const made = this.formula(text.slice(0, space < 0 ? longest : space), isExplained);
         made.append(" …");
         return made;
     }
@@ -512,7 +513,7 @@ export class Elements {
      * @param {string} label
      */
     mention(label) {
-        const number = this.model.labels.find(label);
+        const number = this.model.numberOf(label);
         return number === undefined ? element("code", { class: "label" }, label) : this.link(number);
     }
 

@@ -2,7 +2,7 @@
 
 import { MOST_GIVEN, byId, count, element } from "./elements.js";
 import { plainText } from "./markup.js";
-import { Search } from "./search.js";
+import { Search, placesOf } from "./search.js";
 
 /** @typedef {import("./elements.js").Child} Child */
 /** @typedef {import("./elements.js").Elements} Elements */
@@ -280,7 +280,7 @@ export class Finder {
 function around(text, words, before) {
     const small = text.toLowerCase();
     const places = words.map((word) => small.indexOf(word)).filter((place) => place >= 0);
-    const at = places.length > 0 ? Math.min(...places) : 0;
+    const at = places.reduce((first, place) => Math.min(first, place), places[0] ?? 0);
     const space = text.indexOf(" ", Math.max(0, at - before));
     const from = at <= before ? 0 : space >= 0 && space < at ? space + 1 : at;
     const end = from + 4 * AROUND;
@@ -295,22 +295,12 @@ function around(text, words, before) {
  * @returns {Child[]}
  */
 function marked(text, words) {
-    const small = text.toLowerCase();
     /** @type {Child[]} */
     const parts = [];
     let place = 0;
-    while (place < text.length) {
-        let next = text.length;
-        let length = 0;
-        for (const word of words) {
-            const at = small.indexOf(word, place);
-            if (at >= 0 && (at < next || (at === next && word.length > length))) [next, length] = [at, word.length];
-        }
-        if (next > place) parts.push(text.slice(place, next));
-        if (length > 0) parts.push(element("mark", {}, text.slice(next, next + length)));
-        place = next + length;
+    for (const [start, end] of placesOf(text, words)) {
+        parts.push(text.slice(place, start), element("mark", {}, text.slice(start, end)));
+        place = end;
     }
-    return parts;
+    return [...parts, text.slice(place)];
 }
-
-
