@@ -24,11 +24,17 @@ declare module "node:path" {
 declare module "node:util" {
     type Kind = { type: "string" | "boolean"; multiple?: boolean; short?: string };
     type Value<K extends Kind> = K["type"] extends "boolean" ? boolean : K["multiple"] extends true ? string[] : string;
+    type Token =
+        | { kind: "option"; name: string; rawName: string; value: string | undefined; inlineValue: boolean | undefined }
+        | { kind: "positional"; value: string }
+        | { kind: "option-terminator" };
     export function parseArgs<O extends Record<string, Kind>>(asked: {
         args: string[];
         options: O;
         allowPositionals: boolean;
-    }): { values: { [name in keyof O]?: Value<O[name]> }; positionals: string[] };
+        strict?: boolean;
+        tokens?: boolean;
+    }): { values: { [name in keyof O]?: Value<O[name]> }; positionals: string[]; tokens: Token[] };
 }
 
 declare const process: { argv: string[]; exitCode: number | undefined };

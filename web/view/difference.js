@@ -57,7 +57,7 @@ export class DifferenceView {
      */
     old(label) {
         const number = this.model.numberOf(label);
-        return number === undefined ? element("code", { class: "label" }, label) : this.elements.link(number);
+        return number === undefined ? this.elements.label(label, "code") : this.elements.link(number);
     }
 
     /** The overview of the difference. */
@@ -190,7 +190,7 @@ export class DifferenceView {
     /** @param {[number, string][]} renamed */
     renamedList(renamed) {
         const lines = renamed.map(([number, was]) => {
-            const before = element("span", { class: "hint" }, "was ", element("code", { class: "label" }, was), " ");
+            const before = element("span", { class: "hint" }, "was ", this.elements.label(was, "code"), " ");
             return this.elements.line(number, before);
         });
         return element("ul", { class: "lines" }, ...lines);
@@ -255,7 +255,7 @@ export class DifferenceView {
         if (this.added.has(number)) lines.push(element("p", {}, "It is new."));
         const was = this.renamed.get(number);
         if (was !== undefined) {
-            lines.push(element("p", {}, "Its label was ", element("code", { class: "label" }, was), "."));
+            lines.push(element("p", {}, "Its label was ", this.elements.label(was, "code"), "."));
         }
         if (this.changed.has(number)) lines.push(element("p", {}, "Its statement has changed."));
         const shifts = (this.shifts.get(number) ?? []).map(({ axiom, isGain, why }) =>

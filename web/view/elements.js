@@ -100,11 +100,11 @@ function spelled(made, spelling) {
 }
 
 /**
- * The class of a label that stays in one line, after a space; nothing for a long one.
+ * The classes of a label: one that isn't long stays in one line.
  * @param {string} label
  */
-function wholeIfShort(label) {
-    return label.length <= LONGEST_WHOLE ? " look-whole" : "";
+export function classesOfLabel(label) {
+    return label.length <= LONGEST_WHOLE ? "label look-whole" : "label";
 }
 
 export class Elements {
@@ -124,6 +124,15 @@ export class Elements {
     }
 
     /**
+     * A label that is no link, such as that of a hypothesis.
+     * @param {string} label
+     * @param {"span" | "code"} name
+     */
+    label(label, name = "span") {
+        return element(name, { class: classesOfLabel(label) }, label);
+    }
+
+    /**
      * A link to an assertion, with the colour of its group.
      * @param {number} number
      * @param {Record<string, Value>} attributes
@@ -132,7 +141,7 @@ export class Elements {
         const column = this.model.columnOf[number];
         const colour = column < 0 ? "" : ` of-${this.model.groupKey(column)}`;
         const label = this.model.labels.at(number);
-        const classes = `label${colour}${wholeIfShort(label)}`;
+        const classes = `${classesOfLabel(label)}${colour}`;
         return element("a", { href: this.address(number), class: classes, ...attributes }, label);
     }
 
@@ -514,7 +523,7 @@ export class Elements {
      */
     mention(label) {
         const number = this.model.numberOf(label);
-        return number === undefined ? element("code", { class: "label" }, label) : this.link(number);
+        return number === undefined ? this.label(label, "code") : this.link(number);
     }
 
     /**

@@ -1,6 +1,6 @@
 // The field of the search with what was found, and the view of all that was found.
 
-import { MOST_GIVEN, byId, count, element } from "./elements.js";
+import { MOST_GIVEN, byId, classesOfLabel, count, element } from "./elements.js";
 import { plainText } from "./markup.js";
 import { Search, placesOf } from "./search.js";
 
@@ -133,7 +133,7 @@ export class Finder {
                 onclick: () => this.choose(index),
                 onpointermove: () => this.activate(index),
             },
-            element("span", { class: "label" }, ...marked(label, words)),
+            element("span", { class: classesOfLabel(label) }, ...marked(label, words)),
             element("span", { class: "kind" }, this.model.kindName(number).toLowerCase()),
             text,
         );

@@ -144,7 +144,7 @@ export class ProofView {
         if (steps.what[step] === Step.assertion) return this.elements.link(number);
         const isFloating = steps.what[step] === Step.floating;
         const label = isFloating ? this.proofs.givenBy(number).label : this.model.hypothesisLabels.at(number);
-        return element("span", { class: "label" }, label);
+        return this.elements.label(label);
     }
 }
 

@@ -66,7 +66,7 @@ export class Statements {
             element(
                 "li",
                 { class: "line" },
-                element("span", { class: "label" }, model.hypothesisLabels.at(index)),
+                elements.label(model.hypothesisLabels.at(index)),
                 " ",
                 elements.formula(model.hypothesisFormulas.at(index), true),
             ),
