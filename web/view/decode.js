@@ -1,5 +1,8 @@
 // Reads the blocks of data that stand in the page.
 
+/** A block of the page isn't what the packer writes. */
+export class Damaged extends Error {}
+
 /** The blocks of the page, by their names. Each is deflated and written in base64; once read, it leaves the page. */
 export class Blocks {
     constructor() {
@@ -44,12 +47,15 @@ export class Blocks {
     }
 
     /**
-     * Reads all blocks but those that are read when they are needed.
+     * Reads all blocks but those that are read when they are needed. Damaged where they aren't all of one page.
      * @param {(name: string) => boolean} isLater
      */
     async loadFirst(isLater) {
-        const holders = document.querySelectorAll("script[id^='data-']");
-        const names = Array.from(holders, (holder) => holder.id.slice(5));
+        /** @type {HTMLElement[]} */
+        const holders = Array.from(document.querySelectorAll("script[id^='data-']"));
+        const pages = new Set(holders.map((holder) => holder.dataset.page));
+        if (pages.size > 1) throw new Damaged("the blocks of several pages are mixed");
+        const names = holders.map((holder) => holder.id.slice(5));
         await Promise.all(names.filter((name) => !isLater(name)).map((name) => this.load(name)));
     }
 }
@@ -92,9 +98,6 @@ function fromBase64(signs) {
 export function textOf(block) {
     return new TextDecoder().decode(block);
 }
-
-/** A block of the page isn't what the packer writes. */
-export class Damaged extends Error {}
 
 /** A block that is a row of numbers, read from a place on. Damaged where it ends within a number. */
 export class Numbers {
