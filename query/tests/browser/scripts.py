@@ -59,7 +59,8 @@ window.gather = async (hash, label) => {
             ]),
         ]),
         neighbours: Array.from(main.querySelectorAll(".neighbours a"), (link) => [
-            link.rel, link.textContent, link.getAttribute("href"), link.getAttribute("aria-label")]),
+            link.rel, link.textContent, link.getAttribute("href"),
+            link.getAttribute("aria-label")]),
         glance: texts("#glance strong"),
         avoids: texts("#avoids ul a"),
         cites: texts("#cites li > a"),
@@ -160,7 +161,7 @@ return small;
 # Labels of at most twenty letters that are broken at the end of a line; DOCUMENT is the page's.
 BROKEN_LABELS = """
 const page = DOCUMENT;
-const parts = Array.from(page.querySelectorAll(".label, h1"), (one) => {
+const parts = Array.from(page.querySelectorAll(".label"), (one) => {
     const range = page.createRange();
     range.selectNodeContents(one);
     const tops = Array.from(range.getClientRects(), (box) => Math.round(box.top / 4));
