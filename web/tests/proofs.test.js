@@ -94,6 +94,14 @@ function spelled(number) {
     return letters;
 }
 
+test("brackets of very many labels, and a step that is marked again and again", { timeout: 60_000 }, async () => {
+    const many = 100_000;
+    const [wi, ax, mp] = [spelled(4), spelled(4 + many), spelled(5 + many)];
+    await seesA1i(`( ${"wi ".repeat(many)}ax mp ) ABA${wi}CAB${ax}${mp}`);
+    const marked = spelled(6 + many);
+    await seesA1i(`( wi ax mp ) A${"Z".repeat(many)}B${marked}DCGBEF`);
+});
+
 test("many marked steps, of which some are far back", async () => {
     // Forty marked steps, each `( p -> q )`, are joined; then marked ones are repeated.
     const size = 40;
