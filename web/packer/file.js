@@ -1,7 +1,5 @@
 // Puts the blocks of a database into the one file of its page.
 
-/** @typedef {import("./pack.js").Blocks} Blocks */
-
 /**
  * The page without its data: texts, and between them, at the odd places, the names of what is put there, `title` and
  * `data`. web/build makes it, with style, script and policy.
@@ -55,7 +53,7 @@ function numberOf(blocks) {
  * How hard a block is deflated, by the levels of zlib: proofs hardly get smaller where it takes four times as long.
  * @param {string} name
  */
-function levelOf(name) {
+export function levelOf(name) {
     return name.startsWith("proof-") ? 6 : 9;
 }
 
@@ -63,14 +61,11 @@ function levelOf(name) {
  * The page of a database.
  * @param {Shell} shell
  * @param {string} title without signs that no screen shows
- * @param {Blocks} blocks
- * @param {(block: Uint8Array, level: number) => string} packed deflates a block, as hard as the level of zlib says, and
- *     writes it in base64
+ * @param {Map<string, string>} blocks deflated, in base64
  */
-export function pageFile(shell, title, blocks, packed) {
-    const written = new Map(Array.from(blocks, ([name, block]) => [name, packed(block, levelOf(name))]));
-    const page = numberOf(written.values());
-    const data = Array.from(written, ([name, signs]) => holder(name, signs, page)).join("\n");
+export function pageFile(shell, title, blocks) {
+    const page = numberOf(blocks.values());
+    const data = Array.from(blocks, ([name, signs]) => holder(name, signs, page)).join("\n");
     /** @type {Record<string, string>} */
     const parts = { title: escaped(title), data };
     return shell.map((part, at) => (at % 2 === 0 ? part : parts[part])).join("");

@@ -42,7 +42,10 @@ export function blocksOf(text, said, cites) {
     const report = encoded(reportOf(text, said, cites));
     const read = readText(encoded(text), report);
     const about = { title: "t", file: "x.mm", bytes: 1, sha256: null, maker: "x", watched: [], ...PLAIN };
-    return new Map([...packText(read, about, NOTHING), ...packReports(readReport(read, PLAIN, report))]);
+    const blocks = new Map();
+    packText(read, about, NOTHING, blocks);
+    packReports(readReport(read, PLAIN, report), blocks);
+    return blocks;
 }
 
 /** The model that blocks give. */

@@ -46,8 +46,9 @@ function read(text, said) {
 
 /** A block of a text, as lines. */
 function lines(text, said, name) {
-    const block = packText(read(text, said), about("t"), NOTHING).get(name);
-    return new TextDecoder().decode(block).split("\n");
+    const blocks = new Map();
+    packText(read(text, said), about("t"), NOTHING, blocks);
+    return new TextDecoder().decode(blocks.get(name)).split("\n");
 }
 
 /** A comment as one line. */
@@ -116,8 +117,7 @@ test("numbers", () => {
 
 test("what is put into the file is never searched for places, and ends no element", () => {
     const shell = ["<title>", "title", "</title><main>", "title", "</main>", "data", "<script>1</script>"];
-    const blocks = new Map([["facts", encoded("</script>{{script}}")]]);
-    const page = pageFile(shell, "data<b>&'\"", blocks, (block) => Buffer.from(block).toString("base64"));
+    const page = pageFile(shell, "data<b>&'\"", new Map([["facts", btoa("</script>{{script}}")]]));
     assert.ok(page.startsWith("<title>data&lt;b&gt;&amp;&#x27;&quot;</title>"));
     assert.equal(page.split("</script>").length - 1, 2);
     assert.match(page, / id="data-facts" data-page="[0-9a-f]{8}">\nPC9zY3JpcHQ\+e3tzY3JpcHR9fQ==\n<\/script>/);
@@ -146,10 +146,10 @@ async function blocksRead(page) {
 
 test("blocks of several pages aren't taken for one", async () => {
     const shell = ["", "data", ""];
-    const packed = (block, level) => deflateSync(block, { level }).toString("base64");
+    const packed = (text) => deflateSync(text).toString("base64");
     const pageOf = (title) => {
-        const said = lines(TEXT, SAID, "labels").join("\n");
-        return pageFile(shell, "", new Map([["labels", encoded(said)], ["title", encoded(title)]]), packed);
+        const labels = lines(TEXT, SAID, "labels").join("\n");
+        return pageFile(shell, "", new Map([["labels", packed(labels)], ["title", packed(title)]]));
     };
     const [one, other] = [pageOf("one"), pageOf("other")];
     const blocks = await blocksRead(one);

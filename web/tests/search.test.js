@@ -109,7 +109,7 @@ test("where few are left by the words before, the next one is only looked for th
 });
 
 test("very many words are looked for once each", { timeout: 20_000 }, async () => {
-    const words = Array.from({ length: 20_000 }, (_, at) => `w${at}`).join(" ");
+    const words = Array.from({ length: 4_000 }, (_, at) => `w${at}`).join(" ");
     const { text, said } = manyAssertions(300);
     const search = await searchOf(text.replace("even0 third0", words), said);
     const answer = search.find(words);
