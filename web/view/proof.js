@@ -13,8 +13,8 @@ import { Abandoned, Turns } from "./turns.js";
 /** So many steps are shown at first, and more at a time. */
 const FIRST_STEPS = 40;
 const MORE_STEPS = 500;
-/** A formula with more signs is cut: steps can double it again and again. */
-const LONGEST_FORMULA = 10_000;
+/** A formula with more signs is cut: steps can double it again and again. None of set.mm is as long. */
+const LONGEST_FORMULA = 25_000;
 
 export class ProofView {
     /**

@@ -195,7 +195,7 @@ def check_doubling(browser: Browser) -> None:
         )
         count(wanted in str(told), f"{browser.name}: the proof of {label}", str(told)[:300])
         size = browser.run("return document.getElementById('proof').textContent.length")
-        count(size < 50_000, f"{browser.name}: what is shown of the proof of {label}", size)
+        count(size < 100_000, f"{browser.name}: what is shown of the proof of {label}", size)
 
 
 def check_against(browser: Browser, room: Path) -> None:
