@@ -115,6 +115,9 @@ end $p |- a $= nested $.
 """
 
 
+# A comment that names a label so often that some of them stand where a line ends.
+NAMED = " ".join(f"{'w' * (at % 9)} ~ ax-mp ;" for at in range(90))
+
 # Databases in which something is missing, or which are made to hurt.
 CORNERS = {
     "axioms": "$c |- a $. only $a |- a $.",
@@ -123,6 +126,7 @@ CORNERS = {
     " ${ k $e |- a $. $}",
     "doubling": doubling(15),
     "hurting": hurting(50_000),
+    "labels": f"$c |- a $. $( {NAMED} $) ax-mp $a |- a $. b $p |- a $= ax-mp $.",
 }
 
 # A release and the next: `b` gains ax-2 and ax-5 and loses ax-1, `d` loses ax-1 for ax-3, `old`

@@ -24,6 +24,7 @@ from query.tests.browser.databases import (
     OPEN,
     SHOWN_TITLE,
 )
+from query.tests.browser.parts import check_narrow
 from query.tests.browser.scripts import CONTRAST
 from query.tests.browser.truth import DATABASES, HERE, PROGRAM, Truth
 from query.tests.browser.views import Shown
@@ -178,6 +179,8 @@ def check_corners(browser: Browser, room: Path) -> None:
         count(found, f"{browser.name} {name}: the overview")
         if name == "doubling":
             check_doubling(browser)
+        if name == "labels":
+            check_narrow(browser, page, ["#axiom=ax-mp"], room)
         same(browser.messages(), [], f"{browser.name} {name}: messages in the console")
 
 
