@@ -24,8 +24,9 @@ function reportOf(text, said, cites) {
         }
         return digits;
     };
+    const places = new Map(Array.from(text.matchAll(/(?<=^|\s)(\S+) \$[ap]/g), ({ 1: label, index }) => [label, index]));
     const lines = labels.map((label) => {
-        const place = text.search(new RegExp(`(?<=^|\\s)${label} \\$[ap]`));
+        const place = places.get(label);
         return `${label}:${cites[label] ? "p" : "a"}:${place}:${text.indexOf("$.", place) + 2}:${said[label]}`;
     });
     return [

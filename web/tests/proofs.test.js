@@ -55,6 +55,16 @@ function linesOf(derivation, areAll = false) {
     });
 }
 
+test("more theorems than a call may have arguments", { timeout: 60_000 }, async () => {
+    const many = 150_000;
+    const labels = Array.from({ length: many }, (_, at) => `t${at}`);
+    const cites = Object.fromEntries(labels.map((label, at) => [label, [at === 0 ? "ax" : labels[at - 1]]]));
+    const text = `$c |- a $. ax $a |- a $.\n${labels.map((label) => `${label} $p |- a $= ${cites[label]} $.\n`).join("")}`;
+    const said = Object.fromEntries([["ax", " $a |- a"], ...labels.map((label) => [label, " $p |- a"])]);
+    const derivation = await derivationOf(proofsOf(blocksOf(text, said, cites)), "t2500");
+    assert.deepEqual(linesOf(derivation), ["t2499 : |- a"]);
+});
+
 /** Sees that a proof of `a1i`, written in some way, is read. */
 async function seesA1i(proof, cites = ["wi", "ax", "mp"]) {
     const text = `${HEAD}\${ h $e |- p $. a1i $p |- ( q -> p ) $= ${proof} $. $}`;

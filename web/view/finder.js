@@ -16,6 +16,8 @@ const SHOWN_IN_VIEW = 100;
 /** Letters before a word that was found: in one line, which may be a telephone's, and in several. */
 const BEFORE = 20;
 const AROUND = 60;
+/** A label with more letters is cut below the field. */
+const LONGEST_LABEL = 240;
 /** The first half of a sign such as 𝐴, where the second one is cut off. */
 const HALF = /[\ud800-\udbff]$/;
 
@@ -133,7 +135,7 @@ export class Finder {
                 onclick: () => this.choose(index),
                 onpointermove: () => this.activate(index),
             },
-            element("span", { class: classesOfLabel(label) }, ...marked(label, words)),
+            element("span", { class: classesOfLabel(label) }, marked(cut(label), words)),
             element("span", { class: "kind" }, this.model.kindName(number).toLowerCase()),
             text,
         );
@@ -269,6 +271,14 @@ export class Finder {
         const text = plainText(comment, (formula) => this.search.symbols.textOf(formula));
         return marked(around(text, words, before), words);
     }
+}
+
+/**
+ * A label, without the end of a very long one.
+ * @param {string} label
+ */
+function cut(label) {
+    return label.length > LONGEST_LABEL ? `${label.slice(0, LONGEST_LABEL)}…` : label;
 }
 
 /**
