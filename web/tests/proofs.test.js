@@ -59,7 +59,7 @@ test("more theorems than a call may have arguments", { timeout: 60_000 }, async 
     const many = 150_000;
     const labels = Array.from({ length: many }, (_, at) => `t${at}`);
     const cites = Object.fromEntries(labels.map((label, at) => [label, [at === 0 ? "ax" : labels[at - 1]]]));
-    const text = `$c |- a $. ax $a |- a $.\n${labels.map((label) => `${label} $p |- a $= ${cites[label]} $.\n`).join("")}`;
+    const text = `$c |- a $. $v p $. fp $f |- p $. ax $a |- a $.\n${labels.map((label) => `${label} $p |- a $= ${cites[label]} $.\n`).join("")}`;
     const said = Object.fromEntries([["ax", " $a |- a"], ...labels.map((label) => [label, " $p |- a"])]);
     const derivation = await derivationOf(proofsOf(blocksOf(text, said, cites)), "t2500");
     assert.deepEqual(linesOf(derivation), ["t2499 : |- a"]);
