@@ -33,8 +33,8 @@ extern "C" {
 #endif
 
 /* Memory that is lent for a call. What is in it before and after the call is of no meaning. Six times
- * the text's length and a megabyte is enough for the databases that there are; see mmdepend_status
- * for what comes of too little. */
+ * the text's length and a megabyte is enough for the databases that there are. No multiple of it is
+ * enough for every text: with MMDEPEND_NO_MEMORY lend twice as much, and call again. */
 struct mmdepend_room {
     void *at;     /* a multiple of 16 */
     size_t units; /* of 16 bytes each */
@@ -46,7 +46,7 @@ enum mmdepend_status {
     MMDEPEND_NOT_UTF8 = 2,      /* the typecode isn't UTF-8 */
     MMDEPEND_OUT_TOO_SHORT = 3, /* `out` holds the first `out_len` bytes of the output; it has as
                                    many bytes as `written` says */
-    MMDEPEND_NO_MEMORY = 4,     /* the room is too small */
+    MMDEPEND_NO_MEMORY = 4,     /* the room is too small; how much would do isn't known */
     MMDEPEND_NO_SUCH_REQUEST = 5 /* no section or an unknown one is named, or no form has the number */
 };
 

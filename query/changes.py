@@ -74,24 +74,32 @@ def take(database: Database, prepared: bytes) -> None:
 def sides(old: Database, new: Database) -> tuple[Side, Side]:
     """Both databases, verified at the same time. Refused where one of them is refused: if both are,
     OLD."""
-    both = (old, new)
     progress.now(f"verifying {old.name} and {new.name}")
-    if any(each.uses_cache and not each.is_report for each in both):
+    if any(each.uses_cache and not each.is_report for each in (old, new)):
         secret.made()  # here, since a process of its own may be ended while it makes one
-    tasks = [None if each.is_report else begun(partial(prepare, each)) for each in both]
+    task = None if old.is_report else begun(partial(prepare, old))
     try:
-        for each, task in zip(both, tasks):
-            if task is not None:
-                take(each, task.result())
+        text, failed = read(new)
+        if task is not None:
+            take(old, task.result())
     finally:
-        for task in tasks:
-            if task is not None:
-                task.stop()
+        if task is not None:
+            task.stop()
+    if failed is not None:
+        raise failed
     progress.now(f"comparing {old.name} and {new.name}")
-    first, second = (
-        Side(each.dependence(), None if each.is_report else each.text) for each in both
-    )
-    return first, second
+    first = Side(old.dependence(), None if old.is_report else old.text)
+    return first, Side(new.dependence(), text)
+
+
+def read(database: Database) -> tuple[Text | None, NoAnswer | None]:
+    """What stands in a database; of a report nothing. And why it can't be read, if that is so."""
+    if database.is_report:
+        return None, None
+    try:
+        return database.text, None
+    except NoAnswer as why:
+        return None, why
 
 
 @dataclass(frozen=True)

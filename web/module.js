@@ -45,7 +45,9 @@ export async function report(text, request = {}) {
     const said = Object.fromEntries(Object.entries(request).filter(([, value]) => value !== undefined));
     const answer = await answered(await core(), text.length, (bytes) => bytes().set(text), said);
     if (answer.status === REFUSED) throw new Refused(answer.report);
-    if (answer.status === NO_MEMORY) throw new RangeError("out of memory");
+    if (answer.status === NO_MEMORY) {
+        throw new RangeError(`out of memory: ${answer.memory} bytes are too few for a text of ${text.length}`);
+    }
     if (answer.status !== 0) throw new TypeError("there is no such section, form or typecode");
     return answer.report.slice();
 }

@@ -8,7 +8,12 @@ declare module "node:fs" {
 }
 
 declare module "node:zlib" {
-    export function deflateSync(bytes: Uint8Array, options: { level: number }): { toString(form: "base64"): string };
+    type Packed = { toString(form: "base64"): string };
+    export function deflate(
+        bytes: Uint8Array,
+        options: { level: number; chunkSize: number },
+        done: (error: Error | null, packed: Packed) => void,
+    ): void;
     export function gunzipSync(bytes: Uint8Array, options: { maxOutputLength: number }): Uint8Array;
     export function inflateRawSync(bytes: Uint8Array): Uint8Array;
 }
@@ -24,11 +29,20 @@ declare module "node:path" {
 declare module "node:util" {
     type Kind = { type: "string" | "boolean"; multiple?: boolean; short?: string };
     type Value<K extends Kind> = K["type"] extends "boolean" ? boolean : K["multiple"] extends true ? string[] : string;
+    type Token =
+        | { kind: "option"; name: string; rawName: string; value: string | undefined; inlineValue: boolean | undefined }
+        | { kind: "positional"; value: string }
+        | { kind: "option-terminator" };
+    export function promisify<A, B, R>(
+        call: (one: A, other: B, done: (error: Error | null, result: R) => void) => void,
+    ): (one: A, other: B) => Promise<R>;
     export function parseArgs<O extends Record<string, Kind>>(asked: {
         args: string[];
         options: O;
         allowPositionals: boolean;
-    }): { values: { [name in keyof O]?: Value<O[name]> }; positionals: string[] };
+        strict?: boolean;
+        tokens?: boolean;
+    }): { values: { [name in keyof O]?: Value<O[name]> }; positionals: string[]; tokens: Token[] };
 }
 
 declare const process: { argv: string[]; exitCode: number | undefined };

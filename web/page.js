@@ -2,11 +2,11 @@
 
 import { webcrypto } from "node:crypto";
 import { basename } from "node:path";
-import { parseArgs } from "node:util";
-import { deflateSync, gunzipSync } from "node:zlib";
+import { parseArgs, promisify } from "node:util";
+import { deflate, gunzipSync } from "node:zlib";
 import { READING_LIMIT, report, version } from "./library.js";
 import { explained, faultOf, refusalOf } from "./packer/faults.js";
-import { pageFile } from "./packer/file.js";
+import { levelOf, pageFile } from "./packer/file.js";
 import { Making, NoAnswer } from "./packer/making.js";
 import { visible } from "./packer/visible.js";
 import { Ending, STDOUT, bytesOf, join, outOfMemory, piecesOf, sizeOf, writeAll } from "./streams.js";
@@ -180,12 +180,40 @@ function watchedIn(words, { word, axioms }) {
     return labels;
 }
 
+/** Deflates blocks as they come: other threads do that, while more of them are made. */
+class Deflating {
+    constructor() {
+        /** @type {Map<string, Promise<string>>} */
+        this.coming = new Map();
+    }
+
+    /**
+     * @param {string} name
+     * @param {Uint8Array} block
+     */
+    set(name, block) {
+        this.coming.set(name, deflated(block, levelOf(name)));
+    }
+
+    /** All of them, in base64. */
+    async blocks() {
+        /** @type {Map<string, string>} */
+        const blocks = new Map();
+        for (const [name, signs] of this.coming) blocks.set(name, await signs);
+        return blocks;
+    }
+}
+
+const asDeflated = promisify(deflate);
+
 /**
  * @param {Uint8Array} block
  * @param {number} level
  */
-function packed(block, level) {
-    return deflateSync(block, { level }).toString("base64");
+async function deflated(block, level) {
+    // All in one piece: after each piece the other thread waits for this one.
+    const chunkSize = block.length + (block.length >>> 8) + 64;
+    return (await asDeflated(block, { level, chunkSize })).toString("base64");
 }
 
 /**
@@ -212,9 +240,10 @@ async function made({ values, positionals }, tools) {
     const { making, side } = database;
     const { title = name } = values;
     const maker = `mmdepend ${await version(tools.module)}`;
-    const blocks = await making.ofText({ maker, entities: tools.tables.entities, title, watched });
-    for (const [block, bytes] of making.ofReports(side, older)) blocks.set(block, bytes);
-    return pageFile(tools.shell, visible(title), blocks, packed);
+    const packed = new Deflating();
+    await making.packText({ maker, entities: tools.tables.entities, title, watched }, packed);
+    making.packReports(side, older, packed);
+    return pageFile(tools.shell, visible(title), await packed.blocks());
 }
 
 /**

@@ -6,7 +6,9 @@ import zlib
 
 Blocks = dict[str, bytes]
 
-HOLDER = re.compile(r'<script type="application/octet-stream" id="data-([^"]*)">([^<]*)</script>')
+HOLDER = re.compile(
+    r'<script type="application/octet-stream" id="data-([^"]*)" data-page="[0-9a-f]{8}">([^<]*)<'
+)
 
 
 def blocks_in(page: str) -> Blocks:

@@ -97,39 +97,6 @@ export class Rows {
     }
 }
 
-/**
- * Numbers that are active at places of a text, from 0, each with the one before it. What is active later shares its
- * beginning with what was active before. A list is given by its last number, counted from 1; 0 is the empty one.
- */
-export class Chains {
-    constructor() {
-        this.before = new Row();
-        this.before.push(0);
-    }
-
-    /**
-     * Adds the next number behind a list. Returns the list that it ends.
-     * @param {number} list
-     */
-    add(list) {
-        this.before.push(list);
-        return this.before.size - 1;
-    }
-
-    /**
-     * The numbers of a list, rising.
-     * @param {number} list
-     */
-    of(list) {
-        const { items } = this.before;
-        let size = 0;
-        for (let at = list; at > 0; at = items[at]) size++;
-        const found = new Uint32Array(size);
-        for (let at = list; at > 0; at = items[at]) found[--size] = at - 1;
-        return found;
-    }
-}
-
 const ENCODER = new TextEncoder();
 const DECODER = new TextDecoder("latin1");
 
@@ -366,15 +333,6 @@ export class Words {
      */
     find(bytes, start, end) {
         return this.table[this.seatOf(bytes, start, end)];
-    }
-
-    /**
-     * The number of a word that is given as a text, or -1.
-     * @param {string} word
-     */
-    findText(word) {
-        const bytes = encoded(word);
-        return this.find(bytes, 0, bytes.length);
     }
 
     /**

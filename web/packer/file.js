@@ -1,7 +1,5 @@
 // Puts the blocks of a database into the one file of its page.
 
-/** @typedef {import("./pack.js").Blocks} Blocks */
-
 /**
  * The page without its data: texts, and between them, at the odd places, the names of what is put there, `title` and
  * `data`. web/build makes it, with style, script and policy.
@@ -30,18 +28,32 @@ function escaped(text) {
  * A block in its element. Deflated and in base64, nothing of it can end an element of the page.
  * @param {string} name
  * @param {string} signs in base64
+ * @param {string} page the number of the page
  */
-function holder(name, signs) {
+function holder(name, signs, page) {
     const lines = [];
     for (let at = 0; at < signs.length; at += WIDTH) lines.push(signs.slice(at, at + WIDTH));
-    return `<script type="application/octet-stream" id="data-${name}">\n${lines.join("\n")}\n</script>`;
+    const attributes = `type="application/octet-stream" id="data-${name}" data-page="${page}"`;
+    return `<script ${attributes}>\n${lines.join("\n")}\n</script>`;
+}
+
+/**
+ * A number of the page, by all its blocks. Each of them has it, so that none can be taken for one of another page.
+ * @param {Iterable<string>} blocks in base64
+ */
+function numberOf(blocks) {
+    let sum = 0x811c9dc5; // FNV-1a, of 32 bits
+    for (const signs of blocks) {
+        for (let at = 0; at < signs.length; at++) sum = Math.imul(sum ^ signs.charCodeAt(at), 0x01000193);
+    }
+    return (sum >>> 0).toString(16).padStart(8, "0");
 }
 
 /**
  * How hard a block is deflated, by the levels of zlib: proofs hardly get smaller where it takes four times as long.
  * @param {string} name
  */
-function levelOf(name) {
+export function levelOf(name) {
     return name.startsWith("proof-") ? 6 : 9;
 }
 
@@ -49,12 +61,11 @@ function levelOf(name) {
  * The page of a database.
  * @param {Shell} shell
  * @param {string} title without signs that no screen shows
- * @param {Blocks} blocks
- * @param {(block: Uint8Array, level: number) => string} packed deflates a block, as hard as the level of zlib says, and
- *     writes it in base64
+ * @param {Map<string, string>} blocks deflated, in base64
  */
-export function pageFile(shell, title, blocks, packed) {
-    const data = Array.from(blocks, ([name, block]) => holder(name, packed(block, levelOf(name)))).join("\n");
+export function pageFile(shell, title, blocks) {
+    const page = numberOf(blocks.values());
+    const data = Array.from(blocks, ([name, signs]) => holder(name, signs, page)).join("\n");
     /** @type {Record<string, string>} */
     const parts = { title: escaped(title), data };
     return shell.map((part, at) => (at % 2 === 0 ? part : parts[part])).join("");

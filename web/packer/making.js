@@ -51,11 +51,11 @@ export class Making {
     }
 
     /**
-     * The blocks of what stands in the database.
+     * Packs what stands in the database.
      * @param {Wishes} wishes
-     * @returns {Promise<Blocks>}
+     * @param {Blocks} blocks
      */
-    async ofText({ maker, entities, title = this.name, watched = [] }) {
+    async packText({ maker, entities, title = this.name, watched = [] }, blocks) {
         const { source } = this.text;
         const { only, essential, open } = this.request;
         const about = {
@@ -69,7 +69,7 @@ export class Making {
             open,
             watched,
         };
-        return packText(this.text, about, entities);
+        packText(this.text, about, entities, blocks);
     }
 
     /** The text beside what the report says of marks and citations. */
@@ -83,19 +83,17 @@ export class Making {
     }
 
     /**
-     * The blocks of marks and citations, and with an older release that of the comparison.
+     * Packs marks, citations and proofs, and with an older release the comparison.
      * @param {Side} side
      * @param {{ name: string, side: Side } | null} older
-     * @returns {Blocks}
+     * @param {Blocks} blocks
      */
-    ofReports(side, older) {
-        const blocks = packReports(side.dependence);
-        if (older) {
-            for (const { name, side: each } of [older, { name: this.name, side }]) {
-                if (each.dependence.axioms.length === 0) throw new NoAnswer(name, "has no axiom to compare");
-            }
-            blocks.set("against", packDifference(older.side, side, older.name));
+    packReports(side, older, blocks) {
+        packReports(side.dependence, blocks);
+        if (!older) return;
+        for (const { name, side: each } of [older, { name: this.name, side }]) {
+            if (each.dependence.axioms.length === 0) throw new NoAnswer(name, "has no axiom to compare");
         }
-        return blocks;
+        blocks.set("against", packDifference(older.side, side, older.name));
     }
 }

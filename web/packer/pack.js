@@ -32,7 +32,10 @@ import { visible } from "./visible.js";
  * @property {string[]} watched
  */
 
-/** @typedef {Map<string, Uint8Array>} Blocks */
+/**
+ * What takes blocks by their names, such as a map.
+ * @typedef {{ set: (name: string, block: Uint8Array) => unknown }} Blocks
+ */
 
 /** How many comments are in a block. */
 const CHUNK = 512;
@@ -329,29 +332,23 @@ function packComments(text, blocks) {
 }
 
 /**
- * The blocks that the text alone gives, by their names.
+ * Packs what the text alone gives.
  * @param {Text} text
  * @param {About} about
  * @param {Entities} entities
- * @returns {Blocks}
+ * @param {Blocks} blocks
  */
-export function packText(text, about, entities) {
-    /** @type {Blocks} */
-    const blocks = new Map();
+export function packText(text, about, entities, blocks) {
     packStatements(text, about, entities, blocks);
     packComments(text, blocks);
-    return blocks;
 }
 
 /**
- * The blocks that the reports give, by their names.
+ * Packs what the reports give.
  * @param {Dependence} dependence
- * @returns {Blocks}
+ * @param {Blocks} blocks
  */
-export function packReports(dependence) {
-    /** @type {Blocks} */
-    const blocks = new Map();
+export function packReports(dependence, blocks) {
     packMarks(dependence, blocks);
     packProofs(dependence, blocks);
-    return blocks;
 }

@@ -85,8 +85,10 @@ class Frequent {
         for (const item of text.frames.row.taken()) if (item % 2 === 0) floating[frames.numbers[item / 2]]++;
         /** Of each kind the labels, the most used first. What is of no `$f`'s typecode is mostly cited once. */
         this.labels = [1, 2, 3].map((kind) => {
-            const found = labelsOf(floating, kinds.floating, kind, 0);
-            found.push(...labelsOf(assertions, kinds.assertions, kind, 1));
+            const found = [
+                ...labelsOf(floating, kinds.floating, kind, 0),
+                ...labelsOf(assertions, kinds.assertions, kind, 1),
+            ];
             found.sort(([one, often], [other, less]) => less - often || one - other);
             return found.slice(0, FREQUENT).map(([label]) => label);
         });

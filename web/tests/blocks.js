@@ -24,8 +24,9 @@ function reportOf(text, said, cites) {
         }
         return digits;
     };
+    const places = new Map(Array.from(text.matchAll(/(?<=^|\s)(\S+) \$[ap]/g), ({ 1: label, index }) => [label, index]));
     const lines = labels.map((label) => {
-        const place = text.search(new RegExp(`(?<=^|\\s)${label} \\$[ap]`));
+        const place = places.get(label);
         return `${label}:${cites[label] ? "p" : "a"}:${place}:${text.indexOf("$.", place) + 2}:${said[label]}`;
     });
     return [
@@ -42,7 +43,10 @@ export function blocksOf(text, said, cites) {
     const report = encoded(reportOf(text, said, cites));
     const read = readText(encoded(text), report);
     const about = { title: "t", file: "x.mm", bytes: 1, sha256: null, maker: "x", watched: [], ...PLAIN };
-    return new Map([...packText(read, about, NOTHING), ...packReports(readReport(read, PLAIN, report))]);
+    const blocks = new Map();
+    packText(read, about, NOTHING, blocks);
+    packReports(readReport(read, PLAIN, report), blocks);
+    return blocks;
 }
 
 /** The model that blocks give. */

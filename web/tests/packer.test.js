@@ -2,12 +2,14 @@
 
 import assert from "node:assert/strict";
 import { test } from "node:test";
+import { deflateSync } from "node:zlib";
 import { Writer, encoded } from "../packer/bytes.js";
 import { Mark, marksOf, putLine } from "../packer/comments.js";
 import { faultOf, refusalOf, explained } from "../packer/faults.js";
 import { pageFile } from "../packer/file.js";
 import { packText } from "../packer/pack.js";
 import { UnreadableText, readText } from "../packer/text.js";
+import { Blocks, Damaged } from "../view/decode.js";
 
 const NOTHING = { named: {}, numbers: {}, none: [] };
 const TEXT = `$c |- set wff = $. $v x y z p q $.
@@ -44,8 +46,9 @@ function read(text, said) {
 
 /** A block of a text, as lines. */
 function lines(text, said, name) {
-    const block = packText(read(text, said), about("t"), NOTHING).get(name);
-    return new TextDecoder().decode(block).split("\n");
+    const blocks = new Map();
+    packText(read(text, said), about("t"), NOTHING, blocks);
+    return new TextDecoder().decode(blocks.get(name)).split("\n");
 }
 
 /** A comment as one line. */
@@ -114,11 +117,47 @@ test("numbers", () => {
 
 test("what is put into the file is never searched for places, and ends no element", () => {
     const shell = ["<title>", "title", "</title><main>", "title", "</main>", "data", "<script>1</script>"];
-    const blocks = new Map([["facts", encoded("</script>{{script}}")]]);
-    const page = pageFile(shell, "data<b>&'\"", blocks, (block) => Buffer.from(block).toString("base64"));
+    const page = pageFile(shell, "data<b>&'\"", new Map([["facts", btoa("</script>{{script}}")]]));
     assert.ok(page.startsWith("<title>data&lt;b&gt;&amp;&#x27;&quot;</title>"));
     assert.equal(page.split("</script>").length - 1, 2);
-    assert.ok(page.includes(' id="data-facts">\nPC9zY3JpcHQ+e3tzY3JpcHR9fQ==\n</script>'));
+    assert.match(page, / id="data-facts" data-page="[0-9a-f]{8}">\nPC9zY3JpcHQ\+e3tzY3JpcHR9fQ==\n<\/script>/);
+});
+
+/** What stands for the document of a page: its elements that hold blocks. */
+function documentOf(page) {
+    const holders = Array.from(page.matchAll(/<script [^>]*id="([^"]*)" data-page="([^"]*)">([^<]*)</g), (match) => {
+        const [, id, number, textContent] = match;
+        return { id, dataset: { page: number }, textContent, remove() {} };
+    });
+    return { querySelectorAll: () => holders, getElementById: (id) => holders.find((one) => one.id === id) ?? null };
+}
+
+/** Reads the blocks of a page as the page itself does. */
+async function blocksRead(page) {
+    globalThis.document = documentOf(page);
+    try {
+        const blocks = new Blocks();
+        await blocks.loadFirst(() => false);
+        return blocks;
+    } finally {
+        delete globalThis.document;
+    }
+}
+
+test("blocks of several pages aren't taken for one", async () => {
+    const shell = ["", "data", ""];
+    const packed = (text) => deflateSync(text).toString("base64");
+    const pageOf = (title) => {
+        const labels = lines(TEXT, SAID, "labels").join("\n");
+        return pageFile(shell, "", new Map([["labels", packed(labels)], ["title", packed(title)]]));
+    };
+    const [one, other] = [pageOf("one"), pageOf("other")];
+    const blocks = await blocksRead(one);
+    assert.equal(new TextDecoder().decode(blocks.get("labels")), "all\nsome\nnone");
+    assert.equal(one, pageOf("one"));
+    const [, first] = one.split(/(?<=<\/script>\n)/);
+    const [second] = other.split(/(?<=<\/script>\n)/);
+    await assert.rejects(blocksRead(second + first), Damaged);
 });
 
 test("faults in one line", () => {

@@ -2,7 +2,8 @@
 
 import assert from "node:assert/strict";
 import { test } from "node:test";
-import { encoded } from "../packer/bytes.js";
+import { Writer, encoded } from "../packer/bytes.js";
+import { Damaged } from "../view/decode.js";
 import { Derivation, OtherFormula, TooManySigns } from "../view/derivation.js";
 import { MOST_STEPS, Proofs, TooManySteps } from "../view/proofs.js";
 import { Abandoned, Turns } from "../view/turns.js";
@@ -30,9 +31,8 @@ function proofsOf(blocks) {
 }
 
 /** The proof of a theorem, carried out. */
-async function derivationOf(proofs, label) {
-    const theorem = proofs.model.labels.find(label);
-    const turns = new Turns(() => true);
+async function derivationOf(proofs, label, turns = new Turns(() => true)) {
+    const theorem = proofs.model.numberOf(label);
     const derivation = new Derivation(proofs, await proofs.steps(theorem, turns));
     await derivation.run(theorem, turns);
     return derivation;
@@ -54,6 +54,16 @@ function linesOf(derivation, areAll = false) {
         return `${labels[derivation.steps.what[step]]()} ${numbers}: ${derivation.formula(step)}`;
     });
 }
+
+test("more theorems than a call may have arguments", { timeout: 60_000 }, async () => {
+    const many = 150_000;
+    const labels = Array.from({ length: many }, (_, at) => `t${at}`);
+    const cites = Object.fromEntries(labels.map((label, at) => [label, [at === 0 ? "ax" : labels[at - 1]]]));
+    const text = `$c |- a $. $v p $. fp $f |- p $. ax $a |- a $.\n${labels.map((label) => `${label} $p |- a $= ${cites[label]} $.\n`).join("")}`;
+    const said = Object.fromEntries([["ax", " $a |- a"], ...labels.map((label) => [label, " $p |- a"])]);
+    const derivation = await derivationOf(proofsOf(blocksOf(text, said, cites)), "t2500");
+    assert.deepEqual(linesOf(derivation), ["t2499 : |- a"]);
+});
 
 /** Sees that a proof of `a1i`, written in some way, is read. */
 async function seesA1i(proof, cites = ["wi", "ax", "mp"]) {
@@ -94,6 +104,14 @@ function spelled(number) {
     return letters;
 }
 
+test("brackets of very many labels, and a step that is marked again and again", { timeout: 60_000 }, async () => {
+    const many = 100_000;
+    const [wi, ax, mp] = [spelled(4), spelled(4 + many), spelled(5 + many)];
+    await seesA1i(`( ${"wi ".repeat(many)}ax mp ) ABA${wi}CAB${ax}${mp}`);
+    const marked = spelled(6 + many);
+    await seesA1i(`( wi ax mp ) A${"Z".repeat(many)}B${marked}DCGBEF`);
+});
+
 test("many marked steps, of which some are far back", async () => {
     // Forty marked steps, each `( p -> q )`, are joined; then marked ones are repeated.
     const size = 40;
@@ -125,7 +143,7 @@ test("a `$f` behind a `$e`, a variable that only the proof has, and one that is 
     const proofs = proofsOf(blocksOf(text, said, { two: ["we", "wa", "one"], three: ["wa", "one"] }));
     assert.deepEqual(linesOf(await derivationOf(proofs, "two")), ["h : |- A", "one 1: |- A"]);
     assert.deepEqual(linesOf(await derivationOf(proofs, "three")), ["j : |- A", "one 1: |- q A"]);
-    const odd = proofs.frameOf(proofs.model.labels.find("one")).map((item) => item % 2);
+    const odd = proofs.frameOf(proofs.model.numberOf("one")).map((item) => item % 2);
     assert.deepEqual(odd, [0, 1, 0]);
 });
 
@@ -183,4 +201,85 @@ test("work is done in turns, and given up where nobody waits for it", async () =
     assert.equal(turns.isOver(63), false);
     isWanted = false;
     await assert.rejects(turns.next(), Abandoned);
+});
+
+test("long formulas of which little is left, and what costs time though it has no signs, have a limit", async () => {
+    const size = 20_000;
+    const long = `|- A${" p".repeat(size)}`;
+    const base = `$c wff |- A $. $v p $. wp $f wff p $. we $a wff $. start $a |- A $.
+\${ big.h $e |- A $. big $a ${long} $. $}
+`;
+    const said = {
+        we: " $a wff",
+        start: " $a |- A",
+        big: `${P} $e big.h |- A $a ${long}`,
+        all: " $p |- A",
+    };
+    const proof = (many) => `${"we ".repeat(many)}start${" big".repeat(many)}`;
+    const read = (many) => {
+        const blocks = blocksOf(`${base}all $p |- A $= ${proof(many)} $.`, said, { all: ["we", "start", "big"] });
+        return derivationOf(proofsOf(blocks), "all");
+    };
+    assert.equal((await read(10)).all.length, 21);
+    await assert.rejects(read(1200), TooManySigns);
+});
+
+test("proofs that are read at the same time don't disturb one another", async () => {
+    const one = "wp wq wp wi h wp wq ax mp";
+    const text = `${HEAD}\${ h $e |- p $. first $p |- ( q -> p ) $= ${one} $. second $p |- ( q -> p ) $= ${one} $. $}`;
+    const said = { ...SAID, first: A1I, second: A1I };
+    const cites = { first: ["wi", "ax", "mp"], second: ["wi", "ax", "mp"] };
+    const proofs = proofsOf(blocksOf(text, said, cites));
+    const hurried = { isOver: () => true, next: () => new Promise((resume) => setTimeout(resume)) };
+    await derivationOf(proofs, "first");
+    const labels = ["second", "first", "second", "first"];
+    const all = await Promise.all(labels.map((label) => derivationOf(proofs, label, hurried)));
+    for (const derivation of all) assert.equal(linesOf(derivation).length, 3);
+});
+
+/** How a proof is told not to be shown. */
+const TOLD = [Damaged, OtherFormula, TooManySigns, TooManySteps];
+
+/** Sees that what is read proves `( q -> p )`, though by other steps, or that it is told why there are none. */
+async function seesTold(blocks, label, what) {
+    try {
+        const last = linesOf(await derivationOf(proofsOf(blocks), label), true).pop();
+        assert.ok(last.endsWith(": |- ( q -> p )"), `${what}: ${last}`);
+    } catch (error) {
+        assert.ok(TOLD.some((kind) => error instanceof kind), `${what}: ${error}`);
+    }
+}
+
+test("damaged proofs are told as such, and never shown otherwise", { timeout: 60_000 }, async () => {
+    const text = `${HEAD}\${ h $e |- p $. a1i $p |- ( q -> p ) $= ( wi ax mp ) AZBGADCGBEF $. $}`;
+    const whole = blocksOf(text, { ...SAID, a1i: A1I }, { a1i: ["wi", "ax", "mp"] });
+    const writer = new Writer();
+    for (const number of [2 ** 31, 2 ** 32, 2 ** 53 - 1]) writer.number(number);
+    const large = Buffer.from(writer.taken());
+    for (const name of ["proof-steps-0", "proof-frames", "proof-labels", "proof-floating"]) {
+        const block = Buffer.from(whole.get(name));
+        for (let at = 0; at < block.length; at++) {
+            const [before, after] = [block.subarray(0, at), block.subarray(at + 1)];
+            const others = [0, 1, 0x7f, 0x80, 0xff, block[at] ^ 1, block[at] ^ 2].map((byte) => [byte]);
+            const damages = [[], ...others, [...large], Array(12).fill(0xff)];
+            for (const damage of damages) {
+                const changed = Buffer.concat([before, Buffer.from(damage), after]);
+                await seesTold(new Map([...whole, [name, changed]]), "a1i", `${name} ${at} ${damage}`);
+            }
+            await seesTold(new Map([...whole, [name, before]]), "a1i", `${name} to ${at}`);
+        }
+    }
+});
+
+test("proofs of another database are told not to be those of this one", async () => {
+    const text = `${HEAD}\${ h $e |- p $. a1i $p |- ( q -> p ) $= wp wq wp wi h wp wq ax mp $. $}`;
+    const blocks = blocksOf(text, { ...SAID, a1i: A1I }, { a1i: ["wi", "ax", "mp"] });
+    const other = `${HEAD}same $p |- ( p -> ( q -> p ) ) $= wp wq ax $.`;
+    const said = { ...SAID, same: `${PQ} $p |- ( p -> ( q -> p ) )` };
+    const others = blocksOf(other, said, { same: ["ax"] });
+    const names = [...blocks.keys()].filter((name) => name.startsWith("proof-"));
+    for (const mixed of [names, ...names.map((name) => [name])]) {
+        const blend = new Map([...blocks, ...mixed.map((name) => [name, others.get(name)])]);
+        await seesTold(blend, "a1i", mixed.join(" "));
+    }
 });

@@ -2,7 +2,7 @@
 
 import assert from "node:assert/strict";
 import { test } from "node:test";
-import { Search, wordsOf } from "../view/search.js";
+import { Search, placesOf, wordsOf } from "../view/search.js";
 import { Symbols } from "../view/symbols.js";
 import { blocksOf, modelOf } from "./blocks.js";
 
@@ -30,12 +30,22 @@ const SAID = {
     image: `${F}${G}${X} $a |- ( ph " ps ) = ( x " ph )`,
 };
 
-/** The labels of what is found, the best first. */
-async function found(typed) {
-    const model = modelOf(blocksOf(TEXT, SAID, {}));
+/** The search of a text, made ready. */
+async function searchOf(text, said) {
+    const model = modelOf(blocksOf(text, said, {}));
     const search = new Search(model, new Symbols(model.facts, model.typecodeOf));
     await search.prepare();
-    return search.all(search.find(typed)).map((number) => model.labels.at(number));
+    return search;
+}
+
+/** The labels of what a search finds, the best first. */
+function labelsFor(search, typed) {
+    return search.all(search.find(typed)).map((number) => search.model.labels.at(number));
+}
+
+/** The labels of what is found, the best first. */
+async function found(typed) {
+    return labelsFor(await searchOf(TEXT, SAID), typed);
 }
 
 test("a formula that is typed exactly comes first, with its typecode or without, with spaces or without", async () => {
@@ -70,10 +80,49 @@ test("quotes that are symbols", async () => {
 });
 
 test("what is typed letter by letter finds the same", async () => {
-    const model = modelOf(blocksOf(TEXT, SAID, {}));
-    const search = new Search(model, new Symbols(model.facts, model.typecodeOf));
-    await search.prepare();
+    const search = await searchOf(TEXT, SAID);
     for (let size = 1; size <= 8; size++) search.find("(ph->ph)".slice(0, size));
-    const labels = search.all(search.find("(ph->ph)")).map((number) => model.labels.at(number));
-    assert.deepEqual(labels, await found("(ph->ph)"));
+    assert.deepEqual(labelsFor(search, "(ph->ph)"), await found("(ph->ph)"));
+});
+
+/** A text of many assertions, each with a comment of two words, and what they say. */
+function manyAssertions(size) {
+    const labels = Array.from({ length: size }, (_, at) => `s${at}`);
+    const text = labels.map((label, at) => `$( even${at % 2} third${at % 3} $) ${label} $a |- ph $.\n`).join("");
+    const said = Object.fromEntries(labels.map((label) => [label, `${F} $a |- ph`]));
+    return { text: `$c |- wff $. $v ph $. wph $f wff ph $.\n${text}`, said };
+}
+
+test("where few are left by the words before, the next one is only looked for there, and nothing else is lost", async () => {
+    const { text, said } = manyAssertions(60);
+    const search = await searchOf(text, said);
+    const wanted = ["s4", "s40", "s46"];
+    const words = ["even0", "s4", "third1"];
+    for (const typed of [words, [...words].reverse(), ["s4", "even0", "third1"]]) {
+        assert.deepEqual(labelsFor(search, typed.join(" ")).sort(), wanted);
+    }
+    // What was looked for only there isn't kept as if it were all.
+    assert.equal(labelsFor(search, "third1").length, 20);
+    assert.equal(labelsFor(search, "even0").length, 30);
+    assert.deepEqual(labelsFor(search, "s59 third1"), []);
+    assert.deepEqual(labelsFor(search, "s59 third2"), ["s59"]);
+});
+
+test("very many words are looked for once each", { timeout: 20_000 }, async () => {
+    const words = Array.from({ length: 4_000 }, (_, at) => `w${at}`).join(" ");
+    const { text, said } = manyAssertions(300);
+    const search = await searchOf(text.replace("even0 third0", words), said);
+    const answer = search.find(words);
+    search.masksOf = () => assert.fail("the best are told without another search");
+    assert.deepEqual(search.best(answer, 24), [{ number: 0, where: "comment" }]);
+    assert.equal((await searchOf(text, said)).find(words).total, 0);
+});
+
+test("the places of words in a text", { timeout: 20_000 }, () => {
+    assert.deepEqual(placesOf("Abcab", ["ab", "b", "abc"]), [[0, 3], [3, 5]]);
+    assert.deepEqual(placesOf("xaay", ["a", "aa"]), [[1, 3]]);
+    assert.deepEqual(placesOf("x", ["a"]), []);
+    assert.deepEqual(placesOf("", ["a"]), []);
+    const many = 300_000;
+    assert.equal(placesOf("a".repeat(many), ["a", "b", "ab"]).length, many);
 });

@@ -120,13 +120,10 @@ async function pack({ files, reports, request, maker, entities }) {
         makings.push(new Making(name, await bytesOf(file), request, reports[at]));
     }
     const [side, old] = makings.map((making) => making.side());
-    const blocks = await makings[0].ofText({ maker, entities });
-    const more = makings[0].ofReports(side, old ? { name: makings[1].name, side: old } : null);
-    tellBlocks(new Map([...blocks, ...more]));
-}
-
-/** @param {Map<string, Uint8Array>} blocks */
-function tellBlocks(blocks) {
+    /** @type {Map<string, Uint8Array>} */
+    const blocks = new Map();
+    await makings[0].packText({ maker, entities }, blocks);
+    makings[0].packReports(side, old ? { name: makings[1].name, side: old } : null, blocks);
     here.postMessage({ stage: "packed", blocks }, [...blocks.values()].map((block) => block.buffer));
 }
 

@@ -1,6 +1,6 @@
 // The view of one axiom: what rests on it, and what falls if it is dropped together with others.
 
-import { count, counted, element, percent } from "./elements.js";
+import { count, counted, element, percent, put } from "./elements.js";
 import { Kind } from "./model.js";
 
 /** @typedef {import("./elements.js").Child} Child */
@@ -135,7 +135,8 @@ export class AxiomView {
         const others = this.candidates(words).filter((other) => other !== column && !ticked.has(other));
         const kept = [...ticked].filter((other) => other !== column).sort((one, other) => one - other);
         const offered = [...kept, ...others.slice(0, OFFERED)];
-        list.replaceChildren(...offered.map((other) => this.tick(other, ticked, onTick)));
+        list.replaceChildren();
+        put(list, offered.map((other) => this.tick(other, ticked, onTick)));
         const all = counted(others.length, "axiom");
         told.textContent =
             others.length > OFFERED ? `${count(OFFERED)} of ${all} shown: type to find others.` : `${all} shown.`;

@@ -24,7 +24,7 @@ export class ChapterView {
         this.model = model;
         this.elements = elements;
         this.overview = overview;
-        this.watched = model.facts.watched.map((label) => model.columnOf[model.labels.find(label) ?? 0]);
+        this.watched = model.facts.watched.map((label) => model.columnOf[model.numberOf(label) ?? 0]);
     }
 
     /**
@@ -134,7 +134,7 @@ export class ChapterView {
         model.groups.forEach((group, index) => {
             const part = columns.filter((column) => model.groupOf[column] === index);
             if (part.length === 0) return;
-            const lines = () => element("ul", { class: "lines" }, ...part.map((column) => this.comingLine(column)));
+            const lines = () => element("ul", { class: "lines" }, part.map((column) => this.comingLine(column)));
             const fold = this.elements.foldOf(group.name, part.length, lines, part.length <= FIRST_SHARES);
             fold.classList.add("group", `of-${group.key}`);
             fold.dataset.group = group.key;

@@ -1,5 +1,8 @@
 // Reads the blocks of data that stand in the page.
 
+/** A block of the page isn't what the packer writes. */
+export class Damaged extends Error {}
+
 /** The blocks of the page, by their names. Each is deflated and written in base64; once read, it leaves the page. */
 export class Blocks {
     constructor() {
@@ -44,12 +47,15 @@ export class Blocks {
     }
 
     /**
-     * Reads all blocks but those that are read when they are needed.
+     * Reads all blocks but those that are read when they are needed. Damaged where they aren't all of one page.
      * @param {(name: string) => boolean} isLater
      */
     async loadFirst(isLater) {
-        const holders = document.querySelectorAll("script[id^='data-']");
-        const names = Array.from(holders, (holder) => holder.id.slice(5));
+        /** @type {HTMLElement[]} */
+        const holders = Array.from(document.querySelectorAll("script[id^='data-']"));
+        const pages = new Set(holders.map((holder) => holder.dataset.page));
+        if (pages.size > 1) throw new Damaged("the blocks of several pages are mixed");
+        const names = holders.map((holder) => holder.id.slice(5));
         await Promise.all(names.filter((name) => !isLater(name)).map((name) => this.load(name)));
     }
 }
@@ -93,12 +99,12 @@ export function textOf(block) {
     return new TextDecoder().decode(block);
 }
 
-/** A block that is a row of numbers, read from its beginning. */
+/** A block that is a row of numbers, read from a place on. Damaged where it ends within a number. */
 export class Numbers {
     /** @param {Uint8Array} block */
-    constructor(block) {
+    constructor(block, place = 0) {
         this.block = block;
-        this.place = 0;
+        this.place = place;
     }
 
     next() {
@@ -108,6 +114,7 @@ export class Numbers {
             const byte = this.block[this.place++];
             number += (byte & 0x7f) * scale;
             if (byte < 0x80) return number;
+            if (byte === undefined) throw new Damaged("a block ends too early");
             scale *= 0x80;
         }
     }
@@ -206,18 +213,6 @@ export class Texts {
             else high = middle;
         }
         return low;
-    }
-
-    /**
-     * The line that is just this text, or undefined.
-     * @param {string} line
-     */
-    find(line) {
-        if (this.size === 0 || line.includes("\n")) return undefined;
-        if (this.at(0) === line) return 0;
-        if (this.text.endsWith(`\n${line}`)) return this.size - 1;
-        const place = this.text.indexOf(`\n${line}\n`) + 1;
-        return place === 0 ? undefined : this.lineAt(place);
     }
 }
 

@@ -1,5 +1,5 @@
 // Carries out the steps of a proof: finds what each of them says. Nothing is believed of the steps: what the last one
-// says has to be the theorem, and what is used for a `$e` has to be that `$e`.
+// says has to be the theorem, and what is used for a hypothesis has to be that hypothesis.
 //
 // A formula is a text in which a space stands before each symbol, so that what replaces a variable may be empty.
 
@@ -9,7 +9,7 @@ import { Step } from "./proofs.js";
 /** @typedef {import("./proofs.js").Steps} Steps */
 /** @typedef {import("./turns.js").Turns} Turns */
 
-/** The formulas of a proof have no more signs together, those included that `$e` ask for. */
+/** The formulas of a proof have no more signs together, those included that hypotheses ask for. */
 export const MOST_SIGNS = 20_000_000;
 
 /** The steps don't prove the theorem. */
@@ -24,8 +24,8 @@ export class TooManySigns extends Error {}
  */
 
 /**
- * What an assertion asks for and gives: of each mandatory hypothesis its formula where it is a `$e`, and its own.
- * @typedef {{ given: (Template | null)[], formula: Template }} Rule
+ * What an assertion asks for and gives: the formula of each mandatory hypothesis, and whether it is a `$e`; and its own.
+ * @typedef {{ given: Template[], areEssential: boolean[], formula: Template }} Rule
  */
 
 /** The steps of a proof with what they say. */
@@ -40,6 +40,8 @@ export class Derivation {
         this.steps = steps;
         /** @type {string[]} What each step says; nothing for one that is repeated. */
         this.formulas = [];
+        /** @type {string[]} Of each formula what stands behind its typecode. */
+        this.bodies = [];
         this.signs = 0;
         /** @type {number[]} The steps that step i uses are `used` from `starts[i]` to `starts[i + 1]`. */
         this.used = [];
@@ -58,20 +60,35 @@ export class Derivation {
         const stack = [];
         const { what, numbers } = this.steps;
         for (let step = 0; step < what.length; step++) {
-            let formula = "";
-            if (what[step] === Step.assertion) formula = this.applied(numbers[step], stack);
-            else if (what[step] === Step.hypothesis) formula = ` ${this.model.hypothesisFormulas.at(numbers[step])}`;
-            else if (what[step] === Step.floating) {
-                const { code, variable } = this.proofs.givenBy(numbers[step]);
-                formula = ` ${code} ${variable}`;
-            }
+            const formula = this.saidBy(step, stack);
+            if (what[step] !== Step.assertion) this.count(formula.length);
             this.formulas.push(formula);
+            this.bodies.push(withoutTypecode(formula));
             this.starts[step + 1] = this.used.length;
             stack.push(what[step] === Step.repeated ? numbers[step] : step);
             if (turns.isOver(step)) await turns.next();
         }
         const last = this.formulas[stack[0]];
         if (stack.length !== 1 || last !== ` ${this.model.formulas.at(theorem)}`) throw new OtherFormula();
+    }
+
+    /**
+     * What a step says; nothing for one that is repeated.
+     * @param {number} step
+     * @param {number[]} stack
+     */
+    saidBy(step, stack) {
+        const number = this.steps.numbers[step];
+        switch (this.steps.what[step]) {
+            case Step.floating:
+                return ` ${this.proofs.formulaGivenBy(number)}`;
+            case Step.hypothesis:
+                return ` ${this.model.hypothesisFormulas.at(number)}`;
+            case Step.assertion:
+                return this.applied(number, stack);
+            default:
+                return "";
+        }
     }
 
     /** @param {number} signs */
@@ -89,10 +106,9 @@ export class Derivation {
         const { given, formula } = this.ruleOf(assertion);
         if (stack.length < given.length) throw new OtherFormula();
         const used = stack.splice(stack.length - given.length);
-        const said = used.map((step) => this.formulas[step]);
-        const bodies = said.map(withoutTypecode);
+        const bodies = used.map((step) => this.bodies[step]);
         given.forEach((template, at) => {
-            if (template !== null && this.replaced(template, bodies) !== said[at]) throw new OtherFormula();
+            if (this.replaced(template, bodies) !== this.formulas[used[at]]) throw new OtherFormula();
         });
         for (const step of used) this.used.push(step);
         return this.replaced(formula, bodies);
@@ -104,8 +120,11 @@ export class Derivation {
      * @param {string[]} bodies of each hypothesis what stands behind the typecode
      */
     replaced({ texts, variables }, bodies) {
-        for (const variable of variables) this.count(bodies[variable].length);
-        for (const text of texts) this.count(text.length);
+        // Each text takes time, though it be empty.
+        let signs = texts.length;
+        for (const variable of variables) signs += bodies[variable].length;
+        for (const text of texts) signs += text.length;
+        this.count(signs);
         let formula = texts[0];
         for (let at = 0; at < variables.length; at++) formula += bodies[variables[at]] + texts[at + 1];
         return formula;
@@ -125,9 +144,12 @@ export class Derivation {
             if (item % 2 === 0) places.set(proofs.givenBy(item / 2).variable, at);
         });
         const given = frame.map((item) => {
-            return item % 2 === 0 ? null : templateOf(model.hypothesisFormulas.at((item - 1) / 2), places);
+            const isFloating = item % 2 === 0;
+            const said = isFloating ? proofs.formulaGivenBy(item / 2) : model.hypothesisFormulas.at((item - 1) / 2);
+            return templateOf(said, places);
         });
-        const rule = { given, formula: templateOf(model.formulas.at(assertion), places) };
+        const areEssential = frame.map((item) => item % 2 === 1);
+        const rule = { given, areEssential, formula: templateOf(model.formulas.at(assertion), places) };
         this.rules.set(assertion, rule);
         return rule;
     }
@@ -147,8 +169,8 @@ export class Derivation {
     essentialUsedBy(step) {
         const { what, numbers } = this.steps;
         if (what[step] !== Step.assertion) return [];
-        const { given } = this.ruleOf(numbers[step]);
-        return this.usedBy(step).filter((_, at) => given[at] !== null);
+        const { areEssential } = this.ruleOf(numbers[step]);
+        return this.usedBy(step).filter((_, at) => areEssential[at]);
     }
 
     /** The steps that aren't repeated ones. */

@@ -56,8 +56,8 @@ export class DifferenceView {
      * @param {string} label
      */
     old(label) {
-        const number = this.model.labels.find(label);
-        return number === undefined ? element("code", { class: "label" }, label) : this.elements.link(number);
+        const number = this.model.numberOf(label);
+        return number === undefined ? this.elements.label(label, "code") : this.elements.link(number);
     }
 
     /** The overview of the difference. */
@@ -139,7 +139,7 @@ export class DifferenceView {
      * @param {HTMLElement[]} folds
      */
     shiftSection(id, name, folds) {
-        const made = this.elements.section(id, name, ...folds);
+        const made = this.elements.section(id, name, folds);
         if (folds.length === 0) made.append(this.elements.hint("None."));
         return made;
     }
@@ -150,7 +150,7 @@ export class DifferenceView {
                 const lines = shifts.map(([theorem, citing, cited]) =>
                     this.shiftLine(theorem, [this.elements.link(citing), " now cites ", this.elements.link(cited)]),
                 );
-                return element("ul", { class: "lines" }, ...lines);
+                return element("ul", { class: "lines" }, lines);
             }),
         );
     }
@@ -163,7 +163,7 @@ export class DifferenceView {
                     const lines = shifts.map(([theorem, citing, cited]) =>
                         this.shiftLine(theorem, [this.old(citing), " no longer cites ", this.old(cited)]),
                     );
-                    return element("ul", { class: "lines" }, ...lines);
+                    return element("ul", { class: "lines" }, lines);
                 },
             ),
         );
@@ -190,10 +190,10 @@ export class DifferenceView {
     /** @param {[number, string][]} renamed */
     renamedList(renamed) {
         const lines = renamed.map(([number, was]) => {
-            const before = element("span", { class: "hint" }, "was ", element("code", { class: "label" }, was), " ");
+            const before = element("span", { class: "hint" }, "was ", this.elements.label(was, "code"), " ");
             return this.elements.line(number, before);
         });
-        return element("ul", { class: "lines" }, ...lines);
+        return element("ul", { class: "lines" }, lines);
     }
 
     /** @param {[string, string, number, string][]} gone */
@@ -203,7 +203,7 @@ export class DifferenceView {
             const place = element("span", { class: "hint" }, title);
             return element("li", { class: "line" }, name, " ", this.elements.formula(formula), place);
         });
-        return element("ul", { class: "lines" }, ...lines);
+        return element("ul", { class: "lines" }, lines);
     }
 
     /** Of each chapter what came and went. */
@@ -219,7 +219,7 @@ export class DifferenceView {
                 const numbers = element("span", { class: "number" }, told.join(" · "));
                 return element("li", { class: "line" }, name, " ", numbers);
             });
-        made.append(lines.length > 0 ? element("ul", { class: "lines" }, ...lines) : this.elements.hint("None."));
+        made.append(lines.length > 0 ? element("ul", { class: "lines" }, lines) : this.elements.hint("None."));
         return made;
     }
 
@@ -255,7 +255,7 @@ export class DifferenceView {
         if (this.added.has(number)) lines.push(element("p", {}, "It is new."));
         const was = this.renamed.get(number);
         if (was !== undefined) {
-            lines.push(element("p", {}, "Its label was ", element("code", { class: "label" }, was), "."));
+            lines.push(element("p", {}, "Its label was ", this.elements.label(was, "code"), "."));
         }
         if (this.changed.has(number)) lines.push(element("p", {}, "Its statement has changed."));
         const shifts = (this.shifts.get(number) ?? []).map(({ axiom, isGain, why }) =>
@@ -267,7 +267,7 @@ export class DifferenceView {
                 element("span", { class: "reason" }, "since ", ...why.map(copied)),
             ),
         );
-        if (shifts.length > 0) lines.push(element("ul", { class: "lines" }, ...shifts));
+        if (shifts.length > 0) lines.push(element("ul", { class: "lines" }, shifts));
         if (lines.length === 0) return [];
         return [this.elements.section("since", `Since ${this.difference.name}`, ...lines)];
     }

@@ -12,14 +12,16 @@ import { GROUPS, Kind } from "./model.js";
 /** @typedef {import("./types.js").Piece} Piece */
 
 /** @typedef {string | Node} Child */
+/** @typedef {Child | Child[]} Children one or several */
 /** @typedef {string | number | boolean | null | undefined | ((event: any) => void)} Value */
 
 /**
- * An element with attributes and children; an attribute `onclick` and the like is a listener.
+ * An element with attributes and children; an attribute `onclick` and the like is a listener. What may have any number of
+ * children is given them as a list: a call has no room for as many arguments.
  * @template {keyof HTMLElementTagNameMap} K
  * @param {K} name
  * @param {Record<string, Value>} attributes
- * @param {Child[]} children
+ * @param {Children[]} children
  * @returns {HTMLElementTagNameMap[K]}
  */
 export function element(name, attributes = {}, ...children) {
@@ -29,8 +31,17 @@ export function element(name, attributes = {}, ...children) {
         else if (value === true) made.setAttribute(key, "");
         else if (value !== false && value !== undefined && value !== null) made.setAttribute(key, String(value));
     }
-    made.append(...children);
+    put(made, children.flat());
     return made;
+}
+
+/**
+ * Puts children behind those that an element has.
+ * @param {Element} parent
+ * @param {Child[]} children
+ */
+export function put(parent, children) {
+    for (const child of children) parent.append(child);
 }
 
 /**
@@ -100,11 +111,11 @@ function spelled(made, spelling) {
 }
 
 /**
- * The class of a label that stays in one line, after a space; nothing for a long one.
+ * The classes of a label: one that isn't long stays in one line.
  * @param {string} label
  */
-function wholeIfShort(label) {
-    return label.length <= LONGEST_WHOLE ? " look-whole" : "";
+export function classesOfLabel(label) {
+    return label.length <= LONGEST_WHOLE ? "label look-whole" : "label";
 }
 
 export class Elements {
@@ -124,6 +135,15 @@ export class Elements {
     }
 
     /**
+     * A label that is no link, such as that of a hypothesis.
+     * @param {string} label
+     * @param {"span" | "code"} name
+     */
+    label(label, name = "span") {
+        return element(name, { class: classesOfLabel(label) }, label);
+    }
+
+    /**
      * A link to an assertion, with the colour of its group.
      * @param {number} number
      * @param {Record<string, Value>} attributes
@@ -132,7 +152,7 @@ export class Elements {
         const column = this.model.columnOf[number];
         const colour = column < 0 ? "" : ` of-${this.model.groupKey(column)}`;
         const label = this.model.labels.at(number);
-        const classes = `label${colour}${wholeIfShort(label)}`;
+        const classes = `${classesOfLabel(label)}${colour}`;
         return element("a", { href: this.address(number), class: classes, ...attributes }, label);
     }
 
@@ -179,7 +199,7 @@ export class Elements {
      * A section with a heading.
      * @param {string} id
      * @param {string} title
-     * @param {Child[]} children
+     * @param {Children[]} children
      */
     section(id, title, ...children) {
         const heading = element("h2", { id: `${id}-heading` }, title);
@@ -201,12 +221,13 @@ export class Elements {
     }
 
     /**
-     * The beginning of a formula, as much of it as fits into a line or two.
+     * A formula, or its beginning where it is longer than that: as much as fits into a line or two, unless more is said.
      * @param {string} text
      */
-    shortFormula(text) {
-        if (text.length <= LONGEST_FOUND) return this.formula(text);
-        const made = this.formula(text.slice(0, text.lastIndexOf(" ", LONGEST_FOUND)));
+    shortFormula(text, isExplained = false, longest = LONGEST_FOUND) {
+        if (text.length <= longest) return this.formula(text, isExplained);
+        const space = text.lastIndexOf(" ", longest);
+        const made = this.formula(text.slice(0, space < 0 ? longest : space), isExplained);
         made.append(" …");
         return made;
     }
@@ -285,8 +306,8 @@ export class Elements {
      * @param {string[][]} groups
      */
     groups(groups) {
-        const items = groups.map((group) => element("li", { class: "group-of-variables" }, ...this.variables(group)));
-        return element("ul", { class: "variables" }, ...items);
+        const items = groups.map((group) => element("li", { class: "group-of-variables" }, this.variables(group)));
+        return element("ul", { class: "variables" }, items);
     }
 
     /**
@@ -404,13 +425,13 @@ export class Elements {
 
     /**
      * What can be opened: its content is made when that happens first.
-     * @param {Child | Child[]} summary
-     * @param {() => Child | Child[]} make
+     * @param {Children} summary
+     * @param {() => Children} make
      */
     fold(summary, make, isOpen = false) {
-        const made = element("details", {}, element("summary", {}, ...[summary].flat()));
+        const made = element("details", {}, element("summary", {}, summary));
         const fill = () => {
-            if (made.open && made.children.length === 1) made.append(...[make()].flat());
+            if (made.open && made.children.length === 1) put(made, [make()].flat());
         };
         made.addEventListener("toggle", fill);
         if (isOpen) {
@@ -424,7 +445,7 @@ export class Elements {
      * What can be opened, with a name and how many it has.
      * @param {string} name
      * @param {number} number
-     * @param {() => Child | Child[]} make
+     * @param {() => Children} make
      */
     foldOf(name, number, make, isOpen = false) {
         const title = element("span", { class: "title" }, name);
@@ -445,7 +466,7 @@ export class Elements {
             if (to === from) continue;
             const part = numbers.slice(from, to);
             const title = [
-                element("span", { class: "path" }, ...stretch.path.slice(0, -1).map((name) => `${name} › `)),
+                element("span", { class: "path" }, stretch.path.slice(0, -1).map((name) => `${name} › `)),
                 element("span", { class: "title" }, stretch.title),
                 " ",
                 element("span", { class: "number" }, `${count(part.length)} of ${count(stretch.theorems)}`),
@@ -464,10 +485,10 @@ export class Elements {
      */
     comment({ paragraphs, credits }, attributes = {}) {
         const made = element("div", { class: "comment", ...attributes });
-        for (const parts of paragraphs) made.append(element("div", { class: "paragraph" }, ...this.parts(parts)));
+        for (const parts of paragraphs) made.append(element("div", { class: "paragraph" }, this.parts(parts)));
         if (credits.length > 0) {
             const items = credits.map(({ what, who, date }) => element("li", {}, `${what} by ${who}, ${date}`));
-            made.append(element("ul", { class: "credits", "aria-label": "Contributors and dates" }, ...items));
+            made.append(element("ul", { class: "credits", "aria-label": "Contributors and dates" }, items));
         }
         return made;
     }
@@ -492,7 +513,7 @@ export class Elements {
                 case "emphasis":
                     return element("em", {}, part.text);
                 case "element":
-                    return element(/** @type {"div"} */ (part.name), {}, ...this.parts(part.children));
+                    return element(/** @type {"div"} */ (part.name), {}, this.parts(part.children));
             }
         });
     }
@@ -512,8 +533,8 @@ export class Elements {
      * @param {string} label
      */
     mention(label) {
-        const number = this.model.labels.find(label);
-        return number === undefined ? element("code", { class: "label" }, label) : this.link(number);
+        const number = this.model.numberOf(label);
+        return number === undefined ? this.label(label, "code") : this.link(number);
     }
 
     /**

@@ -1,8 +1,8 @@
 // The field of the search with what was found, and the view of all that was found.
 
-import { MOST_GIVEN, byId, count, element } from "./elements.js";
+import { MOST_GIVEN, byId, classesOfLabel, count, element } from "./elements.js";
 import { plainText } from "./markup.js";
-import { Search } from "./search.js";
+import { Search, placesOf } from "./search.js";
 
 /** @typedef {import("./elements.js").Child} Child */
 /** @typedef {import("./elements.js").Elements} Elements */
@@ -16,6 +16,8 @@ const SHOWN_IN_VIEW = 100;
 /** Letters before a word that was found: in one line, which may be a telephone's, and in several. */
 const BEFORE = 20;
 const AROUND = 60;
+/** A label with more letters is cut below the field. */
+const LONGEST_LABEL = 240;
 /** The first half of a sign such as 𝐴, where the second one is cut off. */
 const HALF = /[\ud800-\udbff]$/;
 
@@ -133,7 +135,7 @@ export class Finder {
                 onclick: () => this.choose(index),
                 onpointermove: () => this.activate(index),
             },
-            element("span", { class: "label" }, ...marked(label, words)),
+            element("span", { class: classesOfLabel(label) }, marked(cut(label), words)),
             element("span", { class: "kind" }, this.model.kindName(number).toLowerCase()),
             text,
         );
@@ -272,6 +274,14 @@ export class Finder {
 }
 
 /**
+ * A label, without the end of a very long one.
+ * @param {string} label
+ */
+function cut(label) {
+    return label.length > LONGEST_LABEL ? `${label.slice(0, LONGEST_LABEL)}…` : label;
+}
+
+/**
  * As much of a text as fits into a line, from a little before the first word that is in it.
  * @param {string} text
  * @param {string[]} words
@@ -280,7 +290,7 @@ export class Finder {
 function around(text, words, before) {
     const small = text.toLowerCase();
     const places = words.map((word) => small.indexOf(word)).filter((place) => place >= 0);
-    const at = places.length > 0 ? Math.min(...places) : 0;
+    const at = places.reduce((first, place) => Math.min(first, place), places[0] ?? 0);
     const space = text.indexOf(" ", Math.max(0, at - before));
     const from = at <= before ? 0 : space >= 0 && space < at ? space + 1 : at;
     const end = from + 4 * AROUND;
@@ -295,22 +305,12 @@ function around(text, words, before) {
  * @returns {Child[]}
  */
 function marked(text, words) {
-    const small = text.toLowerCase();
     /** @type {Child[]} */
     const parts = [];
     let place = 0;
-    while (place < text.length) {
-        let next = text.length;
-        let length = 0;
-        for (const word of words) {
-            const at = small.indexOf(word, place);
-            if (at >= 0 && (at < next || (at === next && word.length > length))) [next, length] = [at, word.length];
-        }
-        if (next > place) parts.push(text.slice(place, next));
-        if (length > 0) parts.push(element("mark", {}, text.slice(next, next + length)));
-        place = next + length;
+    for (const [start, end] of placesOf(text, words)) {
+        parts.push(text.slice(place, start), element("mark", {}, text.slice(start, end)));
+        place = end;
     }
-    return parts;
+    return [...parts, text.slice(place)];
 }
-
-

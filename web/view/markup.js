@@ -33,8 +33,10 @@ const BREAK = "\v";
 
 /** (Contributed by NM, 12-Aug-2004.) and the like. */
 const DEEDS = "Contributed|Revised|Proof (?:shortened|revised|modified)|Shortened|Modified|Proposed|Renamed|Suggested";
+/** Its parts have a greatest length, so that no comment takes more time than its length says. */
 const CREDIT = new RegExp(
-    String.raw`(?<!\S)\(((?:${DEEDS})(?: and [a-z ]+)?) by\s+([^()]*?),?\s+(\d{1,2}-[A-Z][a-z]{2}-\d{4})\.?\)(?!\S)`,
+    String.raw`(?<!\S)\(((?:${DEEDS})(?: and [a-z ]{1,40})?) by\s{1,9}([^()]{0,200}?),?\s{1,9}` +
+        String.raw`(\d{1,2}-[A-Z][a-z]{2}-\d{4})\.?\)(?!\S)`,
     "g",
 );
 const MARK = /(?<!\S)\((?:New usage|Proof modification) is discouraged\.\)(?!\S)/g;
@@ -46,7 +48,7 @@ const SPECIAL = new RegExp(
         /~~|~\s*(\S+)/, // a label, or an address
         /\[\[|\[([A-Z][^\s[\]]*)\](\s+pp?\.\s+[0-9ivxlIVXL][0-9ivxlIVXL-]*)?/, // a reference with its page
         /(?<![A-Za-z0-9])_([^\s_](?:[^_]*[^\s_])?)_(?![A-Za-z0-9])/, // emphasis
-        /<(\/?)([A-Za-z]+)([^<>]*)>/, // a tag
+        /<(\/?)([A-Za-z]+)(?![A-Za-z])([^<>]*)>/, // a tag
         /\f|\v/, // the end of a paragraph, of a line
     ]
         .map((pattern) => pattern.source)
@@ -93,6 +95,8 @@ const CLOSED_BY = new Map([
     ["th", { closes: ["td", "th"], within: ["tr"] }],
     ["caption", { closes: [], within: ["table"] }],
 ]);
+/** So many elements may be within one another; what would be in more is text. */
+const DEEPEST = 40;
 const ENTITIES = new Map(Object.entries({ lt: "<", gt: ">", amp: "&", quot: '"', nbsp: "\u00a0" }));
 
 /**
@@ -279,6 +283,7 @@ class Reader {
      * @param {string} name
      */
     begin(whole, name) {
+        if (this.open.length >= DEEPEST) return this.text(whole);
         const rule = CLOSED_BY.get(name);
         if (rule) {
             while (this.open.length > 0 && rule.closes.includes(this.open[this.open.length - 1].name)) this.open.pop();

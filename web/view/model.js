@@ -74,6 +74,8 @@ export class Model {
         this.groups = this.putIntoGroups();
         this.chapters = new Chapters(this.facts.chapters, this.size);
         this.listStretches = this.stretches(this.chapters.listLevel);
+        /** @type {Map<string, number> | undefined} */
+        this.numbers = undefined;
         /** @type {(Texts | undefined)[]} */
         this.commentChunks = new Array(Math.ceil(this.size / this.facts.chunk));
         /** @type {Lists | undefined} */
@@ -203,6 +205,15 @@ export class Model {
             else high = middle;
         }
         return low;
+    }
+
+    /**
+     * The assertion with a label, or undefined.
+     * @param {string} label
+     */
+    numberOf(label) {
+        this.numbers ??= new Map(Array.from({ length: this.size }, (_, number) => [this.labels.at(number), number]));
+        return this.numbers.get(label);
     }
 
     /** @param {number} column */

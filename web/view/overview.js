@@ -1,6 +1,6 @@
 // The view of the whole database: the matrix as a picture, counts over the file, axioms by their users, chapters.
 
-import { Colours, count, counted, element, percent } from "./elements.js";
+import { Colours, count, counted, element, percent, put } from "./elements.js";
 import { Counts, Picture } from "./picture.js";
 import { Plot } from "./plot.js";
 
@@ -253,7 +253,8 @@ export class Overview {
         const fill = (/** @type {string} */ group, /** @type {boolean} */ all) => {
             const columns = this.byUsers(this.columnsOf(group));
             const shown = all ? columns : columns.slice(0, atFirst);
-            body.replaceChildren(...shown.map((column) => this.axiomRow(column)));
+            body.replaceChildren();
+            put(body, shown.map((column) => this.axiomRow(column)));
             more.replaceChildren();
             if (shown.length === columns.length) return;
             const button = element("button", { type: "button", class: "more", onclick: () => fill(group, true) });
@@ -321,7 +322,7 @@ export class Overview {
             const children = chapter.children.map((index) => this.model.chapters.list[index]);
             return element("li", {}, this.elements.fold(line, () => this.chapterTree(children), areOpen));
         });
-        return element("ul", { class: "tree" }, ...items);
+        return element("ul", { class: "tree" }, items);
     }
 
     /**

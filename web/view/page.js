@@ -85,13 +85,13 @@ class Page {
      */
     async assertion(label, ticked) {
         const { model } = this;
-        const number = model.labels.find(label);
+        const number = model.numberOf(label);
         if (number === undefined) return this.notFound("neither a theorem nor an axiom", label);
         const comment = await model.comment(number);
         const since = (await this.since())?.sinceOf(number) ?? [];
         if (model.rowOf[number] >= 0) return { name: label, parts: this.theorem.render(number, comment, since) };
         const named = ticked.split(",").filter((other) => other !== "");
-        const columns = named.map((other) => model.columnOf[model.labels.find(other) ?? -1] ?? -1);
+        const columns = named.map((other) => model.columnOf[model.numberOf(other) ?? -1] ?? -1);
         const unknown = named.filter((_, at) => columns[at] < 0);
         const parts = this.axiom.render(number, comment, columns.filter((column) => column >= 0), since);
         return { name: label, parts: [...parts, ...this.unknown(unknown)] };
@@ -131,7 +131,7 @@ class Page {
         if (labels.length === 0) return [];
         const names = labels.flatMap((label, at) => [at > 0 ? ", " : "", element("code", {}, label)]);
         const told = "The address names what is no axiom of this database, and isn't given up here: ";
-        return [element("p", { class: "note", id: "unknown", role: "status" }, told, ...names, ".")];
+        return [element("p", { class: "note", id: "unknown", role: "status" }, told, names, ".")];
     }
 
     /**

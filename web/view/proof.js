@@ -1,6 +1,7 @@
 // The view of a theorem's proof: its steps, each with what it uses, what it applies, and what it says.
 
 import { count, counted, element } from "./elements.js";
+import { Damaged } from "./decode.js";
 import { Derivation, MOST_SIGNS, OtherFormula, TooManySigns } from "./derivation.js";
 import { MOST_STEPS, Proofs, Step, TooManySteps } from "./proofs.js";
 import { Abandoned, Turns } from "./turns.js";
@@ -12,6 +13,8 @@ import { Abandoned, Turns } from "./turns.js";
 /** So many steps are shown at first, and more at a time. */
 const FIRST_STEPS = 40;
 const MORE_STEPS = 500;
+/** A formula with more signs is cut: steps can double it again and again. None of set.mm is as long. */
+const LONGEST_FORMULA = 25_000;
 
 export class ProofView {
     /**
@@ -127,7 +130,7 @@ export class ProofView {
             " ",
             this.applied(derivation, step),
             " ",
-            this.elements.formula(derivation.formula(step), true),
+            this.elements.shortFormula(derivation.formula(step), true, LONGEST_FORMULA),
         );
     }
 
@@ -141,7 +144,7 @@ export class ProofView {
         if (steps.what[step] === Step.assertion) return this.elements.link(number);
         const isFloating = steps.what[step] === Step.floating;
         const label = isFloating ? this.proofs.givenBy(number).label : this.model.hypothesisLabels.at(number);
-        return element("span", { class: "label" }, label);
+        return this.elements.label(label);
     }
 }
 
@@ -157,5 +160,6 @@ function toldOf(error) {
     if (error instanceof OtherFormula) {
         return "The steps that were read don't prove this formula. The page is at fault, so no steps are shown.";
     }
+    if (error instanceof Damaged) return `The page is at fault, so no steps are shown: ${error.message}.`;
     return `The proof couldn't be read: ${String(error)}`;
 }

@@ -1,7 +1,7 @@
 // Reads the steps of proofs from the blocks of the page, as codes.js of the packer says.
 
-import { CHUNK, Code, KINDS, Recent, kindOf } from "../packer/codes.js";
-import { Lists, Numbers, Texts, startsOf, textOf } from "./decode.js";
+import { CHUNK, Code, FREQUENT, KINDS, Recent, kindOf } from "../packer/codes.js";
+import { Damaged, Lists, Numbers, Texts, startsOf, textOf } from "./decode.js";
 import { firstWord } from "./model.js";
 
 /** @typedef {import("./model.js").Model} Model */
@@ -27,8 +27,9 @@ class Frames {
     /**
      * @param {Uint8Array} block
      * @param {number} size how many assertions there are
+     * @param {number} given how many `$f` there are
      */
-    constructor(block, size) {
+    constructor(block, size, given) {
         const numbers = new Numbers(block);
         const sizes = new Uint32Array(size);
         /** @type {number[]} */
@@ -44,6 +45,7 @@ class Frames {
             let expected = 0;
             for (let left = sizes[assertion]; left > 0; left--) {
                 const number = expected + numbers.next();
+                if (number >= given) throw new Damaged("a frame names what isn't there");
                 items.push(number);
                 expected = number + 1;
             }
@@ -53,37 +55,39 @@ class Frames {
     }
 }
 
-/** The block of a chunk: its streams, each read up to a place, and where the proofs begin that were passed. */
+/** The block of a chunk: its streams, and where in them the proofs begin that were passed. */
 class Chunk {
     /** @param {Uint8Array} block */
     constructor(block) {
         const numbers = new Numbers(block);
         const sizes = Array.from({ length: KINDS + Code.recent }, () => numbers.next());
         const starts = startsOf(sizes);
-        this.streams = sizes.map((_, at) => {
-            const [start, end] = [starts[at], starts[at + 1]];
-            return new Numbers(block.subarray(numbers.place + start, numbers.place + end));
-        });
+        const streams = block.subarray(numbers.place);
+        this.streams = sizes.map((_, at) => streams.subarray(starts[at], starts[at + 1]));
         /** @type {number[][]} */
         this.places = [this.streams.map(() => 0)];
     }
+}
 
-    /** Notes that the next proof begins here. */
-    passProof() {
-        this.places.push(this.streams.map(({ place }) => place));
+/** A place in each stream of a chunk. Whoever reads has one for himself, since he waits now and then, and others read. */
+class Cursor {
+    /**
+     * @param {Chunk} chunk
+     * @param {number} proof one whose places are known
+     */
+    constructor({ streams, places }, proof) {
+        this.streams = streams.map((stream, at) => new Numbers(stream, places[proof][at]));
     }
 
-    /** @param {number} proof */
-    goTo(proof) {
-        this.streams.forEach((stream, at) => (stream.place = this.places[proof][at]));
+    get places() {
+        return this.streams.map(({ place }) => place);
     }
 
     /** @param {number} kind */
     byte(kind) {
-        const { block, place } = this.streams[kind];
-        if (place >= block.length) throw new Error("a proof of the page is damaged");
-        this.streams[kind].place++;
-        return block[place];
+        const stream = this.streams[kind];
+        if (stream.place >= stream.block.length) throw new Damaged("a proof ends too early");
+        return stream.block[stream.place++];
     }
 
     /** @param {number} code */
@@ -100,7 +104,7 @@ export class Proofs {
         /** @type {Promise<void> | undefined} */
         this.loading = undefined;
         this.floating = new Texts("", 0);
-        this.frames = new Frames(new Uint8Array(0), 0);
+        this.frames = new Frames(new Uint8Array(0), 0, 0);
         /** The typecodes that `$f` have, each with its number. */
         this.codes = new Map();
         /**
@@ -110,7 +114,7 @@ export class Proofs {
         this.frequent = [];
         /** @type {Set<number>} */
         this.isFrequent = new Set();
-        /** @type {Map<number, Chunk>} */
+        /** @type {Map<number, Promise<Chunk>>} */
         this.chunks = new Map();
         /** @type {Map<number, number[]>} Of assertions the kinds of their hypotheses. */
         this.kinds = new Map();
@@ -136,10 +140,12 @@ export class Proofs {
             const code = this.givenBy(number).code;
             if (!this.codes.has(code)) this.codes.set(code, this.codes.size);
         }
-        this.frames = new Frames(frames, this.model.size);
+        this.frames = new Frames(frames, this.model.size, this.floating.size);
         const numbers = new Numbers(labels);
         this.frequent = Array.from({ length: KINDS }, (_, kind) => {
-            return kind === 0 ? [] : Array.from({ length: numbers.next() }, () => numbers.next());
+            const length = kind === 0 ? 0 : numbers.next();
+            if (length > FREQUENT) throw new Damaged("more labels are often used than there can be");
+            return Array.from({ length }, () => numbers.next());
         });
         this.isFrequent = new Set(this.frequent.flat());
     }
@@ -150,7 +156,17 @@ export class Proofs {
      */
     givenBy(number) {
         const [label, code, variable] = this.floating.at(number).split(" ");
+        if (variable === undefined) throw new Damaged("a `$f` has no variable");
         return { label, code, variable };
+    }
+
+    /**
+     * What a `$f` says, as a formula.
+     * @param {number} number
+     */
+    formulaGivenBy(number) {
+        const { code, variable } = this.givenBy(number);
+        return `${code} ${variable}`;
     }
 
     /**
@@ -166,7 +182,7 @@ export class Proofs {
         const frame = [];
         let taken = 0;
         floating.forEach((item, at) => {
-            while (taken < behind[at]) frame.push(essential[taken++]);
+            while (taken < Math.min(behind[at], essential.length)) frame.push(essential[taken++]);
             frame.push(item);
         });
         return [...frame, ...essential.slice(taken)];
@@ -210,6 +226,19 @@ export class Proofs {
     }
 
     /**
+     * The chunk of this number.
+     * @param {number} number
+     */
+    chunk(number) {
+        let chunk = this.chunks.get(number);
+        if (!chunk) {
+            chunk = this.model.blocks.load(`proof-steps-${number}`).then((block) => new Chunk(block));
+            this.chunks.set(number, chunk);
+        }
+        return chunk;
+    }
+
+    /**
      * The steps of a theorem's proof. TooManySteps where they are too many.
      * @param {number} theorem
      * @param {Turns} turns
@@ -218,21 +247,18 @@ export class Proofs {
     async steps(theorem, turns) {
         await this.load();
         const row = this.model.rowOf[theorem];
-        const number = Math.floor(row / CHUNK);
-        let chunk = this.chunks.get(number);
-        if (!chunk) {
-            chunk = new Chunk(await this.model.blocks.load(`proof-steps-${number}`));
-            this.chunks.set(number, chunk);
+        const first = row - (row % CHUNK);
+        const chunk = await this.chunk(first / CHUNK);
+        const { places } = chunk;
+        let proof = Math.min(row % CHUNK, places.length - 1);
+        const cursor = new Cursor(chunk, proof);
+        while (first + proof < row) {
+            await new Backward(this, cursor, this.model.theorems[first + proof], false).read(turns);
+            places[++proof] = cursor.places;
         }
-        for (let next = chunk.places.length - 1; next < row % CHUNK; next++) {
-            chunk.goTo(next);
-            await new Backward(this, chunk, this.model.theorems[number * CHUNK + next], false).read(turns);
-            if (chunk.places.length === next + 1) chunk.passProof();
-        }
-        chunk.goTo(row % CHUNK);
-        const backward = new Backward(this, chunk, theorem, true);
+        const backward = new Backward(this, cursor, theorem, true);
         await backward.read(turns);
-        if (chunk.places.length === (row % CHUNK) + 1) chunk.passProof();
+        places[proof + 1] = cursor.places;
         return backward.forward();
     }
 }
@@ -241,13 +267,13 @@ export class Proofs {
 class Backward {
     /**
      * @param {Proofs} proofs
-     * @param {Chunk} chunk which stands where the proof begins
+     * @param {Cursor} cursor which stands where the proof begins
      * @param {number} theorem
      * @param {boolean} isKept whether the steps are wanted
      */
-    constructor(proofs, chunk, theorem, isKept) {
+    constructor(proofs, cursor, theorem, isKept) {
         this.proofs = proofs;
-        this.chunk = chunk;
+        this.cursor = cursor;
         this.isKept = isKept;
         this.own = proofs.ownOf(theorem);
         /** The kinds of what comes, the next one last. */
@@ -262,12 +288,12 @@ class Backward {
 
     /** @param {Turns} turns */
     async read(turns) {
-        const { expected, chunk } = this;
+        const { expected, cursor } = this;
         let kind;
         for (let steps = 0; (kind = expected.pop()) !== undefined; steps++) {
-            const byte = chunk.byte(kind);
+            const byte = cursor.byte(kind);
             const code = byte >>> 1;
-            const number = chunk.number(code);
+            const number = cursor.number(code);
             const isRepeated = code >= Code.far && code < Code.frequent;
             const { what, number: label } = isRepeated ? NOTHING : this.labelled(kind, code, number);
             if (what === Step.assertion) for (const each of this.proofs.kindsOf(label)) expected.push(each);
@@ -275,24 +301,27 @@ class Backward {
                 this.kinds.push(kind);
                 this.bytes.push(byte);
                 this.numbers.push(number);
-                if (steps === MOST_STEPS) throw new TooManySteps();
+                if (steps + expected.length >= MOST_STEPS) throw new TooManySteps();
             }
             if (turns.isOver(steps)) await turns.next();
         }
     }
 
     /**
-     * What a label is, by its code.
+     * What a label is, by its code. Damaged where there is no such label.
      * @param {number} kind
      * @param {number} code
      * @param {number} number
      */
     labelled(kind, code, number) {
-        if (code === Code.own) return this.own[number];
-        const label = code === Code.label ? number : this.proofs.frequent[kind][code - Code.frequent];
-        return label % 2 === 0
-            ? { what: Step.floating, number: label / 2 }
-            : { what: Step.assertion, number: (label - 1) / 2 };
+        const { own, proofs } = this;
+        if (code === Code.own && number < own.length) return own[number];
+        const label = code === Code.label ? number : proofs.frequent[kind][code - Code.frequent];
+        const isFloating = label % 2 === 0;
+        if (label < 2 * (isFloating ? proofs.floating : proofs.model).size) {
+            return { what: isFloating ? Step.floating : Step.assertion, number: label >>> 1 };
+        }
+        throw new Damaged("a proof names what isn't there");
     }
 
     /**

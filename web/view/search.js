@@ -79,9 +79,11 @@ class Lines {
 }
 
 /**
- * What was found: `keys` has a number for each assertion, the better the smaller.
+ * What was found: `keys` has a number for each assertion, the better the smaller; `masks` of each different word where
+ * these assertions have it.
  * @typedef {object} Answer
  * @property {string[]} words
+ * @property {Uint8Array[]} masks
  * @property {number} total
  * @property {Float64Array} keys
  */
@@ -162,29 +164,68 @@ export class Search {
     }
 
     /**
-     * Of each assertion where it has a word. A longer word is only looked for where a beginning of it was found.
+     * Of each word where assertions have it. Of those that lack one of the words this may be missing, and so may be the
+     * words behind one that leaves none.
+     * @param {string[]} words in small letters
+     */
+    masksOfAll(words) {
+        const left = new Uint8Array(this.size).fill(1);
+        /** @type {Uint8Array[]} */
+        const masks = [];
+        for (const word of words) {
+            if (!left.includes(1)) break;
+            const mask = this.masksOf(word, left);
+            for (let number = 0; number < this.size; number++) if (mask[number] === 0) left[number] = 0;
+            masks.push(mask);
+        }
+        return { masks, left };
+    }
+
+    /**
+     * Of each assertion where it has a word; of those that aren't `left` it needn't say so. Where few are left, or have a
+     * beginning of the word, only these are looked at.
      * @param {string} word in small letters
+     * @param {Uint8Array} left
      * @returns {Uint8Array}
      */
-    masksOf(word) {
+    masksOf(word, left) {
         const known = this.known.get(word);
         if (known) return known;
+        const before = this.known.get(word.slice(0, -1));
+        if (before && this.isWhole && isSparse(before)) return this.keep(word, this.masksAmong(before, word));
+        if (this.isWhole && isSparse(left)) return this.masksAmong(left, word);
+        const masks = new Uint8Array(this.size);
+        const shown = plain(word);
+        this.labels.mark(word, masks, In.label);
+        for (const lines of this.formulas) lines.mark(squeezed(word), masks, In.formula);
+        if (shown !== "") for (const lines of this.shown) lines.mark(shown, masks, In.formula);
+        for (const lines of this.comments) lines.mark(word, masks, In.comment);
+        return this.keep(word, masks);
+    }
+
+    /**
+     * Keeps where a word is, for the next letters that are typed.
+     * @param {string} word
+     * @param {Uint8Array} masks
+     */
+    keep(word, masks) {
+        if (this.known.size >= MOST_KNOWN) this.known.delete([...this.known.keys()][0]);
+        this.known.set(word, masks);
+        return masks;
+    }
+
+    /**
+     * Of some assertions where they have a word.
+     * @param {Uint8Array} among not 0 for those that are looked at
+     * @param {string} word
+     */
+    masksAmong(among, word) {
         const masks = new Uint8Array(this.size);
         const written = squeezed(word);
         const shown = plain(word);
-        const before = word.length > 1 ? this.known.get(word.slice(0, -1)) : undefined;
-        if (before && this.isWhole && isSparse(before)) {
-            for (let number = 0; number < this.size; number++) {
-                if (before[number]) masks[number] = this.maskOf(number, word, written, shown);
-            }
-        } else {
-            this.labels.mark(word, masks, In.label);
-            for (const lines of this.formulas) lines.mark(written, masks, In.formula);
-            if (shown !== "") for (const lines of this.shown) lines.mark(shown, masks, In.formula);
-            for (const lines of this.comments) lines.mark(word, masks, In.comment);
+        for (let number = 0; number < this.size; number++) {
+            if (among[number]) masks[number] = this.maskOf(number, word, written, shown);
         }
-        if (this.known.size >= MOST_KNOWN) this.known.delete([...this.known.keys()][0]);
-        this.known.set(word, masks);
         return masks;
     }
 
@@ -206,15 +247,14 @@ export class Search {
 
     /**
      * Which formulas have the words side by side, in one of the spellings.
-     * @param {string[]} words
-     * @returns {Uint8Array | null}
+     * @param {string} written the words without spaces
+     * @param {string} shown the same in plain letters
+     * @returns {Uint8Array}
      */
-    phrase(words) {
-        if (words.length < 2) return null;
+    phrase(written, shown) {
         const masks = new Uint8Array(this.size);
-        for (const lines of this.formulas) lines.mark(squeezed(words.join("")), masks, In.formula);
-        const shown = plain(words.join(""));
-        for (const lines of this.shown) lines.mark(shown, masks, In.formula);
+        for (const lines of this.formulas) lines.mark(written, masks, In.formula);
+        if (shown !== "") for (const lines of this.shown) lines.mark(shown, masks, In.formula);
         return masks;
     }
 
@@ -240,18 +280,16 @@ export class Search {
      */
     find(typed) {
         const words = wordsOf(typed);
-        if (words.length === 0 || this.size === 0) return { words, total: 0, keys: new Float64Array(0) };
         const different = [...new Set(words)];
-        const masks = different.map((word) => this.masksOf(word));
-        const phrase = this.phrase(words) ?? masks[0];
+        const { masks, left } = this.masksOfAll(different);
+        const keys = new Float64Array(this.size);
+        if (words.length === 0 || !left.includes(1)) return { words, masks, total: 0, keys: keys.subarray(0, 0) };
         const written = squeezed(words.join(""));
         const shown = plain(written);
-        const keys = new Float64Array(this.size);
+        const phrase = words.length > 1 ? this.phrase(written, shown) : masks[0];
         let total = 0;
         for (let number = 0; number < this.size; number++) {
-            let all = true;
-            for (const mask of masks) all = all && mask[number] !== 0;
-            if (!all) continue;
+            if (!left[number]) continue;
             let rank = this.rankOf(number, different, masks);
             if (phrase[number] & In.formula) {
                 if (words.length > 1) rank += Rank.phrase;
@@ -259,7 +297,7 @@ export class Search {
             }
             keys[total++] = this.keyOf(number, rank, masks);
         }
-        return { words, total, keys: keys.subarray(0, total) };
+        return { words, masks, total, keys: keys.subarray(0, total) };
     }
 
     /**
@@ -326,7 +364,7 @@ export class Search {
             best.splice(place, 0, key);
             if (best.length > limit) best.pop();
         }
-        return best.map((key) => this.found(key, answer.words));
+        return best.map((key) => this.found(key, answer.masks));
     }
 
     /**
@@ -339,14 +377,13 @@ export class Search {
 
     /**
      * @param {number} key
-     * @param {string[]} words
+     * @param {Uint8Array[]} masks
      * @returns {Found}
      */
-    found(key, words) {
+    found(key, masks) {
         const number = key % this.size;
-        const masks = words.map((word) => this.masksOf(word)[number]);
-        if (masks.some((mask) => mask & In.label)) return { number, where: "label" };
-        return { number, where: masks.every((mask) => mask & In.formula) ? "formula" : "comment" };
+        if (masks.some((mask) => mask[number] & In.label)) return { number, where: "label" };
+        return { number, where: masks.every((mask) => mask[number] & In.formula) ? "formula" : "comment" };
     }
 }
 
@@ -356,6 +393,42 @@ export class Search {
  */
 export function wordsOf(typed) {
     return Array.from(typed.toLowerCase().matchAll(WORD), ([word, phrase]) => (phrase ?? word).replace(/\s+/g, " "));
+}
+
+/**
+ * Where words stand in a text, from its beginning to its end; of those that begin at one place the longest.
+ * @param {string} text
+ * @param {string[]} words in small letters
+ * @returns {[number, number][]}
+ */
+export function placesOf(text, words) {
+    const small = text.toLowerCase();
+    // Of each word the next place, so that the text is gone through once for each.
+    const left = [...new Set(words)].map((word) => ({ word, at: -1 }));
+    /** @type {[number, number][]} */
+    const places = [];
+    for (let place = 0; ; ) {
+        let [start, end] = [small.length, 0];
+        for (const each of left) {
+            if (each.at < place) each.at = indexOrEnd(small, each.word, place);
+            const isLonger = each.at === start && each.at + each.word.length > end;
+            if (each.at < start || isLonger) [start, end] = [each.at, each.at + each.word.length];
+        }
+        if (start >= small.length) return places;
+        places.push([start, end]);
+        place = end;
+    }
+}
+
+/**
+ * Where a word stands in a text from a place on, or where the text ends.
+ * @param {string} text
+ * @param {string} word
+ * @param {number} place
+ */
+function indexOrEnd(text, word, place) {
+    const found = text.indexOf(word, place);
+    return found < 0 ? text.length : found;
 }
 
 /**

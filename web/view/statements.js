@@ -1,6 +1,6 @@
 // What the views of theorems and axioms have in common: the head with comment, hypotheses, formula and conditions.
 
-import { count, element } from "./elements.js";
+import { count, element, put } from "./elements.js";
 import { readComment } from "./markup.js";
 import { Flag } from "./model.js";
 
@@ -66,7 +66,7 @@ export class Statements {
             element(
                 "li",
                 { class: "line" },
-                element("span", { class: "label" }, model.hypothesisLabels.at(index)),
+                elements.label(model.hypothesisLabels.at(index)),
                 " ",
                 elements.formula(model.hypothesisFormulas.at(index), true),
             ),
@@ -74,7 +74,7 @@ export class Statements {
         if (given.length === 0) return [];
         const name = given.length === 1 ? "Hypothesis" : "Hypotheses";
         const heading = element("h2", { class: "small" }, name);
-        return [element("div", { class: "hypotheses" }, heading, element("ol", { class: "lines" }, ...given))];
+        return [element("div", { class: "hypotheses" }, heading, element("ol", { class: "lines" }, given))];
     }
 
     /**
@@ -104,7 +104,7 @@ export class Statements {
      * @param {string[]} dummies
      */
     dummies(dummies) {
-        const made = element("p", { id: "dummies" }, ...this.elements.variables(dummies));
+        const made = element("p", { id: "dummies" }, this.elements.variables(dummies));
         const told =
             dummies.length === 1
                 ? " — distinct from all other variables"
@@ -121,10 +121,10 @@ export class Statements {
         const items = groups.map(([dummy, ...others]) => {
             const item = element("li", {}, this.elements.variable(dummy));
             const told = others.length > 0 ? " — distinct from " : " — without conditions";
-            item.append(element("span", { class: "hint" }, told), ...this.elements.variables(others));
+            put(item, [element("span", { class: "hint" }, told), ...this.elements.variables(others)]);
             return item;
         });
-        return element("ul", { class: "stars", id: "stars" }, ...items);
+        return element("ul", { class: "stars", id: "stars" }, items);
     }
 
     /**

@@ -98,7 +98,7 @@ export class TheoremView {
             const fold = this.elements.foldOf(
                 group.name,
                 part.length,
-                () => element("ul", { class: "lines" }, ...part.map((column) => this.axiomLine(number, column))),
+                () => element("ul", { class: "lines" }, part.map((column) => this.axiomLine(number, column))),
                 index !== Group.syntax || part.length === columns.length || part.some((column) => isChainOpen(column)),
             );
             fold.classList.add("group", `of-${group.key}`);
@@ -141,7 +141,7 @@ export class TheoremView {
         const chain = this.model.chain(theorem, axiom);
         return [
             this.elements.hint(`A shortest chain, ${counted(chain.length - 1, "citation")}; each cites the next:`),
-            element("ol", { class: "lines chain" }, ...chain.map((number) => this.elements.line(number))),
+            element("ol", { class: "lines chain" }, chain.map((number) => this.elements.line(number))),
         ];
     }
 

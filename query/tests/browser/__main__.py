@@ -106,6 +106,8 @@ def try_database(browser: Browser, pages: Pages, name: str, rng: random.Random) 
     parts.check_keyboard(browser, page, truth, deep, axiom, other)
     if shown.known:
         parts.check_switch(browser, page, truth, deep)
+        given = next((label for label in theorems if truth.hypotheses[label]), deep)
+        parts.check_spelling(browser, page, truth, given)
     same(browser.messages(), [], f"{browser.name} {page.name}: messages in the console")
     print(f"{browser.name} {name}: {checks.passed} passed so far", flush=True)
 

@@ -78,12 +78,55 @@ hopes $p |- ( p -> ( p -> q ) ) $= wp wq __proto__ wp wp wq guess hasOwnProperty
 EVIL_TITLE = "</title><script>window.taken=1</script>\x01\x1b[31m\u202e{{data}} \"&amp;'"
 SHOWN_TITLE = "</title><script>window.taken=1</script>\u2401\u241b[31m\ufffd{{data}} \"&amp;'"
 
-# Databases in which something is missing.
+
+def spelled(number: int) -> str:
+    """A number, from 1, in the letters of compressed proofs."""
+    rest, last = divmod(number - 1, 20)
+    letters = chr(ord("A") + last)
+    while rest:
+        rest, digit = divmod(rest - 1, 5)
+        letters = chr(ord("U") + digit) + letters
+    return letters
+
+
+def doubling(times: int) -> str:
+    """Proofs in which a formula is joined with itself again and again, and is then let go; one of
+    them of a variable with a long name."""
+    letters = "".join(f"Z{spelled(4 + at)}B" for at in range(1, times + 1))
+    proof = f"AAB{letters}Z{spelled(5 + times)}CD"
+    return f"""$c wff |- ( -> ) T A $. $v p q {"l" * 200} $.
+wp $f wff p $. wq $f wff q $. wl $f wff {"l" * 200} $.
+wi $a wff ( p -> q ) $. t $a |- T p $. ${{ drop.h $e |- T p $. drop $a |- A $. $}}
+small $p |- A $= ( wp wi t drop ) AACD $.
+long $p |- A $= ( wp wi t drop ) {proof} $.
+large $p |- A $= ( wl wi t drop ) {proof} $.
+"""
+
+
+def hurting(many: int) -> str:
+    """Comments and a label that are made to hurt who reads them."""
+    return f"""$c |- a $.
+$( <HTML>{"<b>" * many}x $) nested $a |- a $.
+$( <{"a" * many} $) tag $a |- a $.
+$( (Revised and{" by" * many} $) by $a |- a $.
+$( {"~ nested " * many}$) named $a |- a $.
+{"a" * many} $a |- a $.
+end $p |- a $= nested $.
+"""
+
+
+# A comment that names a label so often that some of them stand where a line ends.
+NAMED = " ".join(f"{'w' * (at % 9)} ~ ax-mp ;" for at in range(90))
+
+# Databases in which something is missing, or which are made to hurt.
 CORNERS = {
     "axioms": "$c |- a $. only $a |- a $.",
     "theorems": "$c wff |- $. $v p $. wp $f wff p $. ${ h $e |- p $. same $p |- p $= h $. $}",
     "unheard": "$c |- a $. ${ h $e |- a $. x $a |- a $. $} x1 $a |- a $. y $p |- a $= x1 x $."
     " ${ k $e |- a $. $}",
+    "doubling": doubling(15),
+    "hurting": hurting(50_000),
+    "labels": f"$c |- a $. $( {NAMED} $) ax-mp $a |- a $. b $p |- a $= ax-mp $.",
 }
 
 # A release and the next: `b` gains ax-2 and ax-5 and loses ax-1, `d` loses ax-1 for ax-3, `old`

@@ -8,7 +8,7 @@ from typing import Any
 
 from query.tests.browser.browsers import Browser, Chromium, Keys
 from query.tests.browser.counting import count, same
-from query.tests.browser.scripts import CONTRAST, NAMES, TARGETS
+from query.tests.browser.scripts import BROKEN_LABELS, CONTRAST, NAMES, TARGETS
 from query.tests.browser.truth import Truth, as_shown, definitions
 
 LEAST_CONTRAST = 4.5
@@ -314,6 +314,9 @@ def check_narrow(browser: Browser, page: Path, views: list[str], room: Path) -> 
             time.sleep(0.2)
             wide = browser.run(f"return {document}.documentElement.scrollWidth")
             count(wide <= width, f"{name}: it fits", wide)
+            seen, broken = browser.run(BROKEN_LABELS.replace("DOCUMENT", document))
+            count(seen > 0, f"{name}: there are labels", seen)
+            same(broken, [], f"{name}: labels that are broken at the end of a line")
             if view == "" and width == 390:
                 count(tall <= TALLEST, f"{name}: the overview isn't too tall", tall)
     browser.size(1280, 900)
@@ -333,6 +336,26 @@ def check_tree(browser: Chromium, what: str) -> None:
             count(False, f"{what}: a {role} without a name", str(node)[:300])
     for role in ("banner", "main", "contentinfo", "search"):
         count(role in roles, f"{what}: there is a {role}")
+
+
+def check_spelling(browser: Browser, page: Path, truth: Truth, label: str) -> None:
+    """Who doesn't see is told the formula, hypotheses and variables of a statement as the database
+    spells them, though other symbols are shown: by a name, and in Chromium's own tree."""
+    kind = "theorem" if label in truth.cited else "axiom"
+    browser.open(page, f"#{kind}={label}")
+    wanted = [*(formula for _, formula in truth.hypotheses[label]), truth.formulas[label]]
+    told = browser.run(
+        "return Array.from(document.querySelectorAll('.hypotheses .formula, #statement .formula'),"
+        " (one) => [one.getAttribute('role'), one.getAttribute('aria-label')])"
+    )
+    name = f"{browser.name} {page.name} {label}"
+    same(told, [["math", formula] for formula in wanted], f"{name}: spellings that are told")
+    if isinstance(browser, Chromium):
+        nodes = [node for node in browser.names() if not node.get("ignored")]
+        values = [[node.get(key, {}).get("value") for key in ("role", "name")] for node in nodes]
+        spelled = [value for role, value in values if role == "math"]
+        missing = [formula for formula in wanted if formula not in spelled]
+        same(missing, [], f"{name}: spellings in the tree")
 
 
 def check_focus(browser: Browser, what: str) -> None:

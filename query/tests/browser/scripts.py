@@ -58,6 +58,9 @@ window.gather = async (hash, label) => {
                 line.querySelector(".distinct") !== null,
             ]),
         ]),
+        neighbours: Array.from(main.querySelectorAll(".neighbours a"), (link) => [
+            link.rel, link.textContent, link.getAttribute("href"),
+            link.getAttribute("aria-label")]),
         glance: texts("#glance strong"),
         avoids: texts("#avoids ul a"),
         cites: texts("#cites li > a"),
@@ -153,6 +156,19 @@ for (const node of document.querySelectorAll("button, select, input, summary")) 
     }
 }
 return small;
+"""
+
+# Labels of at most twenty letters that are broken at the end of a line; DOCUMENT is the page's.
+BROKEN_LABELS = """
+const page = DOCUMENT;
+const parts = Array.from(page.querySelectorAll(".label"), (one) => {
+    const range = page.createRange();
+    range.selectNodeContents(one);
+    const tops = Array.from(range.getClientRects(), (box) => Math.round(box.top / 4));
+    return [one.textContent, new Set(tops).size];
+});
+const wrong = parts.filter(([label, lines]) => label.length <= 20 && lines > 1);
+return [parts.filter(([, lines]) => lines > 0).length, wrong.map(([label]) => label)];
 """
 
 # What is missing for who doesn't see: names of controls, parts of the page, unique ids, headings.

@@ -128,6 +128,12 @@ class Truth:
         return {self.floating[word] for word in named if word in self.floating} - self.used(label)
 
     @cached_property
+    def neighbours(self) -> dict[str, tuple[str | None, str | None]]:
+        """The statement before each and the one after, in the order of the file."""
+        order = sorted(self.places, key=self.places.__getitem__)
+        return dict(zip(order, zip([None, *order], [*order[1:], None]), strict=True))
+
+    @cached_property
     def comments(self) -> dict[str, str]:
         """The comment just before each assertion that has one, with nothing but white space, and
         comments that begin with $j, between."""

@@ -48,7 +48,20 @@ class Shown:
         count(shown["place"].startswith(place), f"{name}: its line", shown["place"])
         count(shown["title"].startswith(f"{label} "), f"{name}: the title", shown["title"])
         same(shown["citedBy"], self.truth.citers.get(label, []), f"{name}: what cites it")
+        self.neighbours(shown, label)
         return True
+
+    def neighbours(self, shown: dict[str, Any], label: str) -> None:
+        """The statements before and after, be they theorems or axioms."""
+        wanted = []
+        for rel, which, other in zip(
+            ("prev", "next"), ("Previous", "Next"), self.truth.neighbours[label], strict=True
+        ):
+            if other is not None:
+                is_theorem = other in self.truth.cited
+                address = f"#{'theorem' if is_theorem else 'axiom'}={other}"
+                wanted.append([rel, other, address, f"{which} statement: {other}"])
+        same(shown["neighbours"], wanted, f"{self.name(label)}: the statements beside it")
 
     def theorem(self, label: str) -> dict[str, Any]:
         """A theorem: what it rests on, does without and cites."""

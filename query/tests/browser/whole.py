@@ -24,6 +24,7 @@ from query.tests.browser.databases import (
     OPEN,
     SHOWN_TITLE,
 )
+from query.tests.browser.parts import check_narrow
 from query.tests.browser.scripts import CONTRAST
 from query.tests.browser.truth import DATABASES, HERE, PROGRAM, Truth
 from query.tests.browser.views import Shown
@@ -161,7 +162,7 @@ def check_no_markup(browser: Browser, page: Path) -> None:
 
 
 def check_corners(browser: Browser, room: Path) -> None:
-    """Databases in which something is missing."""
+    """Databases in which something is missing, or which are made to hurt."""
     for name, text in CORNERS.items():
         database = room / f"{name}.mm"
         database.write_text(text)
@@ -176,7 +177,28 @@ def check_corners(browser: Browser, room: Path) -> None:
         browser.open(page)
         found = browser.wait("document.querySelector('#main h1')")
         count(found, f"{browser.name} {name}: the overview")
+        if name == "doubling":
+            check_doubling(browser)
+        if name == "labels":
+            check_narrow(browser, page, ["#axiom=ax-mp"], room)
         same(browser.messages(), [], f"{browser.name} {name}: messages in the console")
+
+
+def check_doubling(browser: Browser) -> None:
+    """Proofs of which a formula is cut, or whose formulas are too long, and one beside them."""
+    for label, wanted in (
+        ("small", "2 steps, and 2 others, which only build formulas."),
+        ("long", "2 steps, and 18 others, which only build formulas."),
+        ("large", "Its formulas have more than 20,000,000 signs together, too many to be shown"),
+    ):
+        browser.run("window.location.hash = `#theorem=${arguments[0]}`", label)
+        browser.is_at(label)
+        told = browser.wait(
+            "document.querySelector('#proof [aria-busy=false]')?.innerText.trim()", seconds=60
+        )
+        count(wanted in str(told), f"{browser.name}: the proof of {label}", str(told)[:300])
+        size = browser.run("return document.getElementById('proof').textContent.length")
+        count(size < 100_000, f"{browser.name}: what is shown of the proof of {label}", size)
 
 
 def check_against(browser: Browser, room: Path) -> None:

@@ -1,0 +1,43 @@
+// Tests of the command line of the program for Node, word by word. web/check compares it with the program.
+
+import assert from "node:assert/strict";
+import { test } from "node:test";
+import { readWords } from "../command.js";
+
+const PLAIN = { report: "all", only: null, form: 1, essential: false, open: false };
+
+/** What a line asks for: a request with the file, or how the line ends otherwise. */
+function asked(line) {
+    const read = readWords(line === "" ? [] : line.split(" "), "7");
+    return read.ends === "run" ? { ...read.request, file: read.file } : read.ends;
+}
+
+test("options and the file", () => {
+    assert.deepEqual(asked(""), { ...PLAIN, file: null });
+    assert.deepEqual(asked("-"), { ...PLAIN, file: "-" });
+    const all = { report: "counts,matrix", only: "|-", form: 2, essential: true, open: true, file: "a.mm" };
+    assert.deepEqual(asked("--open --only |- a.mm --report=counts,matrix --form 2 --essential"), all);
+    assert.deepEqual(asked("--only= --workers +4 --pieces=64 -- --open"), { ...PLAIN, only: "", file: "--open" });
+    assert.deepEqual(asked("--only - --report all"), { ...PLAIN, only: "-", file: null });
+});
+
+test("lines that are wrong, each told in one line", () => {
+    const wrong = [
+        ..."--bogus|-x|a b|--only|--only --open|--only -- a|--open=|--open=1|--help=1|--form=3|--form=".split("|"),
+        ..."--workers=0|--workers=65|--workers=4x|--workers=|--pieces=-1|--pieces=1e1|--report=|--report=foo".split("|"),
+        ..."--open --open|--only=a --only=b|--report=all,|--__proto__|--constructor=1|--no-open".split("|"),
+    ];
+    for (const line of wrong) {
+        assert.equal(asked(line), "misread", line);
+        assert.match(readWords(line.split(" "), "7").text, /^error: [^\n]+; try --help\n$/);
+    }
+    assert.match(readWords(["--a\x1b\nb"], "7").text, /^error: [^\n\x1b]+\n$/);
+});
+
+test("what comes first counts", () => {
+    for (const line of ["--help --bogus", "-hx", "-V --open --open", "--report=foo -h", "a -h b"]) {
+        assert.equal(asked(line), "help", line);
+    }
+    for (const line of ["--bogus -h", "-xh", "--form=3 -h", "a b -h"]) assert.equal(asked(line), "misread", line);
+    assert.equal(readWords(["-V"], "7").text, "mmdepend 7\n");
+});
