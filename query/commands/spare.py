@@ -6,7 +6,7 @@ from query.commands import Command
 from query.context import Context
 from query.database import Database
 from query.errors import NoAnswer, nearest, shown
-from query.options import Options, add_database
+from query.options import Options, add_database, count
 from query.output import Value
 from query.spare.changes import Changer, Place, Wanted
 from query.spare.kept import Change
@@ -42,6 +42,10 @@ Nothing is cited that is discouraged, that has a label which ends in ALT or OLD,
 another mathbox; and no proof is changed whose modification is discouraged. Options set each of
 these aside. A proof with a comment between its $= and $. isn't changed.
 
+Several processes search, one for each processor, at most 4, as far as memory goes; --jobs says how
+many. The answer is the same. What was found is kept each minute, so that a search that was
+interrupted goes on from there.
+
 --write makes a new file: all is as in DATABASE but the proofs that are changed, which are
 compressed. --proof prints one of them, from the label of its theorem to the end.
 
@@ -74,6 +78,7 @@ def configure(parser: argparse.ArgumentParser) -> None:
     parser.add_argument(
         "--open", action="store_true", help="a theorem whose proof is ? counts as an axiom"
     )
+    parser.add_argument("--jobs", metavar="N", type=count, help="search with N processes")
     add_conventions(parser)
 
 
@@ -132,7 +137,7 @@ def run(context: Context, arguments: argparse.Namespace) -> int:
     if arguments.write is not None:
         see_missing(arguments.write)
     wanted = wanted_of(database, arguments)
-    changes = list(Changer(database, wanted).changes())
+    changes = list(Changer(database, wanted, arguments.jobs).changes())
     data = rewritten(database.text, changes)
     judge(database, data, changes)
     if arguments.proof is not None:

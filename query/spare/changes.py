@@ -15,6 +15,7 @@ from query.spare.kept import Change, Replaced
 from query.spare.library import Library, Rule, bits_of, library_of
 from query.spare.proofs import Proof, Step, Unfit, run
 from query.spare.search import MOST_GIVEN, Conventions, Options, Search, Shelf, Steps, World
+from query.spare.sharing import number_at_once, searched
 from query.spare.writing import Writer, laid_out, width_of
 
 LAST = ("ALT", "OLD")
@@ -64,9 +65,10 @@ class Place:
 class Changer:
     """Changes the proofs of a database."""
 
-    def __init__(self, database: Database, wanted: Wanted) -> None:
+    def __init__(self, database: Database, wanted: Wanted, at_once: int | None = 1) -> None:
         self.text = database.text
         self.wanted = wanted
+        self.at_once = at_once
         self.library = library_of(database, wanted.typecode)
         self.numbers = {rule.label: rule.number for rule in self.library.rules}
         self.names = [rule.label for rule in self.library.rules]
@@ -131,44 +133,91 @@ class Changer:
         It is kept from time to time."""
         begun, kept = kept_changes.load(self.key) if self.key is not None else (0, {})
         found: list[Change] = []
-        new, stored = 0, time.monotonic()
-        for count, (number, cited) in enumerate(self.cites.items()):
-            if count % 100 == 0:
-                progress.now(f"{count} of {len(self.cites)} theorems done, {new} new proofs")
-            if count < begun:
-                change = self.known(number, cited, kept.get(self.names[number]))
-            else:
-                if time.monotonic() - stored >= SECONDS and self.key is not None:
-                    kept_changes.store(self.key, count, found)
+        done = new = 0
+        stored = time.monotonic()
+        progress.now("searching")
+        try:
+            for done, change in enumerate(self.theorems(begun, kept), 1):
+                if change is not None:
+                    new += change.proof is not None
+                    found.append(change)
+                    yield change
+                if done % 100 == 0:
+                    progress.now(f"{done} of {len(self.cites)} theorems done, {new} new proofs")
+                if done > begun and time.monotonic() - stored >= SECONDS:
+                    self.keep(done, found)
                     stored = time.monotonic()
-                change = self.change(number, cited)
-            if change is not None:
-                new += change.proof is not None
-                found.append(change)
-                yield change
-        if self.key is not None and begun < len(self.cites):
-            kept_changes.store(self.key, len(self.cites), found)
+        finally:
+            if done > begun:
+                self.keep(done, found)
 
-    def known(self, number: int, cited: list[int], change: Change | None) -> Change | None:
+    def keep(self, done: int, found: list[Change]) -> None:
+        """Keeps what was found in so many theorems, where results are kept."""
+        if self.key is not None:
+            kept_changes.store(self.key, done, found)
+
+    def theorems(self, begun: int, kept: dict[str, Change]) -> Iterator[Change | None]:
+        """What becomes of each theorem; of so many it is known."""
+        numbers = list(self.cites)
+        for number in numbers[:begun]:
+            yield self.known(number, kept.get(self.names[number]))
+        at_once = number_at_once() if self.at_once is None else self.at_once
+        yield from searched(self, numbers[begun:], at_once)
+
+    def known(self, number: int, change: Change | None) -> Change | None:
         """What is known already of a theorem."""
+        cited = self.cites[number]
         if change is not None and change.proof is not None:
             cited = [self.numbers[each] for each in change.labels() if each in self.numbers]
-        rests = self.resting(cited)
-        if rests != self.world.rests[number]:
-            self.world.change(number, rests)
+        self.world.rest(number, self.resting(cited))
         return change
 
-    def change(self, number: int, cited: list[int]) -> Change | None:
-        """What becomes of a theorem, which cites these."""
+    def is_sought(self, number: int) -> bool:
+        """Whether the proof of a theorem is searched, as far as is seen at once."""
+        is_wanted = self.wanted.is_shorter or bool(self.old_rests[number] & self.axioms)
+        return is_wanted and self.may_change(number)
+
+    def may_differ(self, number: int, others: set[int]) -> bool:
+        """Whether what becomes of a theorem may depend on what these rest on: where it cites one,
+        or one of them becomes a formula of its proof."""
+        if not others.isdisjoint(self.cites[number]):
+            return True
+        if not self.is_sought(number):
+            return False
+        allowed = self.shelf.conventions.allowed(number)
+        trees = [self.library.rules[other].tree for other in others if allowed >> other & 1]
+        if not trees:
+            return False
+        if self.closed and any(self.closed >> other & 1 for other in others):
+            return True
+        first = len(self.library.trees)
+        match = self.library.trees.match
+        try:
+            formulas = self.proof(number).steps
+            return any(
+                match(pattern, formula, {}) is not None for formula in formulas for pattern in trees
+            )
+        except Unfit:
+            return False
+        finally:
+            self.library.trees.forget(first)
+
+    def proof(self, number: int) -> Proof:
+        """The proof of a theorem. Unfit where it isn't of the kind that is changed."""
+        words = self.text.proof(self.text.assertions[number])
+        return run(self.library, self.numbers, self.library.rules[number], words)
+
+    def change(self, number: int) -> Change | None:
+        """What becomes of a theorem."""
         old = self.old_rests[number]
         if not old & self.axioms and not self.wanted.is_shorter:
             return None
-        rests = self.resting(cited)
+        rests = self.resting(self.cites[number])
         change = None
         if rests & self.axioms or self.wanted.is_shorter:
             change = self.changed(number, rests, self.axioms)
-        if change is None and rests != self.world.rests[number]:
-            self.world.change(number, rests)
+        if change is None:
+            self.world.rest(number, rests)
         lost = old & ~self.world.rests[number]
         if change is None and lost:
             change = Change(self.names[number], ())
@@ -196,7 +245,7 @@ class Changer:
         try:
             if place.has_comment:
                 return None
-            proof = run(self.library, self.numbers, rule, self.text.proof(one))
+            proof = self.proof(number)
             if self.wanted.is_shorter:
                 steps = Options(self.shelf, self.world, rule, proof, rests).shortest()
             elif self.needs(proof, wanted):
@@ -263,7 +312,7 @@ class Changer:
             has_other_steps = change.replaced or left < len(proof.steps)
             if not has_other_steps or len(written) >= len(old):
                 return None
-        self.world.change(rule.number, new)
+        self.world.rest(rule.number, new)
         return change
 
     def replaced(self, tree: int, step: Step, was: dict[Step, None]) -> Replaced:

@@ -5,6 +5,7 @@ from __future__ import annotations
 import json
 from collections.abc import Sequence
 from dataclasses import asdict, dataclass, field
+from typing import Any
 
 from query import cache
 
@@ -38,13 +39,28 @@ class Change:
         return words[1 : words.index(")")]
 
 
+def fields_of(change: Change) -> dict[str, Any]:
+    """A change in a form that JSON has."""
+    fields = asdict(change)
+    if change.proof is not None:
+        fields["proof"] = change.proof.decode("latin-1")
+    return fields
+
+
+def from_fields(fields: dict[str, Any]) -> Change:
+    """The same change as it was."""
+    proof = None if fields["proof"] is None else fields["proof"].encode("latin-1")
+    replaced = [
+        Replaced(tuple(one["old"]), one["new"], one["formula"]) for one in fields["replaced"]
+    ]
+    loses = tuple(fields["loses"])
+    return Change(fields["theorem"], loses, proof, fields["old_length"], replaced)
+
+
 def store(key: str, done: int, changes: Sequence[Change]) -> None:
     """Keeps what was found in so many theorems."""
-    fields = [asdict(change) for change in changes]
-    for each in fields:
-        if each["proof"] is not None:
-            each["proof"] = each["proof"].decode("latin-1")
-    cache.store(key, {"done": str(done).encode(), "changes": json.dumps(fields).encode()})
+    fields = json.dumps([fields_of(change) for change in changes])
+    cache.store(key, {"done": str(done).encode(), "changes": fields.encode()})
 
 
 def load(key: str) -> tuple[int, dict[str, Change]]:
@@ -52,12 +68,5 @@ def load(key: str) -> tuple[int, dict[str, Change]]:
     parts = cache.load(key)
     if parts is None:
         return 0, {}
-    found = {}
-    for each in json.loads(parts["changes"]):
-        proof = None if each["proof"] is None else each["proof"].encode("latin-1")
-        steps = [
-            Replaced(tuple(one["old"]), one["new"], one["formula"]) for one in each["replaced"]
-        ]
-        loses = tuple(each["loses"])
-        found[each["theorem"]] = Change(each["theorem"], loses, proof, each["old_length"], steps)
-    return int(parts["done"]), found
+    found = [from_fields(each) for each in json.loads(parts["changes"])]
+    return int(parts["done"]), {change.theorem: change for change in found}

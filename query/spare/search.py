@@ -87,13 +87,18 @@ class World:
             for axiom in bits_of(bits):
                 flags[axiom][number] = ord("1")
         self.columns = {axiom: int(each[::-1], 2) for axiom, each in flags.items()}
+        self.changed: list[int] = []
+        """The assertions that came to rest on others than at first, in order."""
         self._blocked: dict[int, int] = {}
 
-    def change(self, number: int, rests: int) -> None:
-        """An assertion rests on less now."""
+    def rest(self, number: int, rests: int) -> None:
+        """An assertion rests on these now, which are fewer or the same."""
+        if rests == self.rests[number]:
+            return
         for axiom in bits_of(self.rests[number] & ~rests):
             self.columns[axiom] &= ~(1 << number)
         self.rests[number] = rests
+        self.changed.append(number)
         self._blocked.clear()
 
     def blocked(self, allowed: int) -> int:

@@ -398,11 +398,11 @@ class Kept(World):
         tried: list[int] = []
         real = Changer.change
 
-        def change(self: Changer, number: int, cited: list[int]) -> Change | None:
+        def change(self: Changer, number: int) -> Change | None:
             tried.append(number)
             if len(tried) % 2:
                 raise InterruptedError
-            return real(self, number, cited)
+            return real(self, number)
 
         with mock.patch.dict(os.environ, names), mock.patch.object(changes, "SECONDS", 0):
             database = Context().database(path, Options())
