@@ -77,12 +77,15 @@ def run(context: Context, arguments: argparse.Namespace) -> int:
     shelf = Shelf(library, conventions_of(library, wanted))
     found = Finder(library, shelf).repeats(theorems_of(library, kept, context.keeps()))
     rows = [[one.theorem, one.earlier, one.how] for one in found]
+    empty, remark = "no theorem says what an earlier statement says", library.remark()
     context.table(
         COLUMNS,
         [[*row, *rests_apart(dependence, row[0], row[1])] for row in rows],
-        f"{database.name}: no theorem says what an earlier statement says",
+        f"{database.name}: {empty}{remark and '; '}{remark}",
         "theorem",
     )
+    if rows and remark:
+        context.tell(f"{database.name}: {remark}")
     return 0
 
 

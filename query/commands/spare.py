@@ -137,14 +137,18 @@ def run(context: Context, arguments: argparse.Namespace) -> int:
     if arguments.write is not None:
         see_missing(arguments.write)
     wanted = wanted_of(database, arguments)
-    changes = list(Changer(database, wanted, arguments.jobs).changes())
+    changer = Changer(database, wanted, arguments.jobs)
+    changes = list(changer.changes())
     data = rewritten(database.text, changes)
     judge(database, data, changes)
     if arguments.proof is not None:
         context.out.text(new_statement(database, changes, arguments.proof))
     else:
         empty = f"{database.name}: no theorem was found that can do without"
-        context.table(COLUMNS, rows_of(database, changes), empty)
+        remark = changer.library.remark()
+        context.table(COLUMNS, rows_of(database, changes), f"{empty}{remark and '; '}{remark}")
+        if changes and remark:
+            context.tell(f"{database.name}: {remark}")
     if arguments.write is not None:
         write_new(arguments.write, data)
     return 0

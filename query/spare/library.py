@@ -13,12 +13,13 @@ from query.assertions import PAIR, Assertion, Hypothesis
 from query import cache, progress
 from query.bare import bare
 from query.database import Database, key_of
+from query.grammar import NotRead
 from query.spare.grammar import Form, Grammar
 from query.spare.trees import Code, Trees
 from query.text import Text
 
 FLOATING = re.compile(rb"(?<!\S)([\w.-]++)\s++\$f\s++([^\s$]++)\s++([^\s$]++)\s++\$\.")
-FORM = 1
+FORM = 2
 """Counts the forms in which trees are kept, and the ways in which formulas are parsed."""
 
 
@@ -62,6 +63,8 @@ class Library:
         self.trees = Trees()
         self.grammar = Grammar(self.trees)
         self.floating = floating_of(text.data)
+        self.unread: list[tuple[str, str]] = []
+        """The assertions with a formula that has no tree by the syntax, and why it hasn't."""
         self._parsed: dict[tuple[str, str], int] = {}
         self._known = self.restored(kept) if kept is not None else iter(())
         self.rules: list[Rule] = []
@@ -85,7 +88,7 @@ class Library:
                 leaves[symbol] = self.grammar.variable(typecode, symbol)
                 slots.append(~self.trees.heads[leaves[symbol]])
         scope = "" if self._is_fixed else " ".join(each.formula for each in given)
-        found = [self.given(each, leaves, scope) for each in given]
+        found = [self.given(assertion, each, leaves, scope) for each in given]
         is_logical = assertion.typecode == self.typecode_proved
         rule = Rule(assertion.number, assertion.label, is_logical, -1, found, slots)
         is_syntax = not is_logical and len(slots) == len(found) and not frame.disjoint
@@ -94,28 +97,47 @@ class Library:
             parts = [self.trees.made((~slot,)) for slot in slots]
             rule.tree = self.trees.made((rule.form, *parts))
         elif is_logical or is_syntax:
-            rule.tree = self.parsed(assertion.formula, leaves, scope)
+            rule.tree = self.parsed(assertion, assertion.formula, leaves, scope)
         return rule
 
-    def given(self, one: Hypothesis, leaves: dict[str, int], scope: str) -> Given:
+    def given(
+        self, assertion: Assertion, one: Hypothesis, leaves: dict[str, int], scope: str
+    ) -> Given:
         """A mandatory hypothesis. A `$e` of the syntax has the tree -1."""
         if one.kind == "f":
             variable = ~self.trees.heads[leaves[one.formula.split(" ")[1]]]
             return Given(True, variable, one.label)
         if one.formula.split(" ", 1)[0] != self.typecode_proved:
             return Given(False, -1, one.label)
-        return Given(False, self.parsed(one.formula, leaves, scope), one.label)
+        return Given(False, self.parsed(assertion, one.formula, leaves, scope), one.label)
 
-    def parsed(self, formula: str, leaves: dict[str, int], scope: str) -> int:
-        """The tree of a formula."""
+    def parsed(self, assertion: Assertion, formula: str, leaves: dict[str, int], scope: str) -> int:
+        """The tree of a formula of an assertion. One that has none by the syntax has a form of its
+        own."""
         key = (formula, scope)
         found = self._parsed.get(key)
         if found is None:
             found = next(self._known, None)
             if found is None:
-                found = self.grammar.parsed(formula.split(" ")[1:], leaves)
+                typecode, *symbols = formula.split(" ")
+                kind = None if typecode == self.typecode_proved else typecode
+                try:
+                    found = self.grammar.parsed(kind, symbols, leaves)
+                except NotRead as why:
+                    self.unread.append((assertion.label, str(why)))
+                    found = self.grammar.flat(symbols, leaves)
             self._parsed[key] = found
         return found
+
+    def remark(self) -> str:
+        """A word on the formulas that have no tree by the syntax; empty where all have one."""
+        if not self.unread:
+            return ""
+        label, why = self.unread[0]
+        return (
+            f"{len(self.unread)} formulas aren't read by the syntax axioms, so less may be found;"
+            f" the first is of {label}: {why}"
+        )
 
     def parts(self) -> dict[str, bytes] | None:
         """What can be kept of all trees: what they are made of, and which are the formulas that

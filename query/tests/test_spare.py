@@ -154,15 +154,23 @@ class Spare(World):
         self.assertEqual((self.room / "new.mm").read_bytes(), NEW.replace("\n", "\r\n").encode())
 
     def test_grammars(self) -> None:
-        for rules in (
-            "wz $a wff $. wb $a wff p q $.",  # nothing, and everything in many ways
-            "wb $a wff p q $. wc $a wff ( p -> q ) $.",
-            "wb $a wff p $.",  # a rule that leads to itself
+        for rules, why in (
+            ("wz $a wff $. wb $a wff p q $.", "it can be read in two ways"),  # in endless ways
+            ("wb $a wff p q $. wc $a wff ( p -> q $.", None),
+            ("wb $a wff p $.", "it can be read in two ways"),  # a rule that leads to itself
+            ("wz $a wff $.", None),
+            ("we $a wff ( p = p ) $. e $a |- ( p = p ) $. f $a |- ( p = q ) $.", "it isn't built"),
         ):
-            text = SPARE.replace("wi $a", f"{rules} wi $a")
+            text = SPARE.replace("wi $a", f"{rules} wi $a").replace("$c", "$c =")
             self.write("rules.mm", text)
-            found = self.rows("rules.mm", "bad")
-            self.assertEqual([row[:3] for row in found], [row[:3] for row in ROWS], rules)
+            came = self.query("spare", "--format", "tsv", "rules.mm", "bad")
+            found = [line.split("\t")[:3] for line in came.lines()[1:]]
+            self.assertEqual(found, [row[:3] for row in ROWS], rules)
+            if why is None:
+                self.assertEqual(came.err, "")
+            else:
+                self.assertIn("formulas aren't read by the syntax axioms, so less", came.err)
+                self.assertIn(why, came.err)
 
     def test_without_syntax_axioms(self) -> None:
         text = "$c |- wff * $. $v p q $. wp $f wff p $. wq $f wff q $.\n"
