@@ -8,7 +8,7 @@ from query.commands import Command
 from query.context import Context
 from query.database import Dependence
 from query.filters import Test
-from query.options import Options, add_database
+from query.options import Options, add_database, add_only, add_open
 from query.output import Value
 from query.rules import is_discouraged
 from query.spare.changes import LAST, Wanted, conventions_of, is_fit
@@ -41,12 +41,8 @@ these, but with --kept. Neither is what repeats a statement of another mathbox.
 def configure(parser: argparse.ArgumentParser) -> None:
     """Adds the words and options."""
     add_database(parser)
-    parser.add_argument(
-        "--only", metavar="T", default="|-", help="the axioms are those of typecode T (else: |-)"
-    )
-    parser.add_argument(
-        "--open", action="store_true", help="a theorem whose proof is ? counts as an axiom"
-    )
+    add_only(parser, "|-")
+    add_open(parser)
     parser.add_argument(
         "--kept", action="store_true", help="also labels that end in ALT or OLD, and discouraged"
     )

@@ -6,7 +6,7 @@ from query.commands import Command
 from query.context import Context
 from query.database import Database
 from query.errors import NoAnswer, nearest, shown
-from query.options import Options, add_database, count
+from query.options import Options, add_database, add_only, add_open, count
 from query.output import Value
 from query.spare.changes import Changer, Place, Wanted
 from query.spare.kept import Change
@@ -54,50 +54,36 @@ compressed. --proof prints one of them, from the label of its theorem to the end
 """
 
 
+FLAGS = {
+    "--all": "every axiom, the last one first",
+    "--shorter": "proofs that get shorter, whatever they lose",
+    "--new-steps": "take instances of statements without hypotheses as new steps, too",
+}
+CONVENTIONS = {
+    "--cite-discouraged": "cite what is discouraged, too",
+    "--cite-old": "cite labels that end in ALT or OLD, too",
+    "--cite-mathboxes": "cite what stands in other mathboxes, too",
+    "--change-discouraged": "change proofs whose modification is discouraged, too",
+}
+"""What sets conventions aside."""
+
+
 def configure(parser: argparse.ArgumentParser) -> None:
     """Adds the words and options."""
     add_database(parser)
     parser.add_argument("axiom", metavar="AXIOM", nargs="*")
-    parser.add_argument("--all", action="store_true", help="every axiom, the last one first")
-    parser.add_argument(
-        "--shorter", action="store_true", help="proofs that get shorter, whatever they lose"
-    )
-    parser.add_argument(
-        "--new-steps",
-        action="store_true",
-        help="take instances of statements without hypotheses as new steps, too",
-    )
+    for name, words in FLAGS.items():
+        parser.add_argument(name, action="store_true", help=words)
     parser.add_argument(
         "--theorem", metavar="T", action="append", default=[], help="change only the proof of T"
     )
     parser.add_argument("--write", metavar="NEW", help="the file to make, with the new proofs")
     parser.add_argument("--proof", metavar="T", help="print the theorem T with its new proof")
-    parser.add_argument(
-        "--only", metavar="T", default="|-", help="the axioms are those of typecode T (else: |-)"
-    )
-    parser.add_argument(
-        "--open", action="store_true", help="a theorem whose proof is ? counts as an axiom"
-    )
+    add_only(parser, "|-")
+    add_open(parser)
     parser.add_argument("--jobs", metavar="N", type=count, help="search with N processes")
-    add_conventions(parser)
-
-
-def add_conventions(parser: argparse.ArgumentParser) -> None:
-    """Adds the options that set conventions aside."""
-    parser.add_argument(
-        "--cite-discouraged", action="store_true", help="cite what is discouraged, too"
-    )
-    parser.add_argument(
-        "--cite-old", action="store_true", help="cite labels that end in ALT or OLD, too"
-    )
-    parser.add_argument(
-        "--cite-mathboxes", action="store_true", help="cite what stands in other mathboxes, too"
-    )
-    parser.add_argument(
-        "--change-discouraged",
-        action="store_true",
-        help="change proofs whose modification is discouraged, too",
-    )
+    for name, words in CONVENTIONS.items():
+        parser.add_argument(name, action="store_true", help=words)
 
 
 def wanted_of(database: Database, arguments: argparse.Namespace) -> Wanted:

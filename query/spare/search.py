@@ -350,7 +350,7 @@ class Search:
         hypotheses; nothing where there is none."""
         if not premise.variables <= binding.keys() or len(self.new) >= MOST_NEW:
             return ()
-        tree = self.trees.bound_instance(premise.code, binding)
+        tree = self.trees.instance(premise.code, binding)
         if tree not in self.new:
             self.new[tree] = False
             for number, bound in self.shelf.index.find(tree, self.wanted_closed, self.flags):
