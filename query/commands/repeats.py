@@ -71,9 +71,11 @@ def run(context: Context, arguments: argparse.Namespace) -> int:
     wanted = Wanted(arguments.only, cites_discouraged=kept, cites_old=kept)
     library = library_of(database, arguments.only)
     shelf = Shelf(library, conventions_of(library, wanted))
-    found = Finder(library, shelf).repeats(theorems_of(library, kept, context.keeps()))
+    finder = Finder(library, shelf)
+    found = finder.repeats(theorems_of(library, kept, context.keeps()))
     rows = [[one.theorem, one.earlier, one.how] for one in found]
-    empty, remark = "no theorem says what an earlier statement says", library.remark()
+    empty = "no theorem says what an earlier statement says"
+    remark = "; ".join(each for each in (given_up(finder), library.remark()) if each)
     context.table(
         COLUMNS,
         [[*row, *rests_apart(dependence, row[0], row[1])] for row in rows],
@@ -83,6 +85,17 @@ def run(context: Context, arguments: argparse.Namespace) -> int:
     if rows and remark:
         context.tell(f"{database.name}: {remark}")
     return 0
+
+
+def given_up(finder: Finder) -> str:
+    """A word on the theorems that were given up; empty where there are none."""
+    several = finder.given_up
+    if not several:
+        return ""
+    return (
+        f"of {len(several)} theorems it takes too long to say what they repeat; the first is"
+        f" {several[0]}"
+    )
 
 
 def rests_apart(dependence: Dependence, theorem: str, earlier: str) -> list[Value]:

@@ -131,13 +131,26 @@ def run(context: Context, arguments: argparse.Namespace) -> int:
         context.out.text(new_statement(database, changes, arguments.proof))
     else:
         empty = f"{database.name}: no theorem was found that can do without"
-        remark = changer.library.remark()
-        context.table(COLUMNS, rows_of(database, changes), f"{empty}{remark and '; '}{remark}")
-        if changes and remark:
+        rows = rows_of(database, changes)
+        remarks = [given_up(changes), changer.library.remark()]
+        remark = "; ".join(each for each in remarks if each)
+        context.table(COLUMNS, rows, f"{empty}{remark and '; '}{remark}")
+        if rows and remark:
             context.tell(f"{database.name}: {remark}")
     if arguments.write is not None:
         write_new(arguments.write, data)
     return 0
+
+
+def given_up(changes: list[Change]) -> str:
+    """A word on the proofs in which the search was given up; empty where there are none."""
+    several = [change.theorem for change in changes if change.is_given_up]
+    if not several:
+        return ""
+    return (
+        f"{len(several)} proofs were given up, since it takes too long to search them; the first is"
+        f" that of {several[0]}"
+    )
 
 
 def rows_of(database: Database, changes: list[Change]) -> list[list[Value]]:
@@ -146,6 +159,8 @@ def rows_of(database: Database, changes: list[Change]) -> list[list[Value]]:
     rows: list[list[Value]] = []
     for change in changes:
         label = change.theorem
+        if change.proof is None and not change.loses:
+            continue
         loses = [axiom for axiom in change.loses if axiom in axioms] or None
         chapter = chapter_of(database.text, label)
         if change.proof is None:

@@ -12,7 +12,8 @@ from query.database import Database, key_of
 from query.rules import is_discouraged, is_proof_discouraged
 from query.spare import kept as kept_changes
 from query.spare.kept import Change, Replaced
-from query.spare.library import Library, Rule, bits_of, library_of
+from query.spare.index import GivenUp
+from query.spare.library import Library, Rule, bits_of, joined, library_of
 from query.spare.proofs import Proof, Step, Unfit, run
 from query.spare.search import MOST_GIVEN, Conventions, Options, Search, Shelf, Steps, World
 from query.spare.sharing import number_at_once, searched
@@ -89,8 +90,8 @@ class Changer:
         self.width = width_of(self.proofs())
         self.closed = 0
         if wanted.has_new_steps:
-            for number, citable in self.shelf.citable.items():
-                self.closed |= 0 if citable.premises else 1 << number
+            citable = self.shelf.citable
+            self.closed = joined(each for each in citable if not citable[each].premises)
         self.axioms = 0
         for label in wanted.axioms:
             self.axioms |= self.bit_of[label]
@@ -213,14 +214,17 @@ class Changer:
         if not old & self.axioms and not self.wanted.is_shorter:
             return None
         rests = self.resting(self.cites[number])
-        change = None
+        change, is_given_up = None, False
         if rests & self.axioms or self.wanted.is_shorter:
-            change = self.changed(number, rests, self.axioms)
+            try:
+                change = self.changed(number, rests, self.axioms)
+            except GivenUp:
+                is_given_up = True
         if change is None:
             self.world.rest(number, rests)
         lost = old & ~self.world.rests[number]
-        if change is None and lost:
-            change = Change(self.names[number], ())
+        if change is None and (lost or is_given_up):
+            change = Change(self.names[number], (), is_given_up=is_given_up)
         if change is not None:
             change.loses = tuple(self.columns[place] for place in bits_of(lost))
         return change
@@ -326,23 +330,21 @@ class Changer:
 def conventions_of(library: Library, wanted: Wanted) -> Conventions:
     """Which statements may be cited."""
     text = library.text
-    citable = main = 0
-    boxes: dict[int, int] = {}
-    for one in text.assertions:
-        bit = 1 << one.number
-        box = None if wanted.cites_mathboxes else text.box(one)
-        if box is None:
-            main |= bit
-        else:
-            boxes[box] = boxes.get(box, 0) | bit
-        if is_fit(library.rules[one.number]) and (wanted.cites_old or not one.label.endswith(LAST)):
-            if wanted.cites_discouraged or not is_discouraged(text, one):
-                citable |= bit
-
-    def box_of(number: int) -> int | None:
-        return None if wanted.cites_mathboxes else text.box(text.assertions[number])
-
-    return Conventions(citable, main, boxes, box_of)
+    boxes = {}
+    if not wanted.cites_mathboxes:
+        boxes = {one.number: box for one, box, _ in text.boxed()}
+    citable = joined(
+        one.number
+        for one in text.assertions
+        if is_fit(library.rules[one.number])
+        and (wanted.cites_old or not one.label.endswith(LAST))
+        and (wanted.cites_discouraged or not is_discouraged(text, one))
+    )
+    main = joined(one.number for one in text.assertions if one.number not in boxes)
+    firsts: dict[int, int] = {}
+    for number, box in boxes.items():
+        firsts.setdefault(box, number)
+    return Conventions(citable, main, boxes.get, firsts)
 
 
 def is_fit(rule: Rule) -> bool:

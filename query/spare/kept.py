@@ -9,7 +9,7 @@ from typing import Any
 
 from query import cache
 
-FORM = 1
+FORM = 2
 """Counts the forms in which changes are kept, and the ways in which they are sought."""
 
 
@@ -25,13 +25,15 @@ class Replaced:
 @dataclass(slots=True)
 class Change:
     """What became of a theorem: which axioms it loses, and where its own proof is another one what
-    stands in its place between `$=` and `$.`, and which steps were replaced."""
+    stands in its place between `$=` and `$.`, and which steps were replaced; or that the search in
+    its proof was given up."""
 
     theorem: str
     loses: tuple[str, ...]
     proof: bytes | None = None
     old_length: int = 0
     replaced: list[Replaced] = field(default_factory=list)
+    is_given_up: bool = False
 
     def labels(self) -> list[str]:
         """The labels in brackets of the new proof."""
@@ -54,7 +56,8 @@ def from_fields(fields: dict[str, Any]) -> Change:
         Replaced(tuple(one["old"]), one["new"], one["formula"]) for one in fields["replaced"]
     ]
     loses = tuple(fields["loses"])
-    return Change(fields["theorem"], loses, proof, fields["old_length"], replaced)
+    given_up = fields["is_given_up"]
+    return Change(fields["theorem"], loses, proof, fields["old_length"], replaced, given_up)
 
 
 def store(key: str, done: int, changes: Sequence[Change]) -> None:

@@ -4,7 +4,7 @@ from __future__ import annotations
 
 import re
 from array import array
-from collections.abc import Iterator, Mapping, Sequence
+from collections.abc import Iterable, Iterator, Mapping, Sequence
 from dataclasses import dataclass, field
 from itertools import chain
 from typing import NamedTuple
@@ -13,12 +13,16 @@ from query.assertions import PAIR, Assertion, Hypothesis
 from query import cache, progress
 from query.bare import bare
 from query.database import Database, key_of
+from query.errors import NoAnswer
 from query.grammar import NotRead
 from query.spare.grammar import Form, Grammar
 from query.spare.trees import Code, Trees
 from query.text import Text
 
 FLOATING = re.compile(rb"(?<!\S)([\w.-]++)\s++\$f\s++([^\s$]++)\s++([^\s$]++)\s++\$\.")
+MOST_ASSERTIONS, MOST_VARIABLES, MOST_MARKS = 500_000, 5000, 2_000_000_000
+"""With more assertions or variables, or more pairs of an assertion and an axiom, there is no
+answer: sets of them are the bits of numbers."""
 FORM = 2
 """Counts the forms in which trees are kept, and the ways in which formulas are parsed."""
 
@@ -180,8 +184,22 @@ class Library:
         return [(names[one], names[other]) for one, other in frame.pairs()]
 
 
+def see_size(database: Database) -> None:
+    """NoAnswer where a database has too much of something."""
+    axioms, assertions = len(database.prepared.columns), len(database.text.assertions)
+    variables = len({*floating_of(database.data()).values()})
+    for number, most, what in (
+        (assertions, MOST_ASSERTIONS, "assertions"),
+        (variables, MOST_VARIABLES, "variables"),
+        (axioms * assertions, MOST_MARKS, "pairs of an assertion and an axiom"),
+    ):
+        if number > most:
+            raise NoAnswer(f"{database.name}: has more than {most} {what}, too many to search")
+
+
 def library_of(database: Database, typecode: str) -> Library:
-    """The library of a database, whose trees are kept."""
+    """The library of a database, whose trees are kept. NoAnswer where that is too large."""
+    see_size(database)
     progress.now(f"reading the formulas of {database.name}")
     key = key_of(FORM, "trees", database.key, typecode)
     kept = cache.load(key) if database.uses_cache else None
@@ -200,22 +218,22 @@ class Scope:
         self.labels = {each.number: each.label for each in rule.given if each.is_floating}
         self.names = {library.grammar.variables[slot][1]: slot for slot in rule.slots}
         self.said = library.text.assertions[rule.number].said
-        self._apart: frozenset[tuple[int, int]] | None = None
+        self._apart: dict[int, int] | None = None
 
     def add_dummy(self, variable: int, symbol: str, label: str) -> None:
         """Adds a dummy variable."""
         self.labels.setdefault(variable, label)
         self.names.setdefault(symbol, variable)
 
-    def apart(self) -> frozenset[tuple[int, int]]:
-        """The pairs of distinct variables, both ways."""
+    def apart(self) -> dict[int, int]:
+        """For each variable the bits of those from which it is distinct."""
         if self._apart is None:
-            pairs = [
-                (self.names[one], self.names[other])
-                for one, other in PAIR.findall(self.said)
-                if one in self.names and other in self.names
-            ]
-            self._apart = frozenset(pairs + [(other, one) for one, other in pairs])
+            self._apart = {}
+            for pair in PAIR.findall(self.said):
+                if pair[0] in self.names and pair[1] in self.names:
+                    one, other = (self.names[name] for name in pair)
+                    self._apart[one] = self._apart.get(one, 0) | 1 << other
+                    self._apart[other] = self._apart.get(other, 0) | 1 << one
         return self._apart
 
 
@@ -233,6 +251,15 @@ def floating_of(data: bytes) -> dict[str, tuple[str, str]]:
         label.decode(): (typecode.decode(), variable.decode())
         for label, typecode, variable in FLOATING.findall(bare(data))
     }
+
+
+def joined(numbers: Iterable[int]) -> int:
+    """A number that has these bits."""
+    places = list(numbers)
+    data = bytearray(max(places, default=0) // 8 + 1)
+    for place in places:
+        data[place >> 3] |= 1 << (place & 7)
+    return int.from_bytes(data, "little")
 
 
 def bits_of(numbers: int) -> Iterator[int]:

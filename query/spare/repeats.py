@@ -5,6 +5,7 @@ from __future__ import annotations
 from collections.abc import Iterator
 from dataclasses import dataclass
 
+from query.spare.index import GivenUp
 from query.spare.library import Library, Rule
 from query.spare.proofs import Proof, Step
 from query.spare.search import Citable, Search, Shelf, World, step_of
@@ -37,10 +38,14 @@ class Ways(Search):
         self.found.append(step_of(citable, binding, premises))
         return False
 
+    def cut(self) -> None:
+        """Gives up: another one might have been nearer."""
+        raise GivenUp
+
     def all(self, tree: int) -> list[Step]:
         """The steps for a formula."""
         flags = f"{self.may_be:0{self.theorem.number}b}"[::-1]
-        for number, bound in self.shelf.index.find(tree, self.may_be, flags):
+        for number, bound in self.shelf.index.find(tree, self.may_be, flags, self.budget):
             citable = self.shelf.citable[number]
             if all(key is None or key in self.free.by_key for key in citable.keys):
                 self.cited(citable, bound)
@@ -54,6 +59,8 @@ class Finder:
         self.library = library
         self.shelf = shelf
         self.world = World([])
+        self.given_up: list[str] = []
+        """The theorems of which it isn't found what they repeat, since that takes too long."""
 
     def repeat(self, theorem: Rule) -> Repeat | None:
         """What a theorem repeats, of several the nearest, and of these the first one."""
@@ -81,6 +88,10 @@ class Finder:
     def repeats(self, theorems: Iterator[Rule]) -> Iterator[Repeat]:
         """What of these theorems repeats something."""
         for theorem in theorems:
-            found = self.repeat(theorem)
+            try:
+                found = self.repeat(theorem)
+            except GivenUp:
+                self.given_up.append(theorem.label)
+                continue
             if found is not None:
                 yield found
