@@ -2,6 +2,7 @@
 
 from __future__ import annotations
 
+from collections.abc import Iterator
 from dataclasses import dataclass, field
 
 from query.spare.grammar import Grammar
@@ -57,20 +58,37 @@ class Index:
 
     def add(self, statement: int, pattern: int) -> list[int]:
         """Adds a statement. Returns its variables in this order."""
+        branch = self.first
         slots: dict[int, int] = {}
-        branch, left = self.first, [pattern]
+        for sign in self.signs(pattern, slots):
+            if isinstance(sign, int):
+                branch = branch.heads.setdefault(sign, Branch())
+            else:
+                branch = branch.slots.setdefault(sign, Branch())
+        branch.statements.append(statement)
+        branch.bits = 0
+        return list(slots)
+
+    def signs(self, pattern: int, slots: dict[int, int]) -> Iterator[int | tuple[int, str]]:
+        """What a pattern has, whole before part: heads, and its variables as slots."""
+        left = [pattern]
         while left:
             tree = left.pop()
             head = self.trees.heads[tree]
             if head < 0:
-                slot = (slots.setdefault(~head, len(slots)), self.grammar.variables[~head][0])
-                branch = branch.slots.setdefault(slot, Branch())
+                yield slots.setdefault(~head, len(slots)), self.grammar.variables[~head][0]
             else:
-                branch = branch.heads.setdefault(head, Branch())
+                yield head
                 left += reversed(self.trees.parts[tree])
-        branch.statements.append(statement)
-        branch.bits = 0
-        return list(slots)
+
+    def alike(self, pattern: int) -> list[int]:
+        """The statements whose formula is this one but for the names of variables, in order."""
+        branch: Branch | None = self.first
+        for sign in self.signs(pattern, {}):
+            if branch is None:
+                return []
+            branch = branch.heads.get(sign) if isinstance(sign, int) else branch.slots.get(sign)
+        return [] if branch is None else branch.statements
 
     def find(
         self, tree: int, wanted: int, flags: str, budget: Budget

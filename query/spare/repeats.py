@@ -42,6 +42,21 @@ class Ways(Search):
         """Gives up: another one might have been nearer."""
         raise GivenUp
 
+    def alike(self, tree: int) -> Iterator[Step]:
+        """The steps that cite a statement with this formula but for the names of variables, in the
+        order of the statements."""
+        for number in self.shelf.index.alike(tree):
+            if number >= self.theorem.number:
+                break
+            self.budget.take(1)
+            if self.may_be >> number & 1:
+                citable = self.shelf.citable[number]
+                bound: Binding = {}
+                self.trees.match(citable.rule.tree, tree, bound)
+                self.cited(citable, tuple(bound[slot] for slot in citable.slots))
+                yield from self.found
+                self.found.clear()
+
     def all(self, tree: int) -> list[Step]:
         """The steps for a formula."""
         flags = f"{self.may_be:0{self.theorem.number}b}"[::-1]
@@ -67,7 +82,11 @@ class Finder:
         given = {each.number: each.label for each in theorem.essential()}
         proof = Proof(self.library.scope(theorem), given, theorem.tree, {theorem.tree: {}})
         best: tuple[int, int] | None = None
-        for step in Ways(self.shelf, self.world, theorem, proof).all(theorem.tree):
+        ways = Ways(self.shelf, self.world, theorem, proof)
+        for step in ways.alike(theorem.tree):
+            if self.how(theorem, step) == "same":
+                return Repeat(theorem.label, self.library.rules[step.rule].label, "same")
+        for step in ways.all(theorem.tree):
             found = (HOW.index(self.how(theorem, step)), step.rule)
             best = found if best is None else min(best, found)
         if best is None:
