@@ -31,7 +31,8 @@ only     the axioms on which the theorem rests, and the earlier one doesn't
 besides  the axioms on which the earlier one rests, and the theorem doesn't
 
 Theorems aren't listed whose label ends in ALT or OLD or that are discouraged, nor what repeats
-these, but with --kept. Neither is what repeats a statement of another mathbox.
+these, but with --kept. Neither is what repeats a statement of another mathbox. Standard error says
+of how many theorems it takes too long to find what they repeat.
 
   $ mmquery repeats set.mm
   $ mmquery repeats iset.mm --main

@@ -42,6 +42,10 @@ Nothing is cited that is discouraged, that has a label which ends in ALT or OLD,
 another mathbox; and no proof is changed whose modification is discouraged. Options set each of
 these aside. A proof with a comment between its $= and $. isn't changed.
 
+A proof whose search takes too long is given up. A formula that the syntax axioms of the database
+don't build, or build in two ways, is only compared with others as it stands. Standard error says
+how many there were.
+
 Several processes search, one for each processor, at most 4, as far as memory goes; --jobs says how
 many. The answer is the same. What was found is kept each minute, so that a search that was
 interrupted goes on from there.

@@ -327,12 +327,16 @@ def definitions(size: int) -> Files:
 
 def premises(count: int) -> Files:
     """Theorems with hypotheses like those of an axiom, which fit it in no order."""
-    made, found = variables(12)
-    path = [f"( {one} -> {other} )" for one, other in zip(found, found[1:])]
+    made, found = variables(22)
+    path = [f"( {one} -> {other} )" for one, other in zip(found[:12], found[1:12])]
     given = "".join(f"m{number} $e |- {each} $. " for number, each in enumerate(path))
     lines = [f"{made}${{ {given}x $a |- q $. $}}"]
-    edges = [f"( {one} -> {other} )" for one in found[:6] for other in found[6:]]
-    edges += [f"( {other} -> {one} )" for one in found[:5] for other in found[6:]]
+    edges = [
+        f"( {found[2 * layer + one]} -> {found[2 * layer + 2 + other]} )"
+        for layer in range(10)
+        for one in range(2)
+        for other in range(2)
+    ]
     for number in range(count):
         given = "".join(f"t{number}.{place} $e |- {each} $. " for place, each in enumerate(edges))
         lines.append(f"${{ {given}t{number} $p |- ( q -> p ) $= wq wp wi ax $. $}}")

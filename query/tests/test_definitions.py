@@ -293,6 +293,39 @@ class Trees(unittest.TestCase):
             reader.tree("p")
         self.assertLess(reader.left, 0)
 
+    def test_hostile_grammars(self) -> None:
+        """Each takes a few steps for a symbol, or is given up after a few more."""
+        pair = ("(", "P", ",", "O", ")")
+        right = ["(", "P", ","] * 2**16 + ["P"] + [")"] * 2**16
+        left = ["("] * 2**16 + ["P"] + [",", "P", ")"] * 2**16
+        likes: list[tuple[str, ...]]
+        likes = [("(", "P", f"c{number}", "O", ")") for number in range(10_000)]
+        lists = [("a",), ("a", ",", "P")]
+        cases: list[tuple[list[tuple[str, ...]], list[str], str | None]] = [
+            ([pair], right, None),
+            ([pair], left, None),
+            (likes, [*likes[7]], None),
+            ([("a",), ("P", ",", "a")], ["a"] + [",", "a"] * 20_000, None),
+            (lists, ["a"] + [",", "a"] * 15, None),
+            (lists, ["a"] + [",", "a"] * 20_000, "too long"),
+            ([("a",), ("P", "O")], ["a"] * 20_000, "too long"),
+            ([(), ("a",), ("P", "O")], ["a"] * 20_000, "too long"),
+            ([("P",), ("a",)], ["a"], "two ways"),
+        ]
+        for rules, symbols, told in cases:
+            grammar = Grammar()
+            for number, body in enumerate(rules):
+                grammar.add(f"r{number}", "p", body, VARIABLES)
+            reader = Reader(grammar, symbols, VARIABLES)
+            before = reader.left
+            if told is None:
+                self.assertTrue(reader.tree("p").rules)
+                self.assertLess(before - reader.left, 100 + 4 * len(symbols))
+            else:
+                with self.assertRaisesRegex(NotRead, told):
+                    reader.tree("p")
+            self.assertLessEqual(before, 2000 + 20 * len(symbols))
+
 
 if __name__ == "__main__":
     unittest.main()

@@ -16,9 +16,12 @@ from query.context import Context
 from query.errors import NoAnswer
 from query.options import Options
 from query.output import Output
-from query.spare import changes, judge, proofs, search, writing
+from query.commands.spare import given_up as said_of
+from query.commands.spare import rows_of
+from query.spare import changes, judge, library, proofs, search, writing
 from query.spare.changes import Changer, Wanted
 from query.spare.kept import Change, Replaced
+from query.tests import shapes
 from query.tests.world import DATABASES, World
 from query.text import Text
 
@@ -381,6 +384,51 @@ class Broken(World):
                     self.answer("bad")
             self.assertIn("what was found isn't so: ", str(why.exception))
             self.assertFalse((self.room / "new.mm").exists())
+
+
+class Limits(World):
+    """What takes too long is said, and what is too large is refused."""
+
+    def test_given_up(self) -> None:
+        path = str(self.room / self.write("db.mm", SPARE))
+        database = Context(uses_cache=False).database(path, Options())
+        with mock.patch.multiple(search, STEPS=0, STEPS_OF_FORMULA=1):
+            found = list(Changer(database, Wanted("|-", ("bad",))).changes())
+        given_up = [(each.theorem, each.loses, each.is_given_up) for each in found]
+        self.assertEqual(given_up, [("t1", (), True), ("t2", (), True)])
+        judge.judge(database, judge.rewritten(database.text, found), found)
+        self.assertEqual(rows_of(database, found), [])
+        self.assertIn("2 proofs were given up", said_of(found))
+        self.assertIn("the first is that of t1", said_of(found))
+        whole = list(Changer(database, Wanted("|-", ("bad",))).changes())
+        self.assertEqual(said_of(whole), "")
+
+    def test_given_up_in_one_statement(self) -> None:
+        """Hypotheses that could be matched in very many orders."""
+        self.write("db.mm", shapes.premises(2)["a.mm"])
+        came = self.query("repeats", "db.mm")
+        self.assertEqual((came.out, came.status), ("", 0))
+        self.assertIn("of 2 theorems it takes too long to say what they repeat", came.err)
+        self.assertIn("the first is t0", came.err)
+
+    def test_sizes(self) -> None:
+        path = str(self.room / self.write("db.mm", SPARE))
+        database = Context(uses_cache=False).database(path, Options())
+        for name, what in (
+            ("MOST_ASSERTIONS", "assertions"),
+            ("MOST_VARIABLES", "variables"),
+            ("MOST_MARKS", "pairs of an assertion and an axiom"),
+        ):
+            with mock.patch.object(library, name, 2), self.assertRaises(NoAnswer) as why:
+                Changer(database, Wanted("|-", ("bad",)))
+            self.assertIn(f"has more than 2 {what}, too many to search", str(why.exception))
+
+    def test_a_long_formula_is_cited_often(self) -> None:
+        """A proof isn't carried out that takes too long."""
+        path = str(self.room / self.write("db.mm", SPARE))
+        database = Context(uses_cache=False).database(path, Options())
+        with mock.patch.multiple(proofs, STEPS=0, STEPS_OF_LETTER=0):
+            self.assertEqual(list(Changer(database, Wanted("|-", ("bad",))).changes()), [])
 
 
 class Kept(World):
