@@ -332,24 +332,11 @@ class Search:
         if not left:
             is_one = self.keeps_distinct(citable, binding)
             return is_one and self.is_enough(citable, binding, premises)
-        least: Sequence[int] = ()
-        self.budget.take(sum(len(premise.code) for premise in left) // 8)
-        for premise in left:
-            formulas = self.free.like(premise, binding)
-            if not formulas and self.wanted_closed:
-                formulas = self.new_step(premise, binding)
-                if not formulas and not premise.variables <= binding.keys():
-                    continue
-            if not formulas:
-                return False
-            if not least or len(formulas) < len(least):
-                least, chosen = formulas, premise
-            if len(least) == 1:
-                break
-        if not least:
+        chosen, formulas = self.fewest(left, binding)
+        if chosen is None:
             return False
         left = [premise for premise in left if premise is not chosen]
-        for formula in least:
+        for formula in formulas:
             self.left -= 1
             self.budget.take(1 + len(chosen.code) // 16)
             if self.left < 0:
@@ -364,6 +351,25 @@ class Search:
             for variable in new:
                 del binding[variable]
         return False
+
+    def fewest(self, left: list[Premise], binding: Binding) -> tuple[Premise | None, Sequence[int]]:
+        """The premise that the fewest formulas can be, and these; None where one can be none."""
+        self.budget.take(sum(len(premise.code) for premise in left) // 8)
+        chosen: Premise | None = None
+        least: Sequence[int] = ()
+        for premise in left:
+            formulas = self.free.like(premise, binding)
+            if not formulas and self.wanted_closed:
+                formulas = self.new_step(premise, binding)
+                if not formulas and not premise.variables <= binding.keys():
+                    continue
+            if not formulas:
+                return None, ()
+            if not least or len(formulas) < len(least):
+                least, chosen = formulas, premise
+            if len(least) == 1:
+                break
+        return chosen, least
 
     def new_step(self, premise: Premise, binding: Binding) -> Sequence[int]:
         """A premise whose variables are bound, as a new step that cites a statement without
