@@ -8,14 +8,14 @@ So the answer doesn't depend on how many processes there are.
 from __future__ import annotations
 
 import json
-import os
 from collections import deque
 from collections.abc import Iterator, Sequence
 from dataclasses import dataclass
 from functools import partial
 from typing import Protocol
 
-from query.parallel import Task
+from query import system
+from query.parallel import Task, begun
 from query.spare.kept import Change, fields_of, from_fields
 from query.spare.search import World
 
@@ -77,19 +77,19 @@ def stretches(search: Searching, numbers: Sequence[int]) -> Iterator[Stretch]:
 def searched(search: Searching, numbers: Sequence[int], at_once: int) -> Iterator[Change | None]:
     """What becomes of theorems, in order, by so many processes."""
     waiting = deque(stretches(search, numbers))
-    if at_once == 1 or len(waiting) == 1:
+    if at_once == 1 or len(waiting) == 1 or not system.has_copies():
         yield from map(search.change, numbers)
         return
-    begun: deque[Stretch] = deque()
+    running: deque[Stretch] = deque()
     try:
-        while waiting or begun:
-            while waiting and len(begun) < at_once:
-                begun.append(waiting.popleft())
-                begin(search, begun[-1])
-            yield from taken(search, begun[0])
-            begun.popleft()
+        while waiting or running:
+            while waiting and len(running) < at_once:
+                running.append(waiting.popleft())
+                begin(search, running[-1])
+            yield from taken(search, running[0])
+            running.popleft()
     finally:
-        for stretch in begun:
+        for stretch in running:
             if stretch.task is not None:
                 stretch.task.stop()
 
@@ -98,7 +98,7 @@ def begin(search: Searching, stretch: Stretch) -> None:
     """Lets a process search a stretch. Where there can't be another one, this one will."""
     stretch.before = len(search.world.changed)
     try:
-        stretch.task = Task(partial(written, search, stretch.numbers))
+        stretch.task = begun(partial(written, search, stretch.numbers))
     except OSError:
         stretch.task = None
 
@@ -144,24 +144,6 @@ def taken(search: Searching, stretch: Stretch) -> Iterator[Change | None]:
 def number_at_once() -> int:
     """How many processes search where none are asked for: one for each processor, as far as the
     memory goes that is free."""
-    own, free = said("/proc/self/status", "VmRSS"), said("/proc/meminfo", "MemAvailable")
+    own, free = system.memory()
     others = MOST_AT_ONCE if own is None or free is None else free // (GROWTH * own)
-    return max(1, min(MOST_AT_ONCE, processors(), 1 + others))
-
-
-def said(path: str, name: str) -> int | None:
-    """A number in a file of the system, None where it isn't there."""
-    try:
-        with open(path, encoding="ascii", errors="replace") as file:
-            for line in file:
-                words = line.split()
-                if words[:1] == [f"{name}:"] and len(words) > 1 and words[1].isdecimal():
-                    return int(words[1])
-    except OSError:
-        pass
-    return None
-
-
-def processors() -> int:
-    """How many processors this process may use."""
-    return len(os.sched_getaffinity(0))
+    return max(1, min(MOST_AT_ONCE, system.processors(), 1 + others))

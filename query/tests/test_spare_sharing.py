@@ -7,7 +7,7 @@ import time
 from pathlib import Path
 from unittest import mock
 
-from query import parallel
+from query import parallel, system
 from query.context import Context
 from query.errors import NoAnswer
 from query.options import Options
@@ -86,30 +86,32 @@ class Processes(World):
     def test_where_none_can_be_begun(self) -> None:
         path = str(self.room / self.write("db.mm", many(200)))
         wanted = Wanted("|-", ("bad",))
-        with mock.patch.object(sharing, "Task", side_effect=OSError):
-            none = found(path, wanted, 3)
-        self.assertEqual(none, found(path, wanted, 1))
+        alone = found(path, wanted, 1)
+        with mock.patch.object(sharing, "begun", side_effect=OSError):
+            self.assertEqual(found(path, wanted, 3), alone)
+        with mock.patch.object(system, "has_copies", lambda: False):
+            with mock.patch.object(sharing, "begun", side_effect=AssertionError):
+                self.assertEqual(found(path, wanted, 3), alone)
 
     def test_how_many(self) -> None:
-        for numbers, wanted in (((None, None), 4), ((10, 45), 3), ((10, 5), 1)):
-            known = dict(zip(("VmRSS", "MemAvailable"), numbers))
-            with mock.patch.object(sharing, "said", lambda _, name: known[name]):
-                with mock.patch.object(sharing, "processors", lambda: 8):
+        for memory, wanted in (((None, None), 4), ((10, 45), 3), ((10, 5), 1)):
+            with mock.patch.object(system, "memory", lambda told=memory: told):
+                with mock.patch.object(system, "processors", lambda: 8):
                     self.assertEqual(sharing.number_at_once(), wanted)
-        with mock.patch.object(sharing, "processors", lambda: 1):
+        with mock.patch.object(system, "processors", lambda: 1):
             self.assertEqual(sharing.number_at_once(), 1)
-        self.assertGreater(sharing.said("/proc/self/status", "VmRSS") or 0, 1000)
-        self.assertIsNone(sharing.said("/proc/self/status", "Name"))
-        self.assertIsNone(sharing.said(str(self.room / "none"), "VmRSS"))
+        self.assertGreater(min(each or 0 for each in system.memory()), 1000)
+        self.assertIsNone(system.told("/proc/self/status", "Name"))
+        self.assertIsNone(system.told(str(self.room / "none"), "VmRSS"))
 
     def test_one_that_fails(self) -> None:
         """What was found before is kept, and there is no answer."""
         path = str(self.room / self.write("db.mm", many(200)))
         names = {"XDG_CACHE_HOME": str(self.cache), "XDG_CONFIG_HOME": str(self.config)}
-        real = parallel.Task.result
+        real = parallel.Copy.result
         count = 0
 
-        def result(self: parallel.Task) -> bytes:
+        def result(self: parallel.Copy) -> bytes:
             nonlocal count
             count += 1
             if count == 4:
@@ -120,7 +122,7 @@ class Processes(World):
         with mock.patch.dict(os.environ, names):
             database = Context().database(path, Options())
             wanted = Wanted("|-", ("bad",))
-            with mock.patch.object(parallel.Task, "result", result):
+            with mock.patch.object(parallel.Copy, "result", result):
                 with self.assertRaises(NoAnswer):
                     list(Changer(database, wanted, 3).changes())
             tried: list[int] = []
