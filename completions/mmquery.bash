@@ -24,7 +24,7 @@ _mmquery() {
                     why:-*) words='--all --essential --open --format --no-cache -h --help' ;;
                     way-out:-*) words='--keep --keep-wrappers --essential --open --format --before --main --mathbox --under --like --not --among --no-cache -h --help' ;;
                     frees:-*) words='--most --keep --keep-wrappers --essential --open --format --before --main --mathbox --under --like --not --among --no-cache -h --help' ;;
-                    spare:-*) words='--all --shorter --new-steps --theorem --write --proof --only --open --cite-discouraged --cite-old --cite-mathboxes --change-discouraged --format --no-cache -h --help' ;;
+                    spare:-*) words='--all --shorter --new-steps --theorem --write --proof --only --open --jobs --cite-discouraged --cite-old --cite-mathboxes --change-discouraged --format --no-cache -h --help' ;;
                     repeats:-*) words='--only --open --kept --format --before --main --mathbox --under --like --not --among --no-cache -h --help' ;;
                     top:-*) words='--theorems --below --against --only --all --axioms --ignore-definitions --essential --open --format --before --main --mathbox --under --like --not --among --no-cache -h --help' ;;
                     within:-*) words='--list --only --all --axioms --ignore-definitions --essential --open --format --before --main --mathbox --under --like --not --among --no-cache -h --help' ;;

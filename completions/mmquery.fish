@@ -156,6 +156,7 @@ complete -c mmquery -n '__fish_seen_subcommand_from spare' -l write -r -d 'the f
 complete -c mmquery -n '__fish_seen_subcommand_from spare' -l proof -r -d 'print the theorem T with its new proof'
 complete -c mmquery -n '__fish_seen_subcommand_from spare' -l only -r -d 'the axioms are those of typecode T (else: |-)'
 complete -c mmquery -n '__fish_seen_subcommand_from spare' -l open -d 'a theorem whose proof is ? counts as an axiom'
+complete -c mmquery -n '__fish_seen_subcommand_from spare' -l jobs -r -d 'search with N processes'
 complete -c mmquery -n '__fish_seen_subcommand_from spare' -l cite-discouraged -d 'cite what is discouraged, too'
 complete -c mmquery -n '__fish_seen_subcommand_from spare' -l cite-old -d 'cite labels that end in ALT or OLD, too'
 complete -c mmquery -n '__fish_seen_subcommand_from spare' -l cite-mathboxes -d 'cite what stands in other mathboxes, too'

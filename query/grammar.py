@@ -9,19 +9,21 @@ typecode. By an example:
     tree.rules                             # for each part its syntax axiom: {"wi"}
 
 Formulas are read by Earley's method, from left to right and without recursion, over tries in which
-axioms that begin alike are read as one. A grammar could make that slow, so a formula is given up
-after a number of steps for each of its symbols; as databases are written it takes far fewer.
+axioms that begin alike are read as one. An axiom may begin with its own typecode, or have no symbol
+at all. A grammar could make that slow, so a formula is given up after a number of steps for each of
+its symbols; as databases are written it takes far fewer.
 """
 
 from __future__ import annotations
 
-from collections.abc import Mapping, Sequence
+from collections.abc import Iterator, Mapping, Sequence
 from dataclasses import dataclass, field
 from typing import NamedTuple, TypeVar
 
-STEPS = 2000
-"""Steps for each symbol, after which a formula is given up."""
-
+STEPS, STEPS_OF_SYMBOL, MOST_STEPS = 2000, 20, 2_000_000
+"""So many steps, and so many for each symbol, are taken to read a formula, and at most so many.
+Of Debian's databases no formula takes more than 4 for each symbol."""
+UNBUILT = "it isn't built by the syntax axioms before it"
 
 Kind = TypeVar("Kind")
 
@@ -82,22 +84,31 @@ class Grammar:
         """For each syntax axiom the typecodes of its variables, in the order of its symbols."""
         self.shapes: dict[str, tuple[str, ...]] = {}
         """For each its symbols, with typecodes in place of variables."""
+        self.has_empty = False
+        """Whether an axiom has no symbol."""
+        self.equal: dict[str, list[tuple[int, int]]] = {}
+        """For each in which a variable occurs again, the numbers of two occurrences among those of
+        all variables."""
         self._constants: dict[str, list[str]] = {}
 
     def add(
         self, label: str, typecode: str, symbols: Sequence[str], variables: Mapping[str, str]
     ) -> None:
-        """Adds a syntax axiom. One without symbols, or of the same form as another, isn't added."""
+        """Adds a syntax axiom. One of the same form as another isn't added."""
         node = self.roots.setdefault(typecode, Node(typecode))
         for symbol in symbols:
             kind = variables.get(symbol)
             nexts, key = (node.symbols, symbol) if kind is None else (node.parts, kind)
             node = nexts.setdefault(key, Node(typecode))
-        if symbols and node.rule is None:
+        if node.rule is None:
             node.rule = label
-            self.arguments[label] = [variables[each] for each in symbols if each in variables]
+            self.has_empty = self.has_empty or not symbols
+            names = [each for each in symbols if each in variables]
+            self.arguments[label] = [variables[each] for each in names]
             self.shapes[label] = tuple(variables.get(each, each) for each in symbols)
             self._constants[label] = [each for each in symbols if each not in variables]
+            if len({*names}) < len(names):
+                self.equal[label] = list(pairs_of(names))
 
     def constants(self, label: str) -> list[str]:
         """The constants of a syntax axiom, in order."""
@@ -114,12 +125,13 @@ class Reader:
     def __init__(
         self, grammar: Grammar, symbols: Sequence[str], variables: Mapping[str, str]
     ) -> None:
-        self.roots = grammar.roots
+        self.grammar = grammar
         self.symbols = symbols
         self.variables = variables
-        self.left = STEPS * (len(symbols) + 1)
-        self.items: list[list[Item]] = [[] for _ in range(len(symbols) + 1)]
-        self.index: list[dict[tuple[int, int], Item]] = [{} for _ in range(len(symbols) + 1)]
+        self.left = min(MOST_STEPS, STEPS + STEPS_OF_SYMBOL * len(symbols))
+        self.items: list[list[Item]] = [[], []]
+        """The items at this place and at the next one, by the last bit of the place."""
+        self.index: list[dict[tuple[int, int], Item]] = [{}, {}]
         self.waiting: list[dict[str, list[Item]]] = [{} for _ in range(len(symbols) + 1)]
         self.known: dict[Part, list[Item | None]] = {}
         """The items that end as a part, two at most; None for a variable."""
@@ -129,24 +141,29 @@ class Reader:
         self.predict(typecode, 0)
         for place in range(len(self.symbols) + 1):
             self.read(place)
+            self.items[place & 1], self.index[place & 1] = [], {}
         return self.tree_of(Part(typecode, 0, len(self.symbols)))
+
+    def take(self, steps: int) -> None:
+        """Counts steps. NotRead where there were too many."""
+        self.left -= steps
+        if self.left < 0:
+            raise NotRead("it takes too long to read")
 
     def predict(self, typecode: str, place: int) -> None:
         """Notes that a part of a typecode may begin at a place."""
-        if typecode not in self.waiting[place]:
-            self.waiting[place][typecode] = []
-            if typecode in self.roots:
-                self.put(self.roots[typecode], place, place)
+        self.waiting[place][typecode] = []
+        if typecode in self.grammar.roots:
+            self.put(self.grammar.roots[typecode], place, place)
 
     def put(self, node: Node, start: int, place: int) -> Item:
         """The item of a node at a place."""
-        self.left -= 1
-        if self.left < 0:
-            raise NotRead("it takes too long to read")
-        item = self.index[place].get((id(node), start))
+        self.take(1)
+        index = self.index[place & 1]
+        item = index.get((id(node), start))
         if item is None:
-            item = self.index[place][id(node), start] = Item(node, start)
-            self.items[place].append(item)
+            item = index[id(node), start] = Item(node, start)
+            self.items[place & 1].append(item)
         return item
 
     def follow(self, item: Item, node: Node, part: Part | None, place: int) -> None:
@@ -157,23 +174,30 @@ class Reader:
 
     def read(self, place: int) -> None:
         """Carries on the items at a place; more of them come meanwhile."""
-        for item in self.items[place]:
+        waiting, has_empty = self.waiting[place], self.grammar.has_empty
+        for item in self.items[place & 1]:
+            parts = item.node.parts
             if item.node.rule is not None:
                 self.complete(Part(item.node.typecode, item.start, place), item)
-            for typecode in item.node.parts:
-                self.predict(typecode, place)
-                self.waiting[place][typecode].append(item)
+            if len(parts) > 1:
+                self.take(len(parts))
+            for typecode, node in parts.items():
+                if typecode not in waiting:
+                    self.predict(typecode, place)
+                waiting[typecode].append(item)
+                if has_empty and Part(typecode, place, place) in self.known:
+                    self.follow(item, node, Part(typecode, place, place), place)
         if place < len(self.symbols):
-            self.step(place)
+            self.read_symbol(place)
 
-    def step(self, place: int) -> None:
+    def read_symbol(self, place: int) -> None:
         """Reads the symbol at a place."""
         symbol = self.symbols[place]
         typecode = self.variables.get(symbol)
         if typecode is not None:
             self.complete(Part(typecode, place, place + 1), None)
             return
-        for item in self.items[place]:
+        for item in self.items[place & 1]:
             node = item.node.symbols.get(symbol)
             if node is not None:
                 self.follow(item, node, None, place + 1)
@@ -190,9 +214,10 @@ class Reader:
     def tree_of(self, root: Part) -> Tree:
         """The tree of a part. NotRead where it has none, or several."""
         if root not in self.known:
-            raise NotRead("it isn't built by the syntax axioms before it")
+            raise NotRead(UNBUILT)
         tree = Tree(root)
         left = [root]
+        is_sound = True
         while left:
             part = left.pop()
             item = only(self.known[part])
@@ -201,7 +226,26 @@ class Reader:
                 tree.rules[part] = item.node.rule
                 tree.below[part] = parts_of(item)
                 left += tree.below[part]
+                is_sound = is_sound and self.are_equal(item.node.rule, tree.below[part])
+        if not is_sound:
+            raise NotRead(UNBUILT)
         return tree
+
+    def are_equal(self, rule: str, parts: Sequence[Part]) -> bool:
+        """Whether those parts are equal that stand for one variable of an axiom."""
+        pairs = [(parts[one], parts[other]) for one, other in self.grammar.equal.get(rule, ())]
+        symbols = self.symbols
+        return all(
+            symbols[one.start : one.end] == symbols[other.start : other.end] for one, other in pairs
+        )
+
+
+def pairs_of(names: Sequence[str]) -> Iterator[tuple[int, int]]:
+    """For each name that was there before its place, and that of its first occurrence."""
+    first: dict[str, int] = {}
+    for place, name in enumerate(names):
+        if first.setdefault(name, place) != place:
+            yield first[name], place
 
 
 def parts_of(item: Item) -> list[Part]:

@@ -43,9 +43,7 @@ def add_database(parser: argparse.ArgumentParser, name: str = "DATABASE") -> Non
 def add_choice_of_axioms(parser: argparse.ArgumentParser) -> None:
     """Adds `--only`, `--all`, `--axioms`, `--ignore-definitions`, `--essential` and `--open`."""
     group = parser.add_mutually_exclusive_group()
-    group.add_argument(
-        "--only", metavar="T", help="the axioms are those of typecode T (else: |-)", default=None
-    )
+    add_only(group, None)
     group.add_argument("--all", action="store_true", help="the axioms are all $a statements")
     parser.add_argument(
         "--axioms",
@@ -60,14 +58,24 @@ def add_choice_of_axioms(parser: argparse.ArgumentParser) -> None:
     add_choice_of_citations(parser)
 
 
+def add_only(parser: argparse._ActionsContainer, default: str | None) -> None:
+    """Adds `--only`."""
+    words = "the axioms are those of typecode T (else: |-)"
+    parser.add_argument("--only", metavar="T", help=words, default=default)
+
+
+def add_open(parser: argparse.ArgumentParser) -> None:
+    """Adds `--open`."""
+    words = "a theorem whose proof is ? counts as an axiom"
+    parser.add_argument("--open", action="store_true", help=words)
+
+
 def add_choice_of_citations(parser: argparse.ArgumentParser) -> None:
     """Adds `--essential` and `--open`."""
     parser.add_argument(
         "--essential", action="store_true", help="only the logical part of proofs cites"
     )
-    parser.add_argument(
-        "--open", action="store_true", help="a theorem whose proof is ? counts as an axiom"
-    )
+    add_open(parser)
 
 
 def options_of(arguments: argparse.Namespace) -> Options:

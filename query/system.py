@@ -87,6 +87,25 @@ def processors() -> int:
     return os.cpu_count() or 1
 
 
+def memory() -> tuple[int | None, int | None]:
+    """How many kilobytes of memory this process takes, and how many are free; None where the system
+    doesn't say so."""
+    return told("/proc/self/status", "VmRSS"), told("/proc/meminfo", "MemAvailable")
+
+
+def told(path: str, name: str) -> int | None:
+    """A number in a file of the system, by its name; None where there is none."""
+    try:
+        with open(path, encoding="ascii", errors="replace") as file:
+            for line in file:
+                words = line.split()
+                if words[:1] == [f"{name}:"] and len(words) > 1 and words[1].isdecimal():
+                    return int(words[1])
+    except OSError:
+        pass
+    return None
+
+
 def has_copies() -> bool:
     """Whether a process can make a copy of itself."""
     return hasattr(os, "fork")

@@ -8,7 +8,7 @@ from query.commands import Command
 from query.context import Context
 from query.database import Dependence
 from query.filters import Test
-from query.options import Options, add_database
+from query.options import Options, add_database, add_only, add_open
 from query.output import Value
 from query.rules import is_discouraged
 from query.spare.changes import LAST, Wanted, conventions_of, is_fit
@@ -31,7 +31,8 @@ only     the axioms on which the theorem rests, and the earlier one doesn't
 besides  the axioms on which the earlier one rests, and the theorem doesn't
 
 Theorems aren't listed whose label ends in ALT or OLD or that are discouraged, nor what repeats
-these, but with --kept. Neither is what repeats a statement of another mathbox.
+these, but with --kept. Neither is what repeats a statement of another mathbox. Standard error says
+of how many theorems it takes too long to find what they repeat.
 
   $ mmquery repeats set.mm
   $ mmquery repeats iset.mm --main
@@ -41,12 +42,8 @@ these, but with --kept. Neither is what repeats a statement of another mathbox.
 def configure(parser: argparse.ArgumentParser) -> None:
     """Adds the words and options."""
     add_database(parser)
-    parser.add_argument(
-        "--only", metavar="T", default="|-", help="the axioms are those of typecode T (else: |-)"
-    )
-    parser.add_argument(
-        "--open", action="store_true", help="a theorem whose proof is ? counts as an axiom"
-    )
+    add_only(parser, "|-")
+    add_open(parser)
     parser.add_argument(
         "--kept", action="store_true", help="also labels that end in ALT or OLD, and discouraged"
     )
@@ -75,15 +72,31 @@ def run(context: Context, arguments: argparse.Namespace) -> int:
     wanted = Wanted(arguments.only, cites_discouraged=kept, cites_old=kept)
     library = library_of(database, arguments.only)
     shelf = Shelf(library, conventions_of(library, wanted))
-    found = Finder(library, shelf).repeats(theorems_of(library, kept, context.keeps()))
+    finder = Finder(library, shelf)
+    found = finder.repeats(theorems_of(library, kept, context.keeps()))
     rows = [[one.theorem, one.earlier, one.how] for one in found]
+    empty = "no theorem says what an earlier statement says"
+    remark = "; ".join(each for each in (given_up(finder), library.remark()) if each)
     context.table(
         COLUMNS,
         [[*row, *rests_apart(dependence, row[0], row[1])] for row in rows],
-        f"{database.name}: no theorem says what an earlier statement says",
+        f"{database.name}: {empty}{remark and '; '}{remark}",
         "theorem",
     )
+    if rows and remark:
+        context.tell(f"{database.name}: {remark}")
     return 0
+
+
+def given_up(finder: Finder) -> str:
+    """A word on the theorems that were given up; empty where there are none."""
+    several = finder.given_up
+    if not several:
+        return ""
+    return (
+        f"of {len(several)} theorems it takes too long to say what they repeat; the first is"
+        f" {several[0]}"
+    )
 
 
 def rests_apart(dependence: Dependence, theorem: str, earlier: str) -> list[Value]:

@@ -6,7 +6,7 @@ from query.commands import Command
 from query.context import Context
 from query.database import Database
 from query.errors import NoAnswer, nearest, shown
-from query.options import Options, add_database
+from query.options import Options, add_database, add_only, add_open, count
 from query.output import Value
 from query.spare.changes import Changer, Place, Wanted
 from query.spare.kept import Change
@@ -42,6 +42,14 @@ Nothing is cited that is discouraged, that has a label which ends in ALT or OLD,
 another mathbox; and no proof is changed whose modification is discouraged. Options set each of
 these aside. A proof with a comment between its $= and $. isn't changed.
 
+A proof whose search takes too long is given up. A formula that the syntax axioms of the database
+don't build, or build in two ways, is only compared with others as it stands. Standard error says
+how many there were.
+
+Several processes search, one for each processor, at most 4, as far as memory goes; --jobs says how
+many. The answer is the same. What was found is kept each minute, so that a search that was
+interrupted goes on from there.
+
 --write makes a new file: all is as in DATABASE but the proofs that are changed, which are
 compressed. --proof prints one of them, from the label of its theorem to the end.
 
@@ -50,49 +58,36 @@ compressed. --proof prints one of them, from the label of its theorem to the end
 """
 
 
+FLAGS = {
+    "--all": "every axiom, the last one first",
+    "--shorter": "proofs that get shorter, whatever they lose",
+    "--new-steps": "take instances of statements without hypotheses as new steps, too",
+}
+CONVENTIONS = {
+    "--cite-discouraged": "cite what is discouraged, too",
+    "--cite-old": "cite labels that end in ALT or OLD, too",
+    "--cite-mathboxes": "cite what stands in other mathboxes, too",
+    "--change-discouraged": "change proofs whose modification is discouraged, too",
+}
+"""What sets conventions aside."""
+
+
 def configure(parser: argparse.ArgumentParser) -> None:
     """Adds the words and options."""
     add_database(parser)
     parser.add_argument("axiom", metavar="AXIOM", nargs="*")
-    parser.add_argument("--all", action="store_true", help="every axiom, the last one first")
-    parser.add_argument(
-        "--shorter", action="store_true", help="proofs that get shorter, whatever they lose"
-    )
-    parser.add_argument(
-        "--new-steps",
-        action="store_true",
-        help="take instances of statements without hypotheses as new steps, too",
-    )
+    for name, words in FLAGS.items():
+        parser.add_argument(name, action="store_true", help=words)
     parser.add_argument(
         "--theorem", metavar="T", action="append", default=[], help="change only the proof of T"
     )
     parser.add_argument("--write", metavar="NEW", help="the file to make, with the new proofs")
     parser.add_argument("--proof", metavar="T", help="print the theorem T with its new proof")
-    parser.add_argument(
-        "--only", metavar="T", default="|-", help="the axioms are those of typecode T (else: |-)"
-    )
-    parser.add_argument(
-        "--open", action="store_true", help="a theorem whose proof is ? counts as an axiom"
-    )
-    add_conventions(parser)
-
-
-def add_conventions(parser: argparse.ArgumentParser) -> None:
-    """Adds the options that set conventions aside."""
-    parser.add_argument(
-        "--cite-discouraged", action="store_true", help="cite what is discouraged, too"
-    )
-    parser.add_argument(
-        "--cite-old", action="store_true", help="cite labels that end in ALT or OLD, too"
-    )
-    parser.add_argument(
-        "--cite-mathboxes", action="store_true", help="cite what stands in other mathboxes, too"
-    )
-    parser.add_argument(
-        "--change-discouraged",
-        action="store_true",
-        help="change proofs whose modification is discouraged, too",
-    )
+    add_only(parser, "|-")
+    add_open(parser)
+    parser.add_argument("--jobs", metavar="N", type=count, help="search with N processes")
+    for name, words in CONVENTIONS.items():
+        parser.add_argument(name, action="store_true", help=words)
 
 
 def wanted_of(database: Database, arguments: argparse.Namespace) -> Wanted:
@@ -132,17 +127,34 @@ def run(context: Context, arguments: argparse.Namespace) -> int:
     if arguments.write is not None:
         see_missing(arguments.write)
     wanted = wanted_of(database, arguments)
-    changes = list(Changer(database, wanted).changes())
+    changer = Changer(database, wanted, arguments.jobs)
+    changes = list(changer.changes())
     data = rewritten(database.text, changes)
     judge(database, data, changes)
     if arguments.proof is not None:
         context.out.text(new_statement(database, changes, arguments.proof))
     else:
         empty = f"{database.name}: no theorem was found that can do without"
-        context.table(COLUMNS, rows_of(database, changes), empty)
+        rows = rows_of(database, changes)
+        remarks = [given_up(changes), changer.library.remark()]
+        remark = "; ".join(each for each in remarks if each)
+        context.table(COLUMNS, rows, f"{empty}{remark and '; '}{remark}")
+        if rows and remark:
+            context.tell(f"{database.name}: {remark}")
     if arguments.write is not None:
         write_new(arguments.write, data)
     return 0
+
+
+def given_up(changes: list[Change]) -> str:
+    """A word on the proofs in which the search was given up; empty where there are none."""
+    several = [change.theorem for change in changes if change.is_given_up]
+    if not several:
+        return ""
+    return (
+        f"{len(several)} proofs were given up, since it takes too long to search them; the first is"
+        f" that of {several[0]}"
+    )
 
 
 def rows_of(database: Database, changes: list[Change]) -> list[list[Value]]:
@@ -151,6 +163,8 @@ def rows_of(database: Database, changes: list[Change]) -> list[list[Value]]:
     rows: list[list[Value]] = []
     for change in changes:
         label = change.theorem
+        if change.proof is None and not change.loses:
+            continue
         loses = [axiom for axiom in change.loses if axiom in axioms] or None
         chapter = chapter_of(database.text, label)
         if change.proof is None:

@@ -12,9 +12,11 @@ from query.database import Database, key_of
 from query.rules import is_discouraged, is_proof_discouraged
 from query.spare import kept as kept_changes
 from query.spare.kept import Change, Replaced
-from query.spare.library import Library, Rule, bits_of, library_of
+from query.spare.index import GivenUp
+from query.spare.library import Library, Rule, bits_of, joined, library_of
 from query.spare.proofs import Proof, Step, Unfit, run
 from query.spare.search import MOST_GIVEN, Conventions, Options, Search, Shelf, Steps, World
+from query.spare.sharing import number_at_once, searched
 from query.spare.writing import Writer, laid_out, width_of
 
 LAST = ("ALT", "OLD")
@@ -64,9 +66,10 @@ class Place:
 class Changer:
     """Changes the proofs of a database."""
 
-    def __init__(self, database: Database, wanted: Wanted) -> None:
+    def __init__(self, database: Database, wanted: Wanted, at_once: int | None = 1) -> None:
         self.text = database.text
         self.wanted = wanted
+        self.at_once = at_once
         self.library = library_of(database, wanted.typecode)
         self.numbers = {rule.label: rule.number for rule in self.library.rules}
         self.names = [rule.label for rule in self.library.rules]
@@ -87,8 +90,8 @@ class Changer:
         self.width = width_of(self.proofs())
         self.closed = 0
         if wanted.has_new_steps:
-            for number, citable in self.shelf.citable.items():
-                self.closed |= 0 if citable.premises else 1 << number
+            citable = self.shelf.citable
+            self.closed = joined(each for each in citable if not citable[each].premises)
         self.axioms = 0
         for label in wanted.axioms:
             self.axioms |= self.bit_of[label]
@@ -131,47 +134,97 @@ class Changer:
         It is kept from time to time."""
         begun, kept = kept_changes.load(self.key) if self.key is not None else (0, {})
         found: list[Change] = []
-        new, stored = 0, time.monotonic()
-        for count, (number, cited) in enumerate(self.cites.items()):
-            if count % 100 == 0:
-                progress.now(f"{count} of {len(self.cites)} theorems done, {new} new proofs")
-            if count < begun:
-                change = self.known(number, cited, kept.get(self.names[number]))
-            else:
-                if time.monotonic() - stored >= SECONDS and self.key is not None:
-                    kept_changes.store(self.key, count, found)
+        done = new = 0
+        stored = time.monotonic()
+        progress.now("searching")
+        try:
+            for done, change in enumerate(self.theorems(begun, kept), 1):
+                if change is not None:
+                    new += change.proof is not None
+                    found.append(change)
+                    yield change
+                if done % 100 == 0:
+                    progress.now(f"{done} of {len(self.cites)} theorems done, {new} new proofs")
+                if done > begun and time.monotonic() - stored >= SECONDS:
+                    self.keep(done, found)
                     stored = time.monotonic()
-                change = self.change(number, cited)
-            if change is not None:
-                new += change.proof is not None
-                found.append(change)
-                yield change
-        if self.key is not None and begun < len(self.cites):
-            kept_changes.store(self.key, len(self.cites), found)
+        finally:
+            if done > begun:
+                self.keep(done, found)
 
-    def known(self, number: int, cited: list[int], change: Change | None) -> Change | None:
+    def keep(self, done: int, found: list[Change]) -> None:
+        """Keeps what was found in so many theorems, where results are kept."""
+        if self.key is not None:
+            kept_changes.store(self.key, done, found)
+
+    def theorems(self, begun: int, kept: dict[str, Change]) -> Iterator[Change | None]:
+        """What becomes of each theorem; of so many it is known."""
+        numbers = list(self.cites)
+        for number in numbers[:begun]:
+            yield self.known(number, kept.get(self.names[number]))
+        at_once = number_at_once() if self.at_once is None else self.at_once
+        yield from searched(self, numbers[begun:], at_once)
+
+    def known(self, number: int, change: Change | None) -> Change | None:
         """What is known already of a theorem."""
+        cited = self.cites[number]
         if change is not None and change.proof is not None:
             cited = [self.numbers[each] for each in change.labels() if each in self.numbers]
-        rests = self.resting(cited)
-        if rests != self.world.rests[number]:
-            self.world.change(number, rests)
+        self.world.rest(number, self.resting(cited))
         return change
 
-    def change(self, number: int, cited: list[int]) -> Change | None:
-        """What becomes of a theorem, which cites these."""
+    def is_sought(self, number: int) -> bool:
+        """Whether the proof of a theorem is searched, as far as is seen at once."""
+        is_wanted = self.wanted.is_shorter or bool(self.old_rests[number] & self.axioms)
+        return is_wanted and self.may_change(number)
+
+    def may_differ(self, number: int, others: set[int]) -> bool:
+        """Whether what becomes of a theorem may depend on what these rest on: where it cites one,
+        or one of them becomes a formula of its proof."""
+        if not others.isdisjoint(self.cites[number]):
+            return True
+        if not self.is_sought(number):
+            return False
+        allowed = self.shelf.conventions.allowed(number)
+        trees = [self.library.rules[other].tree for other in others if allowed >> other & 1]
+        if not trees:
+            return False
+        if self.closed and any(self.closed >> other & 1 for other in others):
+            return True
+        first = len(self.library.trees)
+        match = self.library.trees.match
+        try:
+            formulas = self.proof(number).steps
+            return any(
+                match(pattern, formula, {}) is not None for formula in formulas for pattern in trees
+            )
+        except Unfit:
+            return False
+        finally:
+            self.library.trees.forget(first)
+
+    def proof(self, number: int) -> Proof:
+        """The proof of a theorem. Unfit where it isn't of the kind that is changed."""
+        words = self.text.proof(self.text.assertions[number])
+        return run(self.library, self.numbers, self.library.rules[number], words)
+
+    def change(self, number: int) -> Change | None:
+        """What becomes of a theorem."""
         old = self.old_rests[number]
         if not old & self.axioms and not self.wanted.is_shorter:
             return None
-        rests = self.resting(cited)
-        change = None
+        rests = self.resting(self.cites[number])
+        change, is_given_up = None, False
         if rests & self.axioms or self.wanted.is_shorter:
-            change = self.changed(number, rests, self.axioms)
-        if change is None and rests != self.world.rests[number]:
-            self.world.change(number, rests)
+            try:
+                change = self.changed(number, rests, self.axioms)
+            except GivenUp:
+                is_given_up = True
+        if change is None:
+            self.world.rest(number, rests)
         lost = old & ~self.world.rests[number]
-        if change is None and lost:
-            change = Change(self.names[number], ())
+        if change is None and (lost or is_given_up):
+            change = Change(self.names[number], (), is_given_up=is_given_up)
         if change is not None:
             change.loses = tuple(self.columns[place] for place in bits_of(lost))
         return change
@@ -196,7 +249,7 @@ class Changer:
         try:
             if place.has_comment:
                 return None
-            proof = run(self.library, self.numbers, rule, self.text.proof(one))
+            proof = self.proof(number)
             if self.wanted.is_shorter:
                 steps = Options(self.shelf, self.world, rule, proof, rests).shortest()
             elif self.needs(proof, wanted):
@@ -263,7 +316,7 @@ class Changer:
             has_other_steps = change.replaced or left < len(proof.steps)
             if not has_other_steps or len(written) >= len(old):
                 return None
-        self.world.change(rule.number, new)
+        self.world.rest(rule.number, new)
         return change
 
     def replaced(self, tree: int, step: Step, was: dict[Step, None]) -> Replaced:
@@ -277,23 +330,21 @@ class Changer:
 def conventions_of(library: Library, wanted: Wanted) -> Conventions:
     """Which statements may be cited."""
     text = library.text
-    citable = main = 0
-    boxes: dict[int, int] = {}
-    for one in text.assertions:
-        bit = 1 << one.number
-        box = None if wanted.cites_mathboxes else text.box(one)
-        if box is None:
-            main |= bit
-        else:
-            boxes[box] = boxes.get(box, 0) | bit
-        if is_fit(library.rules[one.number]) and (wanted.cites_old or not one.label.endswith(LAST)):
-            if wanted.cites_discouraged or not is_discouraged(text, one):
-                citable |= bit
-
-    def box_of(number: int) -> int | None:
-        return None if wanted.cites_mathboxes else text.box(text.assertions[number])
-
-    return Conventions(citable, main, boxes, box_of)
+    boxes = {}
+    if not wanted.cites_mathboxes:
+        boxes = {one.number: box for one, box, _ in text.boxed()}
+    citable = joined(
+        one.number
+        for one in text.assertions
+        if is_fit(library.rules[one.number])
+        and (wanted.cites_old or not one.label.endswith(LAST))
+        and (wanted.cites_discouraged or not is_discouraged(text, one))
+    )
+    main = joined(one.number for one in text.assertions if one.number not in boxes)
+    firsts: dict[int, int] = {}
+    for number, box in boxes.items():
+        firsts.setdefault(box, number)
+    return Conventions(citable, main, boxes.get, firsts)
 
 
 def is_fit(rule: Rule) -> bool:

@@ -1,20 +1,19 @@
-"""The syntax of a database: its own syntax axioms, by which formulas are parsed.
+"""The syntax of a database: its own syntax axioms, by which formulas are parsed, as forms of trees.
 
-Each part of a formula is found from right to left, with what it may end in, so nothing is nested.
-Of two trees for one part the first that is found stands. So a grammar may be ambiguous, or have
-rules that begin with themselves, or with nothing.
+A formula that isn't one of the syntax, or of which there are two trees, has a form of its own.
 """
 
 from __future__ import annotations
 
 from collections.abc import Mapping, Sequence
-from dataclasses import dataclass, field
+from dataclasses import dataclass
 
+from query.grammar import Grammar as Axioms
+from query.grammar import UNBUILT, NotRead, Part, Tree
 from query.spare.trees import Trees
 
-STEPS, STEPS_OF_SYMBOL = 5000, 1000
-"""So many steps, and so many for each symbol, are taken to parse a formula; with more it counts as
-one that can't be parsed."""
+MOST_TYPECODES = 20
+"""So many typecodes are tried for what is behind the one of what is proved."""
 
 Item = str | int
 """A constant, or the number of a place that a part fills."""
@@ -32,19 +31,6 @@ class Form:
     """Those of its parts."""
 
 
-@dataclass(slots=True)
-class Place:
-    """A place in forms that begin alike."""
-
-    constants: dict[str, Place] = field(default_factory=dict)
-    slots: dict[str, Place] = field(default_factory=dict)
-    forms: list[int] = field(default_factory=list)
-
-
-Spans = dict[str, dict[int, int]]
-"""For each typecode the ends that a part of it may have, each with its tree."""
-
-
 class Grammar:
     """The forms of a database, which make trees."""
 
@@ -53,11 +39,11 @@ class Grammar:
         self.forms: list[Form] = []
         self.variables: list[tuple[str, str]] = []
         """The typecode and the symbol of each variable."""
+        self._axioms = Axioms()
         self._numbers: dict[tuple[str, str], int] = {}
         self._flat: dict[Form, int] = {}
-        self._orders: list[tuple[int, ...] | None] = []
-        self._first = Place()
-        self._typecodes: dict[str, None] = {}
+        self._by_label: dict[str, tuple[int, tuple[int, ...]]] = {}
+        self._typecodes: list[str] = []
 
     def variable(self, typecode: str, symbol: str) -> int:
         """The tree of a variable."""
@@ -65,8 +51,13 @@ class Grammar:
         if name not in self._numbers:
             self._numbers[name] = len(self.variables)
             self.variables.append(name)
-            self._typecodes[typecode] = None
+            self.note(typecode)
         return self.trees.made((~self._numbers[name],))
+
+    def note(self, typecode: str) -> None:
+        """Notes a typecode of the syntax."""
+        if len(self._typecodes) < MOST_TYPECODES and typecode not in self._typecodes:
+            self._typecodes.append(typecode)
 
     def typecode(self, tree: int) -> str | None:
         """The typecode of what a tree stands for."""
@@ -77,24 +68,47 @@ class Grammar:
         """Adds a syntax axiom. Returns the number of its form."""
         number = len(self.forms)
         self.forms.append(form)
-        assert form.typecode is not None
-        self._typecodes[form.typecode] = None
+        assert form.typecode is not None and form.label is not None
+        self.note(form.typecode)
         order = tuple(item for item in form.items if isinstance(item, int))
-        self._orders.append(None if order == tuple(range(len(order))) else order)
-        place = self._first
-        for item in form.items:
-            if isinstance(item, str):
-                place = place.constants.setdefault(item, Place())
-            else:
-                place = place.slots.setdefault(form.typecodes[item], Place())
-        place.forms.append(number)
+        self._by_label[form.label] = (number, order)
+        names = [f"${item}" if isinstance(item, int) else item for item in form.items]
+        kinds = {f"${place}": typecode for place, typecode in enumerate(form.typecodes)}
+        self._axioms.add(form.label, form.typecode, names, kinds)
         return number
 
-    def parsed(self, symbols: Sequence[str], leaves: Mapping[str, int]) -> int:
-        """The tree of a formula behind its typecode. Where it isn't one of the syntax it has a form
-        of its own, and its variables are the parts."""
-        tree = Parser(self, symbols, leaves).parsed()
-        return self.flat(symbols, leaves) if tree is None else tree
+    def parsed(
+        self, typecode: str | None, symbols: Sequence[str], leaves: Mapping[str, int]
+    ) -> int:
+        """The tree of a formula of a typecode of the syntax; None where that isn't known. NotRead
+        where it has none, or several."""
+        kinds = {symbol: self.typecode(leaf) or "" for symbol, leaf in leaves.items()}
+        if typecode is not None:
+            return self.made(self._axioms.tree(typecode, symbols, kinds), symbols, leaves)
+        for one in self._typecodes:
+            try:
+                tree = self._axioms.tree(one, symbols, kinds)
+            except NotRead as why:
+                if str(why) != UNBUILT:
+                    raise
+                continue
+            self._typecodes.remove(one)  # the next formula is likely of this typecode, too
+            self._typecodes.insert(0, one)
+            return self.made(tree, symbols, leaves)
+        raise NotRead(UNBUILT)
+
+    def made(self, tree: Tree, symbols: Sequence[str], leaves: Mapping[str, int]) -> int:
+        """A tree that was read."""
+        found: dict[Part, int] = {}
+        for part, label in reversed(tree.rules.items()):
+            number, order = self._by_label[label]
+            below = [
+                found[each] if each in found else leaves[symbols[each.start]]
+                for each in tree.below[part]
+            ]
+            filled = dict(zip(order, below))
+            found[part] = self.trees.made((number, *map(filled.__getitem__, sorted(filled))))
+        return found[tree.root] if tree.root in found else leaves[symbols[0]]
 
     def flat(self, symbols: Sequence[str], leaves: Mapping[str, int]) -> int:
         """The tree of a formula that isn't parsed."""
@@ -109,7 +123,6 @@ class Grammar:
         if form not in self._flat:
             self._flat[form] = len(self.forms)
             self.forms.append(form)
-            self._orders.append(None)
         return self.trees.made((self._flat[form], *parts))
 
     def written(self, tree: int, most: int) -> list[str]:
@@ -131,110 +144,3 @@ class Grammar:
             for item in reversed(self.forms[head].items):
                 left.append(item if isinstance(item, str) else parts[item])
         return symbols
-
-
-class TooManySteps(Exception):
-    """A formula takes too long to parse."""
-
-
-class Parser:
-    """Parses a formula, from its last symbol to the first."""
-
-    def __init__(self, grammar: Grammar, symbols: Sequence[str], leaves: Mapping[str, int]) -> None:
-        self.grammar = grammar
-        self.symbols = symbols
-        self.leaves = leaves
-        self.spans: list[Spans] = [{} for _ in range(len(symbols) + 1)]
-        self.left = STEPS + STEPS_OF_SYMBOL * len(symbols)
-
-    def parsed(self) -> int | None:
-        """The tree of the whole; None where there is none, or it takes too long."""
-        may_be_empty = bool(self.grammar._first.forms)
-        try:
-            for start in range(len(self.symbols), -1, -1):
-                count = -1
-                while count < (count := self.parse_from(start)) and may_be_empty:
-                    pass
-        except TooManySteps:
-            return None
-        whole = len(self.symbols)
-        for typecode in self.grammar._typecodes:
-            tree = self.spans[0].get(typecode, {}).get(whole)
-            if tree is not None:
-                return tree
-        return None
-
-    def parse_from(self, start: int) -> int:
-        """Finds the parts that begin at a place. Returns how many there are."""
-        first = self.grammar._first
-        found: list[tuple[str, int, int]] = []
-        self.walk(first, start, start, (), found, only_constants=True)
-        if start < len(self.symbols):
-            leaf = self.leaves.get(self.symbols[start])
-            if leaf is not None:
-                self.add(start, self.grammar.typecode(leaf) or "", start + 1, leaf, found)
-        if self.grammar._first.forms:
-            for typecode, ends in self.spans[start].items():
-                found += [(typecode, end, tree) for end, tree in ends.items()]
-        while found:
-            typecode, end, tree = found.pop()
-            place = first.slots.get(typecode)
-            if place is not None:
-                self.walk(place, start, end, (tree,), found)
-        return sum(map(len, self.spans[start].values()))
-
-    def add(
-        self, start: int, typecode: str, end: int, tree: int, found: list[tuple[str, int, int]]
-    ) -> None:
-        """Notes a part, where it is a new one."""
-        ends = self.spans[start].setdefault(typecode, {})
-        if end not in ends:
-            ends[end] = tree
-            found.append((typecode, end, tree))
-
-    def walk(
-        self,
-        place: Place,
-        start: int,
-        end: int,
-        parts: tuple[int, ...],
-        found: list[tuple[str, int, int]],
-        only_constants: bool = False,
-    ) -> None:
-        """Finds how forms go on that begin at `start` and have been read up to `end`."""
-        left = [(place, end, parts)]
-        while left:
-            self.left -= 1
-            if self.left < 0:
-                raise TooManySteps
-            place, end, parts = left.pop()
-            for number in place.forms:
-                self.complete(number, start, end, parts, found)
-            if end < len(self.symbols):
-                following = place.constants.get(self.symbols[end])
-                if following is not None:
-                    left.append((following, end + 1, parts))
-            if only_constants:
-                only_constants = False
-                continue
-            for typecode, following in place.slots.items():
-                for after, tree in self.spans[end].get(typecode, {}).items():
-                    left.append((following, after, (*parts, tree)))
-
-    def complete(
-        self,
-        number: int,
-        start: int,
-        end: int,
-        parts: tuple[int, ...],
-        found: list[tuple[str, int, int]],
-    ) -> None:
-        """Notes the part that a form makes."""
-        order = self.grammar._orders[number]
-        if order is not None:
-            filled = dict(zip(order, parts))
-            if any(filled[item] != part for item, part in zip(order, parts)):
-                return  # a place that occurs twice is filled in two ways
-            parts = tuple(filled[item] for item in sorted(filled))
-        tree = self.grammar.trees.made((number, *parts))
-        self.add(start, self.grammar.forms[number].typecode or "", end, tree, found)

@@ -2,20 +2,38 @@
 
 from __future__ import annotations
 
+from collections.abc import Iterator
 from dataclasses import dataclass, field
 
 from query.spare.grammar import Grammar
-from query.spare.library import bits_of
+from query.spare.library import bits_of, joined
 from query.spare.trees import Trees
 
-MANY = 12
-"""Of so many statements with one formula the wanted ones are found by bits."""
+MANY = 100
+"""Of more statements with one formula the wanted ones are found by bits."""
 
 Left = tuple[int, "Left | None"]
 """Trees that are still to be matched: the first one, and the others."""
 Key = tuple[int, int, int]
 """A head, and those of its first and its last part; -1 where any will do."""
 ANY = -1
+
+
+class GivenUp(Exception):
+    """A search takes too long."""
+
+
+@dataclass(slots=True)
+class Budget:
+    """How many steps of a search are left."""
+
+    left: int
+
+    def take(self, steps: int) -> None:
+        """Takes steps. GivenUp where there are too few left."""
+        self.left -= steps
+        if self.left < 0:
+            raise GivenUp
 
 
 @dataclass(slots=True)
@@ -40,24 +58,43 @@ class Index:
 
     def add(self, statement: int, pattern: int) -> list[int]:
         """Adds a statement. Returns its variables in this order."""
+        branch = self.first
         slots: dict[int, int] = {}
-        branch, left = self.first, [pattern]
+        for sign in self.signs(pattern, slots):
+            if isinstance(sign, int):
+                branch = branch.heads.setdefault(sign, Branch())
+            else:
+                branch = branch.slots.setdefault(sign, Branch())
+        branch.statements.append(statement)
+        branch.bits = 0
+        return list(slots)
+
+    def signs(self, pattern: int, slots: dict[int, int]) -> Iterator[int | tuple[int, str]]:
+        """What a pattern has, whole before part: heads, and its variables as slots."""
+        left = [pattern]
         while left:
             tree = left.pop()
             head = self.trees.heads[tree]
             if head < 0:
-                slot = (slots.setdefault(~head, len(slots)), self.grammar.variables[~head][0])
-                branch = branch.slots.setdefault(slot, Branch())
+                yield slots.setdefault(~head, len(slots)), self.grammar.variables[~head][0]
             else:
-                branch = branch.heads.setdefault(head, Branch())
+                yield head
                 left += reversed(self.trees.parts[tree])
-        branch.statements.append(statement)
-        branch.bits |= 1 << statement
-        return list(slots)
 
-    def find(self, tree: int, wanted: int, flags: str) -> list[tuple[int, tuple[int, ...]]]:
+    def alike(self, pattern: int) -> list[int]:
+        """The statements whose formula is this one but for the names of variables, in order."""
+        branch: Branch | None = self.first
+        for sign in self.signs(pattern, {}):
+            if branch is None:
+                return []
+            branch = branch.heads.get(sign) if isinstance(sign, int) else branch.slots.get(sign)
+        return [] if branch is None else branch.statements
+
+    def find(
+        self, tree: int, wanted: int, flags: str, budget: Budget
+    ) -> list[tuple[int, tuple[int, ...]]]:
         """The statements whose formula becomes a tree, of those wanted: `wanted` has their bits,
-        and `flags` a `1` for each of them."""
+        and `flags` a `1` for each of them. GivenUp where that takes too many steps."""
         heads, parts, typecode = self.trees.heads, self.trees.parts, self.grammar.typecode
         found: list[tuple[int, tuple[int, ...]]] = []
         work: list[tuple[Branch, Left | None, tuple[int, ...]]] = [(self.first, (tree, None), ())]
@@ -65,7 +102,9 @@ class Index:
             branch, left, bound = work.pop()
             if left is None:
                 found += [(statement, bound) for statement in chosen(branch, wanted, flags)]
+                budget.take(min(MANY, len(branch.statements)))
                 continue
+            budget.left -= 1 + len(branch.slots)
             one, rest = left
             head = heads[one]
             following = branch.heads.get(head)
@@ -80,12 +119,16 @@ class Index:
                         work.append((following, rest, bound))
                 elif typecode(one) == kind:
                     work.append((following, rest, (*bound, one)))
+            if budget.left < 0:
+                raise GivenUp
+        budget.take(len(found))
         return found
 
 
 def chosen(branch: Branch, wanted: int, flags: str) -> list[int]:
     """The statements of a branch that are wanted."""
     if len(branch.statements) > MANY:
+        branch.bits = branch.bits or joined(branch.statements)
         return list(bits_of(branch.bits & wanted))
     count = len(flags)
     return [each for each in branch.statements if each < count and flags[each] == "1"]

@@ -5,10 +5,11 @@ from __future__ import annotations
 import json
 from collections.abc import Sequence
 from dataclasses import asdict, dataclass, field
+from typing import Any
 
 from query import cache
 
-FORM = 1
+FORM = 2
 """Counts the forms in which changes are kept, and the ways in which they are sought."""
 
 
@@ -24,13 +25,15 @@ class Replaced:
 @dataclass(slots=True)
 class Change:
     """What became of a theorem: which axioms it loses, and where its own proof is another one what
-    stands in its place between `$=` and `$.`, and which steps were replaced."""
+    stands in its place between `$=` and `$.`, and which steps were replaced; or that the search in
+    its proof was given up."""
 
     theorem: str
     loses: tuple[str, ...]
     proof: bytes | None = None
     old_length: int = 0
     replaced: list[Replaced] = field(default_factory=list)
+    is_given_up: bool = False
 
     def labels(self) -> list[str]:
         """The labels in brackets of the new proof."""
@@ -38,13 +41,29 @@ class Change:
         return words[1 : words.index(")")]
 
 
+def fields_of(change: Change) -> dict[str, Any]:
+    """A change in a form that JSON has."""
+    fields = asdict(change)
+    if change.proof is not None:
+        fields["proof"] = change.proof.decode("latin-1")
+    return fields
+
+
+def from_fields(fields: dict[str, Any]) -> Change:
+    """The same change as it was."""
+    proof = None if fields["proof"] is None else fields["proof"].encode("latin-1")
+    replaced = [
+        Replaced(tuple(one["old"]), one["new"], one["formula"]) for one in fields["replaced"]
+    ]
+    loses = tuple(fields["loses"])
+    given_up = fields["is_given_up"]
+    return Change(fields["theorem"], loses, proof, fields["old_length"], replaced, given_up)
+
+
 def store(key: str, done: int, changes: Sequence[Change]) -> None:
     """Keeps what was found in so many theorems."""
-    fields = [asdict(change) for change in changes]
-    for each in fields:
-        if each["proof"] is not None:
-            each["proof"] = each["proof"].decode("latin-1")
-    cache.store(key, {"done": str(done).encode(), "changes": json.dumps(fields).encode()})
+    fields = json.dumps([fields_of(change) for change in changes])
+    cache.store(key, {"done": str(done).encode(), "changes": fields.encode()})
 
 
 def load(key: str) -> tuple[int, dict[str, Change]]:
@@ -52,12 +71,5 @@ def load(key: str) -> tuple[int, dict[str, Change]]:
     parts = cache.load(key)
     if parts is None:
         return 0, {}
-    found = {}
-    for each in json.loads(parts["changes"]):
-        proof = None if each["proof"] is None else each["proof"].encode("latin-1")
-        steps = [
-            Replaced(tuple(one["old"]), one["new"], one["formula"]) for one in each["replaced"]
-        ]
-        loses = tuple(each["loses"])
-        found[each["theorem"]] = Change(each["theorem"], loses, proof, each["old_length"], steps)
-    return int(parts["done"]), found
+    found = [from_fields(each) for each in json.loads(parts["changes"])]
+    return int(parts["done"]), {change.theorem: change for change in found}

@@ -4,7 +4,7 @@ from __future__ import annotations
 
 import re
 from array import array
-from collections.abc import Iterator, Mapping, Sequence
+from collections.abc import Iterable, Iterator, Mapping, Sequence
 from dataclasses import dataclass, field
 from itertools import chain
 from typing import NamedTuple
@@ -13,12 +13,17 @@ from query.assertions import PAIR, Assertion, Hypothesis
 from query import cache, progress
 from query.bare import bare
 from query.database import Database, key_of
+from query.errors import NoAnswer
+from query.grammar import NotRead
 from query.spare.grammar import Form, Grammar
 from query.spare.trees import Code, Trees
 from query.text import Text
 
 FLOATING = re.compile(rb"(?<!\S)([\w.-]++)\s++\$f\s++([^\s$]++)\s++([^\s$]++)\s++\$\.")
-FORM = 1
+MOST_ASSERTIONS, MOST_VARIABLES, MOST_MARKS = 500_000, 5000, 2_000_000_000
+"""With more assertions or variables, or more pairs of an assertion and an axiom, there is no
+answer: sets of them are the bits of numbers."""
+FORM = 2
 """Counts the forms in which trees are kept, and the ways in which formulas are parsed."""
 
 
@@ -62,6 +67,8 @@ class Library:
         self.trees = Trees()
         self.grammar = Grammar(self.trees)
         self.floating = floating_of(text.data)
+        self.unread: list[tuple[str, str]] = []
+        """The assertions with a formula that has no tree by the syntax, and why it hasn't."""
         self._parsed: dict[tuple[str, str], int] = {}
         self._known = self.restored(kept) if kept is not None else iter(())
         self.rules: list[Rule] = []
@@ -85,7 +92,7 @@ class Library:
                 leaves[symbol] = self.grammar.variable(typecode, symbol)
                 slots.append(~self.trees.heads[leaves[symbol]])
         scope = "" if self._is_fixed else " ".join(each.formula for each in given)
-        found = [self.given(each, leaves, scope) for each in given]
+        found = [self.given(assertion, each, leaves, scope) for each in given]
         is_logical = assertion.typecode == self.typecode_proved
         rule = Rule(assertion.number, assertion.label, is_logical, -1, found, slots)
         is_syntax = not is_logical and len(slots) == len(found) and not frame.disjoint
@@ -94,28 +101,47 @@ class Library:
             parts = [self.trees.made((~slot,)) for slot in slots]
             rule.tree = self.trees.made((rule.form, *parts))
         elif is_logical or is_syntax:
-            rule.tree = self.parsed(assertion.formula, leaves, scope)
+            rule.tree = self.parsed(assertion, assertion.formula, leaves, scope)
         return rule
 
-    def given(self, one: Hypothesis, leaves: dict[str, int], scope: str) -> Given:
+    def given(
+        self, assertion: Assertion, one: Hypothesis, leaves: dict[str, int], scope: str
+    ) -> Given:
         """A mandatory hypothesis. A `$e` of the syntax has the tree -1."""
         if one.kind == "f":
             variable = ~self.trees.heads[leaves[one.formula.split(" ")[1]]]
             return Given(True, variable, one.label)
         if one.formula.split(" ", 1)[0] != self.typecode_proved:
             return Given(False, -1, one.label)
-        return Given(False, self.parsed(one.formula, leaves, scope), one.label)
+        return Given(False, self.parsed(assertion, one.formula, leaves, scope), one.label)
 
-    def parsed(self, formula: str, leaves: dict[str, int], scope: str) -> int:
-        """The tree of a formula."""
+    def parsed(self, assertion: Assertion, formula: str, leaves: dict[str, int], scope: str) -> int:
+        """The tree of a formula of an assertion. One that has none by the syntax has a form of its
+        own."""
         key = (formula, scope)
         found = self._parsed.get(key)
         if found is None:
             found = next(self._known, None)
             if found is None:
-                found = self.grammar.parsed(formula.split(" ")[1:], leaves)
+                typecode, *symbols = formula.split(" ")
+                kind = None if typecode == self.typecode_proved else typecode
+                try:
+                    found = self.grammar.parsed(kind, symbols, leaves)
+                except NotRead as why:
+                    self.unread.append((assertion.label, str(why)))
+                    found = self.grammar.flat(symbols, leaves)
             self._parsed[key] = found
         return found
+
+    def remark(self) -> str:
+        """A word on the formulas that have no tree by the syntax; empty where all have one."""
+        if not self.unread:
+            return ""
+        label, why = self.unread[0]
+        return (
+            f"{len(self.unread)} formulas aren't read by the syntax axioms, so less may be found;"
+            f" the first is of {label}: {why}"
+        )
 
     def parts(self) -> dict[str, bytes] | None:
         """What can be kept of all trees: what they are made of, and which are the formulas that
@@ -158,8 +184,22 @@ class Library:
         return [(names[one], names[other]) for one, other in frame.pairs()]
 
 
+def see_size(database: Database) -> None:
+    """NoAnswer where a database has too much of something."""
+    axioms, assertions = len(database.prepared.columns), len(database.text.assertions)
+    variables = len({*floating_of(database.data()).values()})
+    for number, most, what in (
+        (assertions, MOST_ASSERTIONS, "assertions"),
+        (variables, MOST_VARIABLES, "variables"),
+        (axioms * assertions, MOST_MARKS, "pairs of an assertion and an axiom"),
+    ):
+        if number > most:
+            raise NoAnswer(f"{database.name}: has more than {most} {what}, too many to search")
+
+
 def library_of(database: Database, typecode: str) -> Library:
-    """The library of a database, whose trees are kept."""
+    """The library of a database, whose trees are kept. NoAnswer where that is too large."""
+    see_size(database)
     progress.now(f"reading the formulas of {database.name}")
     key = key_of(FORM, "trees", database.key, typecode)
     kept = cache.load(key) if database.uses_cache else None
@@ -178,22 +218,22 @@ class Scope:
         self.labels = {each.number: each.label for each in rule.given if each.is_floating}
         self.names = {library.grammar.variables[slot][1]: slot for slot in rule.slots}
         self.said = library.text.assertions[rule.number].said
-        self._apart: frozenset[tuple[int, int]] | None = None
+        self._apart: dict[int, int] | None = None
 
     def add_dummy(self, variable: int, symbol: str, label: str) -> None:
         """Adds a dummy variable."""
         self.labels.setdefault(variable, label)
         self.names.setdefault(symbol, variable)
 
-    def apart(self) -> frozenset[tuple[int, int]]:
-        """The pairs of distinct variables, both ways."""
+    def apart(self) -> dict[int, int]:
+        """For each variable the bits of those from which it is distinct."""
         if self._apart is None:
-            pairs = [
-                (self.names[one], self.names[other])
-                for one, other in PAIR.findall(self.said)
-                if one in self.names and other in self.names
-            ]
-            self._apart = frozenset(pairs + [(other, one) for one, other in pairs])
+            self._apart = {}
+            for pair in PAIR.findall(self.said):
+                if pair[0] in self.names and pair[1] in self.names:
+                    one, other = (self.names[name] for name in pair)
+                    self._apart[one] = self._apart.get(one, 0) | 1 << other
+                    self._apart[other] = self._apart.get(other, 0) | 1 << one
         return self._apart
 
 
@@ -211,6 +251,15 @@ def floating_of(data: bytes) -> dict[str, tuple[str, str]]:
         label.decode(): (typecode.decode(), variable.decode())
         for label, typecode, variable in FLOATING.findall(bare(data))
     }
+
+
+def joined(numbers: Iterable[int]) -> int:
+    """A number that has these bits."""
+    places = list(numbers)
+    data = bytearray(max(places, default=0) // 8 + 1)
+    for place in places:
+        data[place >> 3] |= 1 << (place & 7)
+    return int.from_bytes(data, "little")
 
 
 def bits_of(numbers: int) -> Iterator[int]:

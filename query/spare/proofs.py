@@ -12,8 +12,9 @@ from functools import cache
 from query.spare.library import Library, Rule, Scope
 
 NUMBER = re.compile(r"[U-Y]*[A-T]|Z")
-MOST_STEPS = 2_000_000
-"""A proof with more isn't changed."""
+STEPS, STEPS_OF_LETTER = 100_000, 20
+"""So many steps, and so many for each letter of a proof, are taken to carry it out; a proof that
+takes more isn't changed. A citation of a long formula counts as several."""
 
 
 class Unfit(Exception):
@@ -72,10 +73,11 @@ class Machine:
             given.setdefault(each.number, each.label)
         self.proof = Proof(scope, given)
         self.stack: list[int] = []
-        self.left = MOST_STEPS
+        self.left = STEPS
 
     def run(self, theorem: Rule, words: Sequence[str]) -> Proof:
         """Carries out the words of a proof."""
+        self.left += STEPS_OF_LETTER * sum(map(len, words))
         if words[0] == "(":
             end = words.index(")")
             labels = [each.label for each in theorem.given] + list(words[1:end])
@@ -144,7 +146,9 @@ class Machine:
             if (entry < 0) == one.is_floating:
                 raise Unfit
             (filled if one.is_floating else premises).append(entry)
-        tree = self.library.trees.instance(self.library.code(rule), filled)
+        code = self.library.code(rule)
+        self.left -= len(code) // 8
+        tree = self.library.trees.instance(code, filled)
         if tree not in self.proof.given and ~tree not in premises:
             trees = tuple(entry if entry >= 0 else ~entry for entry in entries)
             step = Step(rule.number, trees, tuple(~entry for entry in premises))

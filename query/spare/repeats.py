@@ -5,6 +5,7 @@ from __future__ import annotations
 from collections.abc import Iterator
 from dataclasses import dataclass
 
+from query.spare.index import GivenUp
 from query.spare.library import Library, Rule
 from query.spare.proofs import Proof, Step
 from query.spare.search import Citable, Search, Shelf, World, step_of
@@ -37,10 +38,29 @@ class Ways(Search):
         self.found.append(step_of(citable, binding, premises))
         return False
 
+    def cut(self) -> None:
+        """Gives up: another one might have been nearer."""
+        raise GivenUp
+
+    def alike(self, tree: int) -> Iterator[Step]:
+        """The steps that cite a statement with this formula but for the names of variables, in the
+        order of the statements."""
+        for number in self.shelf.index.alike(tree):
+            if number >= self.theorem.number:
+                break
+            self.budget.take(1)
+            if self.may_be >> number & 1:
+                citable = self.shelf.citable[number]
+                bound: Binding = {}
+                self.trees.match(citable.rule.tree, tree, bound)
+                self.cited(citable, tuple(bound[slot] for slot in citable.slots))
+                yield from self.found
+                self.found.clear()
+
     def all(self, tree: int) -> list[Step]:
         """The steps for a formula."""
         flags = f"{self.may_be:0{self.theorem.number}b}"[::-1]
-        for number, bound in self.shelf.index.find(tree, self.may_be, flags):
+        for number, bound in self.shelf.index.find(tree, self.may_be, flags, self.budget):
             citable = self.shelf.citable[number]
             if all(key is None or key in self.free.by_key for key in citable.keys):
                 self.cited(citable, bound)
@@ -54,13 +74,19 @@ class Finder:
         self.library = library
         self.shelf = shelf
         self.world = World([])
+        self.given_up: list[str] = []
+        """The theorems of which it isn't found what they repeat, since that takes too long."""
 
     def repeat(self, theorem: Rule) -> Repeat | None:
         """What a theorem repeats, of several the nearest, and of these the first one."""
         given = {each.number: each.label for each in theorem.essential()}
         proof = Proof(self.library.scope(theorem), given, theorem.tree, {theorem.tree: {}})
         best: tuple[int, int] | None = None
-        for step in Ways(self.shelf, self.world, theorem, proof).all(theorem.tree):
+        ways = Ways(self.shelf, self.world, theorem, proof)
+        for step in ways.alike(theorem.tree):
+            if self.how(theorem, step) == "same":
+                return Repeat(theorem.label, self.library.rules[step.rule].label, "same")
+        for step in ways.all(theorem.tree):
             found = (HOW.index(self.how(theorem, step)), step.rule)
             best = found if best is None else min(best, found)
         if best is None:
@@ -81,6 +107,10 @@ class Finder:
     def repeats(self, theorems: Iterator[Rule]) -> Iterator[Repeat]:
         """What of these theorems repeats something."""
         for theorem in theorems:
-            found = self.repeat(theorem)
+            try:
+                found = self.repeat(theorem)
+            except GivenUp:
+                self.given_up.append(theorem.label)
+                continue
             if found is not None:
                 yield found

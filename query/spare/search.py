@@ -13,8 +13,8 @@ from collections import defaultdict
 from collections.abc import Callable, Sequence
 from dataclasses import dataclass
 
-from query.spare.index import Index, Key, key_of, keys_of
-from query.spare.library import Library, Rule, bits_of
+from query.spare.index import Budget, Index, Key, key_of, keys_of
+from query.spare.library import Library, Rule, bits_of, joined
 from query.spare.proofs import Proof, Step
 from query.spare.trees import Binding, Code, Trees
 
@@ -24,6 +24,12 @@ MOST_NEW = 20_000
 """So many formulas are tried as new steps of one proof."""
 MOST_TRIED = 5000
 """So many formulas are tried as premises of one statement for one formula."""
+STEPS, STEPS_OF_FORMULA = 200_000, 100_000
+"""So many steps, and so many for each formula of a proof, are taken to search it; with more it is
+given up. A step is less than a look at a statement or at a premise."""
+MOST_KEYS = 20_000_000
+"""For so many pairs of a statement and a key of hypotheses it is noted which statements need
+which."""
 
 Steps = dict[int, Step | None]
 """For each free formula the step by which it is; None for a hypothesis."""
@@ -60,18 +66,19 @@ class Citable:
 @dataclass(slots=True)
 class Conventions:
     """Which statements may be cited in a theorem, as bits by their number: those that are citable
-    at all, and of these the ones that stand in no mathbox and in each one."""
+    at all, and all that stand in no mathbox; and for each mathbox its first assertion."""
 
     citable: int
     main: int
-    boxes: dict[int, int]
     box_of: Callable[[int], int | None]
+    firsts: dict[int, int]
 
     def allowed(self, theorem: int) -> int:
         """Those that stand before a theorem and may be cited there."""
+        before = (1 << theorem) - 1
         box = self.box_of(theorem)
-        places = self.main if box is None else self.main | self.boxes[box]
-        return self.citable & places & ((1 << theorem) - 1)
+        own = 0 if box is None else before & ~((1 << self.firsts[box]) - 1)
+        return self.citable & (self.main & before | own)
 
 
 class World:
@@ -82,18 +89,23 @@ class World:
         self.all = 0
         for bits in rests:
             self.all |= bits
-        flags = {axiom: bytearray(b"0" * len(rests)) for axiom in bits_of(self.all)}
+        flags = {axiom: bytearray(len(rests) // 8 + 1) for axiom in bits_of(self.all)}
         for number, bits in enumerate(rests):
             for axiom in bits_of(bits):
-                flags[axiom][number] = ord("1")
-        self.columns = {axiom: int(each[::-1], 2) for axiom, each in flags.items()}
+                flags[axiom][number >> 3] |= 1 << (number & 7)
+        self.columns = {axiom: int.from_bytes(each, "little") for axiom, each in flags.items()}
+        self.changed: list[int] = []
+        """The assertions that came to rest on others than at first, in order."""
         self._blocked: dict[int, int] = {}
 
-    def change(self, number: int, rests: int) -> None:
-        """An assertion rests on less now."""
+    def rest(self, number: int, rests: int) -> None:
+        """An assertion rests on these now, which are fewer or the same."""
+        if rests == self.rests[number]:
+            return
         for axiom in bits_of(self.rests[number] & ~rests):
             self.columns[axiom] &= ~(1 << number)
         self.rests[number] = rests
+        self.changed.append(number)
         self._blocked.clear()
 
     def blocked(self, allowed: int) -> int:
@@ -115,12 +127,16 @@ class Shelf:
         self.conventions = conventions
         self.index = Index(library.trees, library.grammar)
         self.citable: dict[int, Citable] = {}
-        self.needing: dict[Key, int] = {}
+        needing: dict[Key, list[int]] = {}
         for number in bits_of(conventions.citable):
-            self.add(library.rules[number])
+            for key in self.add(library.rules[number]):
+                needing.setdefault(key, []).append(number)
+        most = MOST_KEYS // (len(library.rules) + 1)
+        often = sorted(needing, key=lambda key: len(needing[key]), reverse=True)[:most]
+        self.needing = {key: joined(needing[key]) for key in often}
 
-    def add(self, rule: Rule) -> None:
-        """Adds a statement."""
+    def add(self, rule: Rule) -> set[Key]:
+        """Adds a statement. Returns the keys of its hypotheses."""
         slots = self.index.add(rule.number, rule.tree)
         essential = enumerate(each.number for each in rule.essential())
         premises = [self.premise(place, pattern) for place, pattern in essential]
@@ -129,9 +145,7 @@ class Shelf:
         keys = [each.key for each in premises]
         pairs = self.library.pairs(rule)
         self.citable[rule.number] = Citable(rule, slots, premises, keys, pairs)
-        for key in keys:
-            if key is not None:
-                self.needing[key] = self.needing.get(key, 0) | 1 << rule.number
+        return {key for key in keys if key is not None}
 
     def premise(self, place: int, pattern: int) -> Premise:
         """A hypothesis of a statement."""
@@ -141,7 +155,8 @@ class Shelf:
         return Premise(pattern, place, key, variables, code, *ends_of(trees, pattern))
 
     def lacking(self, keys: set[Key]) -> int:
-        """The statements with a hypothesis that no formula with these keys becomes."""
+        """The statements with a hypothesis that no formula with these keys becomes, as far as the
+        keys are noted."""
         found = 0
         for key, bits in self.needing.items():
             if key not in keys:
@@ -215,6 +230,7 @@ class Search:
         self.proof = proof
         self.trees = shelf.library.trees
         self.keys = {tree: keys_of(self.trees, tree) for tree in (*proof.given, *proof.steps)}
+        self.budget = Budget(STEPS + STEPS_OF_FORMULA * len(self.keys))
         lacking = shelf.lacking(set[Key]().union(*self.keys.values()))
         self.may_be = shelf.conventions.allowed(theorem.number) & ~lacking
         self.candidates: dict[int, list[tuple[Citable, tuple[int, ...]]]] = {}
@@ -248,6 +264,7 @@ class Search:
 
     def is_freed(self, tree: int, axioms: int, wanted: int, flags: str) -> bool:
         """Whether a formula is free now."""
+        self.budget.take(len(self.proof.steps[tree]))
         step = self.own(tree, axioms)
         if step is None:
             step = self.other(tree, wanted, flags)
@@ -270,13 +287,14 @@ class Search:
         again only where a formula came that a premise may be."""
         free = self.free
         if tree not in self.candidates:
-            found = self.shelf.index.find(tree, wanted, flags)
+            found = self.shelf.index.find(tree, wanted, flags, self.budget)
             citable = self.shelf.citable
             self.candidates[tree] = [(citable[number], bound) for number, bound in sorted(found)]
         before = self.tried.get(tree, -1)
         self.tried[tree] = count = len(free.steps)
         if before == count:
             return None
+        self.budget.take(len(self.candidates[tree]))
         when = free.came.__getitem__
         for one, bound in self.candidates[tree]:
             came = [*map(when, one.keys)]
@@ -292,6 +310,7 @@ class Search:
         aren't distinct."""
         binding = dict(zip(citable.slots, bound))
         self.left = MOST_TRIED
+        self.budget.take(len(citable.premises) + len(citable.pairs))
         premises: list[int] = [-1] * len(citable.premises)
         if not self.has_premises(citable, citable.premises, binding, premises):
             return None
@@ -300,6 +319,9 @@ class Search:
     def is_enough(self, citable: Citable, binding: Binding, premises: list[int]) -> bool:
         """Whether this step is taken, where there may be others with the same statement."""
         return True
+
+    def cut(self) -> None:
+        """Notes that not all premises of a statement were tried."""
 
     def has_premises(
         self, citable: Citable, left: list[Premise], binding: Binding, premises: list[int]
@@ -310,25 +332,15 @@ class Search:
         if not left:
             is_one = self.keeps_distinct(citable, binding)
             return is_one and self.is_enough(citable, binding, premises)
-        least: Sequence[int] = ()
-        for premise in left:
-            formulas = self.free.like(premise, binding)
-            if not formulas and self.wanted_closed:
-                formulas = self.new_step(premise, binding)
-                if not formulas and not premise.variables <= binding.keys():
-                    continue
-            if not formulas:
-                return False
-            if not least or len(formulas) < len(least):
-                least, chosen = formulas, premise
-            if len(least) == 1:
-                break
-        if not least:
+        chosen, formulas = self.fewest(left, binding)
+        if chosen is None:
             return False
         left = [premise for premise in left if premise is not chosen]
-        for formula in least:
+        for formula in formulas:
             self.left -= 1
+            self.budget.take(1 + len(chosen.code) // 16)
             if self.left < 0:
+                self.cut()
                 return False
             new = self.match(chosen.pattern, formula, binding)
             if new is None:
@@ -340,15 +352,35 @@ class Search:
                 del binding[variable]
         return False
 
+    def fewest(self, left: list[Premise], binding: Binding) -> tuple[Premise | None, Sequence[int]]:
+        """The premise that the fewest formulas can be, and these; None where one can be none."""
+        self.budget.take(sum(len(premise.code) for premise in left) // 8)
+        chosen: Premise | None = None
+        least: Sequence[int] = ()
+        for premise in left:
+            formulas = self.free.like(premise, binding)
+            if not formulas and self.wanted_closed:
+                formulas = self.new_step(premise, binding)
+                if not formulas and not premise.variables <= binding.keys():
+                    continue
+            if not formulas:
+                return None, ()
+            if not least or len(formulas) < len(least):
+                least, chosen = formulas, premise
+            if len(least) == 1:
+                break
+        return chosen, least
+
     def new_step(self, premise: Premise, binding: Binding) -> Sequence[int]:
         """A premise whose variables are bound, as a new step that cites a statement without
         hypotheses; nothing where there is none."""
         if not premise.variables <= binding.keys() or len(self.new) >= MOST_NEW:
             return ()
-        tree = self.trees.bound_instance(premise.code, binding)
+        tree = self.trees.instance(premise.code, binding)
         if tree not in self.new:
             self.new[tree] = False
-            for number, bound in self.shelf.index.find(tree, self.wanted_closed, self.flags):
+            found = self.shelf.index.find(tree, self.wanted_closed, self.flags, self.budget)
+            for number, bound in found:
                 citable = self.shelf.citable[number]
                 filled = dict(zip(citable.slots, bound))
                 if not citable.premises and self.keeps_distinct(citable, filled):
@@ -373,11 +405,8 @@ class Search:
         variables = self.trees.variables
         for one, other in citable.pairs:
             some, others = variables(binding[one]), variables(binding[other])
-            if some & others:
+            if some & others or any(others & ~apart.get(first, 0) for first in bits_of(some)):
                 return False
-            for first in bits_of(some):
-                if any((first, second) not in apart for second in bits_of(others)):
-                    return False
         return True
 
 
@@ -395,7 +424,7 @@ class Options(Search):
         flags = f"{wanted:0{theorem.number}b}"[::-1]
         for self.tree in proof.steps:
             self.steps[self.tree] = dict(proof.steps[self.tree])
-            for number, bound in shelf.index.find(self.tree, wanted, flags):
+            for number, bound in shelf.index.find(self.tree, wanted, flags, self.budget):
                 self.cited(shelf.citable[number], bound)
 
     def is_enough(self, citable: Citable, binding: Binding, premises: list[int]) -> bool:
@@ -413,6 +442,7 @@ class Options(Search):
         while is_changed:
             is_changed = False
             for tree, steps in self.steps.items():
+                self.budget.take(len(steps))
                 least = resting[tree]
                 for step in steps:
                     needed = rests[step.rule]
@@ -433,6 +463,7 @@ class Options(Search):
         while is_changed:
             is_changed = False
             for tree, steps in self.steps.items():
+                self.budget.take(len(steps))
                 for step in steps:
                     if all(premise in count for premise in step.premises):
                         size = 1 + sum(count[premise] for premise in step.premises)

@@ -11,7 +11,7 @@ The head of a tree is a form (0 or more), whose places its parts fill; or it is 
 
 from __future__ import annotations
 
-from collections.abc import Sequence
+from collections.abc import Callable, Mapping, Sequence
 
 Key = tuple[int, ...]
 """The head of a tree and its parts."""
@@ -91,47 +91,33 @@ class Trees:
             left += parts
         return tuple(reversed(found))
 
-    def instance(self, code: Code, filled: Sequence[int]) -> int:
-        """The tree of a pattern whose slots are filled."""
+    def instance(self, code: Code, filled: Sequence[int] | Mapping[int, int]) -> int:
+        """The tree of a pattern whose slots are all filled."""
+        tree = self._built(code, filled, self.made)
+        assert tree is not None
+        return tree
+
+    def known_instance(self, code: Code, filled: Sequence[int] | Mapping[int, int]) -> int | None:
+        """The same; None where there is no such tree yet."""
+        return self._built(code, filled, self.table.get)
+
+    def _built(
+        self,
+        code: Code,
+        filled: Sequence[int] | Mapping[int, int],
+        made: Callable[[Key], int | None],
+    ) -> int | None:
+        """The tree of a pattern, each of its parts made in this way."""
         stack: list[int] = []
         for head, count in code:
             if count < 0:
                 stack.append(filled[~head])
-            elif count:
-                key = (head, *stack[-count:])
-                del stack[-count:]
-                stack.append(self.made(key))
-            else:
-                stack.append(self.made((head,)))
-        return stack[0]
-
-    def bound_instance(self, code: Code, binding: Binding) -> int:
-        """The tree of a pattern all of whose variables are bound."""
-        stack: list[int] = []
-        for head, count in code:
-            if count < 0:
-                stack.append(binding[~head])
                 continue
-            key = (head, *(stack[-count:] if count else ()))
-            del stack[len(stack) - count :]
-            stack.append(self.made(key))
-        return stack[0]
-
-    def known_instance(self, code: Code, binding: Binding) -> int | None:
-        """The tree of a pattern all of whose variables are bound; None where there is no such tree
-        yet."""
-        table = self.table
-        stack: list[int] = []
-        for head, count in code:
-            if count < 0:
-                stack.append(binding[~head])
-                continue
-            key = (head, *(stack[-count:] if count else ()))
-            del stack[len(stack) - count :]
-            found = table.get(key)
-            if found is None:
+            tree = made((head, *stack[len(stack) - count :]))
+            if tree is None:
                 return None
-            stack.append(found)
+            del stack[len(stack) - count :]
+            stack.append(tree)
         return stack[0]
 
     def match(self, pattern: int, tree: int, binding: Binding) -> list[int] | None:

@@ -13,6 +13,8 @@ from query.spare.search import Steps
 
 WIDTH = 79
 INDENT = b"      "
+MOST_ALIKE = 50
+"""So many theorems of the syntax with one form are tried for a tree."""
 SAMPLE = 4000
 """Of so many proofs the lines are measured."""
 START = re.compile(rb"[ \t]*(?P<end>\r?\n)(?P<indent>[ \t]*)\S")
@@ -32,8 +34,9 @@ class Writer:
             rule = library.rules[number]
             if rule.form is None and not rule.is_logical and rule.tree >= 0:
                 head = library.trees.heads[rule.tree]
-                if head >= 0:
-                    self.abbreviations.setdefault(head, []).append(rule)
+                several = self.abbreviations.setdefault(head, [])
+                if head >= 0 and len(several) < MOST_ALIKE:
+                    several.append(rule)
 
     def words(self, theorem: Rule, proof: Proof, steps: Steps) -> tuple[list[str], str]:
         """The labels in brackets and the letters of a proof."""

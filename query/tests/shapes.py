@@ -325,6 +325,51 @@ def definitions(size: int) -> Files:
     return {"a.mm": "\n".join(lines).encode() + b"\n"}
 
 
+def premises(count: int) -> Files:
+    """Theorems with hypotheses like those of an axiom, which fit it in no order."""
+    made, found = variables(22)
+    path = [f"( {one} -> {other} )" for one, other in zip(found[:12], found[1:12])]
+    given = "".join(f"m{number} $e |- {each} $. " for number, each in enumerate(path))
+    lines = [f"{made}${{ {given}x $a |- q $. $}}"]
+    edges = [
+        f"( {found[2 * layer + one]} -> {found[2 * layer + 2 + other]} )"
+        for layer in range(10)
+        for one in range(2)
+        for other in range(2)
+    ]
+    for number in range(count):
+        given = "".join(f"t{number}.{place} $e |- {each} $. " for place, each in enumerate(edges))
+        lines.append(f"${{ {given}t{number} $p |- ( q -> p ) $= wq wp wi ax $. $}}")
+    return one("\n".join(lines) + "\n")
+
+
+def keys(count: int) -> Files:
+    """Axioms with hypotheses of a form of their own each, and theorems that they could prove."""
+    lines = []
+    for number in range(count):
+        lines.append(f"$c c{number} $. k{number} $a wff c{number} p $.")
+        lines.append(f"${{ x{number}.1 $e |- c{number} p $. x{number} $a |- p $. $}}")
+    return one("\n".join(lines) + "\n" + theorems(count))
+
+
+def lists(count: int) -> Files:
+    """Formulas that are lists, of which each end may be one of an element of the list."""
+    lines = ["$c , $. w1 $a wff p , $. w2 $a wff p , q $. $c d $. wd $a wff d $."]
+    lines += [f"f{number} $a |- {'d , ' * 100}d $." for number in range(count)]
+    return one("\n".join(lines) + "\n" + theorems(count))
+
+
+def new_proofs(count: int) -> Files:
+    """Theorems of which each can do without an axiom, and cites the one before."""
+    lines = [
+        f"t{number} $p |- ( p -> p ) $= wp wp wi wp wp wi ax {cited} two $.\n"
+        for number, cited in enumerate(
+            f"wp {'same' if number == 0 else f't{number - 1}'}" for number in range(count)
+        )
+    ]
+    return one("same $a |- ( p -> p ) $.\n" + "".join(lines))
+
+
 SHAPES = [
     Shape("white space at the end", white_space, 100_000, 100_000,
           ("verify b.mm", "chapters b.mm", "gate a.mm b.mm", "page b.mm")),
@@ -369,4 +414,8 @@ SHAPES = [
           ("chapters a.mm ax", "mathboxes a.mm", "picture a.mm --png", "page a.mm")),
     Shape("dummy variables", dummies, 2_000, 2_000, ("page a.mm",), is_answer=True),
     Shape("long formulas", long_formulas, 20, 40, ("verify a.mm",)),
+    Shape("hypotheses in any order", premises, 400, 60, ("repeats a.mm", "spare a.mm ax")),
+    Shape("hypotheses of many forms", keys, 3_000, 1_000, ("repeats a.mm", "spare a.mm ax")),
+    Shape("lists", lists, 1_000, 400, ("spare a.mm ax", "definitions a.mm")),
+    Shape("new proofs", new_proofs, 2_000, 1_000, ("repeats a.mm", "spare a.mm ax")),
 ]  # fmt: skip

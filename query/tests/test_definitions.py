@@ -7,7 +7,7 @@ import unittest
 from collections.abc import Sequence
 
 from query.definitions import Definitions
-from query.grammar import Grammar, NotRead, Reader
+from query.grammar import Grammar, NotRead, Reader, Tree
 from query.tests.repositories import changed
 from query.tests.world import DATABASES, World, program, told_of
 
@@ -180,64 +180,93 @@ class RealDatabases(unittest.TestCase):
 
 
 Rule = tuple[str, str, tuple[str, ...]]
+VARIABLES = {"P": "p", "O": "p", "Q": "q", "R": "q"}
 
 
-def trees(rules: Sequence[Rule], typecode: str, symbols: tuple[str, ...]) -> int:
-    """How many trees a formula has, by trying everything. A variable is its typecode's name in
-    capital letters."""
-    found = int(len(symbols) == 1 and symbols[0] == typecode.upper())
-    return found + sum(ways(rules, body, symbols) for _, kind, body in rules if kind == typecode)
+class Counted:
+    """In how many ways each stretch of a formula is a part of each typecode: none, one or more, by
+    trying everything until nothing is added. Where they `are_equal`, all that stands for one
+    variable is the same."""
 
+    def __init__(self, rules: Sequence[Rule], symbols: tuple[str, ...], are_equal: bool) -> None:
+        self.rules = rules
+        self.symbols = symbols
+        self.are_equal = are_equal
+        places = range(len(symbols) + 1)
+        self.found = {(k, i, j): 0 for k in "pq" for i in places for j in places if i <= j}
+        is_changed = True
+        while is_changed:
+            is_changed = False
+            for (kind, start, end), before in self.found.items():
+                own = symbols[start:end]
+                count = int(len(own) == 1 and VARIABLES.get(own[0]) == kind)
+                bodies = [body for _, other, body in rules if other == kind]
+                count += sum(self.ways(body, start, end, {}) for body in bodies)
+                self.found[kind, start, end] = min(2, count)
+                is_changed = is_changed or min(2, count) != before
 
-def ways(rules: Sequence[Rule], body: tuple[str, ...], symbols: tuple[str, ...]) -> int:
-    """In how many ways symbols are what a body says."""
-    if not body or not symbols:
-        return int(not body and not symbols)
-    first, rest = body[0], body[1:]
-    if first.islower():
-        return int(symbols[0] == first) and ways(rules, rest, symbols[1:])
-    return sum(
-        trees(rules, first.lower(), symbols[:end]) * ways(rules, rest, symbols[end:])
-        for end in range(1, len(symbols) - len(rest) + 1)
-    )
+    def ways(
+        self, body: tuple[str, ...], start: int, end: int, bound: dict[str, tuple[str, ...]]
+    ) -> int:
+        """In how many ways a stretch is what a body says."""
+        if not body:
+            return int(start == end)
+        first, rest = body[0], body[1:]
+        if first.islower():
+            is_there = start < end and self.symbols[start] == first
+            return self.ways(rest, start + 1, end, bound) if is_there else 0
+        count = 0
+        for middle in range(start, end + 1):
+            part = self.symbols[start:middle]
+            if not self.are_equal or bound.get(first, part) == part:
+                one = self.found[VARIABLES[first], start, middle]
+                if one:
+                    count += one * self.ways(rest, middle, end, {**bound, first: part})
+        return min(2, count)
 
 
 class Trees(unittest.TestCase):
     """Grammars made by chance; each formula has the tree that trying everything finds."""
 
-    VARIABLES = {"P": "p", "Q": "q"}
+    VARIABLES = VARIABLES
 
     def test_by_chance(self) -> None:
         chance = random.Random(4)
-        counts = [0, 0, 0]
-        for _ in range(400):
+        counts = {"one tree": 0, "two ways": 0, "isn't built": 0, "not the same": 0}
+        for _ in range(40):
             rules: list[Rule] = []
             grammar = Grammar()
+            shapes = set()
             for number in range(chance.randint(1, 5)):
-                body = tuple(chance.choice("abPQ") for _ in range(chance.randint(1, 4)))
+                body = tuple(chance.choice("aabPOQR") for _ in range(chance.randint(0, 4)))
                 kind = chance.choice("pq")
-                is_new = all(rule[1:] != (kind, body) for rule in rules)
-                if len(body) > 1 or body[0].islower():
-                    grammar.add(f"r{number}", kind, body, self.VARIABLES)
-                    rules += [(f"r{number}", kind, body)] * is_new
-            for length in range(1, 5):
+                grammar.add(f"r{number}", kind, body, VARIABLES)
+                shape = (kind, *(VARIABLES.get(each, each.upper()) for each in body))
+                if shape not in shapes:
+                    shapes.add(shape)
+                    rules.append((f"r{number}", kind, body))
+            for length in range(4):
                 for symbols in itertools.product("abPQ", repeat=length):
-                    wanted = trees(rules, "p", symbols)
-                    counts[min(wanted, 2)] += 1
-                    self.see(grammar, symbols, wanted, rules)
-        self.assertGreater(min(counts), 100)
+                    counts[self.seen(grammar, symbols, rules)] += 1
+        self.assertGreater(min(counts.values()), 20, counts)
 
-    def see(
-        self, grammar: Grammar, symbols: tuple[str, ...], wanted: int, rules: Sequence[Rule]
-    ) -> None:
+    def seen(self, grammar: Grammar, symbols: tuple[str, ...], rules: Sequence[Rule]) -> str:
         """A formula has a tree where it has one alone, and the tree spells the formula."""
+        wanted = Counted(rules, symbols, False).found["p", 0, len(symbols)]
+        is_same = Counted(rules, symbols, True).found["p", 0, len(symbols)] == 1
         try:
-            tree = grammar.tree("p", symbols, self.VARIABLES)
+            tree = grammar.tree("p", symbols, VARIABLES)
         except NotRead as why:
-            self.assertNotEqual(wanted, 1, (symbols, rules))
-            self.assertIn("two ways" if wanted else "isn't built", str(why), (symbols, rules))
-            return
-        self.assertEqual(wanted, 1, (symbols, rules))
+            told = "two ways" if wanted > 1 else "isn't built"
+            self.assertIn(told, str(why), (symbols, rules))
+            self.assertFalse(wanted == 1 and is_same, (symbols, rules))
+            return "not the same" if wanted == 1 else told
+        self.assertTrue(wanted == 1 and is_same, (symbols, rules))
+        self.see(tree, symbols, rules)
+        return "one tree"
+
+    def see(self, tree: Tree, symbols: tuple[str, ...], rules: Sequence[Rule]) -> None:
+        """The tree spells the formula."""
         for part, rule in tree.rules.items():
             body = next(rule_body for label, _, rule_body in rules if label == rule)
             place = part.start
@@ -248,7 +277,7 @@ class Trees(unittest.TestCase):
                     place += 1
                 else:
                     one = next(below)
-                    self.assertEqual((one.typecode, one.start), (each.lower(), place))
+                    self.assertEqual((one.typecode, one.start), (VARIABLES[each], place))
                     place = one.end
             self.assertEqual(place, part.end)
 
@@ -263,6 +292,39 @@ class Trees(unittest.TestCase):
         with self.assertRaisesRegex(NotRead, "too long"):
             reader.tree("p")
         self.assertLess(reader.left, 0)
+
+    def test_hostile_grammars(self) -> None:
+        """Each takes a few steps for a symbol, or is given up after a few more."""
+        pair = ("(", "P", ",", "O", ")")
+        right = ["(", "P", ","] * 2**16 + ["P"] + [")"] * 2**16
+        left = ["("] * 2**16 + ["P"] + [",", "P", ")"] * 2**16
+        likes: list[tuple[str, ...]]
+        likes = [("(", "P", f"c{number}", "O", ")") for number in range(10_000)]
+        lists = [("a",), ("a", ",", "P")]
+        cases: list[tuple[list[tuple[str, ...]], list[str], str | None]] = [
+            ([pair], right, None),
+            ([pair], left, None),
+            (likes, [*likes[7]], None),
+            ([("a",), ("P", ",", "a")], ["a"] + [",", "a"] * 20_000, None),
+            (lists, ["a"] + [",", "a"] * 15, None),
+            (lists, ["a"] + [",", "a"] * 20_000, "too long"),
+            ([("a",), ("P", "O")], ["a"] * 20_000, "too long"),
+            ([(), ("a",), ("P", "O")], ["a"] * 20_000, "too long"),
+            ([("P",), ("a",)], ["a"], "two ways"),
+        ]
+        for rules, symbols, told in cases:
+            grammar = Grammar()
+            for number, body in enumerate(rules):
+                grammar.add(f"r{number}", "p", body, VARIABLES)
+            reader = Reader(grammar, symbols, VARIABLES)
+            before = reader.left
+            if told is None:
+                self.assertTrue(reader.tree("p").rules)
+                self.assertLess(before - reader.left, 100 + 4 * len(symbols))
+            else:
+                with self.assertRaisesRegex(NotRead, told):
+                    reader.tree("p")
+            self.assertLessEqual(before, 2000 + 20 * len(symbols))
 
 
 if __name__ == "__main__":

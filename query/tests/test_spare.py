@@ -16,9 +16,12 @@ from query.context import Context
 from query.errors import NoAnswer
 from query.options import Options
 from query.output import Output
-from query.spare import changes, judge, proofs, search, writing
+from query.commands.spare import given_up as said_of
+from query.commands.spare import rows_of
+from query.spare import changes, judge, library, proofs, search, writing
 from query.spare.changes import Changer, Wanted
 from query.spare.kept import Change, Replaced
+from query.tests import shapes
 from query.tests.world import DATABASES, World
 from query.text import Text
 
@@ -154,15 +157,23 @@ class Spare(World):
         self.assertEqual((self.room / "new.mm").read_bytes(), NEW.replace("\n", "\r\n").encode())
 
     def test_grammars(self) -> None:
-        for rules in (
-            "wz $a wff $. wb $a wff p q $.",  # nothing, and everything in many ways
-            "wb $a wff p q $. wc $a wff ( p -> q ) $.",
-            "wb $a wff p $.",  # a rule that leads to itself
+        for rules, why in (
+            ("wz $a wff $. wb $a wff p q $.", "it can be read in two ways"),  # in endless ways
+            ("wb $a wff p q $. wc $a wff ( p -> q $.", None),
+            ("wb $a wff p $.", "it can be read in two ways"),  # a rule that leads to itself
+            ("wz $a wff $.", None),
+            ("we $a wff ( p = p ) $. e $a |- ( p = p ) $. f $a |- ( p = q ) $.", "it isn't built"),
         ):
-            text = SPARE.replace("wi $a", f"{rules} wi $a")
+            text = SPARE.replace("wi $a", f"{rules} wi $a").replace("$c", "$c =")
             self.write("rules.mm", text)
-            found = self.rows("rules.mm", "bad")
-            self.assertEqual([row[:3] for row in found], [row[:3] for row in ROWS], rules)
+            came = self.query("spare", "--format", "tsv", "rules.mm", "bad")
+            found = [line.split("\t")[:3] for line in came.lines()[1:]]
+            self.assertEqual(found, [row[:3] for row in ROWS], rules)
+            if why is None:
+                self.assertEqual(came.err, "")
+            else:
+                self.assertIn("formulas aren't read by the syntax axioms, so less", came.err)
+                self.assertIn(why, came.err)
 
     def test_without_syntax_axioms(self) -> None:
         text = "$c |- wff * $. $v p q $. wp $f wff p $. wq $f wff q $.\n"
@@ -375,6 +386,51 @@ class Broken(World):
             self.assertFalse((self.room / "new.mm").exists())
 
 
+class Limits(World):
+    """What takes too long is said, and what is too large is refused."""
+
+    def test_given_up(self) -> None:
+        path = str(self.room / self.write("db.mm", SPARE))
+        database = Context(uses_cache=False).database(path, Options())
+        with mock.patch.multiple(search, STEPS=0, STEPS_OF_FORMULA=1):
+            found = list(Changer(database, Wanted("|-", ("bad",))).changes())
+        given_up = [(each.theorem, each.loses, each.is_given_up) for each in found]
+        self.assertEqual(given_up, [("t1", (), True), ("t2", (), True)])
+        judge.judge(database, judge.rewritten(database.text, found), found)
+        self.assertEqual(rows_of(database, found), [])
+        self.assertIn("2 proofs were given up", said_of(found))
+        self.assertIn("the first is that of t1", said_of(found))
+        whole = list(Changer(database, Wanted("|-", ("bad",))).changes())
+        self.assertEqual(said_of(whole), "")
+
+    def test_given_up_in_one_statement(self) -> None:
+        """Hypotheses that could be matched in very many orders."""
+        self.write("db.mm", shapes.premises(2)["a.mm"])
+        came = self.query("repeats", "db.mm")
+        self.assertEqual((came.out, came.status), ("", 0))
+        self.assertIn("of 2 theorems it takes too long to say what they repeat", came.err)
+        self.assertIn("the first is t0", came.err)
+
+    def test_sizes(self) -> None:
+        path = str(self.room / self.write("db.mm", SPARE))
+        database = Context(uses_cache=False).database(path, Options())
+        for name, what in (
+            ("MOST_ASSERTIONS", "assertions"),
+            ("MOST_VARIABLES", "variables"),
+            ("MOST_MARKS", "pairs of an assertion and an axiom"),
+        ):
+            with mock.patch.object(library, name, 2), self.assertRaises(NoAnswer) as why:
+                Changer(database, Wanted("|-", ("bad",)))
+            self.assertIn(f"has more than 2 {what}, too many to search", str(why.exception))
+
+    def test_a_long_formula_is_cited_often(self) -> None:
+        """A proof isn't carried out that takes too long."""
+        path = str(self.room / self.write("db.mm", SPARE))
+        database = Context(uses_cache=False).database(path, Options())
+        with mock.patch.multiple(proofs, STEPS=0, STEPS_OF_LETTER=0):
+            self.assertEqual(list(Changer(database, Wanted("|-", ("bad",))).changes()), [])
+
+
 class Kept(World):
     """Trees that were kept."""
 
@@ -398,11 +454,11 @@ class Kept(World):
         tried: list[int] = []
         real = Changer.change
 
-        def change(self: Changer, number: int, cited: list[int]) -> Change | None:
+        def change(self: Changer, number: int) -> Change | None:
             tried.append(number)
             if len(tried) % 2:
                 raise InterruptedError
-            return real(self, number, cited)
+            return real(self, number)
 
         with mock.patch.dict(os.environ, names), mock.patch.object(changes, "SECONDS", 0):
             database = Context().database(path, Options())

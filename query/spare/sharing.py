@@ -1,0 +1,149 @@
+"""The search shared by several processes.
+
+Each takes a stretch of theorems, and searches as if no other one found anything. What it says of a
+theorem is taken where that makes no difference, and otherwise the theorem is searched once more.
+So the answer doesn't depend on how many processes there are.
+"""
+
+from __future__ import annotations
+
+import json
+from collections import deque
+from collections.abc import Iterator, Sequence
+from dataclasses import dataclass
+from functools import partial
+from typing import Protocol
+
+from query import system
+from query.parallel import Task, begun
+from query.spare.kept import Change, fields_of, from_fields
+from query.spare.search import World
+
+STRETCH = 50
+"""So many theorems that are searched are one piece of work."""
+MOST_AT_ONCE = 4
+"""So many processes search where none are asked for, if there are processors and memory."""
+GROWTH = 2
+"""A process that searches may take so many times the memory that it takes when it begins."""
+
+
+@dataclass(frozen=True, slots=True)
+class Found:
+    """What a process found of a theorem: on which axioms it rests then, and its change."""
+
+    rests: int
+    change: Change | None
+
+
+class Searching(Protocol):
+    """What is shared. `old_rests` are the axioms on which each assertion rests at first, and
+    `world` has those on which it rests now."""
+
+    old_rests: list[int]
+    world: World
+
+    def is_sought(self, number: int) -> bool:
+        """Whether a theorem may be searched."""
+
+    def change(self, number: int) -> Change | None:
+        """What becomes of a theorem."""
+
+    def may_differ(self, number: int, others: set[int]) -> bool:
+        """Whether what becomes of a theorem may depend on what these rest on."""
+
+
+@dataclass(slots=True)
+class Stretch:
+    """Theorems, and the work of a process on them, where there is one. `before` is how many
+    assertions had changed when that began."""
+
+    numbers: Sequence[int]
+    task: Task | None = None
+    before: int = 0
+
+
+def stretches(search: Searching, numbers: Sequence[int]) -> Iterator[Stretch]:
+    """The theorems in order, so that each stretch has as many that are searched as another one."""
+    start = count = 0
+    for place, number in enumerate(numbers):
+        count += search.is_sought(number)
+        if count == STRETCH:
+            yield Stretch(numbers[start : place + 1])
+            start, count = place + 1, 0
+    if start < len(numbers):
+        yield Stretch(numbers[start:])
+
+
+def searched(search: Searching, numbers: Sequence[int], at_once: int) -> Iterator[Change | None]:
+    """What becomes of theorems, in order, by so many processes."""
+    waiting = deque(stretches(search, numbers))
+    if at_once == 1 or len(waiting) == 1 or not system.has_copies():
+        yield from map(search.change, numbers)
+        return
+    running: deque[Stretch] = deque()
+    try:
+        while waiting or running:
+            while waiting and len(running) < at_once:
+                running.append(waiting.popleft())
+                begin(search, running[-1])
+            yield from taken(search, running[0])
+            running.popleft()
+    finally:
+        for stretch in running:
+            if stretch.task is not None:
+                stretch.task.stop()
+
+
+def begin(search: Searching, stretch: Stretch) -> None:
+    """Lets a process search a stretch. Where there can't be another one, this one will."""
+    stretch.before = len(search.world.changed)
+    try:
+        stretch.task = begun(partial(written, search, stretch.numbers))
+    except OSError:
+        stretch.task = None
+
+
+def written(search: Searching, numbers: Sequence[int]) -> bytes:
+    """What is found of theorems, as JSON, for those of which it is something."""
+    found = {}
+    for number in numbers:
+        change = search.change(number)
+        rests = search.world.rests[number]
+        if change is not None or rests != search.old_rests[number]:
+            fields = None if change is None else fields_of(change)
+            found[number] = [hex(rests), fields]
+    return json.dumps(found).encode()
+
+
+def read(data: bytes) -> dict[int, Found]:
+    """The same as it was found."""
+    return {
+        int(number): Found(int(rests, 16), None if fields is None else from_fields(fields))
+        for number, (rests, fields) in json.loads(data).items()
+    }
+
+
+def taken(search: Searching, stretch: Stretch) -> Iterator[Change | None]:
+    """What becomes of the theorems of a stretch."""
+    if stretch.task is None:
+        yield from map(search.change, stretch.numbers)
+        return
+    found = read(stretch.task.result())
+    others = set(search.world.changed[stretch.before :])
+    for number in stretch.numbers:
+        one = found.get(number, Found(search.old_rests[number], None))
+        if others and search.may_differ(number, others):
+            yield search.change(number)
+            if search.world.rests[number] != one.rests:
+                others.add(number)
+        else:
+            search.world.rest(number, one.rests)
+            yield one.change
+
+
+def number_at_once() -> int:
+    """How many processes search where none are asked for: one for each processor, as far as the
+    memory goes that is free."""
+    own, free = system.memory()
+    others = MOST_AT_ONCE if own is None or free is None else free // (GROWTH * own)
+    return max(1, min(MOST_AT_ONCE, system.processors(), 1 + others))
