@@ -12,7 +12,13 @@ MOST_LINES = 40  # of a function
 SCRIPTS = ["check", "test", "mmdepend", "package", "docs/ci/check-database", "tests/first-run"]
 PYTHON = [
     *("query", str(MMQUERY), "query/tests/check", "web/build", "web/bundle.py", "web/check"),
-    *("web/verifier/build", "web/verifier/check", "library/compile", "tests/library"),
+    *(
+        "web/verifier/build",
+        "web/verifier/check",
+        "library/compile",
+        "tests/library",
+        "tests/reached",
+    ),
     *("packages", "packages/make", "tests/packages"),
 ]
 
