@@ -43,6 +43,19 @@ def python_files() -> list[str]:
     return sorted({*scripts("python3"), *(file for file in tracked() if file.endswith(".py"))})
 
 
+def late_imports(path: Path) -> list[int]:
+    """The lines on which imports within a function begin; of adjacent ones the first."""
+    kinds = (ast.Import, ast.ImportFrom)
+    lines = {
+        node.lineno
+        for function in ast.walk(ast.parse(path.read_text("utf-8")))
+        if isinstance(function, ast.FunctionDef)
+        for node in ast.walk(function)
+        if isinstance(node, kinds)
+    }
+    return [line for line in sorted(lines) if line - 1 not in lines and line - 2 not in lines]
+
+
 class Code(unittest.TestCase):
     """What tools say of all Python and all scripts."""
 
@@ -101,6 +114,14 @@ class Code(unittest.TestCase):
         modules = {file for file in tracked() if re.fullmatch(r"web/(?!tests/).*\.js", file)}
         self.assertEqual({file for file in modules if str(TOP / file) not in checked}, set())
         self.assertGreater(len(modules), 40)
+
+    def test_imports_stand_at_the_top(self) -> None:
+        """What is imported within a function of `mmquery` has a comment that says why."""
+        for path in (*(TOP / "query").glob("*.py"), *(TOP / "query" / "commands").glob("*.py")):
+            lines = path.read_text("utf-8").splitlines()
+            for first in late_imports(path):
+                place = f"{path.name}:{first}"
+                self.assertTrue(lines[first - 2].strip().startswith("# "), place)
 
     def test_functions_are_small(self) -> None:
         for path in (TOP / "query").rglob("*.py"):
