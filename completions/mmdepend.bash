@@ -21,7 +21,7 @@ _mmdepend() {
         --form) words='1 2' ;;
         --workers | --pieces) words='1 2 4 8 16 32 64' ;;
         --only)
-            case "'|-'" in "$word"*) COMPREPLY=("'|-'") ;; esac
+            if [[ "'|-'" == "$word"* ]]; then COMPREPLY=("'|-'"); fi
             return
             ;;
         *)

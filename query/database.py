@@ -161,6 +161,7 @@ class Database:
     @cached_property
     def text(self) -> "Text":
         """What stands in the text. NoAnswer where DATABASE is a report, or is refused."""
+        # It takes 12 milliseconds, and many answers need no text.
         from query.text import Text
 
         return Text(self.data(), self.prepared.statements)

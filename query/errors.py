@@ -31,6 +31,7 @@ def nearest(word: str, known: Iterable[str], cutoff: float = 0.5) -> str:
     """Which of the known words is meant, as the end of a sentence; empty where none is near. One
     that differs in capital letters alone is nearest. Of many words only those are compared that
     begin alike."""
+    # It takes a millisecond, and is for words that aren't known.
     import difflib
 
     words = list(known)

@@ -39,6 +39,7 @@ class Refused(NoAnswer):
         return self.code.startswith(("E3", "E4"))
 
     def __str__(self) -> str:
+        # That module needs this one.
         from query.faults import explained
 
         return explained(self.source, self.line, self.column, self.code)
@@ -58,6 +59,7 @@ class Running:
         passed: Sequence[int] = (),
         surroundings: Mapping[str, str] | None = None,
     ) -> None:
+        # It takes 6 milliseconds, and an answer that is kept needs no program.
         import subprocess
 
         with signals.held():
@@ -147,6 +149,7 @@ class Program:
 
 def devnull() -> int:
     """What stands for an empty standard input."""
+    # See Running.
     import subprocess
 
     return subprocess.DEVNULL

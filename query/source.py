@@ -1,6 +1,7 @@
 """What DATABASE names: a file, `-`, a revision in git, compressed or not; a database or a
 report."""
 
+import io
 import os
 import stat
 import zlib
@@ -147,6 +148,7 @@ def is_of_git(word: str) -> bool:
     is_plain = word.startswith(("/", "./", "../")) or os.path.splitdrive(word)[0]
     if ":" not in word or is_plain:
         return False
+    # These take 50 milliseconds, and most databases are files.
     from pathlib import Path
 
     from query.git import FULL_ID, repository_of
@@ -167,6 +169,7 @@ def is_of_git(word: str) -> bool:
 
 def of_git(word: str) -> bytes:
     """The bytes of a file in a revision. NoAnswer where there is none."""
+    # See is_of_git.
     from pathlib import Path
 
     from query.git import repository_of, short
@@ -196,14 +199,14 @@ def path_from_top(path: str, repository: "Repository") -> str:
 
 def unpacked(name: str, data: bytes) -> bytes:
     """The bytes, or those that they were compressed from. No more than the program reads."""
-    import io
-
     try:
         if data.startswith(GZIP):
+            # A millisecond for few databases, as that of bz2 and lzma, which some systems lack.
             import gzip
 
             return gzip.GzipFile(fileobj=io.BytesIO(data)).read(LONGEST + 1)
         if data.startswith(BZIP2):
+            # See gzip.
             import bz2
 
             return bz2.BZ2File(io.BytesIO(data)).read(LONGEST + 1)
@@ -216,7 +219,7 @@ def unpacked(name: str, data: bytes) -> bytes:
 
 def of_xz(data: bytes) -> bytes:
     """The bytes that were compressed by xz. EOFError where the data are damaged."""
-    import io
+    # See unpacked.
     import lzma
 
     try:

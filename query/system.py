@@ -34,6 +34,7 @@ def unnamed() -> int:
     """
     if hasattr(os, "memfd_create"):
         return os.memfd_create("mmquery", os.MFD_CLOEXEC)
+    # It takes 5 milliseconds, and Linux needs no such file.
     from tempfile import TemporaryFile
 
     with TemporaryFile(prefix="mmquery-") as file:
@@ -119,6 +120,7 @@ def copy() -> int:
 def widen(pipe: int, size: int) -> None:
     """Lets a pipe hold so many bytes, where that can be; a smaller one will do."""
     try:
+        # Windows has no such module.
         import fcntl
 
         fcntl.fcntl(pipe, fcntl.F_SETPIPE_SZ, size)

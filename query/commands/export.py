@@ -9,6 +9,7 @@ from query.context import Context
 from query.errors import shown
 from query.options import add_choice_of_axioms, add_database, options_of
 from query.output import Value
+from query.program import version
 
 PAGE = """
 Writes statements, citations and marks as tables of SQLite into FILE. One that `export` wrote before
@@ -30,7 +31,7 @@ def configure(parser: argparse.ArgumentParser) -> None:
 
 def run(context: Context, arguments: argparse.Namespace) -> int:
     """Answers."""
-    from query.program import version
+    # SQLite takes up to 140 milliseconds, and the help of all commands has no use for it.
     from query.sqlite import SCHEMA, Content, export
 
     options = options_of(arguments)

@@ -12,6 +12,7 @@ from query.context import Context
 from query.database import Database
 from query.errors import NoAnswer
 from query.options import Options, add_choice_of_citations, add_database
+from query.program import HOME, SCRIPT, Running, devnull, located, without_node
 from query.source import Source
 
 PAGE = """
@@ -61,8 +62,6 @@ def words_of(arguments: argparse.Namespace) -> list[str]:
 def program() -> str:
     """The program for Node: beside `mmquery` where it was unpacked, else where it was built.
     NoAnswer where there is none."""
-    from query.program import HOME, SCRIPT
-
     for path in (os.path.join(HOME, SCRIPT), os.path.join(HOME, "out", "web", SCRIPT)):
         if os.path.exists(path):
             return path
@@ -71,8 +70,6 @@ def program() -> str:
 
 def node() -> str:
     """Where Node is. NoAnswer where it isn't."""
-    from query.program import located
-
     found = located("node")
     if found is None:
         raise NoAnswer("pages are made by Node 18 or later, and there is no command node")
@@ -102,8 +99,6 @@ def handed(sources: list[Source]) -> Iterator[tuple[list[str], list[int]]]:
 def made(databases: list[Database], words: list[str]) -> bytes:
     """The page that the program makes of the database, beside an older one where there are two.
     NoAnswer where it makes none."""
-    from query.program import Running, devnull, without_node
-
     with handed([database.source for database in databases]) as (places, passed):
         first, *others = places
         line = [program(), "page", *words, *(f"--against={place}" for place in others), first]

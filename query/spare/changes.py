@@ -8,6 +8,7 @@ from collections.abc import Iterator
 from dataclasses import asdict, dataclass
 
 from query import progress
+from query.bare import bare
 from query.database import Database, key_of
 from query.rules import is_discouraged, is_proof_discouraged
 from query.spare import kept as kept_changes
@@ -55,8 +56,6 @@ class Place:
     `$.`."""
 
     def __init__(self, data: bytes, place: int, end: int) -> None:
-        from query.bare import bare
-
         text = bare(data[place:end])
         self.start = place + text.index(b"$=") + 2
         self.end = end - 2

@@ -28,7 +28,7 @@ RUN_BY = {
     ("docs/DEFINITIONS.md", "sh"): ("query/tests/test_pages.py",),
     ("docs/GATE.md", "console"): ("query/tests/test_gate.py",),
     ("docs/INSTALL.md", "sh"): ("tests/package",),
-    ("docs/LIBRARY.md", "js"): ("web/check",),
+    ("docs/LIBRARY.md", "js"): ("tests/node",),
     ("docs/LIBRARY.md", "python"): ("tests/package",),
     ("docs/LIBRARY.md", "sh"): ("tests/package",),
     ("docs/PROGRAM.md", "console"): ("tests/package",),

@@ -270,6 +270,29 @@ class Map(unittest.TestCase):
                 self.assertIn(f"({os.path.relpath(page, TOP / 'docs')})", text)
 
 
+class Folders(unittest.TestCase):
+    """The table of folders in ARCHITECTURE.md."""
+
+    def setUp(self) -> None:
+        page = (TOP / "docs" / "ARCHITECTURE.md").read_text("utf-8")
+        folders, _, crates = page.partition("\n## The layers\n")
+        self.folders = re.findall(r"^\| `([^`]+)` \|", folders, re.MULTILINE)
+        self.crates = set(re.findall(r"`(\w+)`", crates))
+        listed = subprocess.run(["git", "ls-files"], cwd=TOP, stdout=subprocess.PIPE, check=True)
+        self.files = [Path(line) for line in listed.stdout.decode().splitlines()]
+
+    def test_each_folder_has_its_line(self) -> None:
+        found = {str(file.parent) for file in self.files if file.parts[0] != "crates"}
+        self.assertEqual(sorted(self.folders), sorted({*found, "crates"}))
+
+    def test_each_crate_is_named_and_has_the_same_rooms(self) -> None:
+        for file in self.files:
+            if file.parts[0] == "crates":
+                self.assertIn(file.parts[1], self.crates)
+                if len(file.parts) > 3:
+                    self.assertIn(file.parts[2], ("must-fail", "proofs", "specs", "src"))
+
+
 class Language(World):
     """docs/LANGUAGE.md: what it says of each text that shows a point of our own."""
 

@@ -1,4 +1,4 @@
-// Tests of the command line of the program for Node, word by word. web/check compares it with the program.
+// Tests of the command line of the program for Node, word by word. tests/node compares it with the program.
 
 import assert from "node:assert/strict";
 import { test } from "node:test";

@@ -1,4 +1,4 @@
-"""Runs the tests of the page that verifies, for web/verifier/check."""
+"""Runs the tests of the page that verifies, for web/verifier/in-browsers."""
 
 import argparse
 import contextlib
@@ -21,7 +21,9 @@ from query.tests.browser.views import Shown, check_sample
 def options_of(told: str) -> argparse.Namespace:
     """The words of the command line."""
     form = argparse.RawDescriptionHelpFormatter
-    parser = argparse.ArgumentParser("web/verifier/check", description=told, formatter_class=form)
+    parser = argparse.ArgumentParser(
+        "web/verifier/in-browsers", description=told, formatter_class=form
+    )
     parser.add_argument("module", metavar="MODULE", nargs="?", type=Path)
     parser.add_argument("--small", action="store_true")
     parser.add_argument("--measure", action="store_true")
