@@ -1,6 +1,6 @@
 //! Each growth of memory refused in turn: in runs, and in each single call that takes an allocator.
 //! `line` of `mm_line` and `status` of the program take only the process's allocator, as clap does,
-//! so their growths can't be refused here; `bench/failures` refuses those of the program.
+//! so their growths can't be refused here; `tests/failures` refuses those of the program.
 //!
 //! A loop refuses growth 1 of a call, then growth 2, and so on, up to the first call that meets no
 //! refusal. The number with which it compares that growth is how many have to be refused at least.
