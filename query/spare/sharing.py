@@ -22,7 +22,7 @@ from query.spare.search import World
 STRETCH = 50
 """So many theorems that are searched are one piece of work."""
 MOST_AT_ONCE = 4
-"""So many processes search where none are asked for, if there are processors and memory."""
+"""So many processes search where no number is asked for, if there are processors and memory."""
 GROWTH = 2
 """A process that searches may take so many times the memory that it takes when it begins."""
 
@@ -142,8 +142,8 @@ def taken(search: Searching, stretch: Stretch) -> Iterator[Change | None]:
 
 
 def number_at_once() -> int:
-    """How many processes search where none are asked for: one for each processor, as far as the
-    memory goes that is free."""
+    """How many processes search where no number is asked for: one for each processor, at most
+    `MOST_AT_ONCE`, as far as the memory goes that is free."""
     own, free = system.memory()
     others = MOST_AT_ONCE if own is None or free is None else free // (GROWTH * own)
     return max(1, min(MOST_AT_ONCE, system.processors(), 1 + others))

@@ -4,6 +4,7 @@ import os
 import signal
 import subprocess
 import time
+from functools import partial
 from pathlib import Path
 from unittest import mock
 
@@ -16,6 +17,7 @@ from query.spare.changes import Changer, Wanted
 from query.spare.kept import Change
 from query.tests.test_spare import SPARE
 from query.tests.test_spare_search import Maker
+from query.tests.test_statuses import has_ended, wait_for
 from query.tests.world import MMQUERY, World
 
 LINE = "{} $p |- ( ( p -> p ) -> ( q -> q ) ) $= ( wi i bad both ) AACBBCADBEF $.\n"
@@ -148,10 +150,8 @@ class Processes(World):
             errors = process.communicate()[1]
             self.assertEqual(process.returncode, 128 + number)
             self.assertEqual(errors, b"mmquery: interrupted\n" if number == signal.SIGINT else b"")
-            end = time.monotonic() + 10
-            while any(map(is_running, others)) and time.monotonic() < end:
-                time.sleep(0.01)
-            self.assertEqual([each for each in others if is_running(each)], [])
+            for other in others:
+                wait_for(partial(has_ended, other))
 
     def begun(self, *words: str) -> "subprocess.Popen[bytes]":
         """A command that is running."""
@@ -164,14 +164,14 @@ class Processes(World):
             stderr=subprocess.PIPE,
         )
 
-    def copies(self, process: int) -> list[int]:
+    def copies(self, process: int) -> list[str]:
         """The copies that a process has made of itself, once it has made two."""
         own = Path(f"/proc/{process}/task/{process}/children")
         name = Path(f"/proc/{process}/cmdline")
         end = time.monotonic() + 60
         while time.monotonic() < end:
             others = [
-                int(each)
+                each
                 for each in own.read_text().split()
                 if text_of(Path(f"/proc/{each}/cmdline")) == name.read_text()
             ]
@@ -187,9 +187,3 @@ def text_of(path: Path) -> str:
         return path.read_text()
     except OSError:
         return ""
-
-
-def is_running(process: int) -> bool:
-    """Whether a process is still there, and has not ended."""
-    fields = text_of(Path(f"/proc/{process}/stat")).rpartition(")")[2].split()
-    return bool(fields) and fields[0] != "Z"

@@ -22,6 +22,7 @@ from query.config import read_config
 from query.program import located
 from query.tests.commands import NEWER, WHOLE, keep_in_git, words_of
 from query.tests.lacking import ALL, MODULES
+from query.tests.test_spare_sharing import many
 from query.tests.test_statuses import has_ended, wait_for
 from query.tests.world import PROGRAM_FOR_NODE, TOP, Came, World
 
@@ -84,6 +85,14 @@ class Lacking(World):
             ("history", "db.mm", "v1..HEAD"),
         ):
             self.agree(ALL, *words)
+
+    def test_searches_of_several_processes(self) -> None:
+        """One process does what several do, however many are asked for."""
+        self.write("many.mm", many(200))
+        words = ("spare", "many.mm", "--all", "--no-cache")
+        self.assertIn("direct", self.agree(ALL, *words).out)
+        for name in ("os.fork", "os.sched_getaffinity"):
+            self.agree((name,), *words, "--jobs", "3")
 
     def test_on_a_terminal(self) -> None:
         """Where standard error is one, a line may say there what is being done."""
