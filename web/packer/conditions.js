@@ -150,17 +150,23 @@ export class Conditions {
         const own = this.others.slice(0, mandatory).map((others) => [...others].filter((place) => place < mandatory));
         const order = this.sorted([...own.keys()].filter((place) => own[place].length > 0));
         const ranked = own.map((others) => this.sorted(others));
-        const turn = new Map(order.map((place, at) => [place, at]));
-        /** @type {Set<number>[]} */
+        const turns = new Uint32Array(mandatory);
+        order.forEach((place, at) => (turns[place] = at));
+        /** @type {Set<number>[]} Of each variable those of a later turn with which it is in a group. */
         const grouped = own.map(() => new Set());
         let isFirst = true;
         for (const [at, one] of order.entries()) {
             for (const other of ranked[one]) {
-                if ((turn.get(other) ?? 0) < at || grouped[one].has(other)) continue;
+                if (turns[other] < at || grouped[one].has(other)) continue;
                 if (!isFirst) writer.push(Byte.dollar);
                 isFirst = false;
-                this.putList(writer, this.groupOf(ranked[one], one, other, grouped));
+                const group = this.groupOf(ranked[one], one, other);
+                for (const place of group) {
+                    for (const later of group) if (turns[place] < turns[later]) grouped[place].add(later);
+                }
+                this.putList(writer, group);
             }
+            grouped[one].clear();
         }
     }
 
@@ -169,15 +175,13 @@ export class Conditions {
      * @param {number[]} candidates those that must be distinct from the first, in order
      * @param {number} first
      * @param {number} second
-     * @param {Set<number>[]} grouped of each variable those with which it is in a group
      */
-    groupOf(candidates, first, second, grouped) {
+    groupOf(candidates, first, second) {
         const { others } = this;
         const group = [first, second];
         for (const place of candidates) {
             if (group.every((member) => others[member].has(place))) group.push(place);
         }
-        for (const one of group) for (const other of group) grouped[one].add(other);
         return this.sorted(group);
     }
 
