@@ -23,7 +23,7 @@ Architecture: {ARCHITECTURE}
 Maintainer: {MAINTAINER}
 Installed-Size: {{size}}
 Depends: libc6 (>= 2.34), python3 (>= 3.11)
-Suggests: nodejs (>= 18), metamath-databases
+Suggests: nodejs (>= 18.7), metamath-databases
 Description: verify Metamath databases and tell on which axioms theorems rest
  The command mmdepend reads a Metamath database, verifies every proof in it,
  and reports for each theorem on which axioms it rests. It is proved that what

@@ -39,7 +39,7 @@ def manifest(version: str) -> str:
         "description": SUMMARY,
         "license": f"({LICENCE})",
         "type": "module",
-        "engines": {"node": ">=18"},
+        "engines": {"node": ">=18.7"},
         "bin": {"mmdepend": "mmdepend.mjs"},
         "exports": {
             ".": {"types": "./index.d.ts", "default": "./index.js"},
