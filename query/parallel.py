@@ -56,19 +56,25 @@ class Copy:
     """Work in a copy of this process.
 
     What the work does to objects stays in the copy. Its standard output and error go nowhere.
+    OSError where there can't be another process.
     """
 
     def __init__(self, work: Callable[[], bytes]) -> None:
         self.reading, writing = os.pipe()
         system.widen(writing, PIPE)
         self.is_over = False
-        with signals.held():
-            self.process = system.copy()
-            if self.process == 0:
-                os.close(self.reading)
-                _do(work, writing)
-            self.number = signals.at_stop(self.kill)
-        os.close(writing)
+        try:
+            with signals.held():
+                self.process = system.copy()
+                if self.process == 0:
+                    os.close(self.reading)
+                    _do(work, writing)
+                self.number = signals.at_stop(self.kill)
+        except OSError:
+            os.close(self.reading)
+            raise
+        finally:
+            os.close(writing)
 
     def result(self) -> bytes:
         """Waits for what the work returns. NoAnswer where it raised that, or ended otherwise."""
