@@ -1,5 +1,6 @@
 -- A formula with its variables replaced by the bodies of entries.
-use Rattle.std.proofs.Common.{◌≡◌, ℕ, zero, suc, ◌+◌, ◌<◌, ◌≤◌, ◌⊎◌, inl, inr, List, [], ◌∷◌, ◌++◌}
+use Rattle.std.proofs.Common.{◌≡◌, ℕ, zero, suc, ◌+◌, ◌-◌, ◌<◌, ◌≤◌, ◌⊎◌, inl, inr}
+use Rattle.std.proofs.Common.{List, [], ◌∷◌, ◌++◌}
 use Rattle.std.proofs.Common.{length, take, get_or, refl, sym, ap, ap₂, ◌∙◌, subst, arith, All}
 use Rattle.std.proofs.Common.{length-append, append-nil, nat_lt, true}
 use Rattle.std.proofs.lemmas.List.{take_more}
@@ -41,14 +42,24 @@ filled_no_longer nodes es (p ∷ parts) (suc i) =
       length-append (filled_part nodes es p) (filled_parts nodes es parts),
     )
 
--- the first `i` parts were written
+-- the body of an entry with symbols after its typecode is there
+pub body_is_there : (nodes : List (List ℕ)) (e : Entry) → IsEntry nodes e → 0 < e.length
+    → e.body < first_node + length nodes
+body_is_there nodes e is_entry some = by_case is_entry.body_is_among
+  where
+    by_case : IsAmong e.needed e.body e.length → e.body < first_node + length nodes
+    by_case (inr none) = let no_length = none.1 in absurd (omega (arith, no_length, some))
+    by_case (inl among) =
+        let needed_le = is_entry.needed_le_count in omega (arith, among, needed_le)
+
+-- the first `i` parts were written; none of the bodies is a node above the greatest
 pub record IsWritten (nodes : List (List ℕ)) (es : List Entry) (parts : List RulePart)
-    (list : List ℕ) (count symbol_count needed i : ℕ) : Type 0 where
+    (list : List ℕ) (count symbol_count greatest i : ℕ) : Type 0 where
   pub count_le : count ≤ i
   pub string_is : joined_string_of nodes (take count list) ≡ filled_parts nodes es (take i parts)
   pub length_is : symbol_count ≡ length (filled_parts nodes es (take i parts))
-  pub bodies_needed : All (λ b. b < first_node + needed) (take count list)
-  pub needed_le_count : needed ≤ length nodes
+  pub bodies_are : All (λ b. (b < first_node) ⊎ (b ≤ greatest)) (take count list)
+  pub greatest_lt : greatest < first_node + length nodes
 
 module _ (nodes : List (List ℕ)) (es : List Entry) (parts : List RulePart) where
   pub nothing_written : (list : List ℕ) → IsWritten nodes es parts list 0 0 0 0
@@ -56,8 +67,8 @@ module _ (nodes : List (List ℕ)) (es : List Entry) (parts : List RulePart) whe
     count_le = omega arith;
     string_is = refl;
     length_is = refl;
-    bodies_needed = All-nil (λ b. b < first_node + 0);
-    needed_le_count = omega arith;
+    bodies_are = All-nil (λ b. (b < first_node) ⊎ (b ≤ 0));
+    greatest_lt = omega arith;
   }
 
   pub too_long_if_front_is : (i symbol_count : ℕ)
@@ -66,44 +77,74 @@ module _ (nodes : List (List ℕ)) (es : List Entry) (parts : List RulePart) whe
   too_long_if_front_is i symbol_count count_is limit_lt =
       let no_longer = filled_no_longer nodes es parts i in omega (arith, no_longer, count_is, limit_lt)
 
-  module _ (list list' : List ℕ) (count symbol_count needed i : ℕ) (p : RulePart)
-      (written : IsWritten nodes es parts list count symbol_count needed i)
+  module _ (list list' : List ℕ) (count symbol_count greatest i : ℕ) (p : RulePart)
+      (written : IsWritten nodes es parts list count symbol_count greatest i)
       (i_lt : i < length parts) (p_is : p ≡ get_or parts i p) where
     -- a body more
-    pub body_written : (b needed' added : ℕ) → take (count + 1) list' ≡ take count list ++ b ∷ []
-        → string_of nodes b ≡ filled_part nodes es p → added ≡ length (string_of nodes b)
-        → b < first_node + needed' → needed ≤ needed' → needed' ≤ length nodes
-        → IsWritten nodes es parts list' (count + 1) (symbol_count + added) needed' (i + 1)
-    body_written b needed' added list_is string_is added_is b_lt needed_le needed_in = record {
-      count_le = let le = written.count_le in omega (arith, le);
-      string_is =
-          ap (joined_string_of nodes) list_is
-          ∙ flat_map-append (string_of nodes) (take count list) (b ∷ [])
-          ∙ ap₂ (λ u v. u ++ v) written.string_is (append-nil (string_of nodes b) ∙ string_is)
-          ∙ sym (filled_take nodes es parts i p i_lt p_is);
-      length_is =
-          let front_is = written.length_is in
-          let all_is = ap length (filled_take nodes es parts i p i_lt p_is) in
-          let same = ap length string_is in
-          omega (
-            arith,
-            front_is,
-            all_is,
-            same,
-            added_is,
-            length-append (filled_parts nodes es (take i parts)) (filled_part nodes es p),
-          );
-      bodies_needed =
-          subst (All (λ b. b < first_node + needed')) (sym list_is)
-          (All-push (λ b. b < first_node + needed') (take count list) b
-          (All-weaker (λ b. b < first_node + needed) (λ b. b < first_node + needed')
-          (λ x x_lt. omega (arith, x_lt, needed_le)) (take count list) written.bodies_needed) b_lt);
-      needed_le_count = needed_in;
-    }
+    pub body_written : (b greatest' symbol_count' : ℕ)
+        → take (count + 1) list' ≡ take count list ++ b ∷ []
+        → string_of nodes b ≡ filled_part nodes es p
+        → symbol_count' ≡ symbol_count + length (string_of nodes b)
+        → (b < first_node) ⊎ (b ≤ greatest') → greatest ≤ greatest'
+        → greatest' < first_node + length nodes
+        → IsWritten nodes es parts list' (count + 1) symbol_count' greatest' (i + 1)
+    body_written b greatest' symbol_count' list_is string_is count_is b_is greatest_le greatest'_lt =
+        record {
+          count_le = let le = written.count_le in omega (arith, le);
+          string_is =
+              ap (joined_string_of nodes) list_is
+              ∙ flat_map-append (string_of nodes) (take count list) (b ∷ [])
+              ∙ ap₂ (λ u v. u ++ v) written.string_is (append-nil (string_of nodes b) ∙ string_is)
+              ∙ sym (filled_take nodes es parts i p i_lt p_is);
+          length_is =
+              let front_is = written.length_is in
+              let all_is = ap length (filled_take nodes es parts i p i_lt p_is) in
+              let same = ap length string_is in
+              omega (
+                arith,
+                front_is,
+                all_is,
+                same,
+                count_is,
+                length-append (filled_parts nodes es (take i parts)) (filled_part nodes es p),
+              );
+          bodies_are =
+              subst (All (λ x. (x < first_node) ⊎ (x ≤ greatest'))) (sym list_is)
+              (All-push (λ x. (x < first_node) ⊎ (x ≤ greatest')) (take count list) b
+              (All-weaker (λ x. (x < first_node) ⊎ (x ≤ greatest))
+              (λ x. (x < first_node) ⊎ (x ≤ greatest')) still_le (take count list)
+              written.bodies_are) b_is);
+          greatest_lt = greatest'_lt;
+        }
+      where
+        still_le : (x : ℕ) → (x < first_node) ⊎ (x ≤ greatest)
+            → (x < first_node) ⊎ (x ≤ greatest')
+        still_le x (inl is_symbol) = inl is_symbol
+        still_le x (inr le) = inr (omega (arith, le, greatest_le))
+
+    -- the body of a variable's premise more
+    pub premise_written : (j more greatest' : ℕ) (e : Entry) → p ≡ Variable j
+        → e ≡ get_or es j no_entry → IsEntry nodes e → 0 < e.length → symbol_count ≡ count + more
+        → take (count + 1) list' ≡ take count list ++ e.body ∷ []
+        → greatest ≤ greatest' → e.body ≤ greatest' → (greatest' ≡ greatest) ⊎ (greatest' ≡ e.body)
+        → IsWritten nodes es parts list' (count + 1) (count + 1 + (more + (e.length - 1))) greatest'
+        (i + 1)
+    premise_written j more greatest' e p_is_variable e_is is_entry some count_is list_is greatest_le
+        body_le greatest'_is =
+        body_written e.body greatest' (count + 1 + (more + (e.length - 1))) list_is
+        (ap (λ x. string_of nodes x.body) e_is ∙ ap (filled_part nodes es) (sym p_is_variable))
+        (let length_is = is_entry.length_is in omega (arith, length_is, some, count_is))
+        (inr body_le) greatest_le (by_case greatest'_is)
+      where
+        by_case : (greatest' ≡ greatest) ⊎ (greatest' ≡ e.body)
+            → greatest' < first_node + length nodes
+        by_case (inl same) = let lt = written.greatest_lt in omega (arith, lt, same)
+        by_case (inr same) =
+            let lt = body_is_there nodes e is_entry some in omega (arith, lt, same)
 
     -- a part without symbols
     pub none_written : filled_part nodes es p ≡ []
-        → IsWritten nodes es parts list count symbol_count needed (i + 1)
+        → IsWritten nodes es parts list count symbol_count greatest (i + 1)
     none_written is_empty = record {
       count_le = let le = written.count_le in omega (arith, le);
       string_is =
@@ -121,8 +162,8 @@ module _ (nodes : List (List ℕ)) (es : List Entry) (parts : List RulePart) whe
             none,
             length-append (filled_parts nodes es (take i parts)) (filled_part nodes es p),
           );
-      bodies_needed = written.bodies_needed;
-      needed_le_count = written.needed_le_count;
+      bodies_are = written.bodies_are;
+      greatest_lt = written.greatest_lt;
     }
 
 pub symbol_string_is : (nodes : List (List ℕ)) (s : ℕ) → s < first_node
@@ -134,24 +175,35 @@ pub nil_if_no_length : (u : List ℕ) → length u ≡ 0 → u ≡ []
 nil_if_no_length [] none = refl
 nil_if_no_length (x ∷ u) none = absurd (omega (arith, none))
 
--- what an entry's body needs is there
-pub body_is_needed : (nodes : List (List ℕ)) (e : Entry) (needed : ℕ) → IsEntry nodes e
-    → 0 < e.length → (first_node ≤ e.body → first_node + needed ≡ e.body + 1)
-    → (e.body < first_node → needed ≡ 0)
-    → (e.body < first_node + needed) × (needed ≤ length nodes)
-body_is_needed nodes e needed is_entry some if_node if_symbol =
-    by_case is_entry.body_is_among (cases_lt e.body first_node)
+-- as many nodes as the greatest body needs are enough for all
+pub enough_nodes : (nodes : List (List ℕ)) (bodies : List ℕ) (greatest needed : ℕ)
+    → All (λ b. (b < first_node) ⊎ (b ≤ greatest)) bodies
+    → greatest < first_node + length nodes
+    → (first_node ≤ greatest → first_node + needed ≡ greatest + 1)
+    → (greatest < first_node → needed ≡ 0)
+    → All (λ b. b < first_node + needed) bodies × (needed ≤ length nodes)
+enough_nodes nodes bodies greatest needed are_le greatest_lt if_node if_symbol =
+    by_case (cases_lt greatest first_node)
   where
-    by_case : IsAmong e.needed e.body e.length → (e.body < first_node) ⊎ (first_node ≤ e.body)
-        → (e.body < first_node + needed) × (needed ≤ length nodes)
-    by_case (inr none) is_node = let no_length = none.1 in absurd (omega (arith, no_length, some))
-    by_case (inl among) (inl is_symbol) =
-        let none_needed = if_symbol is_symbol in
-        (omega (arith, is_symbol), omega (arith, none_needed))
-    by_case (inl among) (inr is_node) =
-        let needed_is = if_node is_node in
-        let needed_le = is_entry.needed_le_count in
-        (omega (arith, needed_is), omega (arith, needed_is, among, needed_le))
+    is_enough : greatest < first_node + needed → (b : ℕ) → (b < first_node) ⊎ (b ≤ greatest)
+        → b < first_node + needed
+    is_enough greatest_fits b (inl is_symbol) = omega (arith, is_symbol)
+    is_enough greatest_fits b (inr le) = omega (arith, le, greatest_fits)
+
+    by_case : (greatest < first_node) ⊎ (first_node ≤ greatest)
+        → All (λ b. b < first_node + needed) bodies × (needed ≤ length nodes)
+    by_case (inl is_symbol) =
+        let none_needed = if_symbol is_symbol in (
+          All-weaker (λ b. (b < first_node) ⊎ (b ≤ greatest)) (λ b. b < first_node + needed)
+              (is_enough (omega (arith, is_symbol))) bodies are_le,
+          omega (arith, none_needed),
+        )
+    by_case (inr is_node) =
+        let needed_is = if_node is_node in (
+          All-weaker (λ b. (b < first_node) ⊎ (b ≤ greatest)) (λ b. b < first_node + needed)
+              (is_enough (omega (arith, needed_is))) bodies are_le,
+          omega (arith, needed_is, greatest_lt),
+        )
 
 -- ---- the symbols, listed
 

@@ -139,8 +139,8 @@ impl<A: Allocator> DisjointCache<A> {
         self.rows.has_flags(symbol, columns)
     }
 
-    /// Adds the pairs of a symbol and others, from which it is disjoint, to the rows, as far as there
-    /// is room.
+    /// Adds the pairs of a symbol and others, from which it is disjoint, to the rows, as far as
+    /// there is room.
     pub fn insert_in_rows(&mut self, symbol: Sym, others: &[Sym])
         ensures stay_disjoint { (db : List Statement) (t : ℕ)
             → is_disjoint_from (context_at db t) symbol others.now ≡ true

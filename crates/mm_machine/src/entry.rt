@@ -1,7 +1,7 @@
 //! The entries of the stack, and the formula of a rule with its variables replaced.
 
 ghost use Rattle.std.specs.Prelude.{◌≡◌, ◌<◌, ◌≤◌, ◌+◌, ◌++◌, ◌∷◌, [], All, length, take, IfSome};
-ghost use Rattle.std.specs.Prelude.{IfNone};
+ghost use Rattle.std.specs.Prelude.{IfNone, ◌⊎◌};
 ghost use Rattle.mm_nodes.specs.Strings.{first_node};
 ghost use Rattle.mm_spec.specs.Limits.{formula_limit};
 ghost use Rattle.mm_rule.specs.Rule.{IsVariableBelow};
@@ -49,6 +49,21 @@ fn put_body(body: Body, list: &mut [Body], index: usize)
     list[index] = body;
 }
 
+/// The one of two bodies that has the greater number. A node's number is greater than a symbol's,
+/// and than those of the nodes before it.
+#[inline(always)]
+fn greater(first: Body, second: Body) -> Body
+    ensures first_le { first ≤ result }
+    ensures second_le { second ≤ result }
+    ensures is_one_of_both { (result ≡ first) ⊎ (result ≡ second) }
+{
+    if first.number() < second.number() {
+        second
+    } else {
+        first
+    }
+}
+
 /// Writes bodies at the start of a list that stand for parts with their variables replaced. Returns
 /// `None` if they have more symbols than the limit.
 #[inline(always)]
@@ -67,15 +82,15 @@ pub fn fill<A: Allocator>(
         (formula_limit < length (filled_parts _nodes.now premises.now parts.now)) }
 {
     let mut count: usize = 0;
-    let mut length: usize = 0;
-    let mut needed: usize = 0;
+    // How many symbols there are beyond one for each body.
+    let mut more: usize = 0;
+    let mut greatest = Body::symbol(0);
     let mut mask: u64 = 0;
     for part in parts {
         match part.to_part() {
             RulePart::Constant(symbol) => {
                 put_body(Body::symbol(symbol.number()), list, count);
                 count += 1;
-                length += 1;
             }
             RulePart::Variable(floating_index) => {
                 let premise = premises[floating_index as usize];
@@ -83,19 +98,23 @@ pub fn fill<A: Allocator>(
                 if premise.length > 0 {
                     put_body(premise.body, list, count);
                     count += 1;
-                    length += premise.length as usize;
-                    needed = needed.max(nodes_for(premise.body));
+                    more += premise.length as usize - 1;
+                    greatest = greater(greatest, premise.body);
+                    if more > FORMULA_LIMIT {
+                        return None;
+                    }
                 }
             }
         }
-        if length > FORMULA_LIMIT {
-            return None;
-        }
+    }
+    let length = count.saturating_add(more);
+    if length > FORMULA_LIMIT {
+        return None;
     }
     Some(Filled {
         count,
         length,
-        needed,
+        needed: nodes_for(greatest),
         mask,
     })
 }

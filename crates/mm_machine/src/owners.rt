@@ -107,7 +107,7 @@ impl<A: Allocator> Owners<A> {
         }
     }
 
-    /// Gives a variable a bit, if one is left and there is memory, and returns the index of its bit.
+    /// Gives a variable a bit, if one is left and there is memory. Returns the index of its bit.
     fn add(&mut self, symbol: Sym) -> usize
         ensures variables_stay { self.new.variables ≡ self.old.variables }
         ensures extends { Extends self.old.symbols self.new.symbols }

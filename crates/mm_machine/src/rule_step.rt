@@ -1,7 +1,7 @@
 //! The step of an assertion on the entries of the stack.
 
-ghost use Rattle.std.specs.Prelude.{◌≡◌, ◌<◌, ◌≤◌, ◌∷◌, All, length, take, drop, vec_len, OnOk, OnErr};
-ghost use Rattle.std.specs.Prelude.{IfErr, Ok, ℕ};
+ghost use Rattle.std.specs.Prelude.{◌≡◌, ◌<◌, ◌≤◌, ◌∷◌, All, length, take, drop, vec_len, OnOk};
+ghost use Rattle.std.specs.Prelude.{OnErr, IfErr, Ok, ℕ};
 ghost use Rattle.mm_nodes.specs.Strings.{first_node, Extends};
 ghost use Rattle.mm_spec.specs.Frame.{symbol_names};
 ghost use Rattle.mm_rule.specs.declared.rule.RulePart.TheVariants.{Constant};
@@ -30,8 +30,8 @@ use std::alloc::{AllocError, Allocator};
 /// How much longer than required the list of bodies becomes when it grows.
 const SPARE_ROOM: usize = 256;
 
-/// The mask of a formula whose variables nobody asked for.
-const ALL_BITS: u64 = 1u64 << OTHERS;
+/// The mask of a formula whose variables nobody looked for: the last bit stands for any of them.
+const ANY_VARIABLES: u64 = 1u64 << OTHERS;
 
 /// Makes a list at least so long.
 #[inline(always)]
@@ -80,7 +80,7 @@ fn replace_by_listed<A: Allocator>(
         return Err(StepRefused::Fault(Reason::TooLong));
     }
     let keep = nodes_to_keep(nodes, stack, below, floor);
-    replace_by_symbols(nodes, stack, below, keep, symbols, ALL_BITS)?;
+    replace_by_symbols(nodes, stack, below, keep, symbols, ANY_VARIABLES)?;
     Ok(())
 }
 

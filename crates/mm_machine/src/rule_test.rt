@@ -343,7 +343,7 @@ fn bodies_are_disjoint<A: Allocator>(
     Ok(are_all_disjoint(database, theorem, front, rest, cache))
 }
 
-/// Whether a symbol is known to be disjoint from all variables of a mask: each has a bit of its own.
+/// Whether a symbol is known to be disjoint from all variables of a mask: each has its own bit.
 #[inline(always)]
 fn is_apart_from<A: Allocator>(
     database: &Database<A>,

@@ -138,8 +138,8 @@ pub(crate) fn send_citations_section<W: Write, D: Allocator, C: Allocator>(
     }
 }
 
-/// Sends the first lines of a report that has no section of marks, and the section of the citations,
-/// if it is wanted.
+/// Sends the first lines of a report that has no section of marks, and the section of the
+/// citations, if it is wanted.
 fn send_unmarked<W: Write, A: Allocator, C: Allocator, D: Allocator>(
     sink: &mut Sink,
     to: &mut W,
@@ -163,9 +163,9 @@ fn send_unmarked<W: Write, A: Allocator, C: Allocator, D: Allocator>(
 
 /// Writes the report requested of a database if it has no section of marks, for which no rows are
 /// needed: the first lines, the sections of the citations and of the statements if they are
-/// requested, and the last line. `chosen` has the columns of the typecode requested, `citations` are
-/// those of this database, and `found` its dummy variables if the statements are requested. If open
-/// theorems count as axioms, the report says how many columns they are. It allocates no
+/// requested, and the last line. `chosen` has the columns of the typecode requested, `citations`
+/// are those of this database, and `found` its dummy variables if the statements are requested. If
+/// open theorems count as axioms, the report says how many columns they are. It allocates no
 /// memory. Returns `WriteFailed` if a write failed or accepted no byte of a piece that wasn't
 /// empty; then a prefix of the report has been written.
 pub fn write_unmarked<'a, W: Write, A: Allocator, C: Allocator, V: Allocator, D: Allocator>(

@@ -155,8 +155,8 @@ fn send_frame<W: Write, D: Allocator>(
     send_pairs(sink, to, database, &frame.pairs);
 }
 
-/// Sends the mandatory hypotheses and pairs of an assertion, its dummy variables, and the pairs with
-/// these.
+/// Sends the mandatory hypotheses and pairs of an assertion, its dummy variables, and the pairs
+/// with these.
 pub(crate) fn send_conditions<W: Write, D: Allocator, V: Allocator>(
     sink: &mut Sink,
     to: &mut W,

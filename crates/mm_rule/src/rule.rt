@@ -75,14 +75,6 @@ impl PackedPart {
             RulePart::Variable(self.0 - FIRST_VARIABLE)
         }
     }
-
-    /// The part that it stands for.
-    #[inline(always)]
-    pub fn unpack(self) -> RulePart
-        ensures { result ≡ self }
-    {
-        self.to_part()
-    }
 }
 
 /// What a mandatory hypothesis requires of its premise.

@@ -4,3 +4,4 @@
 pub mod CompleteLaw
 pub mod RuleLaw
 pub mod RulesLaw
+pub mod StretchesLaw

@@ -4,14 +4,17 @@
 //! each step that asks for it. The layer promises that a rule is that of its assertion
 //! (`IsRuleOf` in `Rattle.mm_rules.specs.Rules`).
 //!
-//! A caller makes [`Rules::new`] once, asks [`Rules::find`] and [`Rules::rule`] for the rule of an
-//! assertion, and otherwise has a [`RuleCompiler`] of its own compile it.
+//! A caller makes the rules once, by [`Rules::new`] or in several threads by [`rules_of`], asks
+//! [`Rules::find`] and [`Rules::rule`] for the rule of an assertion, and otherwise has a
+//! [`RuleCompiler`] of its own compile it.
 //!
 //! A parameter whose name begins with `_` is used only by the contracts.
 #![tactic(auto)]
 
 mod compile;
 mod rules;
+mod stretches;
 
 pub use compile::RuleCompiler;
 pub use rules::Rules;
+pub use stretches::rules_of;

@@ -1,7 +1,7 @@
 //! The rules of the assertions of a database.
 
 ghost use Rattle.std.specs.Prelude.{◌≡◌, ◌<◌, ◌+◌, ◌^◌, ◌++◌, [], List, length, get_or, min, true};
-ghost use Rattle.std.specs.Prelude.{OnOk, IfOk, IfSome};
+ghost use Rattle.std.specs.Prelude.{◌≤◌, OnOk, IfOk, IfSome};
 ghost use Rattle.mm_spec.specs.Statement.{Statement};
 ghost use Rattle.mm_spec.specs.Frame.{symbol_names};
 ghost use Rattle.mm_spec.specs.Laws.Complete.{AreComplete};
@@ -84,7 +84,7 @@ impl<A: Allocator> Model for Rules<A> {
 
 /// How many elements may be held: once there are so many, no more rules are held. So frames that
 /// are much longer than the text aren't all held.
-fn element_limit<A: Allocator>(database: &Database<A>) -> usize {
+pub(crate) fn element_limit<A: Allocator>(database: &Database<A>) -> usize {
     MIN_LIMIT.max(database.text().len() / BYTES_FOR_ONE_ELEMENT)
 }
 
@@ -98,18 +98,39 @@ struct Lengths {
 }
 
 impl Lengths {
-    /// The lengths of the lists of a database's rules, without those that come after the limit.
-    fn of<A: Allocator>(database: &Database<A>) -> Self {
-        let mut lengths = Lengths {
+    /// No rules.
+    fn none() -> Self {
+        Lengths {
             rules: 0,
             hypotheses: 0,
             pairs: 0,
             parts: 0,
-        };
-        let limit = element_limit(database);
-        for statement in 0..database.len() {
+        }
+    }
+
+    /// The lengths of the lists of the rules of the assertions from statement `from` up to, but not
+    /// including, `to`, without those that come after the limit.
+    fn between<A: Allocator>(database: &Database<A>, from: u32, to: u32, limit: usize) -> Self
+        requires { to ≤ length database.now.statements }
+    {
+        let mut lengths = Self::none();
+        for statement in from..to {
             if is_assertion(database, statement) && lengths.element_count() < limit {
                 lengths.add(database, statement);
+            }
+        }
+        lengths
+    }
+
+    /// The lengths of the lists of stretches that are put together.
+    fn of_stretches<A: Allocator>(stretches: &[Result<Rules<A>, AllocError>]) -> Self {
+        let mut lengths = Self::none();
+        for stretch in stretches {
+            if let Ok(rules) = stretch {
+                lengths.rules = lengths.rules.saturating_add(rules.ranges.len());
+                lengths.hypotheses = lengths.hypotheses.saturating_add(rules.hypotheses.len());
+                lengths.pairs = lengths.pairs.saturating_add(rules.pairs.len());
+                lengths.parts = lengths.parts.saturating_add(rules.parts.len());
             }
         }
         lengths
@@ -194,20 +215,38 @@ impl<A: Allocator> Rules<A> {
         }
     }
 
-    /// No rules, in lists with capacity for those of a database.
-    fn with_capacity(alloc: A, database: &Database<A>) -> Result<Self, AllocError>
+    /// No rules, in lists with such capacities. `statement_count` is how many statements there are
+    /// whose rules are to be found.
+    fn with_capacity(
+        alloc: A,
+        lengths: &Lengths,
+        statement_count: usize,
+    ) -> Result<Self, AllocError>
     where
         A: Copy,
         ensures { IfOk result (λ r. r ≡ rule_lists [] [] [] []) }
     {
-        let lengths = Lengths::of(database);
         Ok(Rules {
             ranges: Vec::with_capacity(alloc, lengths.rules)?,
             hypotheses: Vec::with_capacity(alloc, lengths.hypotheses)?,
             pairs: Vec::with_capacity(alloc, lengths.pairs)?,
             parts: Vec::with_capacity(alloc, lengths.parts)?,
-            rule_indices: vec![in alloc; 0; database.len() as usize]?,
+            rule_indices: vec![in alloc; 0; statement_count]?,
         })
+    }
+
+    /// No rules of a database, in lists with capacity for the rules of the stretches.
+    pub(crate) fn with_room_for(
+        alloc: A,
+        database: &Database<A>,
+        stretches: &[Result<Rules<A>, AllocError>],
+    ) -> Result<Self, AllocError>
+    where
+        A: Copy,
+        ensures { IfOk result (AreRules database.now.statements) }
+    {
+        let lengths = Lengths::of_stretches(stretches);
+        Self::with_capacity(alloc, &lengths, database.len() as usize)
     }
 
     /// The rules of the assertions of a database. Fails only if out of memory.
@@ -216,12 +255,76 @@ impl<A: Allocator> Rules<A> {
         A: Copy,
         ensures { IfOk result (λ r. AreRules database.now.statements r) }
     {
-        let mut rules = Self::with_capacity(alloc, database)?;
-        let mut compiler = RuleCompiler::new(alloc, database)?;
-        for statement in 0..database.len() {
-            rules.hold_rule(database, statement, &mut compiler)?;
-        }
+        let count = database.len();
+        let limit = element_limit(database);
+        let lengths = Lengths::between(database, 0, count, limit);
+        let mut rules = Self::with_capacity(alloc, &lengths, count as usize)?;
+        rules.hold_between(alloc, database, 0, count, limit)?;
         Ok(rules)
+    }
+
+    /// The rules of a stretch of a database's statements, from `from` up to, but not including,
+    /// `to`. They can't be found by their assertions yet.
+    pub(crate) fn of_stretch(
+        alloc: A,
+        database: &Database<A>,
+        from: u32,
+        to: u32,
+        limit: usize,
+    ) -> Result<Self, AllocError>
+    where
+        A: Copy,
+        requires are_complete { AreComplete database.now.statements }
+        requires to_le_length { to ≤ length database.now.statements }
+        ensures { IfOk result (λ r. AreRules database.now.statements r) }
+    {
+        let lengths = Lengths::between(database, from, to, limit);
+        let mut rules = Self::with_capacity(alloc, &lengths, 0)?;
+        rules.hold_between(alloc, database, from, to, limit)?;
+        Ok(rules)
+    }
+
+    /// Compiles and holds the rules from statement `from` up to, but not including, `to`, as far as
+    /// the limit permits.
+    fn hold_between(
+        &mut self,
+        alloc: A,
+        database: &Database<A>,
+        from: u32,
+        to: u32,
+        limit: usize,
+    ) -> Result<(), AllocError>
+    where
+        A: Copy,
+        requires are_complete { AreComplete database.now.statements }
+        requires to_le_length { to ≤ length database.now.statements }
+        requires are_rules { AreRules database.now.statements self.old }
+        ensures are_rules { OnOk result (AreRules database.now.statements self.new) }
+    {
+        let mut compiler = RuleCompiler::new(alloc, database)?;
+        for statement in from..to {
+            self.hold_rule(database, statement, limit, &mut compiler)?;
+        }
+        Ok(())
+    }
+
+    /// Adds rules of the same database. Those for whose indices 32 bits aren't enough are left out.
+    pub(crate) fn append(
+        &mut self,
+        database: &Database<A>,
+        more: Rules<A>,
+    ) -> Result<(), AllocError>
+        requires are_rules { AreRules database.now.statements self.old }
+        requires more_are_rules { AreRules database.now.statements more }
+        ensures are_rules { OnOk result (AreRules database.now.statements self.new) }
+    {
+        for rule_index in 0..more.ranges.len() {
+            let rule = more.rule(database, rule_index);
+            if self.fits(&rule) {
+                self.add(rule)?;
+            }
+        }
+        Ok(())
     }
 
     /// Compiles the rule of a statement and holds it, if this is an assertion and the limit
@@ -230,6 +333,7 @@ impl<A: Allocator> Rules<A> {
         &mut self,
         database: &Database<A>,
         statement: u32,
+        limit: usize,
         compiler: &mut RuleCompiler<A>,
     ) -> Result<(), AllocError>
         requires statement_lt_length { statement < length database.now.statements }
@@ -243,7 +347,7 @@ impl<A: Allocator> Rules<A> {
         if !is_assertion(database, statement) {
             return Ok(());
         }
-        if self.element_count() >= element_limit(database) {
+        if self.element_count() >= limit {
             return Ok(());
         }
         compiler.compile(database, statement)?;

@@ -40,7 +40,8 @@ fn refuse<W: Write>(text: &[u8], fault: Fault, to: &mut W) -> RunEnd
     }
 }
 
-/// Writes the report of a database without a fault, if it has no section of marks. It needs no rows.
+/// Writes the report of a database without a fault, if it has no section of marks. So it needs no
+/// rows.
 fn report_unmarked<'a, A: Allocator, W: Write>(
     request: &Request<'_>,
     database: &Database<'a, A>,

@@ -13,7 +13,7 @@ use crate::merge::{found_fault, merge};
 use crate::threads::work_all;
 use mm_board::{Board, MOST_SEATS};
 use mm_database::Database;
-use mm_rules::Rules;
+use mm_rules::rules_of;
 use std::alloc::{AllocError, Allocator};
 use std::sync::Wait;
 use std::thread::Threads;
@@ -37,7 +37,7 @@ pub fn check_all<'d, R: Threads + Wait + Sync, A: Allocator + Copy + Send + Sync
     ensures { IfOk result (λ judged. IsJudgement database.now.statements essential judged) }
 {
     let count = database.theorems().len();
-    let rules = Rules::new(alloc, database)?;
+    let rules = rules_of(rt, alloc, database, workers)?;
     let Ok((board, seat)) = Board::new(alloc, count as u32) else {
         return Err(AllocError);
     };

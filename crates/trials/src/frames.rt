@@ -1,10 +1,13 @@
-//! Frames that are made in stretches of statements, beside those of a plain loop.
+//! Frames and rules that are made in stretches of statements, the frames beside those of a plain
+//! loop.
 
 ghost use Rattle.std.specs.Prelude.{◌<◌, length};
+ghost use Rattle.mm_rules.specs.Rules.{AreRules};
 
 use crate::flags::WITHOUT_OPEN;
 use mm_lex::{Cuts, lex};
 use mm_rule::is_assertion;
+use mm_rules::{Rules, rules_of};
 use mm_spec::TEXT_LIMIT;
 use mm_stmt::{Database, Kind, Sym, read_owned};
 use std::alloc::{AllocError, Global};
@@ -130,8 +133,28 @@ fn has_plain_frames(database: &Database<Global>) -> bool {
     true
 }
 
-/// Whether the frames of a text are those of the plain loop, if that many workers make them. Fails
-/// if the text is too long, too.
+/// Whether there is a rule of each assertion, as long as its frame and its formula.
+fn has_each_rule(database: &Database<Global>, rules: &Rules<Global>) -> bool
+    requires { AreRules database.now.statements rules.now }
+{
+    for assertion in 0..database.len() {
+        if is_assertion(database, assertion) {
+            let Some(index) = rules.find(assertion) else {
+                return false;
+            };
+            let rule = rules.rule(database, index);
+            if rule.hypotheses().len() != database.frame(assertion).hyps.len()
+                || rule.formula().len() != database.formula(assertion).len()
+            {
+                return false;
+            }
+        }
+    }
+    true
+}
+
+/// Whether the frames of a text are those of the plain loop, and there is each rule, if that many
+/// workers make them. Fails if the text is too long, too.
 fn are_plain_by<R: Threads + Sync>(
     rt: &R,
     alloc: Global,
@@ -144,13 +167,14 @@ fn are_plain_by<R: Threads + Sync>(
     let cuts = Cuts::equal(alloc, text.len(), 1)?;
     let lexed = lex(rt, alloc, text, &cuts)?;
     let database = read_owned(rt, alloc, text, lexed, WITHOUT_OPEN, workers.max(1))?;
-    Ok(has_plain_frames(&database))
+    let rules = rules_of(rt, alloc, &database, workers.max(1))?;
+    Ok(has_plain_frames(&database) && has_each_rule(&database, &rules))
 }
 
 /// The text up to the end of each statement has one statement more. So the stretches have every
 /// length from six statements on, and end in each statement.
 #[test]
-fn frames_of_each_beginning_by_any_workers(rt: HostRuntime) -> Result<(), AllocError> {
+fn frames_and_rules_of_each_beginning_by_any_workers(rt: HostRuntime) -> Result<(), AllocError> {
     for end in 0..TEXT.len() {
         if TEXT[end] == b'.' || TEXT[end] == b'{' || TEXT[end] == b'}' {
             for workers in [1u32, 2, 3, 64] {

@@ -13,12 +13,16 @@ use mm_board::{Board, BoardFault, Seat};
 use mm_check::{CheckRefused, Checked, Checker, Rules};
 use mm_lex::{Cuts, lex};
 use mm_proof::{ProofRefused, Step, Steps, read_proof};
+use mm_rules::rules_of;
 use mm_stmt::{Database, read as read_statements};
 use mm_work::{Citations, Judged};
 use std::alloc::{AllocError, Allocator, Global};
 use std::process::Abort;
 use std::sync::Wait;
 use std::thread::Threads;
+
+/// How many workers compile rules: so many that the text with two theorems has three stretches.
+const WORKERS: u32 = 3;
 
 /// The database of the text with two theorems.
 pub(crate) fn database_of<R: Threads + Sync, A: Allocator + Copy + Send + Sync>(
@@ -136,6 +140,31 @@ fn rules_made_without_memory(rt: HostRuntime) -> Result<(), AllocError> {
     let heap = Refusing::new(rt.alloc());
     let database = database_of(&rt, &heap)?;
     assert!(&rt; rules_in_turn(&rt, &heap, &database));
+    Ok(())
+}
+
+/// Refuses each growth of compiling all rules by several workers in turn.
+fn rules_by_workers_in_turn<'h, R: Abort + Threads + Sync>(
+    rt: &R,
+    heap: &'h Refusing<Global>,
+    database: &Database<'static, &'h Refusing<Global>>,
+) -> bool {
+    for growth in 1..MOST_GROWTHS {
+        heap.refuse(growth);
+        let refused = was_refused(rt, heap, are_rules(rules_of(rt, heap, database, WORKERS)));
+        assert!(rt; are_rules(rules_of(rt, heap, database, WORKERS)) == Some(true));
+        if !refused {
+            return growth > 10;
+        }
+    }
+    false
+}
+
+#[test]
+fn rules_made_by_workers_without_memory(rt: HostRuntime) -> Result<(), AllocError> {
+    let heap = Refusing::new(rt.alloc());
+    let database = database_of(&rt, &heap)?;
+    assert!(&rt; rules_by_workers_in_turn(&rt, &heap, &database));
     Ok(())
 }
 
