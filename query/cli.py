@@ -6,95 +6,22 @@ signal. An option may stand before or after the words, `--` ends the options, an
 command doesn't have is named with the nearest one that it has.
 """
 
-import argparse
 import gc
 import os
-from typing import Any, NoReturn
+from typing import NoReturn
 
 from query import progress, signals
 from query.commands import Command, command, names, summaries
 from query.context import Context
 from query.errors import NoAnswer, nearest, shown, tell
 from query.filters import Filters, add_filters, filters_of
+from query.options import Parser
 from query.output import Output, reason, write_all
 
-# Before a word that begins with `-`, so that argparse takes it as a word. No argument has this
-# sign.
-MARK = "\0"
-ABOUT_WORDS = ("the following arguments are required", "unrecognized arguments")
-"""How argparse begins what it says of words that are missing or too many."""
 VERSION = "mmquery 0.1.0\n"
 
 
-class Parser(argparse.ArgumentParser):
-    """Reads the words of one command. It never ends the process."""
-
-    def __init__(self, name: str) -> None:
-        super().__init__(
-            prog=f"mmquery {name}",
-            add_help=False,
-            allow_abbrev=False,
-            formatter_class=argparse.RawDescriptionHelpFormatter,
-        )
-
-    def error(self, message: str) -> NoReturn:
-        """Raises NoAnswer. Where words are missing or too many, it says which are taken."""
-        told = shown(message.replace(MARK, ""))
-        if any(told.startswith(start) for start in ABOUT_WORDS):
-            told = f"{told}; {self.format_usage().strip()}"
-        raise NoAnswer(told)
-
-    def read(self, words: list[str]) -> argparse.Namespace:
-        """The arguments that the words give: options from anywhere before a `--`, then the
-        others."""
-        options: list[str] = []
-        plain: list[str] = []
-        left = list(words)
-        while left:
-            word = left.pop(0)
-            if word == "--":
-                plain += left
-                break
-            if word.startswith("-") and word != "-":
-                options.append(self.option(word, left))
-            else:
-                plain.append(word)
-        found = self.parse_args([*options, "--", *map(marked, plain)])
-        for name, value in vars(found).items():
-            setattr(found, name, unmarked(value))
-        return found
-
-    def option(self, word: str, left: list[str]) -> str:
-        """An option as one word with its value, which is taken from what is left where it
-        follows."""
-        name, sign, value = word.partition("=")
-        action = self._option_string_actions.get(name)
-        if action is None:
-            self.error(
-                f"there is no option {name}{nearest(name, list(self._option_string_actions))}"
-            )
-        if action.nargs == 0:
-            return word
-        if not sign:
-            if not left:
-                self.error(f"the option {name} lacks its value")
-            value = left.pop(0)
-        return f"{name}={marked(value)}"
-
-
-def marked(word: str) -> str:
-    """A word, with a mark before it where it begins with `-`."""
-    return MARK + word if word.startswith("-") else word
-
-
-def unmarked(value: Any) -> Any:
-    """A value of an argument without the marks of words."""
-    if isinstance(value, list):
-        return [unmarked(each) for each in value]
-    return value.removeprefix(MARK) if isinstance(value, str) else value
-
-
-FORMS = {None: "{}", "+": "{}..", "*": "[{}..]", "?": "[{}]"}
+FORMS: dict[int | str | None, str] = {None: "{}", "+": "{}..", "*": "[{}..]", "?": "[{}]"}
 """How a word is written in a usage line, by how many of it are taken."""
 
 
@@ -102,19 +29,19 @@ def usage_of(parser: Parser, name: str) -> str:
     """The usage line of a command: the options that it needs, and its words. `LABEL..` is one or
     several, and what stands in brackets may be left out."""
     parts = [f"mmquery {name} [OPTIONS]"]
-    for action in parser._actions:
+    for action in parser.actions:
         called = "|".join(action.choices or ()) or str(action.metavar)
         if action.option_strings and action.required:
             parts.append(f"{action.option_strings[0]} {called}")
         elif not action.option_strings:
-            form = "{}" if called.startswith("[") else FORMS[str(action.nargs or "") or None]
+            form = "{}" if called.startswith("[") else FORMS[action.nargs]
             parts.append(form.format(called))
     return " ".join(parts)
 
 
 def parser_of(chosen: Command) -> Parser:
     """The parser of a command, with the options that all have."""
-    parser = Parser(chosen.name)
+    parser = Parser()
     chosen.configure(parser)
     parser.usage = usage_of(parser, chosen.name)
     if chosen.formats:

@@ -4,7 +4,6 @@ They complete commands, options, the words of options that have a fixed choice, 
 compares the files of the folder `completions` with what this writes.
 """
 
-import argparse
 import sys
 from dataclasses import dataclass
 from pathlib import Path
@@ -25,7 +24,6 @@ class Option:
 
 def options_of(name: str) -> list[Option]:
     """The options of a command."""
-    actions = parser_of(command(name))._actions
     return [
         Option(
             tuple(action.option_strings),
@@ -33,14 +31,14 @@ def options_of(name: str) -> list[Option]:
             tuple(str(choice) for choice in action.choices or ()),
             (action.help or "").replace("%", "%%"),
         )
-        for action in actions
-        if action.option_strings and action.help != argparse.SUPPRESS
+        for action in parser_of(command(name)).actions
+        if action.option_strings
     ]
 
 
 def first_words(name: str) -> list[str]:
     """The words that may come first after a command, where they are fixed."""
-    actions = parser_of(command(name))._actions
+    actions = parser_of(command(name)).actions
     choices = [action.choices for action in actions if not action.option_strings]
     return [str(choice) for choice in choices[0] or ()] if choices else []
 

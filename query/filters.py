@@ -14,10 +14,12 @@ import os
 from collections.abc import Callable, Sequence
 from dataclasses import dataclass
 from fnmatch import fnmatchcase
+from functools import partial
 from typing import TYPE_CHECKING
 
 from query.errors import NoAnswer, nearest, shown
 from query.lists import words_of
+from query.options import Parser
 
 if TYPE_CHECKING:
     from query.database import Database
@@ -108,23 +110,19 @@ def mathboxes(text: Text, name: str, owner: str) -> frozenset[int]:
     return found
 
 
-def add_filters(parser: argparse.ArgumentParser) -> None:
+def add_filters(parser: Parser) -> None:
     """Adds the filters."""
-    group = parser.add_argument_group("filters of the list")
-    group.add_argument("--before", metavar="T", help="only what stands before T")
-    group.add_argument("--main", action="store_true", help="only what stands in no mathbox")
-    group.add_argument("--mathbox", metavar="NAME", help="only what stands in NAME's mathbox")
-    group.add_argument("--under", metavar="NUMBER", help="only what the header NUMBER has below it")
+    add = partial(parser.add_argument, group=parser.add_argument_group("filters of the list"))
+    add("--before", metavar="T", help="only what stands before T")
+    add("--main", action="store_true", help="only what stands in no mathbox")
+    add("--mathbox", metavar="NAME", help="only what stands in NAME's mathbox")
+    add("--under", metavar="NUMBER", help="only what the header NUMBER has below it")
     for option, name, told in (
         ("--like", "like", "only labels like PATTERN, in which * is anything; several: by commas"),
         ("--not", "unlike", "no labels like PATTERN"),
     ):
-        group.add_argument(
-            option, dest=name, metavar="PATTERN", action="append", default=[], help=told
-        )
-    group.add_argument(
-        "--among", metavar="FILE", action="append", default=[], help="only labels that FILE has"
-    )
+        add(option, dest=name, metavar="PATTERN", action="append", default=[], help=told)
+    add("--among", metavar="FILE", action="append", default=[], help="only labels that FILE has")
 
 
 def filters_of(arguments: argparse.Namespace) -> Filters:

@@ -4,10 +4,11 @@ import argparse
 import os
 
 from query.errors import NoAnswer, shown
+from query.options import Parser
 from query.output import reason
 
 
-def add_list(parser: argparse.ArgumentParser) -> None:
+def add_list(parser: Parser) -> None:
     """Adds `--list FILE`, more labels for `arguments.labels`."""
     parser.add_argument(
         "--list",

@@ -1,7 +1,117 @@
-"""The options that commands share, and which axioms they choose."""
+"""The words and options of commands: how they are read, those that commands share, and which
+axioms they choose."""
 
 import argparse
+import re
+from collections.abc import Container, Iterator
 from dataclasses import dataclass
+from itertools import islice
+from typing import Any, NoReturn
+
+from query.errors import NoAnswer, nearest, shown
+
+
+Given = list[tuple[argparse.Action, list[str]]]
+"""Arguments with the words that are given for them."""
+SHARES: dict[int | str | None, str] = {None: "(.)", "+": "(.+)", "*": "(.*)", "?": "(.?)"}
+"""How many words an argument takes, as a pattern that has a sign for each."""
+
+
+class Parser(argparse.ArgumentParser):
+    """The words and options of a command. argparse knows them and writes their page; what is given
+    is read here, since a label may be `--`, a word that argparse drops in Python 3.11."""
+
+    def __init__(self) -> None:
+        layout = argparse.RawDescriptionHelpFormatter
+        super().__init__(add_help=False, formatter_class=layout)
+        self.actions: list[argparse.Action] = []
+        self.apart: list[tuple[str, ...]] = []
+
+    def add_argument(self, *names: str, **settings: Any) -> argparse.Action:
+        """As in argparse. `group` is one of its groups, under which the page is to have it."""
+        self.actions.append(settings.pop("group", super()).add_argument(*names, **settings))
+        return self.actions[-1]
+
+    def exclude(self, *names: str) -> None:
+        """Lets only one of these options be given."""
+        self.apart.append(names)
+
+    def options(self) -> dict[str, argparse.Action]:
+        """The options by their names."""
+        return {name: action for action in self.actions for name in action.option_strings}
+
+    def read(self, words: list[str]) -> argparse.Namespace:
+        """What the words give: options from anywhere before a `--`, then the others. NoAnswer where
+        they aren't what the command takes."""
+        given: Given = []
+        plain: list[str] = []
+        left = iter(words)
+        for word in left:
+            if word == "--":
+                plain += left
+            elif word.startswith("-") and word != "-":
+                given.append(self.option(word, left))
+            else:
+                plain.append(word)
+        for names in self.apart:
+            some = [each for each in dict(given) if each.option_strings[0] in names]
+            if len(some) > 1:
+                refuse(some[1], f"not allowed with argument {some[0].option_strings[0]}")
+        given += self.shared_out(plain, dict(given))
+        found = argparse.Namespace(**{each.dest: each.default for each in self.actions})
+        for action, texts in given:
+            values = [value_of(action, text) for text in texts]
+            action(self, found, values[0] if action.nargs in (None, "?") else values)
+        return found
+
+    def option(self, word: str, left: Iterator[str]) -> tuple[argparse.Action, list[str]]:
+        """An option with its value, which is taken from what is left where it follows."""
+        name, sign, value = word.partition("=")
+        action = self.options().get(name)
+        if action is None:
+            raise NoAnswer(shown(f"there is no option {name}{nearest(name, self.options())}"))
+        if action.nargs == 0 and sign:
+            refuse(action, f"ignored explicit argument {value!r}")
+        values = [value] if sign else list(islice(left, action.nargs != 0))
+        if action.nargs != 0 and not values:
+            raise NoAnswer(f"the option {name} lacks its value")
+        return action, values
+
+    def shared_out(self, plain: list[str], given: Container[argparse.Action]) -> Given:
+        """The plain words by what they are given for. NoAnswer where some are missing or too many,
+        or where an option is missing that isn't among those given."""
+        wanted = [each for each in self.actions if not each.option_strings]
+        lacking = [str(each.metavar) for each in wanted if each.nargs in (None, "+")][len(plain) :]
+        for name, action in self.options().items():
+            if action.required and action not in given:
+                lacking.append(name)
+        share = re.match("".join(SHARES[each.nargs] for each in wanted), "." * len(plain))
+        if share is None or lacking:
+            told = f"the following arguments are required: {', '.join(lacking)}"
+        elif share.end() < len(plain):
+            told = f"unrecognized arguments: {' '.join(plain[share.end():])}"
+        else:
+            spans = [share.span(place + 1) for place in range(len(wanted))]
+            shared = [(each, plain[slice(*span)]) for each, span in zip(wanted, spans)]
+            return [(each, words) for each, words in shared if words or each.nargs == "*"]
+        raise NoAnswer(f"{shown(told)}; {self.format_usage().strip()}")
+
+
+def refuse(action: argparse.Action, why: str) -> NoReturn:
+    """Raises NoAnswer, for what is given for an argument."""
+    raise NoAnswer(shown(str(argparse.ArgumentError(action, why))))
+
+
+def value_of(action: argparse.Action, text: str) -> Any:
+    """What a word means for an argument."""
+    try:
+        value = action.type(text) if callable(action.type) else text
+    except argparse.ArgumentTypeError as error:
+        refuse(action, str(error))
+    if action.choices is not None and value not in action.choices:
+        known = ", ".join(map(repr, action.choices))
+        refuse(action, f"invalid choice: {value!r} (choose from {known})")
+    return value
 
 
 @dataclass(frozen=True)
@@ -35,16 +145,16 @@ def count(word: str) -> int:
     return int(word)
 
 
-def add_database(parser: argparse.ArgumentParser, name: str = "DATABASE") -> None:
+def add_database(parser: Parser, name: str = "DATABASE") -> None:
     """Adds the word DATABASE: `arguments.database`, or the name in small letters."""
     parser.add_argument(name.lower(), metavar=name)
 
 
-def add_choice_of_axioms(parser: argparse.ArgumentParser) -> None:
+def add_choice_of_axioms(parser: Parser) -> None:
     """Adds `--only`, `--all`, `--axioms`, `--ignore-definitions`, `--essential` and `--open`."""
-    group = parser.add_mutually_exclusive_group()
-    add_only(group, None)
-    group.add_argument("--all", action="store_true", help="the axioms are all $a statements")
+    parser.exclude("--only", "--all")
+    add_only(parser, None)
+    parser.add_argument("--all", action="store_true", help="the axioms are all $a statements")
     parser.add_argument(
         "--axioms",
         metavar="WORD",
@@ -58,19 +168,19 @@ def add_choice_of_axioms(parser: argparse.ArgumentParser) -> None:
     add_choice_of_citations(parser)
 
 
-def add_only(parser: argparse._ActionsContainer, default: str | None) -> None:
+def add_only(parser: Parser, default: str | None) -> None:
     """Adds `--only`."""
     words = "the axioms are those of typecode T (else: |-)"
     parser.add_argument("--only", metavar="T", help=words, default=default)
 
 
-def add_open(parser: argparse.ArgumentParser) -> None:
+def add_open(parser: Parser) -> None:
     """Adds `--open`."""
     words = "a theorem whose proof is ? counts as an axiom"
     parser.add_argument("--open", action="store_true", help=words)
 
 
-def add_choice_of_citations(parser: argparse.ArgumentParser) -> None:
+def add_choice_of_citations(parser: Parser) -> None:
     """Adds `--essential` and `--open`."""
     parser.add_argument(
         "--essential", action="store_true", help="only the logical part of proofs cites"
@@ -80,26 +190,14 @@ def add_choice_of_citations(parser: argparse.ArgumentParser) -> None:
 
 def options_of(arguments: argparse.Namespace) -> Options:
     """The options among the arguments of a command; those it doesn't take have their default."""
-    only = getattr(arguments, "only", None)
-    every = bool(getattr(arguments, "all", False))
-    essential = bool(getattr(arguments, "essential", False))
-    is_open = bool(getattr(arguments, "open", False))
-    words = [
-        word for words in getattr(arguments, "axioms", []) for word in words.split(",") if word
-    ]
-    chosen = None
-    for name, given in (
-        ("--only", only is not None),
-        ("--all", every),
-        ("--essential", essential),
-        ("--open", is_open),
-    ):
-        chosen = name if given else chosen
+    given = {name: value for name, value in vars(arguments).items() if value not in (None, False)}
+    chosen = [name for name in ("only", "all", "essential", "open") if name in given]
+    words = [word for words in given.get("axioms", []) for word in words.split(",") if word]
     return Options(
-        only=only if only is not None else None if every else "|-",
-        essential=essential,
-        open=is_open,
+        only=given.get("only", None if "all" in given else "|-"),
+        essential="essential" in given,
+        open="open" in given,
         axioms=tuple(words),
-        ignore_definitions=bool(getattr(arguments, "ignore_definitions", False)),
-        chosen=chosen,
+        ignore_definitions="ignore_definitions" in given,
+        chosen=f"--{chosen[-1]}" if chosen else None,
     )

@@ -9,6 +9,7 @@ from collections.abc import Callable
 from dataclasses import dataclass
 
 from query.context import Context
+from query.options import Parser
 
 TABLE_FORMATS = ("text", "tsv", "csv", "json")
 
@@ -26,7 +27,7 @@ class Command:
 
     name: str
     page: str
-    configure: Callable[[argparse.ArgumentParser], None]
+    configure: Callable[[Parser], None]
     run: Callable[[Context, argparse.Namespace], int]
     formats: tuple[str, ...] = TABLE_FORMATS
     lists: bool = False

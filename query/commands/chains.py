@@ -9,7 +9,7 @@ from query.database import Database
 from query.errors import NoAnswer
 from query.graph import Graph
 from query.output import Value
-from query.options import add_choice_of_citations, add_database, count, options_of
+from query.options import Parser, add_choice_of_citations, add_database, count, options_of
 from query.wrappers import wrappers
 
 WHY_PAGE = """
@@ -78,7 +78,7 @@ FREED = ["freed", "theorem"]
 WAYS = ["of", "what", "theorem", "cited"]
 
 
-def configure_why(parser: argparse.ArgumentParser) -> None:
+def configure_why(parser: Parser) -> None:
     """The words and options of `why`."""
     add_database(parser)
     parser.add_argument("label", metavar="LABEL")
@@ -118,7 +118,7 @@ def reverse(graph: Graph, node: int, end: int) -> str:
     return ""
 
 
-def add_keep(parser: argparse.ArgumentParser) -> None:
+def add_keep(parser: Parser) -> None:
     """Adds `--keep`."""
     parser.add_argument(
         "--keep",
@@ -163,7 +163,7 @@ def named_in(graph: Graph, end: int, words: list[str]) -> frozenset[int]:
     return frozenset(nodes)
 
 
-def configure_way_out(parser: argparse.ArgumentParser) -> None:
+def configure_way_out(parser: Parser) -> None:
     """The words and options of `way-out`."""
     add_database(parser)
     parser.add_argument("labels", metavar="[THEOREM] ON", nargs="+")
@@ -205,7 +205,7 @@ def run_way_out(context: Context, arguments: argparse.Namespace) -> int:
     return 0
 
 
-def configure_frees(parser: argparse.ArgumentParser) -> None:
+def configure_frees(parser: Parser) -> None:
     """The words and options of `frees`."""
     add_database(parser)
     parser.add_argument("on", metavar="ON")

@@ -5,7 +5,7 @@ import argparse
 from query.commands import Command
 from query.context import Context
 from query.errors import shown
-from query.options import add_choice_of_citations, add_database, options_of
+from query.options import Parser, add_choice_of_citations, add_database, options_of
 
 CITES_PAGE = """
 Lists in file order what the proof of LABEL itself applies, axioms and theorems of every typecode.
@@ -40,7 +40,7 @@ theorem  the label of the theorem
 PAIRS = ["theorem", "cited"]
 
 
-def configure_cites(parser: argparse.ArgumentParser) -> None:
+def configure_cites(parser: Parser) -> None:
     """The words and options of `cites`."""
     add_database(parser)
     parser.add_argument("labels", metavar="LABEL", nargs="+")
@@ -70,7 +70,7 @@ def run_cites(context: Context, arguments: argparse.Namespace) -> int:
     return 0
 
 
-def configure_cited_by(parser: argparse.ArgumentParser) -> None:
+def configure_cited_by(parser: Parser) -> None:
     """The words and options of `cited-by`."""
     add_database(parser)
     parser.add_argument("labels", metavar="LABEL", nargs="+")
@@ -89,7 +89,7 @@ def run_cited_by(context: Context, arguments: argparse.Namespace) -> int:
     return 0
 
 
-def configure_uncited(parser: argparse.ArgumentParser) -> None:
+def configure_uncited(parser: Parser) -> None:
     """The words and options of `uncited`."""
     add_database(parser)
     add_choice_of_citations(parser)

@@ -7,7 +7,7 @@ from query.changes import Comparison, Side, sides
 from query.commands import Command
 from query.context import Context
 from query.errors import NoAnswer, shown
-from query.options import add_choice_of_axioms, add_database, options_of
+from query.options import Parser, add_choice_of_axioms, add_database, options_of
 from query.output import Value
 from query.statements import Pairing
 
@@ -40,7 +40,7 @@ reports `renamed` and `changed` can't be told: they have no statements.
 """
 
 
-def configure(parser: argparse.ArgumentParser) -> None:
+def configure(parser: Parser) -> None:
     """Adds the words and options."""
     add_database(parser, "OLD")
     add_database(parser, "NEW")

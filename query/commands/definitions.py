@@ -5,7 +5,7 @@ import argparse
 from query.commands import Command
 from query.context import Context
 from query.definitions import Definitions
-from query.options import add_choice_of_citations, add_database, options_of
+from query.options import Parser, add_choice_of_citations, add_database, options_of
 from query.output import Value
 
 PAGE = """
@@ -38,7 +38,7 @@ axioms whose label doesn't begin with df-, and nothing of databases without wff,
 WORDS = {True: "yes", False: "no", None: "not judged"}
 
 
-def configure(parser: argparse.ArgumentParser) -> None:
+def configure(parser: Parser) -> None:
     """Adds the words and options."""
     add_database(parser)
     add_choice_of_citations(parser)

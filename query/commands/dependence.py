@@ -9,7 +9,7 @@ from query.context import Context
 from query.database import Database, Dependence
 from query.errors import shown
 from query.graph import Graph
-from query.options import add_choice_of_axioms, add_database, options_of
+from query.options import Parser, add_choice_of_axioms, add_database, options_of
 from query.output import Value
 
 RESTS_PAGE = """
@@ -52,16 +52,16 @@ leaves out what rests on that one too; it may be given several times.
 """
 
 
-def add_question(parser: argparse.ArgumentParser, flags: dict[str, str]) -> None:
+def add_question(parser: Parser, flags: dict[str, str]) -> None:
     """Adds DATABASE and LABELs, and options of which one may be given, each with its help."""
     add_database(parser)
     parser.add_argument("labels", metavar="LABEL", nargs="+")
-    group = parser.add_mutually_exclusive_group()
+    parser.exclude(*flags)
     for flag, told in flags.items():
-        group.add_argument(flag, action="store_true", help=told)
+        parser.add_argument(flag, action="store_true", help=told)
 
 
-def configure_rests(parser: argparse.ArgumentParser) -> None:
+def configure_rests(parser: Parser) -> None:
     """The words and options of `rests`."""
     flags = {
         "--theorems": "list theorems instead of axioms",
@@ -164,7 +164,7 @@ def rested_on(database: Database, dependence: Dependence, label: str) -> Sequenc
     return []
 
 
-def configure_falls(parser: argparse.ArgumentParser) -> None:
+def configure_falls(parser: Parser) -> None:
     """The words and options of `falls`."""
     flags = {
         "--any-of": "what rests on one of the LABELs (the default)",

@@ -6,7 +6,7 @@ from query.bare import Stretch, bare, proof_of
 from query.commands import Command
 from query.context import Context
 from query.errors import NoAnswer, shown
-from query.options import Options, add_database
+from query.options import Options, Parser, add_database
 from query.program import Refused
 
 PAGE = """
@@ -19,7 +19,7 @@ database may have open theorems and wrong proofs, and `set-proof` takes what it 
 """
 
 
-def configure(parser: argparse.ArgumentParser) -> None:
+def configure(parser: Parser) -> None:
     """The words."""
     add_database(parser)
     parser.add_argument("theorem", metavar="THEOREM")

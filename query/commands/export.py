@@ -7,7 +7,7 @@ from query import progress
 from query.commands import Command
 from query.context import Context
 from query.errors import shown
-from query.options import add_choice_of_axioms, add_database, options_of
+from query.options import Parser, add_choice_of_axioms, add_database, options_of
 from query.output import Value
 from query.program import version
 
@@ -22,7 +22,7 @@ rows   how many rows it has
 """
 
 
-def configure(parser: argparse.ArgumentParser) -> None:
+def configure(parser: Parser) -> None:
     """The words and options."""
     add_database(parser)
     parser.add_argument("--sqlite", metavar="FILE", required=True, help="the file to write")

@@ -15,7 +15,7 @@ from query.database import Database
 from query.errors import NoAnswer, shown
 from query.findings import Verdict, as_annotations, as_markdown, as_object, as_summary, as_text
 from query.git import short
-from query.options import Options, add_database
+from query.options import Options, Parser, add_database
 from query.output import reason
 from query.program import Refused
 from query.rules import Case, Finding, judge
@@ -77,7 +77,7 @@ class Request:
         return notes
 
 
-def configure(parser: argparse.ArgumentParser) -> None:
+def configure(parser: Parser) -> None:
     """Adds the words and options."""
     parser.add_argument("old", metavar="OLD", nargs="?")
     add_database(parser)

@@ -10,6 +10,7 @@ from query.database import Database
 from query.errors import NoAnswer
 from query.graph import Graph
 from query.options import (
+    Parser,
     add_choice_of_axioms,
     add_choice_of_citations,
     add_database,
@@ -40,7 +41,7 @@ scale and a legend.
 """
 
 
-def configure_graph(parser: argparse.ArgumentParser) -> None:
+def configure_graph(parser: Parser) -> None:
     """The words and options of `graph`."""
     add_database(parser)
     parser.add_argument("theorem", metavar="THEOREM", nargs="?")
@@ -133,7 +134,7 @@ def graphml(graph: Graph, nodes: set[int], downwards: bool) -> Iterable[str]:
     yield "</graphml>"
 
 
-def configure_picture(parser: argparse.ArgumentParser) -> None:
+def configure_picture(parser: Parser) -> None:
     """The words and options of `picture`."""
     add_database(parser)
     parser.add_argument("--png", action="store_true", help="a PNG file with axes and a legend")

@@ -14,7 +14,7 @@ from query.figures import Figures, Question, figures_of
 from query.git import repository_of
 from query.history import Revision, nothing_in, range_of, revisions
 from query.objects import Objects
-from query.options import add_choice_of_citations, add_database, options_of
+from query.options import Parser, add_choice_of_citations, add_database, options_of
 from query.output import Value
 from query.source import is_of_git
 
@@ -53,7 +53,7 @@ Row = tuple[Value, ...]
 Known = Sequence[tuple[Revision, Figures]]
 
 
-def configure(parser: argparse.ArgumentParser) -> None:
+def configure(parser: Parser) -> None:
     """Adds the words and options."""
     add_database(parser)
     parser.add_argument("range", metavar="REV..REV")

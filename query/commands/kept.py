@@ -7,6 +7,7 @@ from query import cache, secret
 from query.commands import Command
 from query.context import Context
 from query.errors import NoAnswer, shown
+from query.options import Parser
 from query.output import reason
 
 PAGE = """
@@ -30,7 +31,7 @@ clear    removes them
 COLUMNS = ["folder", "results", "bytes"]
 
 
-def configure(parser: argparse.ArgumentParser) -> None:
+def configure(parser: Parser) -> None:
     """The words of `cache`."""
     parser.add_argument("what", nargs="?", choices=("show", "clear"), default="show")
 

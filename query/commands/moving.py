@@ -6,7 +6,7 @@ from query.commands import Command
 from query.context import Context
 from query.errors import NoAnswer, nearest, shown
 from query.graph import Graph
-from query.options import add_database, options_of
+from query.options import Parser, add_database, options_of
 from query.output import Value
 from query.assertions import Assertion
 from query.text import Text
@@ -31,7 +31,7 @@ hypotheses of blocks, have to be declared there too.
 """
 
 
-def configure_move(parser: argparse.ArgumentParser) -> None:
+def configure_move(parser: Parser) -> None:
     """The words and options of `move`."""
     add_database(parser)
     parser.add_argument("theorem", metavar="THEOREM")

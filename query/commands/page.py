@@ -11,7 +11,7 @@ from query.commands import Command
 from query.context import Context
 from query.database import Database
 from query.errors import NoAnswer
-from query.options import Options, add_choice_of_citations, add_database
+from query.options import Options, Parser, add_choice_of_citations, add_database
 from query.program import HOME, SCRIPT, Running, devnull, located, without_node
 from query.source import Source
 
@@ -30,7 +30,7 @@ Example: mmquery page --against v1:set.mm set.mm > set.html
 """
 
 
-def configure(parser: argparse.ArgumentParser) -> None:
+def configure(parser: Parser) -> None:
     """Adds the words and options."""
     add_database(parser)
     parser.add_argument(

@@ -7,7 +7,7 @@ from query.context import Context
 from query.database import Dependence
 from query.errors import NoAnswer
 from query.lists import add_list, labels_of
-from query.options import add_choice_of_axioms, add_database, count, options_of
+from query.options import Parser, add_choice_of_axioms, add_database, count, options_of
 from query.output import Value
 
 TOP_PAGE = """
@@ -51,16 +51,16 @@ theorem  the label of the theorem
 """
 
 
-def configure_top(parser: argparse.ArgumentParser) -> None:
+def configure_top(parser: Parser) -> None:
     """The words and options of `top`."""
     add_database(parser)
     parser.add_argument("number", metavar="N", nargs="?", type=count, help="how many (else: 10)")
-    group = parser.add_mutually_exclusive_group()
-    group.add_argument("--theorems", action="store_true", help="rank theorems, not axioms")
-    group.add_argument(
+    parser.exclude("--theorems", "--below", "--against")
+    parser.add_argument("--theorems", action="store_true", help="rank theorems, not axioms")
+    parser.add_argument(
         "--below", metavar="B", type=count, help="all axioms on which fewer than B theorems rest"
     )
-    group.add_argument(
+    parser.add_argument(
         "--against", metavar="OLD", help="axioms on which another number rests than in OLD"
     )
     add_choice_of_axioms(parser)
@@ -114,7 +114,7 @@ def put_ranking(context: Context, arguments: argparse.Namespace, dependence: Dep
     context.out.table(columns, kept)
 
 
-def configure_within(parser: argparse.ArgumentParser) -> None:
+def configure_within(parser: Parser) -> None:
     """The words and options of `within`."""
     add_database(parser)
     parser.add_argument("labels", metavar="LABEL", nargs="*")
@@ -139,7 +139,7 @@ def run_within(context: Context, arguments: argparse.Namespace) -> int:
     return 0
 
 
-def configure_same(parser: argparse.ArgumentParser) -> None:
+def configure_same(parser: Parser) -> None:
     """The words and options of `same`."""
     add_database(parser)
     parser.add_argument("theorem", metavar="THEOREM")

@@ -8,7 +8,7 @@ from query.commands import Command
 from query.context import Context
 from query.database import Dependence
 from query.filters import Test
-from query.options import Options, add_database, add_only, add_open
+from query.options import Options, Parser, add_database, add_only, add_open
 from query.output import Value
 from query.rules import is_discouraged
 from query.spare.changes import LAST, Wanted, conventions_of, is_fit
@@ -39,7 +39,7 @@ of how many theorems it takes too long to find what they repeat.
 """
 
 
-def configure(parser: argparse.ArgumentParser) -> None:
+def configure(parser: Parser) -> None:
     """Adds the words and options."""
     add_database(parser)
     add_only(parser, "|-")

@@ -8,7 +8,7 @@ from query.changes import Comparison, sides, text_of_side
 from query.commands import TABLE_FORMATS, Command
 from query.context import Context
 from query.order import longest_rising
-from query.options import add_choice_of_axioms, add_database, options_of
+from query.options import Parser, add_choice_of_axioms, add_database, options_of
 from query.output import Value
 from query.text import Text
 
@@ -68,7 +68,7 @@ class Change:
         return [self.label, self.status, self.was, self.axioms, *lists, self.bytes]
 
 
-def configure(parser: argparse.ArgumentParser) -> None:
+def configure(parser: Parser) -> None:
     """Adds the words and options."""
     add_database(parser, "OLD")
     add_database(parser, "NEW")

@@ -6,7 +6,7 @@ from query.commands import Command
 from query.context import Context
 from query.database import Database
 from query.errors import NoAnswer, nearest, shown
-from query.options import Options, add_database, add_only, add_open, count
+from query.options import Options, Parser, add_database, add_only, add_open, count
 from query.output import Value
 from query.spare.changes import Changer, Place, Wanted
 from query.spare.kept import Change
@@ -72,7 +72,7 @@ CONVENTIONS = {
 """What sets conventions aside."""
 
 
-def configure(parser: argparse.ArgumentParser) -> None:
+def configure(parser: Parser) -> None:
     """Adds the words and options."""
     add_database(parser)
     parser.add_argument("axiom", metavar="AXIOM", nargs="*")

@@ -12,6 +12,7 @@ from query.database import Dependence
 from query.errors import NoAnswer, shown
 from query.options import (
     Options,
+    Parser,
     add_choice_of_axioms,
     add_choice_of_citations,
     add_database,
@@ -92,7 +93,7 @@ of       in whose mathbox that is
 """
 
 
-def configure_with_axioms(parser: argparse.ArgumentParser) -> None:
+def configure_with_axioms(parser: Parser) -> None:
     """The words and options of `chapters`."""
     add_database(parser)
     parser.add_argument("axiom", metavar="AXIOM", nargs="*")
@@ -136,7 +137,7 @@ def run_chapters(context: Context, arguments: argparse.Namespace) -> int:
     return 0
 
 
-def configure_order(parser: argparse.ArgumentParser) -> None:
+def configure_order(parser: Parser) -> None:
     """The words and options of `order`."""
     add_database(parser)
     add_choice_of_axioms(parser)
@@ -159,7 +160,7 @@ def run_order(context: Context, arguments: argparse.Namespace) -> int:
     return 0
 
 
-def configure_unfinished(parser: argparse.ArgumentParser) -> None:
+def configure_unfinished(parser: Parser) -> None:
     """The words and options of `unfinished`."""
     add_database(parser)
     parser.add_argument("theorem", metavar="THEOREM", nargs="?")
@@ -195,7 +196,7 @@ def run_unfinished(context: Context, arguments: argparse.Namespace) -> int:
     return 0
 
 
-def configure_citations(parser: argparse.ArgumentParser) -> None:
+def configure_citations(parser: Parser) -> None:
     """The words and options of `discouraged` and `mathboxes`."""
     add_database(parser)
     add_choice_of_citations(parser)

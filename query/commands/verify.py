@@ -10,7 +10,7 @@ from query.commands import Command
 from query.context import Context
 from query.database import Database
 from query.faults import FAULTS, UNKNOWN, place_of, statement_at
-from query.options import add_choice_of_citations, add_database, count, options_of
+from query.options import Parser, add_choice_of_citations, add_database, count, options_of
 from query.output import Value
 from query.program import Refused
 from query.source import Source
@@ -44,7 +44,7 @@ FIELDS += ["proved", "wanted", "word", "declared"]
 COLUMNS = ["valid", "axioms", "theorems", *FIELDS]
 
 
-def configure(parser: argparse.ArgumentParser) -> None:
+def configure(parser: Parser) -> None:
     """The words and options of `verify`."""
     add_database(parser)
     parser.add_argument("--each", action="store_true", help="the faults of all proofs")

@@ -307,7 +307,7 @@ def texts(numbers: dict[str, int]) -> dict[str, str]:
 
 def of_parser(name: str) -> dict[str, argparse.Action]:
     """The options of a command of mmquery by their words."""
-    return dict(parser_of(command(name))._option_string_actions)
+    return parser_of(command(name)).options()
 
 
 class OfMmquery(unittest.TestCase):

@@ -131,7 +131,7 @@ class Manual(World):
         told = dict(re.findall(r"^\.TP\n\.B (\S+)\n(.*)\.$", part, re.M))
         self.assertEqual(lower(told), lower(summaries()))
         part = page[page.index(".SH OPTIONS") : page.index(".SH EXIT STATUS")]
-        common = set(parser_of(command("rests"))._option_string_actions)
+        common = set(parser_of(command("rests")).options())
         for option in common - {"--theorems", "--apart"}:
             self.assertRegex(part, rf"(?m)^\.BI? .*{option}(?![a-z-])|^\.BR .*{option}(?![a-z-])")
 
