@@ -14,9 +14,9 @@ from functools import cached_property, partial
 from query import cache, progress, secret
 from query.database import Database, Dependence, from_parts, to_parts
 from query.errors import NoAnswer
+from query.faults import Refused
 from query.graph import Graph
 from query.parallel import begun
-from query.program import Refused
 from query.statements import Pairer, Pairing
 from query.text import Text
 

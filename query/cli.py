@@ -132,7 +132,7 @@ def main(words: list[str]) -> NoReturn:
     try:
         status = run(words)
     except NoAnswer as why:
-        status = no_answer(str(why))
+        status = no_answer(why.told())
     except MemoryError:
         status = no_answer("out of memory")
     except OSError as error:

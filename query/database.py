@@ -11,10 +11,11 @@ from typing import TYPE_CHECKING
 from query import cache, program, progress
 from query.assertions import Damaged
 from query.errors import NoAnswer, nearest, shown
+from query.faults import Refused
 from query.graph import Graph, Lists
 from query.marks import Marks, columns_of, mask
 from query.options import Options
-from query.program import REFUSAL, Program, Refused
+from query.program import REFUSAL, Program
 from query.report import Prepared, checked
 from query.source import Source, opened
 from query.told import COUNTS, SECTIONS, counted, told

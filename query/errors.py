@@ -9,8 +9,11 @@ FEW, MANY = 500, 20_000
 
 
 class NoAnswer(Exception):
-    """There is no answer, status 2. Its text is the one line on standard error, without a
-    prefix."""
+    """There is no answer, status 2."""
+
+    def told(self) -> str:
+        """The one line on standard error, without a prefix."""
+        return str(self)
 
 
 def shown(text: str, kept: str = "") -> str:

@@ -1,10 +1,11 @@
-"""What each fault's code means and what to do about it, and which statement has it.
+"""Refusals: what each fault's code means and what to do about it, and which statement has it.
 
 The table is that of docs/FAULTS.md, in short; a test compares them.
 """
 
 import re
 
+from query.errors import NoAnswer
 from query.source import Source
 
 # Code, meaning, advice.
@@ -177,36 +178,57 @@ LABEL = re.compile(rb"[A-Za-z0-9._-]+")
 ENDS = (b"$.", b"${", b"$}")
 
 
-def explained(source: Source, line: int, column: int, code: str) -> str:
-    """A refusal in one line: the place as compilers write it, the statement where it is known, what
-    the code means and what to do."""
-    meaning, advice = FAULTS.get(code, UNKNOWN)
-    statement = "" if source.is_report() else statement_at(source.data, line, column, code)
-    place = f" {statement}" if statement else ""
-    return f"{source.name}:{line}:{column}: refused {code}{place}: {meaning}; {advice}"
+class Refused(NoAnswer):
+    """The program refused the database. Line and column count from 1, in bytes; the code is `E00`
+    to `E45`."""
+
+    def __init__(self, source: Source, line: int, column: int, code: str) -> None:
+        super().__init__(f"{source.name}:{line}:{column}: refused {code}")
+        self.source = source
+        self.line = line
+        self.column = column
+        self.code = code
+        self.meaning, self.advice = FAULTS.get(code, UNKNOWN)
+
+    @property
+    def is_of_proof(self) -> bool:
+        """Whether a proof has the fault. Other faults come first, wherever they stand."""
+        return self.code.startswith(("E3", "E4"))
+
+    def at(self) -> int:
+        """The byte offset from 0 of the fault."""
+        place = 0
+        for _ in range(self.line - 1):
+            place = self.source.data.find(b"\n", place) + 1
+        return min(place + self.column - 1, len(self.source.data))
+
+    def statement(self) -> str:
+        """Which statement has the fault: its label, or `a $c statement`; empty where that can't be
+        told."""
+        if self.source.is_report() or self.code == "E00":
+            return ""
+        return statement_at(self.source.data, self.at())
+
+    def said(self) -> str:
+        """Which statement is refused, and what the code means."""
+        found = self.statement()
+        named = found if not found or " " in found else f"'{found}'"
+        return f"refused {self.code}{named and f' in {named}'}: {self.meaning}"
+
+    def told(self) -> str:
+        """The place as compilers write it, what is said, and what to do."""
+        return f"{self.source.name}:{self.line}:{self.column}: {self.said()}; {self.advice}"
 
 
-def place_of(data: bytes, line: int, column: int) -> int:
-    """The byte offset from 0 of a line and a column, which count from 1."""
-    place = 0
-    for _ in range(line - 1):
-        place = data.find(b"\n", place) + 1
-    return min(place + column - 1, len(data))
-
-
-def statement_at(data: bytes, line: int, column: int, code: str) -> str:
-    """Which statement has a place, such as `in 'id'`; empty where that can't be told."""
-    if code == "E00":
-        return ""
-    place = place_of(data, line, column)
+def statement_at(data: bytes, place: int) -> str:
+    """Which statement has a place: its label, or `a $c statement`; empty where that can't be
+    told."""
     word = re.compile(rb"[^ \t\n\f\r]*").match(data, place)
     end = word.end() if word else place
     label = first_word(data[:place], data[place:end])
     if LABEL.fullmatch(label):
-        return f"in '{label.decode()}'"
-    if label in (b"$c", b"$v", b"$d"):
-        return f"in a {label.decode()} statement"
-    return ""
+        return label.decode()
+    return f"a {label.decode()} statement" if label in (b"$c", b"$v", b"$d") else ""
 
 
 def first_word(before: bytes, last: bytes) -> bytes:

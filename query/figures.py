@@ -16,13 +16,13 @@ from functools import partial
 from query import cache, progress, system
 from query.database import Database, key_of, numbers_of
 from query.errors import NoAnswer, shown
+from query.faults import Refused
 from query.git import short
 from query.history import Revision
 from query.marks import columns_of
 from query.objects import Objects
 from query.options import Options
 from query.parallel import Task, begun
-from query.program import Refused
 from query.report import Prepared
 from query.source import Source, unpacked
 

@@ -43,10 +43,7 @@ class Later:
 
     def result(self) -> bytes:
         """Does the work."""
-        try:
-            return self.work()
-        except NoAnswer as why:
-            raise NoAnswer(str(why)) from None
+        return self.work()
 
     def stop(self) -> None:
         """Does nothing: the work was done, or never begun."""
@@ -118,7 +115,7 @@ def _do(work: Callable[[], bytes], writing: int) -> NoReturn:
         try:
             data = DONE + work()
         except NoAnswer as why:
-            data = WITHOUT_ANSWER + str(why).encode("utf-8", "surrogateescape")
+            data = WITHOUT_ANSWER + why.told().encode("utf-8", "surrogateescape")
         view = memoryview(data)
         while view:
             view = view[os.write(writing, view) :]

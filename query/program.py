@@ -10,6 +10,7 @@ from functools import cached_property
 
 from query import signals, system
 from query.errors import NoAnswer, shown
+from query.faults import Refused
 from query.output import reason
 from query.source import Source
 
@@ -20,29 +21,6 @@ MOST = 2_000_000_000
 HOME = os.path.dirname(os.path.dirname(os.path.realpath(__file__)))
 SCRIPT = "mmdepend.mjs"
 """The program for Node."""
-
-
-class Refused(NoAnswer):
-    """The program refused the database. Line and column count from 1, in bytes; the code is `E00`
-    to `E45`."""
-
-    def __init__(self, source: Source, line: int, column: int, code: str) -> None:
-        super().__init__(f"{source.name}:{line}:{column}: refused {code}")
-        self.source = source
-        self.line = line
-        self.column = column
-        self.code = code
-
-    @property
-    def is_of_proof(self) -> bool:
-        """Whether a proof has the fault. Other faults come first, wherever they stand."""
-        return self.code.startswith(("E3", "E4"))
-
-    def __str__(self) -> str:
-        # That module needs this one.
-        from query.faults import explained
-
-        return explained(self.source, self.line, self.column, self.code)
 
 
 class Running:

@@ -6,8 +6,8 @@ from query.bare import Stretch, bare, proof_of
 from query.commands import Command
 from query.context import Context
 from query.errors import NoAnswer, shown
+from query.faults import Refused
 from query.options import Options, Parser, add_database
-from query.program import Refused
 
 PAGE = """
 Writes the database with the proof of OTHER in place of that of THEOREM, or with ? where OTHER is ?.

@@ -13,11 +13,11 @@ from query.config import FILE_NAME, RULES, find_config, load_config
 from query.context import Context
 from query.database import Database
 from query.errors import NoAnswer, shown
+from query.faults import Refused
 from query.findings import Verdict, as_annotations, as_markdown, as_object, as_summary, as_text
 from query.git import short
 from query.options import Options, Parser, add_database
 from query.output import reason
-from query.program import Refused
 from query.rules import Case, Finding, judge
 from query.source import Source, unpacked
 
@@ -152,9 +152,8 @@ def judged(request: Request) -> list[Finding]:
 
 def refusal_of(refused: Refused) -> Finding:
     """The finding that the database is refused."""
-    name, line, column = refused.source.name, refused.line, refused.column
-    said = str(refused).removeprefix(f"{name}:{line}:{column}: ")
-    return Finding("valid", name, line, "", "", said, column)
+    said = f"{refused.said()}; {refused.advice}"
+    return Finding("valid", refused.source.name, refused.line, "", "", said, refused.column)
 
 
 def add_summary(path: str, text: str) -> None:

@@ -9,10 +9,9 @@ from query.bare import bare, declared_at, leave_open
 from query.commands import Command
 from query.context import Context
 from query.database import Database
-from query.faults import FAULTS, UNKNOWN, place_of, statement_at
+from query.faults import Refused
 from query.options import Parser, add_choice_of_citations, add_database, count, options_of
 from query.output import Value
-from query.program import Refused
 from query.source import Source
 
 PAGE = """
@@ -83,7 +82,7 @@ def others(database: Database, first: Refused, most: int) -> Iterator[Refused]:
     for number in range(most):
         if not refusal.is_of_proof:
             return
-        leave_open(text, data, place_of(data, refusal.line, refusal.column))
+        leave_open(text, data, refusal.at())
         progress.now(f"verifying {database.name} without {number + 1} proofs")
         source = Source(database.name, bytes(data))
         try:
@@ -103,37 +102,25 @@ def put_refusals(context: Context, refusals: list[Refused]) -> None:
         return
     rows: list[list[Value]] = []
     for refusal in refusals:
-        meaning, advice = FAULTS.get(refusal.code, UNKNOWN)
-        label = statement_of(refusal).removeprefix("in ").strip("'") or None
-        row: list[Value] = [refusal.line, refusal.column, refusal.code, label, meaning, advice]
-        rows.append([False, None, None, *row, *formulas(refusal), *words.of(refusal)])
+        row: list[Value] = [refusal.line, refusal.column, refusal.code, refusal.statement() or None]
+        row += [refusal.meaning, refusal.advice, *formulas(refusal), *words.of(refusal)]
+        rows.append([False, None, None, *row])
     context.out.table(COLUMNS, rows)
 
 
 def put_lines(context: Context, refusal: Refused, words: "Words") -> None:
     """Answers with a fault, for a person."""
-    meaning, advice = FAULTS.get(refusal.code, UNKNOWN)
-    statement = statement_of(refusal)
-    place = f" {statement}" if statement else ""
     at = f"{refusal.source.name}:{refusal.line}:{refusal.column}"
-    context.out.line(f"{at}: refused {refusal.code}{place}: {meaning}")
+    context.out.line(f"{at}: {refusal.said()}")
     word, declared = words.of(refusal)
     if word is not None:
         where = f"is declared on line {declared}" if declared else "is declared nowhere"
         context.out.line(f"  the word          {word}, which {where}")
-    context.out.line(f"  what to do        {advice}")
+    context.out.line(f"  what to do        {refusal.advice}")
     proved, wanted = formulas(refusal)
     if proved is not None:
         context.out.line(f"  the proof proves  {proved}")
         context.out.line(f"  the theorem says  {wanted}")
-
-
-def statement_of(refusal: Refused) -> str:
-    """Which statement has a fault, such as `in 'id'`; empty where that can't be told."""
-    source = refusal.source
-    if source.is_report():
-        return ""
-    return statement_at(source.data, refusal.line, refusal.column, refusal.code)
 
 
 def formulas(refusal: Refused) -> tuple[str | None, str | None]:
@@ -144,8 +131,7 @@ def formulas(refusal: Refused) -> tuple[str | None, str | None]:
     source = refusal.source
     if refusal.code != "E38" or source.is_report():
         return None, None
-    end = place_of(source.data, refusal.line, refusal.column) + len(b"$.")
-    return proved(source, end) or (None, None)
+    return proved(source, refusal.at() + len(b"$.")) or (None, None)
 
 
 class Words:
@@ -163,11 +149,10 @@ class Words:
     def of(self, refusal: Refused) -> tuple[str | None, int | None]:
         """The word for which a proof is refused, and the line on which something of this name is
         declared; None where that can't be told."""
-        data = self.source.data
         if refusal.code != "E33" or self.source.is_report():
             return None, None
-        place = place_of(data, refusal.line, refusal.column)
-        word = data[place : place + LONGEST].split(None, 1)[0].decode("latin-1")
+        place = refusal.at()
+        word = self.source.data[place : place + LONGEST].split(None, 1)[0].decode("latin-1")
         if word not in self.known:
             self.known[word] = self.line_of(word)
         return word, self.known[word]

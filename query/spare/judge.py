@@ -14,7 +14,7 @@ from query.assertions import Assertion
 from query.bare import bare
 from query.database import Database
 from query.errors import NoAnswer
-from query.program import Refused
+from query.faults import Refused
 from query.report import Prepared
 from query.source import Source
 from query.spare.kept import Change
@@ -33,7 +33,7 @@ def judge(database: Database, data: bytes, changes: Sequence[Change]) -> None:
     try:
         prepared = new.prepared
     except Refused as why:
-        wrong(str(why))
+        wrong(why.told())
     by_label = {change.theorem: change for change in changes}
     if len(by_label) != len(changes):
         wrong("a theorem is changed twice")
