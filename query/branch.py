@@ -8,12 +8,11 @@ that is a finding.
 from __future__ import annotations
 
 import os
-import re
 from collections.abc import Mapping
 from dataclasses import dataclass, field
 from pathlib import Path
 
-from query.config import FILE_NAME, Config, load_config, read_config
+from query.config import FILE_NAME, Config, Misread, load_config, read_config
 from query.errors import NoAnswer, shown
 from query.git import NoRepository, Repository, repository_of, short
 from query.objects import Objects, id_of
@@ -23,9 +22,6 @@ from query.weakened import losses
 
 ANCHORS = ("refs/remotes/origin/HEAD", "refs/remotes/origin/main")
 """Whose `mmdepend.toml` says what the base is, where `--base` doesn't: the first that is there."""
-
-FAULT = re.compile(r".*?(?::(\d+))?: (.*)", re.DOTALL)
-"""What is wrong with a file of a name, and perhaps of a line."""
 
 
 @dataclass(frozen=True)
@@ -231,10 +227,8 @@ def compared(
     that of OLD and asks nothing less."""
     try:
         new = read(after, name)
-    except NoAnswer as why:
-        told = FAULT.fullmatch(str(why).removeprefix(name))
-        line, reason = (told[1], told[2]) if told else (None, str(why))
-        return (Finding("config", name, int(line or 0), "", "", reason),), ()
+    except Misread as why:
+        return (Finding("config", name, why.line, "", "", why.reason),), ()
     found = tuple(
         Finding("config", name, loss.line, loss.label, loss.axiom, loss.reason)
         for loss in losses(old, new)

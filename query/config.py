@@ -140,6 +140,15 @@ def find_config(folder: Path) -> Path | None:
     return None
 
 
+class Misread(NoAnswer):
+    """The file isn't right. Line 0 stands for none."""
+
+    def __init__(self, name: str, reason: str, line: int = 0) -> None:
+        super().__init__(f"{name}:{line}: {reason}" if line else f"{name}: {reason}")
+        self.line = line
+        self.reason = reason
+
+
 def load_config(path: Path | None) -> Config:
     """Reads the file; the defaults where there is none. NoAnswer where it isn't right."""
     if path is None:
@@ -152,18 +161,18 @@ def load_config(path: Path | None) -> Config:
 
 
 def read_config(data: bytes, name: str) -> Config:
-    """Reads the content of the file. NoAnswer where it isn't right."""
+    """Reads the content of the file."""
     if len(data) > LONGEST:
-        raise NoAnswer(f"{name}: longer than {LONGEST} bytes")
+        raise Misread(name, f"longer than {LONGEST} bytes")
     try:
         text = data.decode("utf-8")
         table = tomllib.loads(text)
     except UnicodeDecodeError:
-        raise NoAnswer(f"{name}: not UTF-8") from None
+        raise Misread(name, "not UTF-8") from None
     except ValueError as error:
-        raise NoAnswer(f"{name}: {shown(str(error))}") from None
+        raise Misread(name, shown(str(error))) from None
     except RecursionError:
-        raise NoAnswer(f"{name}: nested too deeply") from None
+        raise Misread(name, "nested too deeply") from None
     lines = lines_of(text)
     Checker(lines, name).check(table, SHAPE, ())
     return config_of(table, name, lines)
@@ -207,14 +216,12 @@ class Checker:
         self.lines = lines
         self.name = name
 
-    def fail(self, path: tuple[str, ...], message: str) -> NoAnswer:
+    def fail(self, path: tuple[str, ...], message: str) -> Misread:
         """What is wrong with a key, for `raise`."""
-        line = self.lines.get(path)
-        place = f"{self.name}:{line}" if line else self.name
-        return NoAnswer(f"{place}: {message}")
+        return Misread(self.name, message, self.lines.get(path, 0))
 
     def check(self, table: Mapping[str, object], shape: Shape, path: tuple[str, ...]) -> None:
-        """Raises NoAnswer where a key is unknown, or a value has another type than it should."""
+        """Raises Misread where a key is unknown, or a value has another type than it should."""
         for key, value in table.items():
             here = (*path, key)
             wanted = shape.get(key)

@@ -23,13 +23,19 @@ from typing import NamedTuple, TypeVar
 STEPS, STEPS_OF_SYMBOL, MOST_STEPS = 2000, 20, 2_000_000
 """So many steps, and so many for each symbol, are taken to read a formula, and at most so many.
 Of Debian's databases no formula takes more than 4 for each symbol."""
-UNBUILT = "it isn't built by the syntax axioms before it"
 
 Kind = TypeVar("Kind")
 
 
 class NotRead(Exception):
     """A formula has no tree, or more than one, or takes too long. Its text says which."""
+
+
+class Unbuilt(NotRead):
+    """It has no tree."""
+
+    def __init__(self) -> None:
+        super().__init__("it isn't built by the syntax axioms before it")
 
 
 class Part(NamedTuple):
@@ -214,7 +220,7 @@ class Reader:
     def tree_of(self, root: Part) -> Tree:
         """The tree of a part. NotRead where it has none, or several."""
         if root not in self.known:
-            raise NotRead(UNBUILT)
+            raise Unbuilt
         tree = Tree(root)
         left = [root]
         is_sound = True
@@ -228,7 +234,7 @@ class Reader:
                 left += tree.below[part]
                 is_sound = is_sound and self.are_equal(item.node.rule, tree.below[part])
         if not is_sound:
-            raise NotRead(UNBUILT)
+            raise Unbuilt
         return tree
 
     def are_equal(self, rule: str, parts: Sequence[Part]) -> bool:

@@ -6,22 +6,27 @@ from types import FrameType
 from query import system
 from query.errors import shown
 
-_doing = "working"
-_is_shown = False
+
+class Line:
+    """What the line says, and whether it is shown."""
+
+    doing = "working"
+    is_shown = False
+
+
+_line = Line()
 
 
 def now(doing: str) -> None:
     """Says what is being done, such as `verifying set.mm`."""
-    global _doing
-    _doing = shown(doing)
-    if _is_shown:
+    _line.doing = shown(doing)
+    if _line.is_shown:
         _show()
 
 
 def _show(*_: int | FrameType | None) -> None:
-    global _is_shown
-    _is_shown = True
-    _put(f"\r\x1b[Kmmquery: {_doing} ..")
+    _line.is_shown = True
+    _put(f"\r\x1b[Kmmquery: {_line.doing} ..")
 
 
 def _put(text: str) -> None:
@@ -40,9 +45,8 @@ def begin() -> None:
 
 def end() -> None:
     """Takes the line away."""
-    global _is_shown
     if os.isatty(2):
         system.not_after()
-    if _is_shown:
+    if _line.is_shown:
         _put("\r\x1b[K")
-    _is_shown = False
+    _line.is_shown = False

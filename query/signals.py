@@ -8,23 +8,31 @@ import os
 import signal
 from collections.abc import Callable, Iterator
 from contextlib import contextmanager
+from itertools import count
 from types import FrameType
 
 from query import system
 from query.system import STOPPING
 
 _to_do: dict[int, Callable[[], None]] = {}
-_count = 0
-_is_held = False
-_came: int | None = None
+_numbers = count(1)
+
+
+class Waiting:
+    """Whether signals are held back, and the one that came meanwhile."""
+
+    is_held = False
+    came: int | None = None
+
+
+_waiting = Waiting()
 
 
 def at_stop(action: Callable[[], None]) -> int:
     """Registers what is to be done when a signal ends the command. Returns its number."""
-    global _count
-    _count += 1
-    _to_do[_count] = action
-    return _count
+    number = next(_numbers)
+    _to_do[number] = action
+    return number
 
 
 def forget(number: int) -> None:
@@ -41,8 +49,7 @@ def forget_all() -> None:
 @contextmanager
 def held() -> Iterator[None]:
     """Holds signals back while something begins that is to be ended by one, up to `at_stop`."""
-    global _is_held
-    _is_held = True
+    _waiting.is_held = True
     try:
         yield
     finally:
@@ -50,16 +57,14 @@ def held() -> Iterator[None]:
 
 
 def _release() -> None:
-    global _is_held
-    _is_held = False
-    if _came is not None:
-        _stop(_came, None)
+    _waiting.is_held = False
+    if _waiting.came is not None:
+        _stop(_waiting.came, None)
 
 
 def _stop(number: int, _: FrameType | None) -> None:
-    global _came
-    if _is_held:
-        _came = number
+    if _waiting.is_held:
+        _waiting.came = number
         return
     for other in STOPPING:
         signal.signal(other, signal.SIG_IGN)

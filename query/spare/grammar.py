@@ -9,7 +9,7 @@ from collections.abc import Mapping, Sequence
 from dataclasses import dataclass
 
 from query.grammar import Grammar as Axioms
-from query.grammar import UNBUILT, NotRead, Part, Tree
+from query.grammar import Part, Tree, Unbuilt
 from query.spare.trees import Trees
 
 MOST_TYPECODES = 20
@@ -88,14 +88,12 @@ class Grammar:
         for one in self._typecodes:
             try:
                 tree = self._axioms.tree(one, symbols, kinds)
-            except NotRead as why:
-                if str(why) != UNBUILT:
-                    raise
+            except Unbuilt:
                 continue
             self._typecodes.remove(one)  # the next formula is likely of this typecode, too
             self._typecodes.insert(0, one)
             return self.made(tree, symbols, leaves)
-        raise NotRead(UNBUILT)
+        raise Unbuilt
 
     def made(self, tree: Tree, symbols: Sequence[str], leaves: Mapping[str, int]) -> int:
         """A tree that was read."""
