@@ -101,18 +101,26 @@ class Dependence:
         """For each column how many theorems rest on its axiom."""
         return [self.marks.column(number).count(1) for number in self.chosen]
 
-    def row(self, label: str) -> int:
-        """The row of a theorem. NoAnswer where there is none of this label."""
+    def see_theorem(self, label: str) -> None:
+        """NoAnswer where there is no theorem of this label."""
         if label not in self.rows:
             meant = nearest(label, self.rows, 0.8)
             raise NoAnswer(f"{self.name}: has no theorem '{shown(label)}'{meant}")
+
+    def see_axiom(self, label: str) -> None:
+        """NoAnswer where no axiom of this label is among those chosen."""
+        if label not in self.columns:
+            why = self.left_out(label) or nearest(label, self.columns, 0.8)
+            raise NoAnswer(f"{self.name}: has no axiom{self.which} '{shown(label)}'{why}")
+
+    def row(self, label: str) -> int:
+        """The row of a theorem. NoAnswer where there is none of this label."""
+        self.see_theorem(label)
         return self.rows[label]
 
     def column(self, label: str) -> int:
         """The column of an axiom. NoAnswer where it isn't among those chosen."""
-        if label not in self.columns:
-            why = self.left_out(label) or nearest(label, self.columns, 0.8)
-            raise NoAnswer(f"{self.name}: has no axiom{self.which} '{shown(label)}'{why}")
+        self.see_axiom(label)
         return self.columns[label]
 
     @property
@@ -153,10 +161,14 @@ class Database:
         """Whether it is a report or a refusal."""
         return self.source.is_report()
 
-    def data(self) -> bytes:
-        """The bytes of the database, not compressed. NoAnswer where DATABASE is a report."""
+    def see_text(self) -> None:
+        """NoAnswer where DATABASE is a report."""
         if self.is_report:
             raise NoAnswer(f"{self.name}: a report, where the database is wanted")
+
+    def data(self) -> bytes:
+        """The bytes of the database, not compressed. NoAnswer where DATABASE is a report."""
+        self.see_text()
         return self.source.data
 
     @cached_property

@@ -65,13 +65,17 @@ class Graph:
         """Whether the node is a theorem."""
         return node < self.theorems
 
-    def node(self, label: str) -> int:
-        """The node of a label. NoAnswer where there is neither an axiom nor a theorem of it."""
+    def see(self, label: str) -> None:
+        """NoAnswer where there is neither an axiom nor a theorem of this label."""
         if label not in self.index:
             meant = nearest(label, self.index, 0.8)
             raise NoAnswer(
                 f"{self.name}: has neither a theorem nor an axiom '{shown(label)}'{meant}"
             )
+
+    def node(self, label: str) -> int:
+        """The node of a label. NoAnswer where there is neither an axiom nor a theorem of it."""
+        self.see(label)
         return self.index[label]
 
     def theorem(self, label: str) -> int:

@@ -142,7 +142,7 @@ def chosen_of(database: Database) -> str:
 def put_apart(context: Context, database: Database, labels: Sequence[str]) -> None:
     """Answers `rests --apart`."""
     logic = set(database.dependence().axioms)
-    database.data()  # NoAnswer where it is a report, whose axioms can't be told apart
+    database.see_text()  # the axioms of a report can't be told apart
     every = replace(database, options=replace(database.options, only=None))
     dependence = every.dependence()
     rows: list[list[Value]] = []
@@ -160,7 +160,7 @@ def rested_on(database: Database, dependence: Dependence, label: str) -> Sequenc
         return dependence.rests(dependence.rows[label])
     if label in dependence.columns:
         return [dependence.columns[label]]
-    database.graph().node(label)  # NoAnswer where it isn't an axiom that isn't chosen
+    database.graph().see(label)
     return []
 
 
@@ -187,7 +187,7 @@ def run_falls(context: Context, arguments: argparse.Namespace) -> int:
     if arguments.only is not None or arguments.axioms or arguments.ignore_definitions:
         for label in arguments.labels:
             if label not in database.prepared.theorems:
-                database.dependence().column(label)  # NoAnswer where it isn't chosen
+                database.dependence().see_axiom(label)
     labels = list(dict.fromkeys(arguments.labels))
     rows = union(users_of(database, label) for label in labels)
     left_out = {row for label in arguments.without for row in users_of(database, label)}

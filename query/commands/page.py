@@ -132,7 +132,7 @@ def run(context: Context, arguments: argparse.Namespace) -> int:
         databases.append(context.database(arguments.against, options))
         words.append(f"--against-name={name_of(arguments.against)}")
     for database in databases:
-        database.data()  # no report has one
+        database.see_text()
     progress.now(f"verifying {databases[0].name}")
     context.out.write(made(databases, words))
     return 0

@@ -66,7 +66,7 @@ def run(context: Context, arguments: argparse.Namespace) -> int:
     database = context.database(
         arguments.database, Options(only=arguments.only, open=arguments.open)
     )
-    database.data()  # no report has one
+    database.see_text()
     dependence = database.dependence()
     kept: bool = arguments.kept
     wanted = Wanted(arguments.only, cites_discouraged=kept, cites_old=kept)

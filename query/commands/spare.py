@@ -96,9 +96,9 @@ def wanted_of(database: Database, arguments: argparse.Namespace) -> Wanted:
     axioms: list[str] = list(dict.fromkeys(arguments.axiom))
     theorems: list[str] = arguments.theorem
     for label in axioms:
-        dependence.column(label)
+        dependence.see_axiom(label)
     for label in theorems:
-        dependence.row(label)
+        dependence.see_theorem(label)
     if axioms and arguments.all:
         raise NoAnswer("an AXIOM and --all exclude one another")
     if arguments.shorter and (axioms or arguments.all or arguments.new_steps):
@@ -123,7 +123,7 @@ def run(context: Context, arguments: argparse.Namespace) -> int:
     database = context.database(
         arguments.database, Options(only=arguments.only, open=arguments.open)
     )
-    database.data()  # no report has one
+    database.see_text()
     if arguments.write is not None:
         see_missing(arguments.write)
     wanted = wanted_of(database, arguments)
