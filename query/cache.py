@@ -16,8 +16,10 @@ import json
 import os
 import re
 import time
+from contextlib import suppress
 
-from query import secret, signals, system
+from query import secret, system
+from query.files import fill, replacing
 
 MOST = 1_000_000_000
 FORM = b"mmquery result 3\n"
@@ -111,31 +113,11 @@ def store(key: str, parts: dict[str, bytes]) -> None:
     sealed_by = secret.made()
     if sealed_by is None:
         return
-    new = os.path.join(place, f"{NEW}{os.getpid()}-{os.urandom(6).hex()}")
-    number = signals.at_stop(lambda: os.unlink(new))
-    try:
+    with suppress(OSError):
         os.makedirs(place, mode=0o700, exist_ok=True)
         make_room(place, len(data))
-        write_new(new, FORM + code_of(key, sealed_by, data) + data)
-        os.replace(new, os.path.join(place, key))
-    except OSError:
-        try:
-            os.unlink(new)
-        except OSError:
-            pass
-    finally:
-        signals.forget(number)
-
-
-def write_new(path: str, data: bytes) -> None:
-    """Writes a file that isn't there yet."""
-    descriptor = os.open(path, system.MAKING, 0o600)
-    try:
-        view = memoryview(data)
-        while view:
-            view = view[os.write(descriptor, view) :]
-    finally:
-        os.close(descriptor)
+        with replacing(os.path.join(place, key), NEW) as new:
+            fill(new, FORM + code_of(key, sealed_by, data) + data, 0o600)
 
 
 def entries(place: str) -> list[tuple[float, int, str]]:
@@ -159,10 +141,8 @@ def make_room(place: str, size: int) -> None:
     for used, length, path in found:
         is_new = os.path.basename(path).startswith(NEW)
         if (is_new and used < before) or (not is_new and total > MOST):
-            try:
+            with suppress(FileNotFoundError):
                 os.unlink(path)
-            except FileNotFoundError:
-                pass
             total -= length
 
 
@@ -173,8 +153,6 @@ def clear() -> int:
         return 0
     found = entries(place)
     for _, _, path in found:
-        try:
+        with suppress(FileNotFoundError):
             os.unlink(path)
-        except FileNotFoundError:
-            pass
     return len(found)

@@ -1,7 +1,8 @@
 """What a command is given besides its words: where its answer goes, databases, and filters."""
 
-from collections.abc import Collection, Iterable, Sequence
+from collections.abc import Collection, Iterable, Mapping, Sequence
 from dataclasses import dataclass, field
+from types import MappingProxyType
 
 from query.database import Database
 from query.errors import tell
@@ -55,16 +56,20 @@ class Context:
         empty: str,
         listed: str | None = None,
         aside: Collection[str] = (),
+        remarks: Mapping[str, Sequence[str]] = MappingProxyType({}),
     ) -> None:
         """Answers with a table. Where it has no row, standard error says why, by `empty`. Of a list
         `listed` is the column of the labels to which the filters apply. The form `text` leaves out
-        the columns `aside`."""
+        the columns `aside`. `remarks` are about several labels each; standard error says how many
+        these are, and the first one."""
         rows = list(rows)
+        said = [told.format(len(some), some[0]) for told, some in remarks.items() if some]
         if not rows:
-            self.tell(empty)
-        if listed is not None:
-            rows = self.kept(rows, columns.index(listed))
-        self.out.table(columns, rows, aside)
+            self.tell("; ".join([empty, *said]))
+        left = rows if listed is None else self.kept(rows, columns.index(listed))
+        self.out.table(columns, left, aside)
+        if rows and said and self.asked is not None:
+            self.tell(f"{self.asked.name}: {'; '.join(said)}")
 
     def tell(self, text: str) -> None:
         """Writes a line to standard error, a remark that changes nothing of the answer."""

@@ -3,6 +3,7 @@ status 2."""
 
 import os
 from collections.abc import Iterable
+from contextlib import suppress
 
 FEW, MANY = 500, 20_000
 """Of more than `FEW` words not all are compared, and of `MANY` the first ones."""
@@ -59,7 +60,10 @@ def written(number: int) -> str:
 
 def tell(text: str) -> None:
     """Writes a line to standard error."""
-    try:
-        os.write(2, f"mmquery: {shown(text)}\n".encode("utf-8", "backslashreplace"))
-    except OSError:
-        pass
+    put(f"mmquery: {shown(text)}\n")
+
+
+def put(text: str) -> None:
+    """Writes a text to standard error, if that can be done."""
+    with suppress(OSError):
+        os.write(2, text.encode("utf-8", "backslashreplace"))

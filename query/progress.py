@@ -4,7 +4,7 @@ import os
 from types import FrameType
 
 from query import system
-from query.errors import shown
+from query.errors import put, shown
 
 
 class Line:
@@ -26,14 +26,7 @@ def now(doing: str) -> None:
 
 def _show(*_: int | FrameType | None) -> None:
     _line.is_shown = True
-    _put(f"\r\x1b[Kmmquery: {_line.doing} ..")
-
-
-def _put(text: str) -> None:
-    try:
-        os.write(2, text.encode("utf-8", "backslashreplace"))
-    except OSError:
-        pass
+    put(f"\r\x1b[Kmmquery: {_line.doing} ..")
 
 
 def begin() -> None:
@@ -48,5 +41,5 @@ def end() -> None:
     if os.isatty(2):
         system.not_after()
     if _line.is_shown:
-        _put("\r\x1b[K")
+        put("\r\x1b[K")
     _line.is_shown = False

@@ -7,11 +7,12 @@ by `at_stop`. Nothing of an answer was written then, or not all of it.
 import os
 import signal
 from collections.abc import Callable, Iterator
-from contextlib import contextmanager
+from contextlib import contextmanager, suppress
 from itertools import count
 from types import FrameType
 
 from query import system
+from query.errors import tell
 from query.system import STOPPING
 
 _to_do: dict[int, Callable[[], None]] = {}
@@ -69,15 +70,10 @@ def _stop(number: int, _: FrameType | None) -> None:
     for other in STOPPING:
         signal.signal(other, signal.SIG_IGN)
     for action in list(_to_do.values()):
-        try:
+        with suppress(OSError):
             action()
-        except OSError:
-            pass
     if number == signal.SIGINT:
-        try:
-            os.write(2, b"mmquery: interrupted\n")
-        except OSError:
-            pass
+        tell("interrupted")
     os._exit(128 + number)
 
 

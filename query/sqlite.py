@@ -9,9 +9,10 @@ from collections.abc import Iterable, Iterator
 from dataclasses import dataclass
 from itertools import chain, islice
 
-from query import signals, system
+from query import system
 from query.database import Dependence
 from query.errors import NoAnswer, shown
+from query.files import replacing
 from query.output import reason
 from query.rules import is_discouraged, is_proof_discouraged
 from query.text import Text
@@ -190,24 +191,16 @@ def export(content: Content, path: str) -> list[tuple[str, int]]:
     name = shown(path)
     if os.path.lexists(path) and not is_exported(path):
         raise NoAnswer(f"{name}: is there already, and wasn't made by export; it isn't replaced")
-    folder, base = os.path.split(path)
-    new = os.path.join(folder, f".{base}.{os.getpid()}-{os.urandom(6).hex()}")
-    number = signals.at_stop(lambda: os.unlink(new))
     try:
-        os.close(os.open(new, system.MAKING, 0o666))
-        counts = fill(content, new)
-        os.replace(new, path)
+        with replacing(path) as new:
+            os.close(os.open(new, system.MAKING, 0o666))
+            return fill(content, new)
     except OSError as error:
         raise NoAnswer(f"{name}: {reason(error)}") from None
     except sqlite3.Error as error:
         full = OSError(errno.ENOSPC, "")
         said = reason(full) if "full" in str(error) else str(error)
         raise NoAnswer(f"{name}: {said}") from None
-    finally:
-        signals.forget(number)
-        if os.path.lexists(new):
-            os.unlink(new)
-    return counts
 
 
 def insert(connection: sqlite3.Connection, table: str, rows: Iterator[Row]) -> int:

@@ -11,6 +11,7 @@ import os
 import signal
 import stat
 from collections.abc import Callable, Sequence
+from contextlib import suppress
 from types import FrameType
 
 BINARY = getattr(os, "O_BINARY", 0)
@@ -96,14 +97,11 @@ def memory() -> tuple[int | None, int | None]:
 
 def told(path: str, name: str) -> int | None:
     """A number in a file of the system, by its name; None where there is none."""
-    try:
-        with open(path, encoding="ascii", errors="replace") as file:
-            for line in file:
-                words = line.split()
-                if words[:1] == [f"{name}:"] and len(words) > 1 and words[1].isdecimal():
-                    return int(words[1])
-    except OSError:
-        pass
+    with suppress(OSError), open(path, encoding="ascii", errors="replace") as file:
+        for line in file:
+            words = line.split()
+            if words[:1] == [f"{name}:"] and len(words) > 1 and words[1].isdecimal():
+                return int(words[1])
     return None
 
 
@@ -119,13 +117,11 @@ def copy() -> int:
 
 def widen(pipe: int, size: int) -> None:
     """Lets a pipe hold so many bytes, where that can be; a smaller one will do."""
-    try:
+    with suppress(ImportError, AttributeError, OSError):
         # Windows has no such module.
         import fcntl
 
         fcntl.fcntl(pipe, fcntl.F_SETPIPE_SZ, size)
-    except (ImportError, AttributeError, OSError):
-        pass
 
 
 def let_in(signals: Sequence[int]) -> None:

@@ -12,7 +12,7 @@ from query.options import Options, Parser, add_database, add_only, add_open
 from query.output import Value
 from query.rules import is_discouraged
 from query.spare.changes import LAST, Wanted, conventions_of, is_fit
-from query.spare.library import Library, Rule, library_of
+from query.spare.library import UNREAD, Library, Rule, library_of
 from query.spare.repeats import Finder
 from query.spare.search import Shelf
 
@@ -37,6 +37,8 @@ of how many theorems it takes too long to find what they repeat.
   $ mmquery repeats set.mm
   $ mmquery repeats iset.mm --main
 """
+
+GIVEN_UP = "of {} theorems it takes too long to say what they repeat; the first is {}"
 
 
 def configure(parser: Parser) -> None:
@@ -75,28 +77,14 @@ def run(context: Context, arguments: argparse.Namespace) -> int:
     finder = Finder(library, shelf)
     found = finder.repeats(theorems_of(library, kept, context.keeps()))
     rows = [[one.theorem, one.earlier, one.how] for one in found]
-    empty = "no theorem says what an earlier statement says"
-    remark = "; ".join(each for each in (given_up(finder), library.remark()) if each)
     context.table(
         COLUMNS,
         [[*row, *rests_apart(dependence, row[0], row[1])] for row in rows],
-        f"{database.name}: {empty}{remark and '; '}{remark}",
+        f"{database.name}: no theorem says what an earlier statement says",
         "theorem",
+        remarks={GIVEN_UP: finder.given_up, UNREAD: library.unread},
     )
-    if rows and remark:
-        context.tell(f"{database.name}: {remark}")
     return 0
-
-
-def given_up(finder: Finder) -> str:
-    """A word on the theorems that were given up; empty where there are none."""
-    several = finder.given_up
-    if not several:
-        return ""
-    return (
-        f"of {len(several)} theorems it takes too long to say what they repeat; the first is"
-        f" {several[0]}"
-    )
 
 
 def rests_apart(dependence: Dependence, theorem: str, earlier: str) -> list[Value]:

@@ -6,12 +6,13 @@ from query.commands import Command
 from query.context import Context
 from query.database import Database
 from query.errors import NoAnswer, nearest, shown
+from query.files import see_missing, write_new
 from query.options import Options, Parser, add_database, add_only, add_open, count
 from query.output import Value
 from query.spare.changes import Changer, Place, Wanted
 from query.spare.kept import Change
-from query.spare.files import see_missing, write_new
 from query.spare.judge import judge, rewritten
+from query.spare.library import UNREAD
 from query.text import Text
 
 COLUMNS = ("how", "theorem", "loses", "replaced", "by", "step", "bytes", "chapter")
@@ -70,6 +71,9 @@ CONVENTIONS = {
     "--change-discouraged": "change proofs whose modification is discouraged, too",
 }
 """What sets conventions aside."""
+GIVEN_UP = (
+    "{} proofs were given up, since it takes too long to search them; the first is that of {}"
+)
 
 
 def configure(parser: Parser) -> None:
@@ -135,26 +139,12 @@ def run(context: Context, arguments: argparse.Namespace) -> int:
         context.out.text(new_statement(database, changes, arguments.proof))
     else:
         empty = f"{database.name}: no theorem was found that can do without"
-        rows = rows_of(database, changes)
-        remarks = [given_up(changes), changer.library.remark()]
-        remark = "; ".join(each for each in remarks if each)
-        context.table(COLUMNS, rows, f"{empty}{remark and '; '}{remark}")
-        if rows and remark:
-            context.tell(f"{database.name}: {remark}")
+        given_up = [change.theorem for change in changes if change.is_given_up]
+        remarks = {GIVEN_UP: given_up, UNREAD: changer.library.unread}
+        context.table(COLUMNS, rows_of(database, changes), empty, remarks=remarks)
     if arguments.write is not None:
         write_new(arguments.write, data)
     return 0
-
-
-def given_up(changes: list[Change]) -> str:
-    """A word on the proofs in which the search was given up; empty where there are none."""
-    several = [change.theorem for change in changes if change.is_given_up]
-    if not several:
-        return ""
-    return (
-        f"{len(several)} proofs were given up, since it takes too long to search them; the first is"
-        f" that of {several[0]}"
-    )
 
 
 def rows_of(database: Database, changes: list[Change]) -> list[list[Value]]:

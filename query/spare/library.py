@@ -25,6 +25,7 @@ MOST_ASSERTIONS, MOST_VARIABLES, MOST_MARKS = 500_000, 5000, 2_000_000_000
 answer: sets of them are the bits of numbers."""
 FORM = 2
 """Counts the forms in which trees are kept, and the ways in which formulas are parsed."""
+UNREAD = "{} formulas aren't read by the syntax axioms, so less may be found; the first is of {}"
 
 
 class Given(NamedTuple):
@@ -67,7 +68,7 @@ class Library:
         self.trees = Trees()
         self.grammar = Grammar(self.trees)
         self.floating = floating_of(text.data)
-        self.unread: list[tuple[str, str]] = []
+        self.unread: list[str] = []
         """The assertions with a formula that has no tree by the syntax, and why it hasn't."""
         self._parsed: dict[tuple[str, str], int] = {}
         self._known = self.restored(kept) if kept is not None else iter(())
@@ -128,20 +129,10 @@ class Library:
                 try:
                     found = self.grammar.parsed(kind, symbols, leaves)
                 except NotRead as why:
-                    self.unread.append((assertion.label, str(why)))
+                    self.unread.append(f"{assertion.label}: {why}")
                     found = self.grammar.flat(symbols, leaves)
             self._parsed[key] = found
         return found
-
-    def remark(self) -> str:
-        """A word on the formulas that have no tree by the syntax; empty where all have one."""
-        if not self.unread:
-            return ""
-        label, why = self.unread[0]
-        return (
-            f"{len(self.unread)} formulas aren't read by the syntax axioms, so less may be found;"
-            f" the first is of {label}: {why}"
-        )
 
     def parts(self) -> dict[str, bytes] | None:
         """What can be kept of all trees: what they are made of, and which are the formulas that

@@ -16,7 +16,6 @@ from query.context import Context
 from query.errors import NoAnswer
 from query.options import Options
 from query.output import Output
-from query.commands.spare import given_up as said_of
 from query.commands.spare import rows_of
 from query.spare import changes, judge, library, proofs, search, writing
 from query.spare.changes import Changer, Wanted
@@ -398,10 +397,14 @@ class Limits(World):
         self.assertEqual(given_up, [("t1", (), True), ("t2", (), True)])
         judge.judge(database, judge.rewritten(database.text, found), found)
         self.assertEqual(rows_of(database, found), [])
-        self.assertIn("2 proofs were given up", said_of(found))
-        self.assertIn("the first is that of t1", said_of(found))
-        whole = list(Changer(database, Wanted("|-", ("bad",))).changes())
-        self.assertEqual(said_of(whole), "")
+        words = parser_of(command("spare")).read([path, "bad", "--no-cache"])
+        with (
+            mock.patch.multiple(search, STEPS=0, STEPS_OF_FORMULA=1),
+            mock.patch("query.context.tell") as told,
+        ):
+            command("spare").run(Context(Output(), False), words)
+        said = "2 proofs were given up, since it takes too long to search them; the first is that of t1"
+        told.assert_called_once_with(f"{path}: no theorem was found that can do without; {said}")
 
     def test_given_up_in_one_statement(self) -> None:
         """Hypotheses that could be matched in very many orders."""
