@@ -16,7 +16,7 @@ from query.context import Context
 from query.errors import NoAnswer
 from query.options import Options
 from query.output import Output
-from query.commands.spare import rows_of
+from query.commands.spare import GIVEN_UP, rows_of
 from query.spare import changes, judge, library, proofs, search, writing
 from query.spare.changes import Changer, Wanted
 from query.spare.kept import Change, Replaced
@@ -403,7 +403,7 @@ class Limits(World):
             mock.patch("query.context.tell") as told,
         ):
             command("spare").run(Context(Output(), False), words)
-        said = "2 proofs were given up, since it takes too long to search them; the first is that of t1"
+        said = GIVEN_UP.format(2, "t1")
         told.assert_called_once_with(f"{path}: no theorem was found that can do without; {said}")
 
     def test_given_up_in_one_statement(self) -> None:
