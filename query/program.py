@@ -32,7 +32,7 @@ class Running:
         self,
         path: str,
         words: list[str],
-        given: int,
+        given: int | None,
         is_kept: bool,
         passed: Sequence[int] = (),
         surroundings: Mapping[str, str] | None = None,
@@ -45,7 +45,7 @@ class Running:
             try:
                 self.process = subprocess.Popen(
                     [path, *words],
-                    stdin=given,
+                    stdin=subprocess.DEVNULL if given is None else given,
                     stdout=subprocess.PIPE,
                     stderr=self.errors,
                     pipesize=PIPE,
@@ -98,8 +98,9 @@ class Program:
         with open(self.path, "rb") as file:
             return file.read()
 
-    def running(self, words: list[str], given: int, is_kept: bool) -> Running:
-        """The program while it runs with these words, and an open file as standard input."""
+    def running(self, words: list[str], given: int | None, is_kept: bool) -> Running:
+        """The program while it runs with these words, and an open file as standard input; None for
+        an empty one."""
         if self.node is None:
             return Running(self.path, words, given, is_kept)
         return Running(self.node, [self.path, *words], given, is_kept, (), without_node())
@@ -109,7 +110,7 @@ class Program:
         goes to standard error. NoAnswer where it can't be run."""
         if self.node is not None or self._file.startswith(b"\x7fELF"):
             return
-        running = self.running(["--version"], devnull(), False)
+        running = self.running(["--version"], None, False)
         if running.ended()[2] != 0:
             raise NoAnswer(f"{shown(self.path)} can't be run")
 
@@ -123,14 +124,6 @@ class Program:
             with open(built, "rb") as file:
                 total.update(file.read())
         return total.hexdigest()
-
-
-def devnull() -> int:
-    """What stands for an empty standard input."""
-    # See Running.
-    import subprocess
-
-    return subprocess.DEVNULL
 
 
 def located(command: str) -> str | None:
@@ -166,7 +159,7 @@ def found() -> Program:
 def version() -> str:
     """What the program says of its version. NoAnswer where it can't be run."""
     program = found()
-    out, _, status = program.running(["--version"], devnull(), False).ended()
+    out, _, status = program.running(["--version"], None, False).ended()
     if status != 0:
         raise NoAnswer(f"{shown(program.path)} can't be run")
     return out.decode("latin-1").strip()

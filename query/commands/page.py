@@ -12,7 +12,7 @@ from query.context import Context
 from query.database import Database
 from query.errors import NoAnswer
 from query.options import Options, Parser, add_choice_of_citations, add_database
-from query.program import HOME, SCRIPT, Running, devnull, located, without_node
+from query.program import HOME, SCRIPT, Running, located, without_node
 from query.source import Source
 
 PAGE = """
@@ -102,7 +102,7 @@ def made(databases: list[Database], words: list[str]) -> bytes:
     with handed([database.source for database in databases]) as (places, passed):
         first, *others = places
         line = [program(), "page", *words, *(f"--against={place}" for place in others), first]
-        running = Running(node(), line, devnull(), True, passed, without_node())
+        running = Running(node(), line, None, True, passed, without_node())
         out, errors, status = running.ended()
     for database in databases:
         database.source.see_unchanged()

@@ -63,6 +63,7 @@ def main(names: str, words: list[str]) -> None:
     for name in names.split(","):
         take_away(name)
     sys.path.insert(0, str(TOP))
+    # It is to find what was taken away missing.
     from query.cli import main as run
 
     run(words)

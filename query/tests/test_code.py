@@ -117,7 +117,7 @@ class Code(unittest.TestCase):
 
     def test_imports_stand_at_the_top(self) -> None:
         """What is imported within a function of `mmquery` has a comment that says why."""
-        for path in (*(TOP / "query").glob("*.py"), *(TOP / "query" / "commands").glob("*.py")):
+        for path in (TOP / "query").rglob("*.py"):
             lines = path.read_text("utf-8").splitlines()
             for first in late_imports(path):
                 place = f"{path.name}:{first}"

@@ -1,5 +1,6 @@
 """What `compare` and the gate's rules say of two databases, against trying everything."""
 
+import json
 import os
 import random
 from unittest import mock
@@ -169,8 +170,6 @@ class Comparisons(World):
     @staticmethod
     def json_findings(out: str) -> set[tuple[str, str, str]]:
         """Rule, label and axiom of each finding."""
-        import json
-
         return {
             (each["rule"], each["label"], each["axiom"]) for each in json.loads(out)["findings"]
         }

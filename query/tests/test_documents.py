@@ -6,6 +6,7 @@ where there is no set.mm; what they answer is another thing, which `test_pages.p
 
 import re
 import subprocess
+import tempfile
 import textwrap
 import unittest
 from collections import Counter
@@ -218,8 +219,6 @@ class Publishing(unittest.TestCase):
     """docs/PUBLISHING.md, with commands that publish nothing."""
 
     def setUp(self) -> None:
-        import tempfile
-
         room = tempfile.TemporaryDirectory(prefix="mmquery-test-")
         self.addCleanup(room.cleanup)
         self.room = Path(room.name)
