@@ -7,7 +7,7 @@ export async function compile(bytes) {
     await fetch(`${address}/fetch`, { mode: "no-cors" }).catch(() => closed.push("fetch"));
     await import(`${address}/import`).catch(() => closed.push("import"));
     try {
-        importScripts(`${address}/script`);
+        /** @type {any} */ (self).importScripts(`${address}/script`);
     } catch (error) {
         closed.push("script");
     }

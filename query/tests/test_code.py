@@ -106,14 +106,14 @@ class Code(unittest.TestCase):
 
     @unittest.skipUnless(shutil.which("tsc"), "node-typescript isn't installed")
     def test_modules_have_types(self) -> None:
-        """What tsc checks are all modules of JavaScript that aren't tests."""
+        """What tsc checks are all modules of JavaScript, those of tests too."""
         told = subprocess.run(
             ["tsc", "--listFilesOnly", "-p", "web"], cwd=TOP, stdout=subprocess.PIPE, check=True
         )
         checked = set(told.stdout.decode().splitlines())
-        modules = {file for file in tracked() if re.fullmatch(r"web/(?!tests/).*\.js", file)}
-        self.assertEqual({file for file in modules if str(TOP / file) not in checked}, set())
-        self.assertGreater(len(modules), 40)
+        modules = [file for file in tracked() if re.search(r"\.m?js$", file)]
+        self.assertEqual([file for file in modules if str(TOP / file) not in checked], [])
+        self.assertGreater(len(modules), 50)
 
     def test_imports_stand_at_the_top(self) -> None:
         """What is imported within a function of `mmquery` has a comment that says why."""

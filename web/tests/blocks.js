@@ -9,17 +9,23 @@ import { Model } from "../view/model.js";
 const NOTHING = { named: {}, numbers: {}, none: [] };
 const PLAIN = { only: null, essential: false, open: false };
 
-/** The report of a text, in which each label has `said` behind its places, and cites what `cites` has. */
+/**
+ * The report of a text, in which each label has `said` behind its places, and cites what `cites` has.
+ * @param {string} text
+ * @param {Record<string, string>} said
+ * @param {Record<string, string[]>} cites
+ */
 function reportOf(text, said, cites) {
     const labels = Object.keys(said);
     const axioms = labels.filter((label) => !cites[label]);
     const theorems = labels.filter((label) => cites[label]);
     const marks = new Map(axioms.map((label) => [label, new Set([label])]));
-    for (const label of theorems) marks.set(label, new Set(cites[label].flatMap((other) => [...marks.get(other)])));
+    for (const label of theorems) marks.set(label, new Set(cites[label].flatMap((other) => [...(marks.get(other) ?? [])])));
+    /** @param {string} label */
     const digitsOf = (label) => {
         let digits = "";
         for (let at = 0; at < axioms.length; at += 4) {
-            const four = [0, 1, 2, 3].map((more) => (marks.get(label).has(axioms[at + more]) ? 8 >> more : 0));
+            const four = [0, 1, 2, 3].map((more) => (marks.get(label)?.has(axioms[at + more]) ? 8 >> more : 0));
             digits += four.reduce((sum, bit) => sum + bit).toString(16);
         }
         return digits;
@@ -38,19 +44,29 @@ function reportOf(text, said, cites) {
     ].join("\n");
 }
 
-/** The blocks of a text. */
+/**
+ * The blocks of a text.
+ * @param {string} text
+ * @param {Record<string, string>} said
+ * @param {Record<string, string[]>} cites
+ */
 export function blocksOf(text, said, cites) {
     const report = encoded(reportOf(text, said, cites));
     const read = readText(encoded(text), report);
     const about = { title: "t", file: "x.mm", bytes: 1, sha256: null, maker: "x", watched: [], ...PLAIN };
+    /** @type {Map<string, Uint8Array>} */
     const blocks = new Map();
     packText(read, about, NOTHING, blocks);
     packReports(readReport(read, PLAIN, report), blocks);
     return blocks;
 }
 
-/** The model that blocks give. */
+/**
+ * The model that blocks give.
+ * @param {Map<string, Uint8Array>} blocks
+ */
 export function modelOf(blocks) {
-    const get = (name) => blocks.get(name);
+    /** @param {string} name */
+    const get = (name) => /** @type {Uint8Array} */ (blocks.get(name));
     return new Model({ has: (name) => blocks.has(name), get, load: async (name) => get(name) });
 }

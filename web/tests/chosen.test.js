@@ -7,7 +7,10 @@ import { Unfit, chosen } from "../verifier/chosen.js";
 
 const TEXT = "$c a $.\nx $a a $.\n";
 
-/** What is taken of a file with these bytes. */
+/**
+ * What is taken of a file with these bytes.
+ * @param {string | Uint8Array} bytes
+ */
 async function taken(bytes, name = "x.mm") {
     const { file } = await chosen(new File([bytes], name), true, () => {});
     return await new Response(file).text();

@@ -6,10 +6,22 @@ import { readWords } from "../command.js";
 
 const PLAIN = { report: "all", only: null, form: 1, essential: false, open: false };
 
-/** What a line asks for: a request with the file, or how the line ends otherwise. */
+/**
+ * What a line asks for: a request with the file, or how the line ends otherwise.
+ * @param {string} line
+ */
 function asked(line) {
     const read = readWords(line === "" ? [] : line.split(" "), "7");
     return read.ends === "run" ? { ...read.request, file: read.file } : read.ends;
+}
+
+/**
+ * What is told of a line that asks for no report.
+ * @param {string[]} words
+ */
+function told(words) {
+    const read = readWords(words, "7");
+    return read.ends === "run" ? "" : read.text;
 }
 
 test("options and the file", () => {
@@ -29,9 +41,9 @@ test("lines that are wrong, each told in one line", () => {
     ];
     for (const line of wrong) {
         assert.equal(asked(line), "misread", line);
-        assert.match(readWords(line.split(" "), "7").text, /^error: [^\n]+; try --help\n$/);
+        assert.match(told(line.split(" ")), /^error: [^\n]+; try --help\n$/);
     }
-    assert.match(readWords(["--a\x1b\nb"], "7").text, /^error: [^\n\x1b]+\n$/);
+    assert.match(told(["--a\x1b\nb"]), /^error: [^\n\x1b]+\n$/);
 });
 
 test("what comes first counts", () => {
@@ -39,5 +51,5 @@ test("what comes first counts", () => {
         assert.equal(asked(line), "help", line);
     }
     for (const line of ["--bogus -h", "-xh", "--form=3 -h", "a b -h"]) assert.equal(asked(line), "misread", line);
-    assert.equal(readWords(["-V"], "7").text, "mmdepend 7\n");
+    assert.equal(told(["-V"]), "mmdepend 7\n");
 });

@@ -4,12 +4,15 @@ import assert from "node:assert/strict";
 import { test } from "node:test";
 import { report } from "../library.js";
 
+/** @typedef {import("../types.js").Request} Request */
+
 const MEGABYTE = 1 << 20;
 const TOO_SHORT = 3;
 const TOO_SMALL = 4;
 
 /**
  * Runs a module that needs this room and output.
+ * @param {{ size: number, room: number, output: number, most: number, fails?: number, request?: Partial<Request> }} given
  * @returns {Promise<{ answer: import("../types.js").Answer, calls: { room: number, output: number }[] }>}
  */
 async function ran({ size, room, output, most, fails = Infinity, request = {} }) {
@@ -19,7 +22,9 @@ async function ran({ size, room, output, most, fails = Infinity, request = {} })
         if (memory.buffer.byteLength + pages * 65536 > fails) throw new RangeError("there is no more");
         return grow(pages);
     };
+    /** @type {{ room: number, output: number }[]} */
     const calls = [];
+    /** @param {(number | bigint)[]} words */
     const call = (...words) => {
         const [written, , , , , , , , , , , lent, length] = words.map(Number);
         const numbers = new BigUint64Array(memory.buffer, written, 3);
@@ -29,11 +34,12 @@ async function ran({ size, room, output, most, fails = Infinity, request = {} })
         return lent < output ? TOO_SHORT : 0;
     };
     const { instantiate } = WebAssembly;
-    WebAssembly.instantiate = async () => ({ exports: { memory, mmdepend_report: call } });
+    const instance = { exports: { memory, mmdepend_report: call } };
+    Object.assign(WebAssembly, { instantiate: async () => instance });
     try {
-        return { answer: await report(null, size, () => {}, request, { most }), calls };
+        return { answer: await report(/** @type {any} */ (null), size, () => {}, request, { most }), calls };
     } finally {
-        WebAssembly.instantiate = instantiate;
+        Object.assign(WebAssembly, { instantiate });
     }
 }
 
@@ -75,6 +81,7 @@ test("where the system gives less than was thought, what it gives is used", asyn
 });
 
 test("the output that is tried first is by the report", async () => {
+    /** @param {Partial<Request>} request */
     const first = async (request) => {
         const { calls } = await ran({ size: 10 * MEGABYTE, most: Infinity, room: 0, output: 10, request });
         return calls[0].output / (10 * MEGABYTE);

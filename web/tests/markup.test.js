@@ -4,14 +4,20 @@ import assert from "node:assert/strict";
 import { test } from "node:test";
 import { plainText, readComment } from "../view/markup.js";
 
-/** The parts of a comment of one paragraph. */
+/**
+ * The parts of a comment of one paragraph.
+ * @param {string} comment
+ */
 function parts(comment) {
     const { paragraphs } = readComment(comment);
     assert.equal(paragraphs.length, 1);
     return paragraphs[0];
 }
 
-/** A comment as plain text, its mathematics in brackets. */
+/**
+ * A comment as plain text, its mathematics in brackets.
+ * @param {string} comment
+ */
 function said(comment) {
     return plainText(comment, (formula) => `[${formula}]`);
 }

@@ -25,12 +25,17 @@ const SAID = {
     none: " $f vx set x $f vy set y $a |- x = y",
 };
 
+/** @param {string} title */
 function about(title) {
     const facts = { title, file: "x.mm", bytes: 1, sha256: null, maker: "x" };
     return { ...facts, only: null, essential: false, open: false, watched: [] };
 }
 
-/** The report of a text, in which each label has said behind its places. */
+/**
+ * The report of a text, in which each label has said behind its places.
+ * @param {string} text
+ * @param {Record<string, string>} said
+ */
 function reportOf(text, said) {
     const lines = Object.entries(said).map(([label, rest]) => {
         const place = text.search(new RegExp(`(?<=^|\\s)${label} \\$[ap]`));
@@ -39,19 +44,31 @@ function reportOf(text, said) {
     return `mmdepend 2\naxioms 0\ntheorems 0\nstatements\n${lines.join("")}end\n`;
 }
 
-/** What a text says. */
+/**
+ * What a text says.
+ * @param {string} text
+ * @param {Record<string, string>} said
+ */
 function read(text, said) {
     return readText(encoded(text), encoded(reportOf(text, said)));
 }
 
-/** A block of a text, as lines. */
+/**
+ * A block of a text, as lines.
+ * @param {string} text
+ * @param {Record<string, string>} said
+ * @param {string} name
+ */
 function lines(text, said, name) {
     const blocks = new Map();
     packText(read(text, said), about("t"), NOTHING, blocks);
     return new TextDecoder().decode(blocks.get(name)).split("\n");
 }
 
-/** A comment as one line. */
+/**
+ * A comment as one line.
+ * @param {string} comment
+ */
 function oneLine(comment) {
     const writer = new Writer();
     const bytes = encoded(comment);
@@ -74,6 +91,7 @@ test("many tags that aren't closed are passed once", { timeout: 20_000 }, () => 
 });
 
 test("marks of comments", () => {
+    /** @param {string} comment */
     const marks = (comment) => marksOf(encoded(comment), 0, comment.length);
     const both = "(New usage\n is discouraged.) (Proof modification is  discouraged.)";
     assert.equal(marks(both), Mark.comment | Mark.usage | Mark.modification);
@@ -104,7 +122,10 @@ test("pairs of variables that must be distinct become few groups, which have eac
     }
 });
 
-/** The pairs of a group. */
+/**
+ * The pairs of a group.
+ * @param {string[]} group
+ */
 function pairsOf(group) {
     return group.flatMap((one, at) => group.slice(at + 1).map((other) => `${one} ${other}`));
 }
@@ -123,30 +144,38 @@ test("what is put into the file is never searched for places, and ends no elemen
     assert.match(page, / id="data-facts" data-page="[0-9a-f]{8}">\nPC9zY3JpcHQ\+e3tzY3JpcHR9fQ==\n<\/script>/);
 });
 
-/** What stands for the document of a page: its elements that hold blocks. */
+/**
+ * What stands for the document of a page: its elements that hold blocks.
+ * @param {string} page
+ */
 function documentOf(page) {
     const holders = Array.from(page.matchAll(/<script [^>]*id="([^"]*)" data-page="([^"]*)">([^<]*)</g), (match) => {
         const [, id, number, textContent] = match;
         return { id, dataset: { page: number }, textContent, remove() {} };
     });
-    return { querySelectorAll: () => holders, getElementById: (id) => holders.find((one) => one.id === id) ?? null };
+    return { querySelectorAll: () => holders, getElementById: (/** @type {string} */ id) => holders.find((one) => one.id === id) ?? null };
 }
 
-/** Reads the blocks of a page as the page itself does. */
+/**
+ * Reads the blocks of a page as the page itself does.
+ * @param {string} page
+ */
 async function blocksRead(page) {
-    globalThis.document = documentOf(page);
+    Object.assign(globalThis, { document: documentOf(page) });
     try {
         const blocks = new Blocks();
         await blocks.loadFirst(() => false);
         return blocks;
     } finally {
-        delete globalThis.document;
+        Reflect.deleteProperty(globalThis, "document");
     }
 }
 
 test("blocks of several pages aren't taken for one", async () => {
     const shell = ["", "data", ""];
-    const packed = (text) => deflateSync(text).toString("base64");
+    /** @param {string} text */
+    const packed = (text) => deflateSync(encoded(text)).toString("base64");
+    /** @param {string} title */
     const pageOf = (title) => {
         const labels = lines(TEXT, SAID, "labels").join("\n");
         return pageFile(shell, "", new Map([["labels", packed(labels)], ["title", packed(title)]]));
@@ -163,6 +192,7 @@ test("blocks of several pages aren't taken for one", async () => {
 test("faults in one line", () => {
     const text = encoded("$c a $.\nx $a b $.\n");
     const fault = faultOf(text, refusalOf(encoded("refused 2:6 E18\n")));
+    /** @type {import("../packer/faults.js").Meanings} */
     const tables = { faults: { E18: ["odd", "mend it"] }, unknown: ["unknown", "ask"] };
     assert.equal(explained("x.mm", fault, tables), "x.mm:2:6: refused E18 in 'x': odd; mend it");
     assert.equal(explained("x.mm", { ...fault, code: "E99" }, tables), "x.mm:2:6: refused E99 in 'x': unknown; ask");
@@ -176,7 +206,7 @@ test("variables stand in the order of their `$f`, as far as the lines tell it", 
     };
     const text = "one $a |- b $. two $a |- a b d $. three $a |- c d e $.";
     const [facts] = lines(text, said, "facts");
-    const names = JSON.parse(facts).variables.map(([name]) => name);
+    const names = JSON.parse(facts).variables.map((/** @type {[string, string]} */ [name]) => name);
     assert.equal(names.join(""), "abcde");
 });
 
@@ -201,7 +231,7 @@ $( of nothing $)
     const comments = [0, 1, 2].map((at) => text.slice(found.comments.items[at], found.commentEnds.items[at]).trim());
     assert.deepEqual(comments, ["of a", "of b", "not\n####"]);
     assert.deepEqual(found.headers.map(({ title, first, end, level }) => [title, first, end, level]), [["One part", 0, 3, 0]]);
-    assert.equal(found.typesetting.trim(), 'htmldef "a" as "b";');
+    assert.equal(found.typesetting?.trim(), 'htmldef "a" as "b";');
     assert.deepEqual([...found.headersBefore.taken()], [1, 1, 1]);
 });
 

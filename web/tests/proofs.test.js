@@ -25,20 +25,30 @@ const SAID = {
 /** `( q -> p )` of `p`, by the axiom. */
 const A1I = `${PQ} $e h |- p $p |- ( q -> p )`;
 
-/** The proofs that blocks have. */
+/**
+ * The proofs that blocks have.
+ * @param {Map<string, Uint8Array>} blocks
+ */
 function proofsOf(blocks) {
     return new Proofs(modelOf(blocks));
 }
 
-/** The proof of a theorem, carried out. */
+/**
+ * The proof of a theorem, carried out.
+ * @param {Proofs} proofs
+ * @param {string} label
+ */
 async function derivationOf(proofs, label, turns = new Turns(() => true)) {
-    const theorem = proofs.model.numberOf(label);
+    const theorem = proofs.model.numberOf(label) ?? assert.fail(label);
     const derivation = new Derivation(proofs, await proofs.steps(theorem, turns));
     await derivation.run(theorem, turns);
     return derivation;
 }
 
-/** The essential steps, or all of them, as lines: what each applies, the numbers of what it uses, and what it says. */
+/**
+ * The essential steps, or all of them, as lines: what each applies, the numbers of what it uses, and what it says.
+ * @param {Derivation} derivation
+ */
 function linesOf(derivation, areAll = false) {
     const steps = areAll ? derivation.all : derivation.essential;
     const { model } = derivation;
@@ -65,7 +75,10 @@ test("more theorems than a call may have arguments", { timeout: 60_000 }, async 
     assert.deepEqual(linesOf(derivation), ["t2499 : |- a"]);
 });
 
-/** Sees that a proof of `a1i`, written in some way, is read. */
+/**
+ * Sees that a proof of `a1i`, written in some way, is read.
+ * @param {string} proof
+ */
 async function seesA1i(proof, cites = ["wi", "ax", "mp"]) {
     const text = `${HEAD}\${ h $e |- p $. a1i $p |- ( q -> p ) $= ${proof} $. $}`;
     const derivation = await derivationOf(proofsOf(blocksOf(text, { ...SAID, a1i: A1I }, { a1i: cites })), "a1i");
@@ -96,7 +109,10 @@ test("comments, line ends, marks of any step, labels twice and for nothing", asy
     await seesA1i("( wi ax mp ) AZBZGZDCIHZEF");
 });
 
-/** A number, from 1, in the letters of compressed proofs. */
+/**
+ * A number, from 1, in the letters of compressed proofs.
+ * @param {number} number
+ */
 function spelled(number) {
     let rest = Math.floor((number - 1) / 20);
     let letters = String.fromCharCode(65 + ((number - 1) % 20));
@@ -143,7 +159,7 @@ test("a `$f` behind a `$e`, a variable that only the proof has, and one that is 
     const proofs = proofsOf(blocksOf(text, said, { two: ["we", "wa", "one"], three: ["wa", "one"] }));
     assert.deepEqual(linesOf(await derivationOf(proofs, "two")), ["h : |- A", "one 1: |- A"]);
     assert.deepEqual(linesOf(await derivationOf(proofs, "three")), ["j : |- A", "one 1: |- q A"]);
-    const odd = proofs.frameOf(proofs.model.numberOf("one")).map((item) => item % 2);
+    const odd = proofs.frameOf(proofs.model.numberOf("one") ?? assert.fail("one")).map((item) => item % 2);
     assert.deepEqual(odd, [0, 1, 0]);
 });
 
@@ -215,7 +231,9 @@ test("long formulas of which little is left, and what costs time though it has n
         big: `${P} $e big.h |- A $a ${long}`,
         all: " $p |- A",
     };
+    /** @param {number} many */
     const proof = (many) => `${"we ".repeat(many)}start${" big".repeat(many)}`;
+    /** @param {number} many */
     const read = (many) => {
         const blocks = blocksOf(`${base}all $p |- A $= ${proof(many)} $.`, said, { all: ["we", "start", "big"] });
         return derivationOf(proofsOf(blocks), "all");
@@ -230,7 +248,10 @@ test("proofs that are read at the same time don't disturb one another", async ()
     const said = { ...SAID, first: A1I, second: A1I };
     const cites = { first: ["wi", "ax", "mp"], second: ["wi", "ax", "mp"] };
     const proofs = proofsOf(blocksOf(text, said, cites));
-    const hurried = { isOver: () => true, next: () => new Promise((resume) => setTimeout(resume)) };
+    const hurried = Object.assign(new Turns(() => true), {
+        isOver: () => true,
+        next: () => new Promise((resume) => setTimeout(resume)),
+    });
     await derivationOf(proofs, "first");
     const labels = ["second", "first", "second", "first"];
     const all = await Promise.all(labels.map((label) => derivationOf(proofs, label, hurried)));
@@ -240,11 +261,16 @@ test("proofs that are read at the same time don't disturb one another", async ()
 /** How a proof is told not to be shown. */
 const TOLD = [Damaged, OtherFormula, TooManySigns, TooManySteps];
 
-/** Sees that what is read proves `( q -> p )`, though by other steps, or that it is told why there are none. */
+/**
+ * Sees that what is read proves `( q -> p )`, though by other steps, or that it is told why there are none.
+ * @param {Map<string, Uint8Array>} blocks
+ * @param {string} label
+ * @param {string} what
+ */
 async function seesTold(blocks, label, what) {
     try {
         const last = linesOf(await derivationOf(proofsOf(blocks), label), true).pop();
-        assert.ok(last.endsWith(": |- ( q -> p )"), `${what}: ${last}`);
+        assert.ok(last?.endsWith(": |- ( q -> p )"), `${what}: ${last}`);
     } catch (error) {
         assert.ok(TOLD.some((kind) => error instanceof kind), `${what}: ${error}`);
     }
@@ -257,7 +283,7 @@ test("damaged proofs are told as such, and never shown otherwise", { timeout: 60
     for (const number of [2 ** 31, 2 ** 32, 2 ** 53 - 1]) writer.number(number);
     const large = Buffer.from(writer.taken());
     for (const name of ["proof-steps-0", "proof-frames", "proof-labels", "proof-floating"]) {
-        const block = Buffer.from(whole.get(name));
+        const block = Buffer.from(whole.get(name) ?? assert.fail(name));
         for (let at = 0; at < block.length; at++) {
             const [before, after] = [block.subarray(0, at), block.subarray(at + 1)];
             const others = [0, 1, 0x7f, 0x80, 0xff, block[at] ^ 1, block[at] ^ 2].map((byte) => [byte]);
@@ -279,7 +305,8 @@ test("proofs of another database are told not to be those of this one", async ()
     const others = blocksOf(other, said, { same: ["ax"] });
     const names = [...blocks.keys()].filter((name) => name.startsWith("proof-"));
     for (const mixed of [names, ...names.map((name) => [name])]) {
-        const blend = new Map([...blocks, ...mixed.map((name) => [name, others.get(name)])]);
+        const blend = new Map(blocks);
+        for (const name of mixed) blend.set(name, others.get(name) ?? assert.fail(name));
         await seesTold(blend, "a1i", mixed.join(" "));
     }
 });

@@ -30,7 +30,11 @@ const SAID = {
     image: `${F}${G}${X} $a |- ( ph " ps ) = ( x " ph )`,
 };
 
-/** The search of a text, made ready. */
+/**
+ * The search of a text, made ready.
+ * @param {string} text
+ * @param {Record<string, string>} said
+ */
 async function searchOf(text, said) {
     const model = modelOf(blocksOf(text, said, {}));
     const search = new Search(model, new Symbols(model.facts, model.typecodeOf));
@@ -38,12 +42,19 @@ async function searchOf(text, said) {
     return search;
 }
 
-/** The labels of what a search finds, the best first. */
+/**
+ * The labels of what a search finds, the best first.
+ * @param {Search} search
+ * @param {string} typed
+ */
 function labelsFor(search, typed) {
     return search.all(search.find(typed)).map((number) => search.model.labels.at(number));
 }
 
-/** The labels of what is found, the best first. */
+/**
+ * The labels of what is found, the best first.
+ * @param {string} typed
+ */
 async function found(typed) {
     return labelsFor(await searchOf(TEXT, SAID), typed);
 }
@@ -85,7 +96,10 @@ test("what is typed letter by letter finds the same", async () => {
     assert.deepEqual(labelsFor(search, "(ph->ph)"), await found("(ph->ph)"));
 });
 
-/** A text of many assertions, each with a comment of two words, and what they say. */
+/**
+ * A text of many assertions, each with a comment of two words, and what they say.
+ * @param {number} size
+ */
 function manyAssertions(size) {
     const labels = Array.from({ length: size }, (_, at) => `s${at}`);
     const text = labels.map((label, at) => `$( even${at % 2} third${at % 3} $) ${label} $a |- ph $.\n`).join("");

@@ -14,11 +14,15 @@ const TYPECODES = new Map([
 const AXIOMS = ["wff F : A --> B", "wff A = B", "class ( A F B )", "wff A. x ph", "class U. A", "|- A <> B"];
 const SHOWN = { A: "𝐴", B: "𝐵", F: "𝐹", x: "𝑥", "-->": "⟶", "=": " = ", "A.": "∀", "U.": "∪ ", "(": "(", ")": ")", ":": ":" };
 
-/** How a formula without typecode is shown. */
+/**
+ * How a formula without typecode is shown.
+ * @param {string} formula
+ */
 function shown(formula) {
     const symbols = Object.entries(SHOWN).map(([name, text]) => [name, [[text, ""]]]);
     const infix = infixSymbols(AXIOMS, TYPECODES);
-    return new Symbols({ symbols, alike: [] }, TYPECODES, infix).textOf(formula);
+    const facts = /** @type {any} */ ({ symbols, alike: [] });
+    return new Symbols(facts, TYPECODES, infix).textOf(formula);
 }
 
 test("symbols that join two others are found in the axioms that build formulas", () => {

@@ -11,11 +11,15 @@ const ENTITIES = {
     none: [1],
 };
 
+/** @param {string | null} text */
 function read(text) {
     return readTypesetting(text, ENTITIES);
 }
 
-/** The pieces of one definition. */
+/**
+ * The pieces of one definition.
+ * @param {string} markup
+ */
 function pieces(markup) {
     const quoted = markup.replaceAll("'", "''");
     return read(`althtmldef 'x' as '${quoted}';`).symbols.get("x");
@@ -72,6 +76,7 @@ test("hues", () => {
 
 test("remarks and quotes", () => {
     // What stands for `a`, if anything does.
+    /** @param {string} text */
     const ofA = (text) => read(text).symbols.get("a")?.[0][0];
     assert.equal(ofA("/* althtmldef 'a' as 'no'; */ althtmldef 'a' as 'b';"), "b");
     assert.equal(ofA("/*/ ; */ althtmldef 'a' as 'b';"), "b");
@@ -100,6 +105,7 @@ test("signs that no screen shows", () => {
 });
 
 test("the page of the bibliography is an address of a page, or none", () => {
+    /** @param {string} written */
     const read = (written) => readTypesetting(`htmlbibliography "${written}";`, ENTITIES).bibliography;
     for (const good of ["mmset.html", "https://us.metamath.org/mpeuni/mmset.html", "http://localhost:8000/x.htm"]) {
         assert.equal(read(good), good);
