@@ -9,7 +9,7 @@ from __future__ import annotations
 
 import os
 from collections.abc import Mapping
-from dataclasses import dataclass, field
+from dataclasses import dataclass, field, replace
 from pathlib import Path
 
 from query.config import FILE_NAME, Config, Misread, load_config, read_config
@@ -229,9 +229,5 @@ def compared(
         new = read(after, name)
     except Misread as why:
         return (Finding("config", name, why.line, "", "", why.reason),), ()
-    found = tuple(
-        Finding("config", name, loss.line, loss.label, loss.axiom, loss.reason)
-        for loss in losses(old, new)
-    )
     note = f"{shown(name)} isn't that of the base; what it asks counts once the base has it"
-    return found, (note,)
+    return tuple(losses(old, replace(new, name=name))), (note,)

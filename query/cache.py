@@ -146,13 +146,11 @@ def make_room(place: str, size: int) -> None:
             total -= length
 
 
-def clear() -> int:
-    """Removes all that is kept. Returns how many files these were. OSError where that fails."""
+def clear() -> None:
+    """Removes all that is kept. OSError where that fails."""
     place = own_folder()
     if place is None or not os.path.isdir(place):
-        return 0
-    found = entries(place)
-    for _, _, path in found:
+        return
+    for _, _, path in entries(place):
         with suppress(FileNotFoundError):
             os.unlink(path)
-    return len(found)

@@ -9,7 +9,7 @@ from functools import cached_property
 from typing import TYPE_CHECKING
 
 from query import cache, program, progress
-from query.assertions import Damaged
+from query.assertions import Assertion, Damaged
 from query.errors import NoAnswer, nearest, shown
 from query.faults import Refused
 from query.graph import Graph, Lists
@@ -178,6 +178,14 @@ class Database:
         from query.text import Text
 
         return Text(self.data(), self.prepared.statements)
+
+    def assertion(self, label: str) -> Assertion:
+        """The assertion of a label. NoAnswer where there is none."""
+        found = self.text.find(label)
+        if found is None:
+            meant = nearest(label, self.text.by_label, 0.8)
+            raise NoAnswer(f"{self.name}: has no assertion '{shown(label)}'{meant}")
+        return found
 
     @cached_property
     def sum(self) -> str:

@@ -59,11 +59,7 @@ class Filters:
         name = database.name
         stretches: list[tuple[int, int]] = []
         if self.before is not None:
-            end = text.find(self.before)
-            if end is None:
-                meant = nearest(self.before, text.by_label, 0.8)
-                raise NoAnswer(f"{name}: has no assertion '{shown(self.before)}'{meant}")
-            stretches.append((0, end.number))
+            stretches.append((0, database.assertion(self.before).number))
         if self.under is not None:
             stretches.append(chapter(text, name, self.under))
         boxes = None if self.mathbox is None else mathboxes(text, name, self.mathbox)

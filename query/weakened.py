@@ -4,40 +4,30 @@ itself."""
 from __future__ import annotations
 
 from collections.abc import Iterable, Iterator
-from dataclasses import dataclass
 
 from query.config import RULES, Config, Labels
+from query.rules import Finding
 
 
-@dataclass(frozen=True)
-class Loss:
-    """Something that is asked no longer; `line` is where the newer file says so, 0 where it says
-    nothing. `label` and `axiom` may be ""."""
-
-    line: int
-    label: str
-    axiom: str
-    reason: str
-
-
-def losses(old: Config, new: Config) -> Iterator[Loss]:
-    """What NEW asks less than OLD, one each."""
+def losses(old: Config, new: Config) -> Iterator[Finding]:
+    """What NEW asks less than OLD, one each, with the line where it says so; 0 where it says
+    nothing."""
     if new.base != old.base:
         reason = f"the base was '{old.base}', and is '{new.base}'"
-        yield Loss(line(new, "base"), "", "", reason)
+        yield Finding("config", new.name, line(new, "base"), "", "", reason)
     if new.typecode is not None and new.typecode != old.typecode:
         before = "all axioms" if old.typecode is None else f"the axioms of '{old.typecode}'"
         reason = f"`typecode` leaves those of '{new.typecode}', where {before} were judged"
-        yield Loss(line(new, "typecode"), "", "", reason)
+        yield Finding("config", new.name, line(new, "typecode"), "", "", reason)
     for rule in RULES:
         if rule in old.rules and rule not in new.rules:
             place = line(new, "rules", rule) or line(new, "rules", "newly")
-            yield Loss(place, "", "", f"the rule `{rule}` is switched off")
+            yield Finding("config", new.name, place, "", "", f"the rule `{rule}` is switched off")
     watched = Cover(new.watch)
     for word in old.watch:
         if not watched.has(word):
             reason = f"'{word}' isn't watched any more"
-            yield Loss(line(new, "watch"), word, word, reason)
+            yield Finding("config", new.name, line(new, "watch"), word, word, reason)
     yield from lost_claims(old, new)
     yield from allowances(old, new)
 
@@ -59,7 +49,7 @@ class Cover:
         return word in self.words or word.removesuffix("*").startswith(self.beginnings)
 
 
-def lost_claims(old: Config, new: Config) -> Iterator[Loss]:
+def lost_claims(old: Config, new: Config) -> Iterator[Finding]:
     """The claims that are dropped."""
     kept = {claim.theorem: claim for claim in new.claims}
     for claim in old.claims:
@@ -67,17 +57,19 @@ def lost_claims(old: Config, new: Config) -> Iterator[Loss]:
         for axiom in claim.axioms:
             if now is None or axiom not in now.axioms:
                 reason = f"the claim that {claim.theorem} avoids {axiom} is dropped"
-                yield Loss(now.line if now else 0, claim.theorem, axiom, reason)
+                yield Finding(
+                    "config", new.name, now.line if now else 0, claim.theorem, axiom, reason
+                )
 
 
-def allowances(old: Config, new: Config) -> Iterator[Loss]:
+def allowances(old: Config, new: Config) -> Iterator[Finding]:
     """What is allowed, and wasn't."""
     for rule, labels in new.allowed.items():
         before = Cover(old.allowed.get(rule, Labels()).words)
         for word in labels.words:
             if not before.has(word):
                 reason = f"`allow.{rule}` has '{word}' now"
-                yield Loss(line(new, "allow", rule), word, "", reason)
+                yield Finding("config", new.name, line(new, "allow", rule), word, "", reason)
     for rule, lists in new.resting.items():
         known = [
             (Cover([axiom]), Cover(labels.words))
@@ -89,4 +81,4 @@ def allowances(old: Config, new: Config) -> Iterator[Loss]:
             for word in labels.words:
                 if not any(theorems.has(word) for theorems in covers):
                     reason = f"`allow.{rule}` lets '{word}' rest on '{axiom}' now"
-                    yield Loss(place, word, axiom, reason)
+                    yield Finding("config", new.name, place, word, axiom, reason)

@@ -28,8 +28,7 @@ let compiled = null;
 
 /** The module, compiled at its first use. */
 function core() {
-    if (compiled === null) compiled = compile(readFileSync(new URL("./mmdepend.wasm", import.meta.url)));
-    return compiled;
+    return (compiled ??= compile(readFileSync(new URL("./mmdepend.wasm", import.meta.url))));
 }
 
 /**

@@ -107,8 +107,7 @@ def about_axioms(comparison: Comparison, named: list[str]) -> Iterator[Row]:
 def run(context: Context, arguments: argparse.Namespace) -> int:
     """Answers."""
     options = options_of(arguments)
-    old = context.database(arguments.old, options)
-    new = context.database(arguments.new, options)
+    old, new = (context.database(word, options) for word in (arguments.old, arguments.new))
     comparison = Comparison(*sides(old, new))
     check(comparison, arguments.axiom)
     rows: list[Row] = []

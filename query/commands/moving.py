@@ -4,7 +4,6 @@ import argparse
 
 from query.commands import Command
 from query.context import Context
-from query.errors import NoAnswer, nearest, shown
 from query.graph import Graph
 from query.options import Parser, add_database, options_of
 from query.output import Value
@@ -47,10 +46,7 @@ def run_move(context: Context, arguments: argparse.Namespace) -> int:
     last = max(cited, key=lambda one: one.number, default=None)
     rows: list[list[Value]] = [["after", *described(text, last)]]
     if arguments.to is not None:
-        place = text.find(arguments.to)
-        if place is None:
-            meant = nearest(arguments.to, text.by_label, 0.8)
-            raise NoAnswer(f"{database.name}: has no assertion '{shown(arguments.to)}'{meant}")
+        place = database.assertion(arguments.to)
         rows += [[what, *described(text, one)] for what, one in along(graph, text, theorem, place)]
     context.out.table(["what", "label", "where", "line"], rows)
     return 0

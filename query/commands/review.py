@@ -78,8 +78,7 @@ def configure(parser: Parser) -> None:
 def run(context: Context, arguments: argparse.Namespace) -> int:
     """Answers."""
     options = options_of(arguments)
-    old = context.database(arguments.old, options)
-    new = context.database(arguments.new, options)
+    old, new = (context.database(word, options) for word in (arguments.old, arguments.new))
     comparison = Comparison(*sides(old, new))
     changes = changes_of(comparison)
     if context.out.format == "markdown":

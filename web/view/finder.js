@@ -99,7 +99,8 @@ export class Finder {
         this.active = -1;
         this.input.removeAttribute("aria-activedescendant");
         const items = this.best.map((item, index) => this.result(item, index, answer.words));
-        if (this.total > this.best.length) items.push(this.allResults(items.length));
+        const all = `Show all ${count(this.total)}`;
+        if (this.total > this.best.length) items.push(this.option(items.length, { class: "all" }, all));
         this.results.replaceChildren(...items);
         this.results.hidden = items.length === 0;
         this.input.setAttribute("aria-expanded", String(items.length > 0));
@@ -125,20 +126,9 @@ export class Finder {
         const text = element("span", { class: "text" });
         if (said !== "") text.append(...this.excerpt(said, words, BEFORE));
         else text.append(...this.formulas(number));
-        return element(
-            "li",
-            {
-                role: "option",
-                id: `result-${index}`,
-                "aria-selected": "false",
-                "data-label": label,
-                onclick: () => this.choose(index),
-                onpointermove: () => this.activate(index),
-            },
-            element("span", { class: classesOfLabel(label) }, marked(cut(label), words)),
-            element("span", { class: "kind" }, this.model.kindName(number).toLowerCase()),
-            text,
-        );
+        const name = element("span", { class: classesOfLabel(label) }, marked(cut(label), words));
+        const kind = element("span", { class: "kind" }, this.model.kindName(number).toLowerCase());
+        return this.option(index, { "data-label": label }, name, kind, text);
     }
 
     /**
@@ -163,22 +153,15 @@ export class Finder {
     }
 
     /**
-     * The last line: it leads to all that was found.
+     * A line below the field.
      * @param {number} index
+     * @param {Record<string, string>} more its other attributes
+     * @param {...Child} children
      */
-    allResults(index) {
-        return element(
-            "li",
-            {
-                role: "option",
-                id: `result-${index}`,
-                class: "all",
-                "aria-selected": "false",
-                onclick: () => this.choose(index),
-                onpointermove: () => this.activate(index),
-            },
-            `Show all ${count(this.total)}`,
-        );
+    option(index, more, ...children) {
+        const state = { role: "option", id: `result-${index}`, "aria-selected": "false" };
+        const does = { onclick: () => this.choose(index), onpointermove: () => this.activate(index) };
+        return element("li", { ...state, ...does, ...more }, ...children);
     }
 
     /** @param {number} index */
