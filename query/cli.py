@@ -53,9 +53,7 @@ def parser_of(chosen: Command) -> Parser:
         )
     if chosen.lists:
         add_filters(parser)
-    parser.add_argument(
-        "--no-cache", action="store_true", help="keep no result, and use none that was kept"
-    )
+    parser.flag("--no-cache", "keep no result, and use none that was kept")
     parser.add_argument("-h", "--help", action="store_true", help="show this page")
     return parser
 

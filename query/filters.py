@@ -14,7 +14,6 @@ import os
 from collections.abc import Callable, Sequence
 from dataclasses import dataclass
 from fnmatch import fnmatchcase
-from functools import partial
 from typing import TYPE_CHECKING
 
 from query.errors import NoAnswer, nearest, shown
@@ -108,17 +107,15 @@ def mathboxes(text: Text, name: str, owner: str) -> frozenset[int]:
 
 def add_filters(parser: Parser) -> None:
     """Adds the filters."""
-    add = partial(parser.add_argument, group=parser.add_argument_group("filters of the list"))
-    add("--before", metavar="T", help="only what stands before T")
-    add("--main", action="store_true", help="only what stands in no mathbox")
-    add("--mathbox", metavar="NAME", help="only what stands in NAME's mathbox")
-    add("--under", metavar="NUMBER", help="only what the header NUMBER has below it")
-    for option, name, told in (
-        ("--like", "like", "only labels like PATTERN, in which * is anything; several: by commas"),
-        ("--not", "unlike", "no labels like PATTERN"),
-    ):
-        add(option, dest=name, metavar="PATTERN", action="append", default=[], help=told)
-    add("--among", metavar="FILE", action="append", default=[], help="only labels that FILE has")
+    group = parser.add_argument_group("filters of the list")
+    parser.value("--before", "T", "only what stands before T", group=group)
+    parser.flag("--main", "only what stands in no mathbox", group=group)
+    parser.value("--mathbox", "NAME", "only what stands in NAME's mathbox", group=group)
+    parser.value("--under", "NUMBER", "only what the header NUMBER has below it", group=group)
+    like = "only labels like PATTERN, in which * is anything; several: by commas"
+    parser.values("--like", "PATTERN", like, group=group)
+    parser.values("--not", "PATTERN", "no labels like PATTERN", group=group, dest="unlike")
+    parser.values("--among", "FILE", "only labels that FILE has", group=group)
 
 
 def filters_of(arguments: argparse.Namespace) -> Filters:

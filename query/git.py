@@ -17,7 +17,7 @@ from dataclasses import dataclass
 from pathlib import Path
 
 from query.errors import NoAnswer, shown
-from query.program import located
+from query.program import wanted
 
 NO_COMMIT = "0" * 40
 """What GitHub gives as the commit before a push that makes a branch."""
@@ -181,14 +181,6 @@ def said(done: subprocess.CompletedProcess[bytes]) -> str:
     return "git: " + (lines[0].removeprefix("fatal: ") if lines else f"status {done.returncode}")
 
 
-def program() -> str:
-    """Where git is."""
-    found = located("git")
-    if found is None:
-        raise NoAnswer("git isn't installed")
-    return found
-
-
 def call(
     *words: str, folder: Path, given: bytes = b"", more: Mapping[str, str] | None = None
 ) -> subprocess.CompletedProcess[bytes]:
@@ -202,7 +194,7 @@ def call(
     settings = [word for each in SETTINGS for word in ("-c", each)]
     try:
         return subprocess.run(
-            [program(), *settings, *words],
+            [wanted("git", "git isn't installed"), *settings, *words],
             cwd=folder,
             input=given,
             capture_output=True,

@@ -10,13 +10,7 @@ from query.output import reason
 
 def add_list(parser: Parser) -> None:
     """Adds `--list FILE`, more labels for `arguments.labels`."""
-    parser.add_argument(
-        "--list",
-        metavar="FILE",
-        action="append",
-        default=[],
-        help="take more LABELs from FILE: words, and comments after #",
-    )
+    parser.values("--list", "FILE", "take more LABELs from FILE: words, and comments after #")
 
 
 def words_of(path: str) -> list[tuple[int, str]]:

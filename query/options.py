@@ -32,6 +32,18 @@ class Parser(argparse.ArgumentParser):
         self.actions.append(settings.pop("group", super()).add_argument(*names, **settings))
         return self.actions[-1]
 
+    def flag(self, name: str, told: str, **more: Any) -> None:
+        """Adds an option without a value."""
+        self.add_argument(name, action="store_true", help=told, **more)
+
+    def value(self, name: str, metavar: str, told: str, **more: Any) -> None:
+        """Adds an option with a value."""
+        self.add_argument(name, metavar=metavar, help=told, **more)
+
+    def values(self, name: str, metavar: str, told: str, **more: Any) -> None:
+        """Adds an option that may be given several times, each time with a value."""
+        self.value(name, metavar, told, action="append", default=[], **more)
+
     def exclude(self, *names: str) -> None:
         """Lets only one of these options be given."""
         self.apart.append(names)
@@ -50,7 +62,7 @@ class Parser(argparse.ArgumentParser):
             if word == "--":
                 plain += left
             elif word.startswith("-") and word != "-":
-                given.append(self.option(word, left))
+                given.append(self.read_option(word, left))
             else:
                 plain.append(word)
         for names in self.apart:
@@ -64,7 +76,7 @@ class Parser(argparse.ArgumentParser):
             action(self, found, values[0] if action.nargs in (None, "?") else values)
         return found
 
-    def option(self, word: str, left: Iterator[str]) -> tuple[argparse.Action, list[str]]:
+    def read_option(self, word: str, left: Iterator[str]) -> tuple[argparse.Action, list[str]]:
         """An option with its value, which is taken from what is left where it follows."""
         name, sign, value = word.partition("=")
         action = self.options().get(name)
@@ -154,37 +166,29 @@ def add_choice_of_axioms(parser: Parser) -> None:
     """Adds `--only`, `--all`, `--axioms`, `--ignore-definitions`, `--essential` and `--open`."""
     parser.exclude("--only", "--all")
     add_only(parser, None)
-    parser.add_argument("--all", action="store_true", help="the axioms are all $a statements")
-    parser.add_argument(
+    parser.flag("--all", "the axioms are all $a statements")
+    parser.values(
         "--axioms",
-        metavar="WORD",
-        action="append",
-        default=[],
-        help="only axioms whose label begins with WORD; several: by commas, or more options",
+        "WORD",
+        "only axioms whose label begins with WORD; several: by commas, or more options",
     )
-    parser.add_argument(
-        "--ignore-definitions", action="store_true", help="no axioms whose label begins with df-"
-    )
+    parser.flag("--ignore-definitions", "no axioms whose label begins with df-")
     add_choice_of_citations(parser)
 
 
 def add_only(parser: Parser, default: str | None) -> None:
     """Adds `--only`."""
-    words = "the axioms are those of typecode T (else: |-)"
-    parser.add_argument("--only", metavar="T", help=words, default=default)
+    parser.value("--only", "T", "the axioms are those of typecode T (else: |-)", default=default)
 
 
 def add_open(parser: Parser) -> None:
     """Adds `--open`."""
-    words = "a theorem whose proof is ? counts as an axiom"
-    parser.add_argument("--open", action="store_true", help=words)
+    parser.flag("--open", "a theorem whose proof is ? counts as an axiom")
 
 
 def add_choice_of_citations(parser: Parser) -> None:
     """Adds `--essential` and `--open`."""
-    parser.add_argument(
-        "--essential", action="store_true", help="only the logical part of proofs cites"
-    )
+    parser.flag("--essential", "only the logical part of proofs cites")
     add_open(parser)
 
 

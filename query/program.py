@@ -137,6 +137,14 @@ def located(command: str) -> str | None:
     return None
 
 
+def wanted(command: str, lacking: str) -> str:
+    """The same. NoAnswer where it is nowhere."""
+    found = located(command)
+    if found is None:
+        raise NoAnswer(lacking)
+    return found
+
+
 def without_node() -> dict[str, str]:
     """The variables of the environment, but for those by which Node would be told to do more."""
     return {name: value for name, value in os.environ.items() if not name.startswith("NODE_")}

@@ -12,6 +12,7 @@ import stat
 from pathlib import Path
 
 from query import system
+from query.output import reason
 
 SIZE = 32
 NAME = "secret"
@@ -44,7 +45,7 @@ def wrong_folder(path: str) -> str | None:
     except FileNotFoundError:
         return None
     except OSError as error:
-        return said(error)
+        return reason(error)
     if stat.S_ISLNK(state.st_mode):
         return "it is a link"
     if not stat.S_ISDIR(state.st_mode):
@@ -71,11 +72,6 @@ def is_in_checkout(path: str) -> bool:
     return False
 
 
-def said(error: OSError) -> str:
-    """Why a call of the operating system failed, in words."""
-    return (error.strerror or str(error)).lower()
-
-
 def opened(path: str) -> int:
     """A file to be read, if it is one and no link. OSError where it isn't."""
     descriptor = system.opened(path)
@@ -95,7 +91,7 @@ def wrong_secret(path: str) -> str | None:
     except FileNotFoundError:
         return None
     except OSError as error:
-        return f"{path}: {said(error)}"
+        return f"{path}: {reason(error)}"
     try:
         state = os.fstat(descriptor)
         wrong = wrong_owner(state, 0o077)

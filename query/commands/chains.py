@@ -83,7 +83,7 @@ def configure_why(parser: Parser) -> None:
     add_database(parser)
     parser.add_argument("label", metavar="LABEL")
     parser.add_argument("on", metavar="ON")
-    parser.add_argument("--all", action="store_true", help="all citations on chains between")
+    parser.flag("--all", "all citations on chains between")
     add_choice_of_citations(parser)
 
 
@@ -120,18 +120,10 @@ def reverse(graph: Graph, node: int, end: int) -> str:
 
 def add_keep(parser: Parser) -> None:
     """Adds `--keep`."""
-    parser.add_argument(
-        "--keep",
-        metavar="LABEL",
-        action="append",
-        default=[],
-        help="a theorem that needs ON anyway; several: by commas, or more options",
+    parser.values(
+        "--keep", "LABEL", "a theorem that needs ON anyway; several: by commas, or more options"
     )
-    parser.add_argument(
-        "--keep-wrappers",
-        action="store_true",
-        help="keep the theorems that only say ON in another form",
-    )
+    parser.flag("--keep-wrappers", "keep the theorems that only say ON in another form")
 
 
 def kept_in(
@@ -210,12 +202,8 @@ def configure_frees(parser: Parser) -> None:
     add_database(parser)
     parser.add_argument("on", metavar="ON")
     parser.add_argument("theorems", metavar="THEOREM", nargs="*")
-    parser.add_argument(
-        "--most",
-        metavar="N",
-        type=count,
-        default=10,
-        help="without THEOREM: how many are listed (else: 10)",
+    parser.value(
+        "--most", "N", "without THEOREM: how many are listed (else: 10)", type=count, default=10
     )
     add_keep(parser)
     add_choice_of_citations(parser)

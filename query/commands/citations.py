@@ -44,9 +44,7 @@ def configure_cites(parser: Parser) -> None:
     """The words and options of `cites`."""
     add_database(parser)
     parser.add_argument("labels", metavar="LABEL", nargs="+")
-    parser.add_argument(
-        "--on", metavar="LABEL", help="only what is the axiom or theorem LABEL, or rests on it"
-    )
+    parser.value("--on", "LABEL", "only what is the axiom or theorem LABEL, or rests on it")
     add_choice_of_citations(parser)
 
 

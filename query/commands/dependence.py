@@ -58,7 +58,7 @@ def add_question(parser: Parser, flags: dict[str, str]) -> None:
     parser.add_argument("labels", metavar="LABEL", nargs="+")
     parser.exclude(*flags)
     for flag, told in flags.items():
-        parser.add_argument(flag, action="store_true", help=told)
+        parser.flag(flag, told)
 
 
 def configure_rests(parser: Parser) -> None:
@@ -171,13 +171,7 @@ def configure_falls(parser: Parser) -> None:
         "--all-of": "what rests on each of the LABELs",
     }
     add_question(parser, flags)
-    parser.add_argument(
-        "--without",
-        metavar="LABEL",
-        action="append",
-        default=[],
-        help="leave out what rests on LABEL; may be given several times",
-    )
+    parser.values("--without", "LABEL", "leave out what rests on LABEL; may be given several times")
     add_choice_of_axioms(parser)
 
 

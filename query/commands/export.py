@@ -25,7 +25,7 @@ rows   how many rows it has
 def configure(parser: Parser) -> None:
     """The words and options."""
     add_database(parser)
-    parser.add_argument("--sqlite", metavar="FILE", required=True, help="the file to write")
+    parser.value("--sqlite", "FILE", "the file to write", required=True)
     add_choice_of_axioms(parser)
 
 

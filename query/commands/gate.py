@@ -81,17 +81,11 @@ def configure(parser: Parser) -> None:
     """Adds the words and options."""
     parser.add_argument("old", metavar="OLD", nargs="?")
     add_database(parser)
-    parser.add_argument(
-        "--base", metavar="REV", help="the base (else mmdepend.toml's: origin/main)"
-    )
-    parser.add_argument(
-        "--merge-base", action="store_true", help="compare with the merge base, and merge nothing"
-    )
-    parser.add_argument("--config", metavar="FILE", help="FILE in place of mmdepend.toml")
-    parser.add_argument(
-        "--config-of-new", action="store_true", help="judge by the file of NEW, not by the base's"
-    )
-    parser.add_argument("--summary", metavar="FILE", help="adds a summary in Markdown to FILE")
+    parser.value("--base", "REV", "the base (else mmdepend.toml's: origin/main)")
+    parser.flag("--merge-base", "compare with the merge base, and merge nothing")
+    parser.value("--config", "FILE", "FILE in place of mmdepend.toml")
+    parser.flag("--config-of-new", "judge by the file of NEW, not by the base's")
+    parser.value("--summary", "FILE", "adds a summary in Markdown to FILE")
 
 
 def opened(source: Source, context: Context) -> Database:

@@ -137,13 +137,9 @@ def graphml(graph: Graph, nodes: set[int], downwards: bool) -> Iterable[str]:
 def configure_picture(parser: Parser) -> None:
     """The words and options of `picture`."""
     add_database(parser)
-    parser.add_argument("--png", action="store_true", help="a PNG file with axes and a legend")
-    parser.add_argument(
-        "--across", metavar="N", type=count, default=500, help="at most N dots across (else: 500)"
-    )
-    parser.add_argument(
-        "--down", metavar="N", type=count, default=700, help="at most N dots down (else: 700)"
-    )
+    parser.flag("--png", "a PNG file with axes and a legend")
+    parser.value("--across", "N", "at most N dots across (else: 500)", type=count, default=500)
+    parser.value("--down", "N", "at most N dots down (else: 700)", type=count, default=700)
     add_choice_of_axioms(parser)
 
 

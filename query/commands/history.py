@@ -58,7 +58,7 @@ def configure(parser: Parser) -> None:
     add_database(parser)
     parser.add_argument("range", metavar="REV..REV")
     parser.add_argument("axiom", metavar="AXIOM", nargs="*")
-    parser.add_argument("--of", metavar="T", help="since when the theorem T rests on each AXIOM")
+    parser.value("--of", "T", "since when the theorem T rests on each AXIOM")
     add_choice_of_citations(parser)
 
 

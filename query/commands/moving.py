@@ -34,7 +34,7 @@ def configure_move(parser: Parser) -> None:
     """The words and options of `move`."""
     add_database(parser)
     parser.add_argument("theorem", metavar="THEOREM")
-    parser.add_argument("--to", metavar="PLACE", help="THEOREM is to stand right before PLACE")
+    parser.value("--to", "PLACE", "THEOREM is to stand right before PLACE")
 
 
 def run_move(context: Context, arguments: argparse.Namespace) -> int:

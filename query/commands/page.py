@@ -12,7 +12,7 @@ from query.context import Context
 from query.database import Database
 from query.errors import NoAnswer
 from query.options import Options, Parser, add_choice_of_citations, add_database
-from query.program import HOME, SCRIPT, Running, located, without_node
+from query.program import HOME, SCRIPT, Running, wanted, without_node
 from query.source import Source
 
 PAGE = """
@@ -33,14 +33,10 @@ Example: mmquery page --against v1:set.mm set.mm > set.html
 def configure(parser: Parser) -> None:
     """Adds the words and options."""
     add_database(parser)
-    parser.add_argument(
-        "--only", metavar="T", help="the axioms are those of typecode T (else: all)"
-    )
-    parser.add_argument("--title", metavar="TEXT", help="the title (else: the name of the file)")
-    parser.add_argument("--against", metavar="OLD", help="compare with this database")
-    parser.add_argument(
-        "--watch", metavar="AXIOM", action="append", default=[], help="an axiom to be shown first"
-    )
+    parser.value("--only", "T", "the axioms are those of typecode T (else: all)")
+    parser.value("--title", "TEXT", "the title (else: the name of the file)")
+    parser.value("--against", "OLD", "compare with this database")
+    parser.values("--watch", "AXIOM", "an axiom to be shown first")
     add_choice_of_citations(parser)
 
 
@@ -66,14 +62,6 @@ def program() -> str:
         if os.path.exists(path):
             return path
     raise NoAnswer(f"there is no {SCRIPT}, which makes pages; web/build makes it")
-
-
-def node() -> str:
-    """Where Node is. NoAnswer where it isn't."""
-    found = located("node")
-    if found is None:
-        raise NoAnswer("pages are made by Node 18 or later, and there is no command node")
-    return found
 
 
 @contextmanager
@@ -102,7 +90,8 @@ def made(databases: list[Database], words: list[str]) -> bytes:
     with handed([database.source for database in databases]) as (places, passed):
         first, *others = places
         line = [program(), "page", *words, *(f"--against={place}" for place in others), first]
-        running = Running(node(), line, None, True, passed, without_node())
+        node = wanted("node", "pages are made by Node 18 or later, and there is no command node")
+        running = Running(node, line, None, True, passed, without_node())
         out, errors, status = running.ended()
     for database in databases:
         database.source.see_unchanged()

@@ -56,13 +56,9 @@ def configure_top(parser: Parser) -> None:
     add_database(parser)
     parser.add_argument("number", metavar="N", nargs="?", type=count, help="how many (else: 10)")
     parser.exclude("--theorems", "--below", "--against")
-    parser.add_argument("--theorems", action="store_true", help="rank theorems, not axioms")
-    parser.add_argument(
-        "--below", metavar="B", type=count, help="all axioms on which fewer than B theorems rest"
-    )
-    parser.add_argument(
-        "--against", metavar="OLD", help="axioms on which another number rests than in OLD"
-    )
+    parser.flag("--theorems", "rank theorems, not axioms")
+    parser.value("--below", "B", "all axioms on which fewer than B theorems rest", type=count)
+    parser.value("--against", "OLD", "axioms on which another number rests than in OLD")
     add_choice_of_axioms(parser)
 
 

@@ -46,9 +46,7 @@ def configure(parser: Parser) -> None:
     add_database(parser)
     add_only(parser, "|-")
     add_open(parser)
-    parser.add_argument(
-        "--kept", action="store_true", help="also labels that end in ALT or OLD, and discouraged"
-    )
+    parser.flag("--kept", "also labels that end in ALT or OLD, and discouraged")
 
 
 def theorems_of(library: Library, with_kept: bool, keeps: Test) -> Iterator[Rule]:

@@ -81,17 +81,15 @@ def configure(parser: Parser) -> None:
     add_database(parser)
     parser.add_argument("axiom", metavar="AXIOM", nargs="*")
     for name, words in FLAGS.items():
-        parser.add_argument(name, action="store_true", help=words)
-    parser.add_argument(
-        "--theorem", metavar="T", action="append", default=[], help="change only the proof of T"
-    )
-    parser.add_argument("--write", metavar="NEW", help="the file to make, with the new proofs")
-    parser.add_argument("--proof", metavar="T", help="print the theorem T with its new proof")
+        parser.flag(name, words)
+    parser.values("--theorem", "T", "change only the proof of T")
+    parser.value("--write", "NEW", "the file to make, with the new proofs")
+    parser.value("--proof", "T", "print the theorem T with its new proof")
     add_only(parser, "|-")
     add_open(parser)
-    parser.add_argument("--jobs", metavar="N", type=count, help="search with N processes")
+    parser.value("--jobs", "N", "search with N processes", type=count)
     for name, words in CONVENTIONS.items():
-        parser.add_argument(name, action="store_true", help=words)
+        parser.flag(name, words)
 
 
 def wanted_of(database: Database, arguments: argparse.Namespace) -> Wanted:

@@ -46,10 +46,8 @@ COLUMNS = ["valid", "axioms", "theorems", *FIELDS]
 def configure(parser: Parser) -> None:
     """The words and options of `verify`."""
     add_database(parser)
-    parser.add_argument("--each", action="store_true", help="the faults of all proofs")
-    parser.add_argument(
-        "--most", metavar="N", type=count, default=100, help="with --each: how many (else: 100)"
-    )
+    parser.flag("--each", "the faults of all proofs")
+    parser.value("--most", "N", "with --each: how many (else: 100)", type=count, default=100)
     add_choice_of_citations(parser)
 
 
