@@ -211,10 +211,12 @@ def judged(source: Source, running: Running) -> bytes:
     refusal = REFUSAL.fullmatch(out)
     if status == 1 and refusal:
         raise Refused(source, int(refusal[1]), int(refusal[2]), refusal[3].decode())
+    raise NoAnswer(f"{source.name}: {why_ended(errors, status)}")
+
+
+def why_ended(errors: bytes, status: int) -> str:
+    """Why a program gave no answer: the signal, or what it said last on standard error."""
     if status < 0:
-        raise NoAnswer(f"{source.name}: the program was ended by signal {-status}")
+        return f"the program was ended by signal {-status}"
     said = errors.decode("utf-8", "replace").strip().splitlines()
-    last = (
-        said[-1].removeprefix("mmdepend: ") if said else f"the program ended with status {status}"
-    )
-    raise NoAnswer(f"{source.name}: {last}")
+    return (said or [f"the program ended with status {status}"])[-1].removeprefix("mmdepend: ")

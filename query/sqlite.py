@@ -198,8 +198,8 @@ def export(content: Content, path: str) -> list[tuple[str, int]]:
     except OSError as error:
         raise NoAnswer(f"{name}: {reason(error)}") from None
     except sqlite3.Error as error:
-        full = OSError(errno.ENOSPC, "")
-        said = reason(full) if "full" in str(error) else str(error)
+        is_full = getattr(error, "sqlite_errorcode", None) == sqlite3.SQLITE_FULL
+        said = reason(OSError(errno.ENOSPC, "")) if is_full else str(error)
         raise NoAnswer(f"{name}: {said}") from None
 
 

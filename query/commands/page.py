@@ -12,7 +12,7 @@ from query.context import Context
 from query.database import Database
 from query.errors import NoAnswer
 from query.options import Options, Parser, add_choice_of_citations, add_database
-from query.program import HOME, SCRIPT, Running, wanted, without_node
+from query.program import HOME, SCRIPT, Running, wanted, why_ended, without_node
 from query.source import Source
 
 PAGE = """
@@ -97,19 +97,11 @@ def made(databases: list[Database], words: list[str]) -> bytes:
         database.source.see_unchanged()
     if status == 0:
         return out
-    if status < 0:
-        raise NoAnswer(f"{databases[0].name}: the program was ended by signal {-status}")
-    raise NoAnswer(told(errors.decode("utf-8", "replace"), databases, places, status))
-
-
-def told(said: str, databases: list[Database], places: list[str], status: int) -> str:
-    """Why the program made no page, with the names of databases in place of those that it got."""
-    line = (said.strip().splitlines() or [f"the program ended with status {status}"])[-1]
-    line = line.removeprefix("mmdepend: ")
+    why = why_ended(errors, status)
     for database, place in zip(databases, places):
-        if line.startswith(f"{place}:"):
-            return database.name + line.removeprefix(place)
-    return f"{databases[0].name}: {line}"
+        if why.startswith(f"{place}:"):
+            raise NoAnswer(database.name + why.removeprefix(place))
+    raise NoAnswer(f"{databases[0].name}: {why}")
 
 
 def run(context: Context, arguments: argparse.Namespace) -> int:
