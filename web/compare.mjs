@@ -13,8 +13,7 @@ const module = await compile(fs.readFileSync(modulePath));
 const TYPECODES = [null, null, "|-", "wff", "é", ""];
 const SIGNS = [" $.", "$(", "$)", " ${ ", " $} ", "$[ x $]", "\xff", "\t", " ? ", "$d x y $.", "$=", "Z", "(", ")", "\r\n"];
 const SMALL = 1 << 20;
-let passed = 0;
-let failed = 0;
+const runs = { passed: 0, failed: 0 };
 
 /** Numbers by lot, the same each time. */
 class Lot {
@@ -88,12 +87,12 @@ async function compared(name, text, request, limits) {
     const isSame = got.status === want.status && Buffer.compare(want.output, got.report) === 0;
     const isGivenUp = limits?.most !== undefined && got.status === 4 && got.report.length === 0;
     if (isSame || isGivenUp) {
-        passed++;
+        runs.passed++;
         return;
     }
-    failed++;
+    runs.failed++;
     console.log(`differs: ${name} ${words(request).join(" ")}: ${got.status} and ${want.status}`);
-    fs.writeFileSync(`differs-${failed}.mm`, text);
+    fs.writeFileSync(`differs-${runs.failed}.mm`, text);
 }
 
 /**
@@ -138,5 +137,5 @@ for (let k = 0; k < Number(count); k++) {
     const changed = mutated(text);
     await compared(`${name}, changed`, changed, drawn());
 }
-console.log(`${passed} passed, ${failed} failed`);
-process.exitCode = failed > 0 ? 1 : 0;
+console.log(`${runs.passed} passed, ${runs.failed} failed`);
+process.exitCode = runs.failed > 0 ? 1 : 0;

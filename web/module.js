@@ -23,12 +23,12 @@ export class Refused extends Error {
     }
 }
 
-/** @type {Promise<WebAssembly.Module> | null} */
-let compiled = null;
+/** @type {{ module?: Promise<WebAssembly.Module> }} */
+const compiled = {};
 
 /** The module, compiled at its first use. */
 function core() {
-    return (compiled ??= compile(readFileSync(new URL("./mmdepend.wasm", import.meta.url))));
+    return (compiled.module ??= compile(readFileSync(new URL("./mmdepend.wasm", import.meta.url))));
 }
 
 /**

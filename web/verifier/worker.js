@@ -156,7 +156,7 @@ function tellError(error) {
 }
 
 /** One task after the other. */
-let last = Promise.resolve();
+const tasks = { last: Promise.resolve() };
 here.onmessage = ({ data }) => {
-    last = last.then(() => answer(data)).catch(tellError);
+    tasks.last = tasks.last.then(() => answer(data)).catch(tellError);
 };
