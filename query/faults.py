@@ -23,10 +23,7 @@ FAULTS = {
         "in a comment, a word that contains `$(` or `$)`",
         "put spaces around the `$)` that closes the comment, and write no `$(` inside it",
     ),
-    "E03": (
-        "a comment that is not closed",
-        "write ` $)` where it ends",
-    ),
+    "E03": ("a comment that is not closed", "write ` $)` where it ends"),
     "E04": (
         "a word with `$` that is no keyword, or `$)` outside a comment",
         "put spaces around keywords; a symbol may not contain `$`",
@@ -48,34 +45,19 @@ FAULTS = {
         "the file ends within a statement",
         "write the rest of it, up to `$.`; the file may be cut off",
     ),
-    "E09": (
-        "`$}` without an open block",
-        "remove it, or write the `${` that it closes",
-    ),
+    "E09": ("`$}` without an open block", "remove it, or write the `${` that it closes"),
     "E10": (
         "the file ends while a block is open",
         "write the missing `$}`; the file may be cut off",
     ),
-    "E11": (
-        "a `$c` in a block",
-        "move it in front of the outermost `${`",
-    ),
-    "E12": (
-        "a `$c` or `$v` that declares nothing",
-        "name a symbol, or remove the statement",
-    ),
+    "E11": ("a `$c` in a block", "move it in front of the outermost `${`"),
+    "E12": ("a `$c` or `$v` that declares nothing", "name a symbol, or remove the statement"),
     "E13": (
         "a symbol that is declared already",
         "remove one of the two declarations, or rename the symbol",
     ),
-    "E14": (
-        "a label and a symbol that are the same word",
-        "rename one of them",
-    ),
-    "E15": (
-        "a label that was used before",
-        "rename this statement or the earlier one",
-    ),
+    "E14": ("a label and a symbol that are the same word", "rename one of them"),
+    "E15": ("a label that was used before", "rename this statement or the earlier one"),
     "E17": (
         "a formula that doesn't begin with a constant declared before",
         "write the typecode first, and declare it by `$c` before",
@@ -88,30 +70,15 @@ FAULTS = {
         "a `$f` that isn't a constant and an active variable",
         "write the typecode and the variable, and declare both before",
     ),
-    "E20": (
-        "a variable that has an active `$f` already",
-        "remove one of the two `$f`",
-    ),
+    "E20": ("a variable that has an active `$f` already", "remove one of the two `$f`"),
     "E21": (
         "a variable whose earlier `$f` has another typecode",
         "use another variable, or the same typecode",
     ),
-    "E22": (
-        "a variable without an active `$f`",
-        "give it a `$f` before this statement",
-    ),
-    "E23": (
-        "a `$d` of fewer than two variables",
-        "name two or more, or remove the statement",
-    ),
-    "E24": (
-        "in a `$d`, a symbol that is no active variable",
-        "name active variables only",
-    ),
-    "E25": (
-        "in a `$d`, a variable that is named twice",
-        "name it once",
-    ),
+    "E22": ("a variable without an active `$f`", "give it a `$f` before this statement"),
+    "E23": ("a `$d` of fewer than two variables", "name two or more, or remove the statement"),
+    "E24": ("in a `$d`, a symbol that is no active variable", "name active variables only"),
+    "E25": ("in a `$d`, a variable that is named twice", "name it once"),
     "E31": (
         "a proof without a step",
         "write the proof, or `?` and count the theorem as an axiom by `--open`",
@@ -149,10 +116,7 @@ FAULTS = {
         "a formula of more than 1,048,576 symbols",
         "prove the theorem in smaller parts, with definitions or lemmas",
     ),
-    "E41": (
-        "the `(` of a compressed proof has no `)`",
-        "write the ` ) ` after its labels",
-    ),
+    "E41": ("the `(` of a compressed proof has no `)`", "write the ` ) ` after its labels"),
     "E42": (
         "in a compressed proof, a byte that is neither a capital letter nor `?`",
         "only `A` to `Z` follow the `)`; the proof may have been changed by hand",

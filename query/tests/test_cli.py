@@ -9,7 +9,7 @@ import lzma
 import shutil
 import unittest
 
-from query.commands import MODULES, names
+from query.commands import command, names
 from query.tests.commands import WHOLE, WORDS, words_of
 from query.tests.world import HOSTILE, MMQUERY, SMALL, Came, World, invented
 
@@ -34,7 +34,7 @@ class CommandLine(World):
             self.assertTrue(any(line.split()[:1] == [name] for line in listed), name)
             self.assertEqual(page, self.answers("help", name))
         self.assertEqual(self.answers(), listed)
-        self.assertEqual(len(names()), sum(map(len, MODULES.values())))
+        self.assertEqual([command(name).name for name in names()], names())
 
     def test_version(self) -> None:
         self.assertRegex(self.answers("--version")[0], r"\Ammquery [0-9.]+\Z")
