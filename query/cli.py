@@ -19,8 +19,6 @@ from query.options import Parser
 from query.output import Output, reason, write_all
 
 VERSION = "mmquery 0.1.0\n"
-
-
 FORMS: dict[int | str | None, str] = {None: "{}", "+": "{}..", "*": "[{}..]", "?": "[{}]"}
 """How a word is written in a usage line, by how many of it are taken."""
 

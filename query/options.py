@@ -10,7 +10,6 @@ from typing import Any, NoReturn
 
 from query.errors import NoAnswer, nearest, shown
 
-
 Given = list[tuple[argparse.Action, list[str]]]
 """Arguments with the words that are given for them."""
 SHARES: dict[int | str | None, str] = {None: "(.)", "+": "(.+)", "*": "(.*)", "?": "(.?)"}
