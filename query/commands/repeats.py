@@ -11,7 +11,7 @@ from query.filters import Test
 from query.options import Options, Parser, add_database, add_only, add_open
 from query.output import Value
 from query.rules import is_discouraged
-from query.spare.changes import LAST, Wanted, conventions_of, is_fit
+from query.spare.conventions import LAST, conventions_of, is_fit
 from query.spare.library import UNREAD, Library, Rule, library_of
 from query.spare.repeats import Finder
 from query.spare.search import Shelf
@@ -69,9 +69,8 @@ def run(context: Context, arguments: argparse.Namespace) -> int:
     database.see_text()
     dependence = database.dependence()
     kept: bool = arguments.kept
-    wanted = Wanted(arguments.only, cites_discouraged=kept, cites_old=kept)
     library = library_of(database, arguments.only)
-    shelf = Shelf(library, conventions_of(library, wanted))
+    shelf = Shelf(library, conventions_of(library, cites_discouraged=kept, cites_old=kept))
     finder = Finder(library, shelf)
     found = finder.repeats(theorems_of(library, kept, context.keeps()))
     rows = [[one.theorem, one.earlier, one.how] for one in found]

@@ -12,16 +12,15 @@ from query.bare import bare
 from query.database import Database, key_of
 from query.rules import is_discouraged, is_proof_discouraged
 from query.spare import kept as kept_changes
+from query.spare.conventions import conventions_of
 from query.spare.kept import Change, Replaced
 from query.spare.index import GivenUp
-from query.spare.library import Library, Rule, bits_of, joined, library_of
+from query.spare.library import Rule, bits_of, joined, library_of
 from query.spare.proofs import Proof, Step, Unfit, run
-from query.spare.search import MOST_GIVEN, Conventions, Options, Search, Shelf, Steps, World
+from query.spare.search import Options, Search, Shelf, Steps, World
 from query.spare.sharing import number_at_once, searched
 from query.spare.writing import Writer, laid_out, width_of
 
-LAST = ("ALT", "OLD")
-"""How labels end of statements that nothing new should cite."""
 SECONDS = 60
 """After so many seconds what was found is kept."""
 MOST_SYMBOLS = 400
@@ -84,7 +83,10 @@ class Changer:
         self.bit_of = {label: 1 << place for place, label in enumerate(self.columns)}
         self.world = World(self.rests(prepared.theorems))
         self.old_rests = list(self.world.rests)
-        self.shelf = Shelf(self.library, conventions_of(self.library, wanted))
+        conventions = conventions_of(
+            self.library, wanted.cites_discouraged, wanted.cites_old, wanted.cites_mathboxes
+        )
+        self.shelf = Shelf(self.library, conventions)
         self.writer = Writer(self.library, self.syntax())
         self.width = width_of(self.proofs())
         self.closed = 0
@@ -324,34 +326,6 @@ class Changer:
         formula = " ".join([self.wanted.typecode, *symbols])
         labels = dict.fromkeys(self.names[each.rule] for each in was)
         return Replaced(tuple(labels), self.names[step.rule], formula)
-
-
-def conventions_of(library: Library, wanted: Wanted) -> Conventions:
-    """Which statements may be cited."""
-    text = library.text
-    boxes = {}
-    if not wanted.cites_mathboxes:
-        boxes = {one.number: box for one, box, _ in text.boxed()}
-    citable = joined(
-        one.number
-        for one in text.assertions
-        if is_fit(library.rules[one.number])
-        and (wanted.cites_old or not one.label.endswith(LAST))
-        and (wanted.cites_discouraged or not is_discouraged(text, one))
-    )
-    main = joined(one.number for one in text.assertions if one.number not in boxes)
-    firsts: dict[int, int] = {}
-    for number, box in boxes.items():
-        firsts.setdefault(box, number)
-    return Conventions(citable, main, boxes.get, firsts)
-
-
-def is_fit(rule: Rule) -> bool:
-    """Whether a rule can be cited in place of another."""
-    essential = rule.essential()
-    if not rule.is_logical or rule.tree < 0 or len(essential) > MOST_GIVEN:
-        return False
-    return all(each.number >= 0 for each in essential)
 
 
 def used(proof: Proof, steps: Steps) -> list[int]:

@@ -10,16 +10,15 @@ theorem rests on all of its axioms anyway, so nothing is gained.
 from __future__ import annotations
 
 from collections import defaultdict
-from collections.abc import Callable, Sequence
+from collections.abc import Sequence
 from dataclasses import dataclass
 
+from query.spare.conventions import Conventions
 from query.spare.index import Budget, Index, Key, key_of, keys_of
 from query.spare.library import Library, Rule, bits_of, joined
 from query.spare.proofs import Proof, Step
 from query.spare.trees import Binding, Code, Trees
 
-MOST_GIVEN = 50
-"""A statement with more `$e` hypotheses isn't cited in place of another."""
 MOST_NEW = 20_000
 """So many formulas are tried as new steps of one proof."""
 MOST_TRIED = 5000
@@ -61,24 +60,6 @@ class Citable:
     premises: list[Premise]
     keys: list[Key | None]
     pairs: list[tuple[int, int]]
-
-
-@dataclass(slots=True)
-class Conventions:
-    """Which statements may be cited in a theorem, as bits by their number: those that are citable
-    at all, and all that stand in no mathbox; and for each mathbox its first assertion."""
-
-    citable: int
-    main: int
-    box_of: Callable[[int], int | None]
-    firsts: dict[int, int]
-
-    def allowed(self, theorem: int) -> int:
-        """Those that stand before a theorem and may be cited there."""
-        before = (1 << theorem) - 1
-        box = self.box_of(theorem)
-        own = 0 if box is None else before & ~((1 << self.firsts[box]) - 1)
-        return self.citable & (self.main & before | own)
 
 
 class World:

@@ -6,7 +6,7 @@ from query.assertions import Assertion
 from query.commands.repeats import theorems_of
 from query.context import Context
 from query.options import Options
-from query.spare.changes import Wanted, conventions_of
+from query.spare.conventions import conventions_of
 from query.spare.library import Library
 from query.spare.repeats import HOW, Finder
 from query.spare.search import Shelf
@@ -129,8 +129,8 @@ class ByChance(World):
             path = str(self.room / self.write("chance.mm", Maker(seed).text(40)))
             database = Context(uses_cache=False).database(path, Options())
             library = Library(database.text, "|-")
-            wanted = Wanted("|-", cites_discouraged=True, cites_old=True)
-            finder = Finder(library, Shelf(library, conventions_of(library, wanted)))
+            conventions = conventions_of(library, cites_discouraged=True, cites_old=True)
+            finder = Finder(library, Shelf(library, conventions))
             found = {
                 one.theorem: one
                 for one in finder.repeats(theorems_of(library, True, lambda label: True))
