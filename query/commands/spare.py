@@ -104,7 +104,7 @@ def wanted_of(database: Database, arguments: argparse.Namespace) -> Wanted:
     if axioms and arguments.all:
         raise NoAnswer("an AXIOM and --all exclude one another")
     if arguments.shorter and (axioms or arguments.all or arguments.new_steps):
-        raise NoAnswer("--shorter excludes axioms and --new-steps")
+        raise NoAnswer("--shorter and an AXIOM, --all or --new-steps exclude one another")
     if not axioms and not arguments.all and not theorems and not arguments.shorter:
         raise NoAnswer("an AXIOM is wanted, or --theorem T, or --all, or --shorter")
     return Wanted(
