@@ -154,7 +154,10 @@ export class Writer {
      */
     stretch(data, start, end) {
         this.reserve(end - start);
-        for (let place = start; place < end; place++) this.bytes[this.size++] = data[place];
+        const { bytes } = this;
+        let { size } = this;
+        for (let place = start; place < end; place++) bytes[size++] = data[place];
+        this.size = size;
     }
 
     /**

@@ -36,26 +36,20 @@ export class Recent {
         this.size = 0;
     }
 
-    /** @param {number} item */
-    add(item) {
-        const { items } = this;
-        const size = Math.min(this.size, RECENT - 1);
-        for (let at = size; at > 0; at--) items[at] = items[at - 1];
-        items[0] = item;
-        this.size = size + 1;
-    }
-
     /**
-     * Where a step is, which is then the first; -1 if it isn't there.
+     * Puts a step first. Returns where it was, or -1.
      * @param {number} item
      */
     use(item) {
         const { items, size } = this;
-        let at = 0;
-        while (at < size && items[at] !== item) at++;
-        if (at === size) return -1;
-        for (let place = at; place > 0; place--) items[place] = items[place - 1];
-        items[0] = item;
-        return at;
+        let moved = item;
+        for (let at = 0; at < size; at++) {
+            const here = items[at];
+            items[at] = moved;
+            if (here === item) return at;
+            moved = here;
+        }
+        if (size < RECENT) items[this.size++] = moved;
+        return -1;
     }
 }

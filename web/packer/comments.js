@@ -31,9 +31,8 @@ const CLOSING = encoded("</pre>");
  */
 export function marksOf(data, start, end) {
     let found = 0;
-    const places = new Uint32Array(8); // of the last four words, beginnings and ends in turn
     let place = start;
-    for (let words = 0; place < end; ) {
+    while (place < end) {
         if (data[place] <= Byte.space) {
             place++;
             continue;
@@ -41,44 +40,32 @@ export function marksOf(data, start, end) {
         found |= Mark.comment;
         const first = place;
         while (place < end && data[place] > Byte.space) place++;
-        const at = 2 * (words++ % 4);
-        places[at] = first;
-        places[at + 1] = place;
-        const mayBeLast = data[first] === LAST[0] && place - first >= LAST.length;
-        if (mayBeLast) found |= markAt(data, inOrder(places, words));
+        const size = Math.min(place - first, LAST.length);
+        if (isSame(data, first, first + size, LAST, 0, LAST.length)) found |= markAt(data, start, first);
     }
     return found;
 }
 
 /**
- * The places of the last four words, the first one first.
- * @param {Uint32Array} places those of word n are the pair n % 4
- * @param {number} words how many words there were
- */
-function inOrder(places, words) {
-    return [0, 1, 2, 3].flatMap((word) => {
-        const at = 2 * ((words + word) % 4);
-        return [places[at], places[at + 1]];
-    });
-}
-
-/**
- * The mark whose sentence four words are, or 0.
+ * The mark whose sentence the words before a place begin, or 0.
  * @param {Uint8Array} data
- * @param {number[]} places
+ * @param {number} start of the comment
+ * @param {number} place of the last word
  */
-function markAt(data, places) {
-    const last = places[6];
-    if (!isSame(data, last, Math.min(places[7], last + LAST.length), LAST, 0, LAST.length)) return 0;
-    for (const { words, mark } of SENTENCES) {
-        const first = Math.max(places[0], places[1] - words[0].length);
-        const begins = isSame(data, first, places[1], words[0], 0, words[0].length);
-        const middle = [1, 2].every((at) =>
-            isSame(data, places[2 * at], places[2 * at + 1], words[at], 0, words[at].length),
-        );
-        if (begins && middle) return mark;
-    }
-    return 0;
+function markAt(data, start, place) {
+    const mark = SENTENCES.find(({ words }) => {
+        let last = place;
+        return [2, 1, 0].every((at) => {
+            while (last > start && data[last - 1] <= Byte.space) last--;
+            let first = last;
+            while (first > start && data[first - 1] > Byte.space) first--;
+            const from = at === 0 ? Math.max(first, last - words[0].length) : first;
+            const isThis = isSame(data, from, last, words[at], 0, words[at].length);
+            last = first;
+            return isThis;
+        });
+    });
+    return mark?.mark ?? 0;
 }
 
 /**

@@ -1,5 +1,7 @@
 // Puts the blocks of a database into the one file of its page.
 
+import { encoded } from "./bytes.js";
+
 /**
  * The page without its data: texts, and between them, at the odd places, the names of what is put there, `title` and
  * `data`. web/build makes it, with style, script and policy.
@@ -44,7 +46,8 @@ function holder(name, signs, page) {
 function numberOf(blocks) {
     let sum = 0x811c9dc5; // FNV-1a, of 32 bits
     for (const signs of blocks) {
-        for (let at = 0; at < signs.length; at++) sum = Math.imul(sum ^ signs.charCodeAt(at), 0x01000193);
+        const bytes = encoded(signs);
+        for (let at = 0; at < bytes.length; at++) sum = Math.imul(sum ^ bytes[at], 0x01000193);
     }
     return (sum >>> 0).toString(16).padStart(8, "0");
 }

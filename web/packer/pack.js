@@ -63,6 +63,8 @@ class MatrixPacker {
     /** @param {Dependence} dependence */
     constructor(dependence) {
         this.dependence = dependence;
+        /** How many columns each row has. */
+        this.sizes = new Uint32Array(dependence.theorems.length);
         this.above = new Writer();
         this.lengths = new Writer();
         this.gaps = new Writer();
@@ -87,6 +89,7 @@ class MatrixPacker {
         const { bits, words } = this.dependence;
         this.fewest = this.named = 0;
         for (let place = row * words; place < (row + 1) * words; place++) this.fewest += countBits(bits[place]);
+        this.sizes[row] = this.fewest;
     }
 
     /**
@@ -94,7 +97,7 @@ class MatrixPacker {
      * @param {number} candidate
      */
     tryRow(row, candidate) {
-        if (candidate < 0) return;
+        if (candidate < 0 || Math.abs(this.sizes[row] - this.sizes[candidate]) >= this.fewest) return;
         const { bits, words } = this.dependence;
         const start = row * words;
         const other = candidate * words;

@@ -49,12 +49,14 @@ class Frames {
     /** @param {Text} text */
     constructor({ data, named, givenByLabel, frames }) {
         this.frames = frames;
-        this.numbers = new Uint32Array(named.size);
+        const numbers = new Uint32Array(named.size);
         for (let at = 0; at < named.size; at++) {
             const number = givenByLabel.find(data, named.labels.items[at], named.labelEnds.items[at]);
             if (number < 0) throw new UnreadableText(named.labels.items[at]);
-            this.numbers[at] = number;
+            numbers[at] = number;
         }
+        /** Of one assertion after the other: 2 * n for the `$f` n, 2 * n + 1 for the `$e` n. */
+        this.items = frames.row.taken().map((item) => (item % 2 === 0 ? 2 * numbers[item / 2] : item));
     }
 
     /** How many assertions there are. */
@@ -63,11 +65,12 @@ class Frames {
     }
 
     /**
-     * Of an assertion: 2 * n for the `$f` n, 2 * n + 1 for the `$e` n.
+     * The items of an assertion.
      * @param {number} number
      */
     of(number) {
-        return this.frames.of(number).map((item) => (item % 2 === 0 ? 2 * this.numbers[item / 2] : item));
+        const { starts } = this.frames;
+        return this.items.subarray(starts.items[number], starts.items[number + 1]);
     }
 }
 
@@ -82,7 +85,7 @@ class Frequent {
         const floating = new Uint32Array(text.given.size);
         const assertions = new Uint32Array(text.size);
         for (const number of cited) assertions[number]++;
-        for (const item of text.frames.row.taken()) if (item % 2 === 0) floating[frames.numbers[item / 2]]++;
+        for (const item of frames.items) if (item % 2 === 0) floating[item / 2]++;
         /** Of each kind the labels, the most used first. What is of no `$f`'s typecode is mostly cited once. */
         this.labels = [1, 2, 3].map((kind) => {
             const found = [
@@ -261,7 +264,7 @@ class Packer {
         else if (step & 4) this.marked.push(this.markedKinds.size - 1);
         else {
             this.steps.items[last] |= 4;
-            this.recent[kind].add(this.markedKinds.size);
+            this.recent[kind].use(this.markedKinds.size);
             this.marked.push(this.markedKinds.size);
             this.markedKinds.push(kind);
         }
@@ -275,10 +278,7 @@ class Packer {
         const kind = this.markedKinds.items[marked];
         const at = this.recent[kind].use(marked);
         if (at >= 0) this.put(8 * (Code.recent + at) + kind, 0);
-        else {
-            this.put(8 * Code.far + kind, this.markedKinds.size - 1 - marked);
-            this.recent[kind].add(marked);
-        }
+        else this.put(8 * Code.far + kind, this.markedKinds.size - 1 - marked);
     }
 
     /**

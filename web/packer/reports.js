@@ -128,9 +128,11 @@ export class Dependence {
     /** How many theorems rest on each axiom. */
     users() {
         const users = new Uint32Array(this.axioms.length);
-        for (let place = 0; place < this.bits.length; place++) {
-            const first = (place % this.words) * 32;
-            for (let bits = this.bits[place]; bits !== 0; bits &= bits - 1) users[first + lowestOf(bits)]++;
+        for (let start = 0; start < this.bits.length; start += this.words) {
+            for (let word = 0; word < this.words; word++) {
+                const first = 32 * word;
+                for (let bits = this.bits[start + word]; bits !== 0; bits &= bits - 1) users[first + lowestOf(bits)]++;
+            }
         }
         return users;
     }
@@ -217,9 +219,11 @@ class Reader {
         found.words = Math.ceil(axioms / 32);
         found.bits = new Uint32Array(theorems * found.words);
         const digits = Math.ceil(axioms / 4);
+        const view = new DataView(lines.bytes.buffer, lines.bytes.byteOffset, lines.bytes.length);
         for (let row = 0; row < theorems; row++) {
             this.passLabel(lines, row);
-            readDigits(lines.bytes, lines.place, digits, found.bits, row * found.words);
+            if (lines.place + digits >= view.byteLength) throw new OddReport("a report is cut off");
+            readDigits(view, lines.place, digits, found.bits, row * found.words);
             lines.place += digits;
             lines.passEnd();
         }
@@ -354,9 +358,12 @@ for (let digit = 0; digit < 16; digit++) {
         ((digit & 8) >> 3) | ((digit & 4) >> 1) | ((digit & 2) << 1) | ((digit & 1) << 3);
 }
 
+/** Four digits of which none has a bit: most of a matrix is that. */
+const NONE = 0x30303030;
+
 /**
- * Puts the digits of a row into its bits.
- * @param {Uint8Array} report
+ * Puts the digits of a row into its bits, which are 0.
+ * @param {DataView} report
  * @param {number} place
  * @param {number} digits
  * @param {Uint32Array} bits
@@ -367,9 +374,10 @@ function readDigits(report, place, digits, bits, start) {
     for (let word = 0; 8 * word < digits; word++) {
         const first = place + 8 * word;
         const end = Math.min(first + 8, place + digits);
+        if (end === first + 8 && report.getInt32(first) === NONE && report.getInt32(first + 4) === NONE) continue;
         let marks = 0;
         for (let at = first; at < end; at++) {
-            const four = DIGITS[report[at]];
+            const four = DIGITS[report.getUint8(at)];
             all |= four;
             marks |= four << (4 * (at - first));
         }

@@ -69,7 +69,7 @@ export class Vocabulary {
         for (let number = 0; number < statements.size; number++) {
             if (number > 0) lines.push(0x0a);
             const size = cutter.cut(data, statements.formulas.items[number], statements.formulaEnds.items[number]);
-            lines.words(data, statements.formulas.items[number], statements.formulaEnds.items[number]);
+            lines.stretch(data, statements.formulas.items[number], statements.formulaEnds.items[number]);
             seen.begin(words.size + size);
             for (let at = 0; at < size; at++) {
                 const symbol = words.add(cutter.starts[at], cutter.ends[at]);

@@ -347,8 +347,8 @@ class Section {
      * @param {number} end
      */
     afterPart(place, end) {
-        const dollar = this.bytes.indexOf(Byte.dollar, place);
-        return dollar < 0 || dollar >= end ? end : dollar - 1;
+        while (place < end && this.bytes[place] !== Byte.dollar) place++;
+        return place === end ? end : place - 1;
     }
 
     /**
@@ -359,8 +359,9 @@ class Section {
      */
     addGiven(letter, first, end) {
         const { text, bytes } = this;
-        const labelEnd = bytes.indexOf(Byte.space, first);
-        if (labelEnd < 0 || labelEnd >= end) throw new UnreadableText(first);
+        let labelEnd = first;
+        while (labelEnd < end && bytes[labelEnd] !== Byte.space) labelEnd++;
+        if (labelEnd === end) throw new UnreadableText(first);
         const isEssential = letter === Letter.e;
         const statements = isEssential ? text.hypotheses : text.named;
         const number = (isEssential ? text.hypothesesByLabel : this.floating).add(first, labelEnd);
@@ -401,7 +402,9 @@ function partOf(letter, stage) {
  * @param {Uint8Array} report
  */
 function sectionIn(report) {
-    for (let place = report.indexOf(Byte.newline); place >= 0; place = report.indexOf(Byte.newline, place + 1)) {
+    // From the end, since what stands before the section is longer.
+    for (let place = report.length; place > 0; ) {
+        place = report.lastIndexOf(Byte.newline, place - 1);
         if (report[place + SECTION.length - 1] !== Byte.newline) continue;
         if (textAt(report, place, place + SECTION.length) === SECTION) return place + SECTION.length;
     }

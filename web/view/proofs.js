@@ -366,7 +366,7 @@ class Marked {
      * @param {number} step
      */
     add(kind, step) {
-        this.recent[kind].add(this.steps.length);
+        this.recent[kind].use(this.steps.length);
         this.steps.push(step);
     }
 
@@ -378,13 +378,8 @@ class Marked {
      */
     repeated(kind, code, number) {
         const recent = this.recent[kind];
-        if (code !== Code.far) {
-            const marked = recent.items[code - Code.recent];
-            recent.use(marked);
-            return this.steps[marked];
-        }
-        const marked = this.steps.length - 1 - number;
-        recent.add(marked);
+        const marked = code === Code.far ? this.steps.length - 1 - number : recent.items[code - Code.recent];
+        recent.use(marked);
         return this.steps[marked];
     }
 }
