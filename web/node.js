@@ -14,7 +14,7 @@ import { Ending, STDERR, STDOUT, bytesOf, join, outOfMemory, piecesOf, sizeOf, w
 
 /** @param {string} asset */
 function unpacked(asset) {
-    return inflateRawSync(Uint8Array.from(atob(asset), (sign) => sign.charCodeAt(0)));
+    return inflateRawSync(Buffer.from(asset, "base64"));
 }
 
 /** @param {string} asset */
@@ -28,10 +28,11 @@ function fromJson(asset) {
  * @param {Assets} assets
  */
 async function status(words, assets) {
-    const module = await compile(unpacked(assets.module));
+    const bytes = unpacked(assets.module);
     if (words[0] === "page") {
-        return page(words.slice(1), { module, shell: fromJson(assets.shell), tables: fromJson(assets.tables) });
+        return page(words.slice(1), { module: bytes, shell: fromJson(assets.shell), tables: fromJson(assets.tables) });
     }
+    const module = await compile(bytes);
     const line = readWords(words, await version(module));
     if (line.ends === "help") {
         writeAll(STDOUT, bytesOf(line.text));

@@ -18,6 +18,10 @@ declare module "node:zlib" {
     export function inflateRawSync(bytes: Uint8Array): Uint8Array;
 }
 
+declare module "node:v8" {
+    export function setFlagsFromString(flags: string): void;
+}
+
 declare module "node:crypto" {
     export const webcrypto: unknown;
 }
@@ -45,4 +49,5 @@ declare module "node:util" {
     }): { values: { [name in keyof O]?: Value<O[name]> }; positionals: string[]; tokens: Token[] };
 }
 
+declare const Buffer: { from(text: string, form: "base64"): Uint8Array };
 declare const process: { argv: string[]; exitCode: number | undefined };

@@ -3,8 +3,9 @@
 import { webcrypto } from "node:crypto";
 import { basename } from "node:path";
 import { parseArgs, promisify } from "node:util";
+import { setFlagsFromString } from "node:v8";
 import { deflate, gunzipSync } from "node:zlib";
-import { READING_LIMIT, report, version } from "./library.js";
+import { READING_LIMIT, compile, report } from "./library.js";
 import { explained, faultOf, refusalOf } from "./packer/faults.js";
 import { levelOf, pageFile } from "./packer/file.js";
 import { Making, NoAnswer } from "./packer/making.js";
@@ -17,7 +18,7 @@ import { Ending, STDOUT, bytesOf, join, outOfMemory, piecesOf, sizeOf, writeAll 
 
 /**
  * What the command works with.
- * @typedef {{ module: WebAssembly.Module, shell: Shell, tables: Tables }} Tools
+ * @typedef {{ module: Uint8Array, shell: Shell, tables: Tables }} Tools
  */
 
 const OPTIONS = /** @type {const} */ ({
@@ -56,6 +57,8 @@ Status: 0 made, 1 refused, 2 invalid command line, or there is nothing to show, 
 failed, 4 out of memory. For 1 to 4 the standard error says why, and nothing is written.
 `;
 const GZIP = [0x1f, 0x8b];
+/** From how many bytes on a text makes up for the time that it takes to compile all functions well before they run. */
+const LARGE = 1 << 22;
 /** What the module answers. */
 const Status = { report: 0, refusal: 1, memory: 4 };
 
@@ -121,7 +124,13 @@ function lacking(word, lack) {
  */
 async function reportOf(word, data, request, { module, tables }) {
     const wanted = /** @type {const} */ ({ only: null, report: "matrix,citations,statements", form: 2 });
-    const answer = await report(module, data.length, (bytes) => bytes().set(data), { ...request, ...wanted });
+    if (data.length >= LARGE) {
+        // Else V8 compiles a function in haste, and a loop that is begun so stays so to its end.
+        setFlagsFromString("--no-liftoff");
+        setFlagsFromString("--no-wasm-lazy-compilation");
+    }
+    const compiled = await compile(module);
+    const answer = await report(compiled, data.length, (bytes) => bytes().set(data), { ...request, ...wanted });
     if (answer.status === Status.memory) throw outOfMemory();
     if (answer.status === Status.refusal) {
         const fault = faultOf(data, refusalOf(answer.report));
@@ -239,9 +248,9 @@ async function made({ values, positionals }, tools) {
     }
     const { making, side } = database;
     const { title = name } = values;
-    const maker = `mmdepend ${await version(tools.module)}`;
+    const { maker, entities } = tools.tables;
     const packed = new Deflating();
-    await making.packText({ maker, entities: tools.tables.entities, title, watched }, packed);
+    await making.packText({ maker, entities, title, watched }, packed);
     making.packReports(side, older, packed);
     return pageFile(tools.shell, visible(title), await packed.blocks());
 }
