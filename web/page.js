@@ -58,7 +58,7 @@ failed, 4 out of memory. For 1 to 4 the standard error says why, and nothing is 
 `;
 const GZIP = [0x1f, 0x8b];
 /** From how many bytes on a text makes up for the time that it takes to compile all functions well before they run. */
-const LARGE = 1 << 22;
+const LARGE = 1 << 23;
 /** What the module answers. */
 const Status = { report: 0, refusal: 1, memory: 4 };
 
