@@ -49,5 +49,4 @@ declare module "node:util" {
     }): { values: { [name in keyof O]?: Value<O[name]> }; positionals: string[]; tokens: Token[] };
 }
 
-declare const Buffer: { from(text: string, form: "base64"): Uint8Array };
 declare const process: { argv: string[]; exitCode: number | undefined };

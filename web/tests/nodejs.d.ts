@@ -10,7 +10,7 @@ declare const Buffer: {
     alloc(size: number, fill?: Uint8Array): Buffer;
     compare(one: Uint8Array, other: Uint8Array): number;
     concat(parts: readonly Uint8Array[]): Buffer;
-    from(from: string | Iterable<number>, encoding?: "latin1"): Buffer;
+    from(from: string | Iterable<number>, encoding?: "base64" | "latin1"): Buffer;
 };
 
 declare module "node:assert/strict" {
