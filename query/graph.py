@@ -8,6 +8,7 @@ from array import array
 from bisect import bisect_right
 from collections.abc import Iterable
 from functools import cached_property
+from itertools import compress
 
 from query.errors import NoAnswer, nearest, shown
 
@@ -52,14 +53,14 @@ class Graph:
         """The node of each label."""
         return {label: node for node, label in enumerate(self.labels)}
 
-    @cached_property
-    def cited_by(self) -> list[list[int]]:
-        """For each node the theorems that cite it, in file order."""
-        users: list[list[int]] = [[] for _ in self.labels]
-        for theorem in range(self.theorems):
-            for cited in self.cites[theorem]:
-                users[cited].append(theorem)
-        return users
+    def citing(self, nodes: Iterable[int]) -> dict[int, list[int]]:
+        """For each of these nodes the theorems that cite it, in file order."""
+        found: dict[int, list[int]] = {node: [] for node in nodes}
+        wanted = [node in found for node in range(len(self.labels))]
+        places, targets = self.cites.places, self.cites.targets
+        for place in compress(range(len(targets)), map(wanted.__getitem__, targets)):
+            found[targets[place]].append(bisect_right(places, place) - 1)
+        return found
 
     def is_theorem(self, node: int) -> bool:
         """Whether the node is a theorem."""
@@ -111,18 +112,6 @@ class Graph:
             if not found.isdisjoint(targets[places[theorem] : places[theorem + 1]]):
                 found.add(theorem)
         return found
-
-    def users(self, node: int) -> list[int]:
-        """The theorems that cite a node, in file order."""
-        places, targets = self.cites.places, self.cites.targets
-        found: list[int] = []
-        place = -1
-        while True:
-            try:
-                place = targets.index(node, place + 1)
-            except ValueError:
-                return found
-            found.append(bisect_right(places, place) - 1)
 
     def distances(self, end: int, theorems: Iterable[int] | None = None) -> dict[int, int]:
         """For each node that rests on this one, how many citations a shortest chain to it has; 0

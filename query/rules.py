@@ -457,10 +457,10 @@ def open_theorems(case: Case) -> Iterator[Finding]:
 
 def citations(graph: Graph, labels: Iterable[str]) -> Iterator[tuple[str, str]]:
     """Each citation of these assertions, as what cites and what it cites, in file order."""
-    for label in labels:
-        node = graph.index.get(label)
-        for user in graph.cited_by[node] if node is not None else ():
-            yield graph.labels[user], label
+    nodes = [graph.index[label] for label in labels if label in graph.index]
+    for cited, users in graph.citing(nodes).items():
+        for user in users:
+            yield graph.labels[user], graph.labels[cited]
 
 
 def across_mathboxes(graph: Graph, text: Text) -> Iterator[tuple[str, str, str | None, str]]:

@@ -80,7 +80,9 @@ def run_cited_by(context: Context, arguments: argparse.Namespace) -> int:
     graph = context.database(arguments.database, options_of(arguments)).graph()
     nodes = [graph.node(label) for label in dict.fromkeys(arguments.labels)]
     rows = [
-        [graph.labels[user], graph.labels[node]] for node in nodes for user in graph.users(node)
+        [graph.labels[user], graph.labels[node]]
+        for node, users in graph.citing(nodes).items()
+        for user in users
     ]
     why = f"{graph.name}: no theorem cites {shown(' or '.join(arguments.labels))}"
     context.table(PAIRS, rows, why, "theorem", ["cited"] if len(nodes) == 1 else [])
