@@ -7,6 +7,7 @@ use Rattle.std.proofs.Common.{append_assoc, append-nil, length-append}
 use Rattle.std.specs.List.{list_any, range_with_len, AllZip, filter}
 use Rattle.std.proofs.lemmas.Bool.{and_parts, or_left, cases_order}
 use Rattle.std.proofs.lemmas.List.Sums.{sum_by-append}
+use Rattle.std.proofs.lemmas.Option.{slice_get_cases}
 use Rattle.std.proofs.lemmas.Slice.Eq.{bytes_eq-Decides}
 use Rattle.mm_spec.specs.Text.{Bytes, Token, fault, is_in}
 use Rattle.mm_spec.specs.declared.Fault.{Fault}
@@ -21,7 +22,7 @@ use Rattle.mm_spec.specs.Frame.{mandatory_hypotheses}
 use Rattle.mm_spec.specs.Steps.{Step, PlacedStep, placed, label, marked}
 use Rattle.mm_spec.specs.NormalProof.{is_labelled, usable, proof_label_faults, normal_faults}
 use Rattle.mm_spec.specs.NormalProof.{normal_steps}
-use Rattle.mm_spec.specs.CompressedProof.{bracketed, letters_of, Group, is_last_letter, groups}
+use Rattle.mm_spec.specs.CompressedProof.{bracketed, letters_of, Group, groups}
 use Rattle.mm_spec.specs.CompressedProof.{value}
 use Rattle.mm_spec.specs.CompressedProof.{starts_at, step_of, group_steps, letter_faults}
 use Rattle.mm_spec.specs.CompressedProof.{compressed_faults, compressed_steps}
@@ -43,7 +44,6 @@ use Rattle.mm_spec.proofs.OpenedLaw.{counted_any}
 use Rattle.mm_spec.proofs.CompleteLaw.{lawful_is_faultless}
 use Rattle.mm_spec.proofs.GoodStepsLaw.{group_value_is_positive}
 use Rattle.mm_spec.proofs.GroupsLaw.{AreFaultless}
-use Rattle.mm_spec.proofs.ListLaw.{got_none_is_past_end}
 use Rattle.mm_laws.proofs.ReadLaw.{read_statements_are_lawful}
 use Rattle.mm_laws.proofs.SpellingLaw.{bracketed_splits, letters_are_faultless, item_of}
 use Rattle.mm_laws.proofs.SpellingLaw.{groups_spell, bytes_of_letters, spelled_items_are_unique}
@@ -54,23 +54,25 @@ get_append : {X : Type 0} (xs ys : List X) (n : ℕ) (x : X) → slice_get (xs +
     → (slice_get xs n ≡ Some x) ⊎ ((i : ℕ) × (n ≡ length xs + i) × (slice_get ys i ≡ Some x))
 get_append [] ys n x x_is_at_n = inr (n, omega arith, x_is_at_n)
 get_append (y ∷ xs) ys zero x x_is_at_n = inl x_is_at_n
-get_append (y ∷ xs) ys (suc n) x x_is_at_n = found_by_list (get_append xs ys n x x_is_at_n)
-  where
-    found_by_list : (slice_get xs n ≡ Some x)
-        ⊎ ((i : ℕ) × (n ≡ length xs + i) × (slice_get ys i ≡ Some x))
-        → (slice_get xs n ≡ Some x)
-        ⊎ ((i : ℕ) × (suc n ≡ suc (length xs) + i) × (slice_get ys i ≡ Some x))
-    found_by_list (inl in_xs) = inl in_xs
-    found_by_list (inr in_ys) = let n_is = in_ys.1 in inr (in_ys.0, omega arith, in_ys.2)
+get_append (y ∷ xs) ys (suc n) x x_is_at_n = elim (get_append xs ys n x x_is_at_n) [
+  | inl in_xs ↦ inl in_xs
+  | inr in_ys ↦ inr (in_ys.0, omega (arith, in_ys.1), in_ys.2)
+]
 
 get_only : {X : Type 0} (y x : X) (i : ℕ) → slice_get (y ∷ []) i ≡ Some x → (i ≡ 0) × (y ≡ x)
 get_only y x zero x_is_at_i = (refl, cc)
-get_only y x (suc zero) x_is_at_i = absurd (cc)
-get_only y x (suc (suc i)) x_is_at_i = absurd (cc)
+get_only y x (suc i) x_is_at_i = absurd (cc)
 
 pub count_append : (p : Item → Bool) (xs ys : List Item)
     → count_by p (xs ++ ys) ≡ count_by p xs + count_by p ys
 count_append p xs ys = sum_by-append _ xs ys
+
+count_with_number : (n : ℕ) (b : List Item)
+    → count_by is_number (number n ∷ b) ≡ suc (count_by is_number b)
+count_with_number n b = omega (arith, count_append is_number (number n ∷ []) b)
+
+count_with_mark : (b : List Item) → count_by is_number (mark ∷ b) ≡ count_by is_number b
+count_with_mark b = omega (arith, count_append is_number (mark ∷ []) b)
 
 -- ---- marks
 
@@ -94,124 +96,61 @@ marks_push : (items_before : List Item) (marks : List ℕ) (count : ℕ) → 0 <
     → count ≡ count_by is_number items_before → length marks ≡ count_by is_mark_item items_before
     → AreMarks items_before marks → AreMarks (items_before ++ mark ∷ []) (marks ++ (count - 1) ∷ [])
 marks_push items_before marks count count_gt_0 count_is mark_count_is are_marks k i i_is_at_k =
-    earlier_or_new_mark (get_append marks ((count - 1) ∷ []) k i i_is_at_k)
-  where
-    earlier_or_new_mark : (slice_get marks k ≡ Some i)
-        ⊎ ((j : ℕ) × (k ≡ length marks + j) × (slice_get ((count - 1) ∷ []) j ≡ Some i))
-        → IsMark (items_before ++ mark ∷ []) k i
-    earlier_or_new_mark (inl is_earlier) = mark_stays_in_longer items_before (mark ∷ []) k i
-        (are_marks k i is_earlier)
-    earlier_or_new_mark (inr is_new) =
-        let only_element = get_only (count - 1) i is_new.0 is_new.2 in
-        let j_is_0 = only_element.0 in
-        let i_is_count = only_element.1 in
-        let k_is = is_new.1 in
-        record {
-          items_before = items_before;
-          items_after = [];
-          items_are = refl;
-          mark_count_is =
-              omega arith;
-          number_count_is = omega arith;
-        }
+    elim (get_append marks ((count - 1) ∷ []) k i i_is_at_k) [
+      | inl is_earlier ↦ mark_stays_in_longer items_before (mark ∷ []) k i
+          (are_marks k i is_earlier)
+      | inr is_new ↦ let only = get_only (count - 1) i is_new.0 is_new.2 in record {
+        items_before = items_before;
+        items_after = [];
+        items_are = refl;
+        mark_count_is = omega (arith, is_new.1, only.0);
+        number_count_is = omega (arith, only.1);
+      }
+    ]
 
 -- ---- the steps that items name, if other items come before them
 
 module _ (hypotheses labels : List ℕ) where
-  -- the steps are those that the items name, if the items `items_before` come before them
-  record AreStepsFrom (items_before items : List Item) (ss : List Step) : Type 0 where
-    pub step_count_is : length ss ≡ count_by is_number items
-    pub each_is_named : (b items_after : List Item) (n : ℕ) → items ≡ b ++ number n ∷ items_after
-        → (s : Step) × (slice_get ss (count_by is_number b) ≡ Some s)
-        × NamesStep hypotheses labels (items_before ++ b) n s
+  -- the steps are those that the items name, if the items `before` come before them
+  abbrev AreNamed : List Item → List Item → List Step → Type 0
+  AreNamed before [] [] = Unit {0}
+  AreNamed before [] (s ∷ ss) = ⊥
+  AreNamed before (number n ∷ items) [] = ⊥
+  AreNamed before (number n ∷ items) (s ∷ ss) =
+      NamesStep hypotheses labels before n s × AreNamed (before ++ number n ∷ []) items ss
+  AreNamed before (mark ∷ items) ss = AreNamed (before ++ mark ∷ []) items ss
 
-  steps_from_nothing : (items_before : List Item) → AreStepsFrom items_before [] []
-  steps_from_nothing items_before =
-      record {
-        step_count_is = refl;
-        each_is_named = λ b items_after n items_are. absurd
-            (nothing_has_no_number b items_after n items_are);
-      }
-    where
-      nothing_has_no_number : (b items_after : List Item) (n : ℕ) → []
-          ≡ b ++ number n ∷ items_after → ⊥
-      nothing_has_no_number [] items_after n items_are = cc
-      nothing_has_no_number (x ∷ b) items_after n items_are = cc
+  as_many_as_numbers : (before items : List Item) (ss : List Step) → AreNamed before items ss
+      → length ss ≡ count_by is_number items
+  as_many_as_numbers before [] [] are_named = refl
+  as_many_as_numbers before [] (s ∷ ss) are_named = absurd are_named
+  as_many_as_numbers before (number n ∷ items) [] are_named = absurd are_named
+  as_many_as_numbers before (number n ∷ items) (s ∷ ss) are_named =
+      let later = as_many_as_numbers (before ++ number n ∷ []) items ss are_named.1 in
+      omega (arith, count_append is_number (number n ∷ []) items)
+  as_many_as_numbers before (mark ∷ items) ss are_named =
+      let later = as_many_as_numbers (before ++ mark ∷ []) items ss are_named in
+      omega (arith, count_append is_number (mark ∷ []) items)
 
-  steps_from_number : (items_before items : List Item) (ss : List Step) (n : ℕ) (s : Step)
-      → NamesStep hypotheses labels items_before n s → AreStepsFrom (items_before ++ number n ∷ [])
-      items ss
-      → AreStepsFrom items_before (number n ∷ items) (s ∷ ss)
-  steps_from_number items_before items ss n s is_named are_steps =
-      record {
-        step_count_is = let count_is = are_steps.step_count_is in omega (
-          arith,
-          count_append
-              is_number (number n ∷ []) items,
-        );
-        each_is_named = each_is_named;
-      }
-    where
-      each_is_named : (b items_after : List Item) (m : ℕ) → number n ∷ items
-          ≡ b ++ number m ∷ items_after
-          → (t : Step) × (slice_get (s ∷ ss) (count_by is_number b) ≡ Some t)
-          × NamesStep hypotheses labels (items_before ++ b) m t
-      each_is_named [] items_after m items_are =
-          let n_is_m : n ≡ m = cc in (
-            s,
-            refl,
-            subst (λ xs. NamesStep hypotheses labels xs m s) (sym (append-nil items_before))
-                (subst (λ i. NamesStep hypotheses labels items_before i s) n_is_m is_named),
-          )
-      each_is_named (x ∷ b) items_after m items_are =
-          let head_is : number n ≡ x = cc in
-          let tail_is : items ≡ b ++ number m ∷ items_after = cc in
-          let named_in_tail = are_steps.each_is_named b items_after m tail_is in
-          let count_is_suc : suc (count_by is_number b) ≡ count_by is_number (number n ∷ b) =
-          omega (arith, count_append is_number (number n ∷ []) b) in
-          let index_is : suc (count_by is_number b) ≡ count_by is_number (x ∷ b) =
-          count_is_suc ∙ ap (λ y. count_by is_number (y ∷ b)) head_is in
-          let front_is : (items_before ++ number n ∷ []) ++ b ≡ items_before ++ x ∷ b =
-          append_assoc items_before (number n ∷ []) b ∙ ap (λ y. items_before ++ y ∷ b) head_is in (
-            named_in_tail.0,
-            ap (slice_get (s ∷ ss)) (sym index_is)
-                ∙ named_in_tail.1,
-            subst (λ xs. NamesStep hypotheses labels xs m named_in_tail.0) front_is named_in_tail.2,
-          )
-
-  steps_from_mark : (items_before items : List Item) (ss : List Step)
-      → AreStepsFrom (items_before ++ mark ∷ []) items ss
-      → AreStepsFrom items_before (mark ∷ items) ss
-  steps_from_mark items_before items ss are_steps =
-      record {
-        step_count_is = let count_is = are_steps.step_count_is in omega (
-          arith,
-          count_append
-              is_number (mark ∷ []) items,
-        );
-        each_is_named = each_is_named;
-      }
-    where
-      each_is_named : (b items_after : List Item) (m : ℕ) → mark ∷ items
-          ≡ b ++ number m ∷ items_after
-          → (t : Step) × (slice_get ss (count_by is_number b) ≡ Some t)
-          × NamesStep hypotheses labels (items_before ++ b) m t
-      each_is_named [] items_after m items_are = absurd (cc)
-      each_is_named (x ∷ b) items_after m items_are =
-          let head_is : mark ≡ x = cc in
-          let tail_is : items ≡ b ++ number m ∷ items_after = cc in
-          let named_in_tail = are_steps.each_is_named b items_after m tail_is in
-          let counts_equal : count_by is_number b ≡ count_by is_number (mark ∷ b) =
-          omega (arith, count_append is_number (mark ∷ []) b) in
-          let index_is : count_by is_number b ≡ count_by is_number (x ∷ b) =
-          counts_equal ∙ ap (λ y. count_by is_number (y ∷ b)) head_is in
-          let front_is : (items_before ++ mark ∷ []) ++ b ≡ items_before ++ x ∷ b =
-          append_assoc items_before (mark ∷ []) b ∙ ap (λ y. items_before ++ y ∷ b) head_is in (
-            named_in_tail.0,
-            ap (slice_get ss) (sym index_is)
-                ∙ named_in_tail.1,
-            subst (λ xs. NamesStep hypotheses labels xs m named_in_tail.0) front_is named_in_tail.2,
-          )
+  each_is_named : (before b after : List Item) (n : ℕ) (ss : List Step)
+      → AreNamed before (b ++ number n ∷ after) ss
+      → (s : Step) × (slice_get ss (count_by is_number b) ≡ Some s)
+      × NamesStep hypotheses labels (before ++ b) n s
+  each_is_named before [] after n [] are_named = absurd are_named
+  each_is_named before [] after n (s ∷ ss) are_named = (s, refl, rw append-nil are_named.0)
+  each_is_named before (number m ∷ b) after n [] are_named = absurd are_named
+  each_is_named before (number m ∷ b) after n (s ∷ ss) are_named =
+      let later = each_is_named (before ++ number m ∷ []) b after n ss are_named.1 in (
+        later.0,
+        rw (count_with_number m b) later.1,
+        rw append_assoc at later.2,
+      )
+  each_is_named before (mark ∷ b) after n ss are_named =
+      let later = each_is_named (before ++ mark ∷ []) b after n ss are_named in (
+        later.0,
+        rw (count_with_mark b) later.1,
+        rw append_assoc at later.2,
+      )
 
   -- a number that isn't too large names a step
   number_names_step : (items_before : List Item) (marks : List ℕ) (n : ℕ) → 0 < n
@@ -220,50 +159,30 @@ module _ (hypotheses labels : List ℕ) where
       × NamesStep hypotheses labels items_before n s
   number_names_step items_before marks zero n_gt_0 n_le_count are_marks = absurd (omega arith)
   number_names_step items_before marks (suc n) n_gt_0 n_le_count are_marks =
-      named_by_label_or_mark (slice_get (hypotheses ++ labels) n) refl
-      (slice_get marks (n - length (hypotheses ++ labels))) refl
-    where
-      step_by_meaning : Option ℕ → Option ℕ → List Step
-      step_by_meaning a b =
-          elim a [ Some j ↦ label j ∷ [] | None ↦ elim b [ Some i ↦ marked i ∷ [] | None ↦ [] ] ]
-
-      label_is_named : (j : ℕ)
-          → (slice_get hypotheses n ≡ Some j)
-          ⊎ ((i : ℕ) × (n ≡ length hypotheses + i) × (slice_get labels i ≡ Some j))
-          → NamesStep hypotheses labels items_before (suc n) (label j)
-      label_is_named j (inl in_hypotheses) = inl (n, omega arith, in_hypotheses)
-      label_is_named j (inr in_labels) = let index_is = in_labels.1 in inr (
-        in_labels.0,
-        omega
-            arith,
-        in_labels.2,
-      )
-
-      named_by_label_or_mark : (a : Option ℕ) → slice_get (hypotheses ++ labels) n ≡ a
-          → (b : Option ℕ)
-          → slice_get marks (n - length (hypotheses ++ labels)) ≡ b
-          → (s : Step) × (step_by_meaning a b ≡ s ∷ [])
-          × NamesStep hypotheses labels items_before (suc n) s
-      named_by_label_or_mark (Some j) is_label b at_mark =
-          (label j, refl, label_is_named j (get_append hypotheses labels n j is_label))
-      named_by_label_or_mark None not_label (Some i) is_mark =
-          let count_le_n = got_none_is_past_end (hypotheses ++ labels) n not_label in
-          let counts_add = length-append hypotheses labels in (
-            marked i,
-            refl,
-            (
-              n - length (hypotheses ++ labels),
-              omega arith,
-              are_marks
-                  (n - length (hypotheses ++ labels)) i is_mark,
-            ),
-          )
-      named_by_label_or_mark None not_label None not_mark =
-          let count_le_n = got_none_is_past_end (hypotheses ++ labels) n not_label in
-          let marks_le_n = got_none_is_past_end marks
-          (n - length (hypotheses ++ labels)) not_mark in
-          let counts_add = length-append hypotheses labels in
-          absurd (omega arith)
+      elim (slice_get_cases (hypotheses ++ labels) n).1 [
+        | inl is_label ↦ (
+          label is_label.0,
+          rw (is_label.2, step_of) refl,
+          elim (get_append hypotheses labels n is_label.0 is_label.2) [
+            | inl in_hypotheses ↦ inl (n, omega arith, in_hypotheses)
+            | inr in_labels ↦ inr (in_labels.0, omega (arith, in_labels.1), in_labels.2)
+          ],
+        )
+        | inr no_label ↦ let k = n - length (hypotheses ++ labels) in
+            elim (slice_get_cases marks k).1 [
+              | inl is_mark ↦ (
+                marked is_mark.0,
+                rw (no_label.1, is_mark.2, step_of) refl,
+                (
+                  k,
+                  omega (arith, no_label.0, length-append hypotheses labels),
+                  are_marks k is_mark.0 is_mark.2,
+                ),
+              )
+              | inr no_mark ↦
+                  absurd (omega (arith, no_label.0, no_mark.0, length-append hypotheses labels))
+            ]
+      ]
 
   abbrev steps_of : List PlacedStep → List Step
   steps_of ps = map (λ p. p.step) ps
@@ -273,89 +192,51 @@ module _ (hypotheses labels : List ℕ) where
       → count ≡ count_by is_number items_before → length marks ≡ count_by is_mark_item items_before
       → AreMarks items_before marks
       → AreFaultless (length hypotheses + length labels) (length marks) count gs
-      → AreStepsFrom items_before (map item_of gs)
+      → AreNamed items_before (map item_of gs)
       (steps_of (group_steps (hypotheses ++ labels) marks count gs))
   steps_from_groups [] items_before marks count number_count_is mark_count_is are_marks
-      are_faultless = steps_from_nothing items_before
+      are_faultless = tt
   steps_from_groups (g ∷ gs) items_before marks count number_count_is mark_count_is are_marks
-      are_faultless =
-      number_or_mark are_faultless
-      (λ n rest_is_faultless. steps_from_groups gs (items_before ++ number n ∷ []) marks (count + 1)
-      (omega (arith, count_append is_number items_before (number n ∷ [])))
-      (omega (arith, count_append is_mark_item items_before (number n ∷ [])))
-      (λ j i i_is_at_j. mark_stays_in_longer items_before (number n ∷ []) j i (are_marks j i
-      i_is_at_j)) rest_is_faultless)
-      (λ count_gt_0 rest_is_faultless. steps_from_groups gs (items_before ++ mark ∷ []) (marks ++
-      (count - 1) ∷ []) count
+      (inl (ends_number, fits, later)) =
+      let byte_ge_65 = leb-true 65 g.last.byte
+      (and_parts (nat_le 65 g.last.byte) (nat_le g.last.byte 84) ends_number).0 in
+      let named = number_names_step items_before marks (value g)
+      (group_value_is_positive _ g.last.byte byte_ge_65) fits are_marks in
+      rw (ends_number, AreNamed, item_of, group_steps)
+      (subst (λ own. AreNamed items_before (number (value g) ∷ map item_of gs)
+      (steps_of (map (placed (starts_at g)) own
+      ++ group_steps (hypotheses ++ labels) marks (count + 1) gs))) (sym named.1) (
+        named.2,
+        steps_from_groups gs (items_before ++ number (value g) ∷ []) marks (count + 1)
+            (omega (arith, count_append is_number items_before (number (value g) ∷ [])))
+            (omega (arith, count_append is_mark_item items_before (number (value g) ∷ [])))
+            (λ j i is_at. mark_stays_in_longer items_before (number (value g) ∷ []) j i
+            (are_marks j i is_at)) later,
+      ))
+  steps_from_groups (g ∷ gs) items_before marks count number_count_is mark_count_is are_marks
+      (inr (ends_no_number, _, _, count_gt_0, later)) =
+      let length_is = length-append marks ((count - 1) ∷ []) in
+      rw (ends_no_number, AreNamed, item_of, group_steps)
+      (steps_from_groups gs (items_before ++ mark ∷ []) (marks ++ (count - 1) ∷ []) count
       (omega (arith, count_append is_number items_before (mark ∷ [])))
-      (omega (
-        arith,
-        count_append is_mark_item items_before (mark ∷ []),
-        length-append marks
-            ((count - 1) ∷ []),
-      )) (marks_push items_before marks count count_gt_0 number_count_is mark_count_is are_marks)
-      (subst (λ z. AreFaultless (length hypotheses + length labels) z count gs)
-      (let length_is = length-append marks ((count - 1) ∷ []) in
-      omega arith) rest_is_faultless))
-    where
-      item_if_number : Bool → Item
-      item_if_number b = elim b [ true ↦ number (value g) | false ↦ mark ]
-
-      steps_from_group : Bool → List PlacedStep
-      steps_from_group a = elim a [
-        | true ↦ map (placed (starts_at g)) (step_of (hypotheses ++ labels) marks (value g))
-            ++ group_steps (hypotheses ++ labels) marks (count + 1) gs
-        | false ↦ group_steps (hypotheses ++ labels) (marks ++ (count - 1) ∷ []) count gs
-      ]
-
-      number_or_mark : AreFaultless (length hypotheses + length labels) (length marks) count
-          (g ∷ gs)
-          → ((n : ℕ)
-          → AreFaultless (length hypotheses + length labels) (length marks) (count + 1) gs
-          → AreStepsFrom (items_before ++ number n ∷ []) (map item_of gs)
-          (steps_of (group_steps (hypotheses ++ labels) marks (count + 1) gs)))
-          → (0 < count
-          → AreFaultless (length hypotheses + length labels) (length marks + 1) count gs
-          → AreStepsFrom (items_before ++ mark ∷ []) (map item_of gs)
-          (steps_of (group_steps (hypotheses ++ labels) (marks ++ (count - 1) ∷ []) count gs)))
-          → AreStepsFrom items_before (item_if_number (is_last_letter g.last.byte) ∷ map item_of gs)
-          (steps_of (steps_from_group (is_last_letter g.last.byte)))
-      number_or_mark (inl is_number_group) after_number after_mark =
-          let byte_ge_65 =
-          leb-true 65 g.last.byte
-          (and_parts (nat_le 65 g.last.byte) (nat_le g.last.byte 84) is_number_group.0).0 in
-          let named =
-          number_names_step items_before marks (value g) (group_value_is_positive _ g.last.byte
-          byte_ge_65) is_number_group.1 are_marks in
-          let are_steps =
-          steps_from_number items_before (map item_of gs)
-          (steps_of (group_steps (hypotheses ++ labels) marks (count + 1) gs)) (value g) named.0
-          named.2
-          (after_number (value g) is_number_group.2) in
-          subst (λ b. AreStepsFrom items_before (item_if_number b ∷ map item_of gs)
-          (steps_of (steps_from_group b))) (sym is_number_group.0)
-          (subst (λ ss. AreStepsFrom items_before (number (value g) ∷ map item_of gs)
-          (steps_of (map (placed (starts_at g)) ss
-          ++ group_steps (hypotheses ++ labels) marks (count + 1) gs))) (sym named.1) are_steps)
-      number_or_mark (inr is_mark_group) after_number after_mark =
-          subst (λ b. AreStepsFrom items_before (item_if_number b ∷ map item_of gs)
-          (steps_of (steps_from_group b))) (sym is_mark_group.0)
-          (steps_from_mark items_before (map item_of gs)
-          (steps_of (group_steps (hypotheses ++ labels) (marks ++ (count - 1) ∷ []) count gs))
-          (after_mark is_mark_group.3 is_mark_group.4))
+      (omega (arith, count_append is_mark_item items_before (mark ∷ [])))
+      (marks_push items_before marks count count_gt_0 number_count_is mark_count_is are_marks)
+      (subst (λ z. AreFaultless (length hypotheses + length labels) z count gs) (omega arith)
+      later))
 
   pub groups_name_steps : (gs : List Group)
       → AreFaultless (length hypotheses + length labels) 0 0 gs
       → AreSteps hypotheses labels (map item_of gs)
       (steps_of (group_steps (hypotheses ++ labels) [] 0 gs))
   groups_name_steps gs are_faultless =
-      let are_steps = steps_from_groups gs [] [] 0 refl refl
-      (λ k i i_is_at_k. absurd (nothing_has_no_mark k i i_is_at_k)) are_faultless in
-      record { step_count_is = are_steps.step_count_is; each_is_named = are_steps.each_is_named }
-    where
-      nothing_has_no_mark : (k i : ℕ) → slice_get {X = ℕ} [] k ≡ Some i → ⊥
-      nothing_has_no_mark zero i i_is_at_k = cc
-      nothing_has_no_mark (suc k) i i_is_at_k = cc
+      let ss = steps_of (group_steps (hypotheses ++ labels) [] 0 gs) in
+      let are_named : AreNamed [] (map item_of gs) ss =
+      steps_from_groups gs [] [] 0 refl refl (λ k i is_at. absurd (cc)) are_faultless in
+      record {
+        step_count_is = as_many_as_numbers [] (map item_of gs) ss are_named;
+        each_is_named = λ b after n items_are. each_is_named [] b after n ss
+            (subst (λ items. AreNamed [] items ss) items_are are_named);
+      }
 
 -- ---- labels
 

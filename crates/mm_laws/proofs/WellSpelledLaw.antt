@@ -1,11 +1,12 @@
 -- Reading finds no fault in exactly the proofs that are well formed.
-use Rattle.std.proofs.Common.{cond, ◌≡◌, ◌≢◌, ℕ, zero, suc, ◌+◌, ◌-◌, ◌==◌, ◌<◌, ◌≤◌, Bool, true}
-use Rattle.std.proofs.Common.{false, ◌&&◌, ◌⊎◌, inl, inr, List, [], ◌∷◌, ◌++◌, map, length}
-use Rattle.std.proofs.Common.{flat_map, count_by, Some, nat_le, nat_lt, bytes_eq, codes, refl, sym}
-use Rattle.std.proofs.Common.{ap, ap₂, ◌∙◌, subst, true≢false, arith, leb-true, le-leb}
+use Rattle.std.proofs.Common.{◌≡◌, ◌≢◌, ℕ, ◌+◌, ◌==◌, ◌<◌, ◌≤◌, Bool, true}
+use Rattle.std.proofs.Common.{false, ◌&&◌, inl, inr, List, [], ◌∷◌, ◌++◌, map, length}
+use Rattle.std.proofs.Common.{flat_map, count_by, Some, nat_lt, bytes_eq, codes, refl, sym}
+use Rattle.std.proofs.Common.{ap, ap₂, ◌∙◌, subst, true≢false, arith}
 use Rattle.std.proofs.Common.{eq-eqb, append_assoc, append-nil}
-use Rattle.std.specs.List.{list_any, range_with_len, AllByRecursion, AllZip, filter}
-use Rattle.std.proofs.lemmas.Bool.{and_parts, and_from, cases_eq, le-ltb, ne_eqb}
+use Rattle.std.specs.List.{list_any, range_with_len, AllByRecursion, AllZip}
+use Rattle.std.proofs.lemmas.Bool.{le-ltb, ne_eqb}
+use Rattle.std.proofs.lemmas.Bool.Decides.{nat_tests}
 use Rattle.std.proofs.lemmas.Slice.Eq.{bytes_eq-Decides}
 use Rattle.mm_spec.specs.Text.{Token, fault}
 use Rattle.mm_spec.specs.declared.Fault.{Fault}
@@ -17,7 +18,7 @@ use Rattle.mm_spec.specs.Frame.{mandatory_hypotheses}
 use Rattle.mm_spec.specs.NormalProof.{is_labelled, usable, proof_label_faults, normal_faults}
 use Rattle.mm_spec.specs.CompressedProof.{bracketed, Letter, letters_of, Group, is_early_letter}
 use Rattle.mm_spec.specs.CompressedProof.{is_last_letter}
-use Rattle.mm_spec.specs.CompressedProof.{groups, value, starts_at, group_faults, letter_faults}
+use Rattle.mm_spec.specs.CompressedProof.{groups, value, group_fault, group_faults, letter_faults}
 use Rattle.mm_spec.specs.CompressedProof.{compressed_faults}
 use Rattle.mm_spec.specs.Proof.{reading_faults}
 use Rattle.mm_laws.specs.Spelling.{Item, number, mark, is_number, is_mark_item, IsEarlyDigit}
@@ -25,12 +26,12 @@ use Rattle.mm_laws.specs.Spelling.{IsLastDigit, AreEarlyDigits, AreLettersOf, Sp
 use Rattle.mm_laws.specs.Spelling.{IsUsable, IsWellSpelled}
 use Rattle.mm_laws.specs.Laws.Read.{WhereRead}
 use Rattle.mm_laws.specs.Laws.WellFormed.{CompressedIsExact, NormalIsExact}
-use Rattle.mm_spec.specs.declared.Code.TheVariants.{OpenNumber, MarkBeforeStep, NumberTooLarge}
-use Rattle.mm_spec.specs.declared.Code.TheVariants.{UnusableLabel, IncompleteProof, BadLetter}
-use Rattle.mm_spec.proofs.FindsLaw.{equal_bytes_equal_words, active_lt_place}
+use Rattle.mm_spec.specs.declared.Code.TheVariants.{OpenNumber}
+use Rattle.mm_spec.specs.declared.Code.TheVariants.{UnusableLabel}
+use Rattle.mm_spec.proofs.FindsLaw.{equal_bytes_equal_words, active_lt_place, any_filter, range_any}
 use Rattle.mm_spec.proofs.FaultlessLaw.{both_are_empty}
-use Rattle.mm_laws.proofs.SpellingLaw.{EndsItem, no_early, spelled_item_is_unique}
-use Rattle.mm_laws.proofs.SpellingLaw.{group_spells_its_value, early_byte_is_digit}
+use Rattle.mm_laws.proofs.SpellingLaw.{EndsItem, spelled_item_is_unique}
+use Rattle.mm_laws.proofs.SpellingLaw.{group_spells_its_value}
 use Rattle.mm_laws.proofs.SpellingLaw.{front_with_last_is_not_nil, bracket_parts_of}
 use Rattle.mm_laws.proofs.SpellingLaw.{bracketed_splits, bytes_of, AreEarly}
 use Rattle.mm_laws.proofs.SpellingLaw.{item_of}
@@ -54,147 +55,72 @@ faultless_are_meaningful : (gs : List Group) (label_count marks count : ℕ)
     → AreFaultless label_count marks count gs
     → AreMeaningful label_count marks count (map item_of gs)
 faultless_are_meaningful [] label_count marks count are_faultless = tt
-faultless_are_meaningful (g ∷ gs) label_count marks count are_faultless =
-    number_or_mark are_faultless (λ rest_is_faultless. faultless_are_meaningful gs label_count marks
-    (count + 1) rest_is_faultless)
-    (λ rest_is_faultless. faultless_are_meaningful gs label_count (marks + 1) count
-    rest_is_faultless)
-  where
-    item_if_number : Bool → Item
-    item_if_number b = elim b [ true ↦ number (value g) | false ↦ mark ]
+faultless_are_meaningful (g ∷ gs) label_count marks count (inl (ends_number, fits, later)) =
+    rw (ends_number, AreMeaningful, item_of) (fits, faultless_are_meaningful gs label_count marks (count + 1) later)
+faultless_are_meaningful (g ∷ gs) label_count marks count (inr (no_number, _, _, follows, later)) =
+    rw (no_number, AreMeaningful, item_of) (follows, faultless_are_meaningful gs label_count (marks + 1) count later)
 
-    number_or_mark : AreFaultless label_count marks count (g ∷ gs)
-        → (AreFaultless label_count marks (count + 1) gs
-        → AreMeaningful label_count marks (count + 1) (map item_of gs))
-        → (AreFaultless label_count (marks + 1) count gs
-        → AreMeaningful label_count (marks + 1) count (map item_of gs))
-        → AreMeaningful label_count marks count
-        (item_if_number (is_last_letter g.last.byte) ∷ map item_of gs)
-    number_or_mark (inl group_is_faultless) after_number after_mark =
-        subst (λ b. AreMeaningful label_count marks count (item_if_number b ∷ map item_of gs))
-        (sym group_is_faultless.0) (group_is_faultless.1, after_number group_is_faultless.2)
-    number_or_mark (inr group_is_faultless) after_number after_mark =
-        subst (λ b. AreMeaningful label_count marks count (item_if_number b ∷ map item_of gs))
-        (sym group_is_faultless.0)
-        (group_is_faultless.3, after_mark group_is_faultless.4)
+-- an item means something after so many marks and numbers
+abbrev IsMeaningful : ℕ → ℕ → ℕ → Item → Type 0
+IsMeaningful label_count marks count (number n) = n ≤ label_count + marks
+IsMeaningful label_count marks count mark = 0 < count
 
-numbers_are_meaningful : (items : List Item) (label_count marks count : ℕ)
-    → AreMeaningful label_count marks count items
-    → (items_before items_after : List Item) (n : ℕ) → items ≡ items_before ++ number n ∷
-    items_after
-    → n ≤ label_count + (marks + count_by is_mark_item items_before)
-numbers_are_meaningful [] label_count marks count are_meaningful [] items_after n items_are = absurd
-    (cc)
-numbers_are_meaningful [] label_count marks count are_meaningful (x ∷ b) items_after n items_are =
-    absurd (cc)
-numbers_are_meaningful (number m ∷ items) label_count marks count are_meaningful [] items_after n
-    items_are =
-    let m_is_n : m ≡ n = cc in let m_le_count = are_meaningful.0 in omega arith
-numbers_are_meaningful (mark ∷ items) label_count marks count are_meaningful [] items_after n
-    items_are = absurd (cc)
-numbers_are_meaningful (number m ∷ items) label_count marks count are_meaningful (x ∷ b) items_after
-    n items_are =
-    let x_is_number : x ≡ number m = cc in
-    let tail_is : items ≡ b ++ number n ∷ items_after = cc in
-    let n_le_count = numbers_are_meaningful items label_count marks (count + 1) are_meaningful.1 b
-    items_after n tail_is in
-    let counts_equal : count_by is_mark_item (x ∷ b) ≡ count_by is_mark_item (number m ∷ b) =
-    ap (λ y. count_by is_mark_item (y ∷ b)) x_is_number in
-    omega (arith, count_append is_mark_item (number m ∷ []) b)
-numbers_are_meaningful (mark ∷ items) label_count marks count are_meaningful (x ∷ b) items_after n
-    items_are =
-    let x_is_mark : x ≡ mark = cc in
-    let tail_is : items ≡ b ++ number n ∷ items_after = cc in
-    let n_le_count = numbers_are_meaningful items label_count (marks + 1) count are_meaningful.1 b
-    items_after n tail_is in
-    let counts_equal : count_by is_mark_item (x ∷ b) ≡ count_by is_mark_item (mark ∷ b) =
-    ap (λ y. count_by is_mark_item (y ∷ b)) x_is_mark in
-    omega (arith, count_append is_mark_item (mark ∷ []) b)
+meaningful_after_more : (item : Item) (label_count m n marks count : ℕ)
+    → IsMeaningful label_count m n item → m ≡ marks → n ≡ count
+    → IsMeaningful label_count marks count item
+meaningful_after_more item label_count m n marks count is_meaningful m_is n_is =
+    rw (← m_is, ← n_is) is_meaningful
 
-marks_are_meaningful : (items : List Item) (label_count marks count : ℕ)
-    → AreMeaningful label_count marks count items
-    → (items_before items_after : List Item) → items ≡ items_before ++ mark ∷ items_after
-    → 0 < count + count_by is_number items_before
-marks_are_meaningful [] label_count marks count are_meaningful [] items_after items_are = absurd
-    (cc)
-marks_are_meaningful [] label_count marks count are_meaningful (x ∷ b) items_after items_are =
-    absurd (cc)
-marks_are_meaningful (number m ∷ items) label_count marks count are_meaningful [] items_after
-    items_are = absurd (cc)
-marks_are_meaningful (mark ∷ items) label_count marks count are_meaningful [] items_after items_are
-    =
-    let count_gt_0 = are_meaningful.0 in omega arith
-marks_are_meaningful (number m ∷ items) label_count marks count are_meaningful (x ∷ b) items_after
-    items_are =
-    let x_is_number : x ≡ number m = cc in
-    let tail_is : items ≡ b ++ mark ∷ items_after = cc in
-    let count_gt_0 = marks_are_meaningful items label_count marks (count + 1) are_meaningful.1 b
-    items_after tail_is in
-    let counts_equal : count_by is_number (x ∷ b) ≡ count_by is_number (number m ∷ b) =
-    ap (λ y. count_by is_number (y ∷ b)) x_is_number in
-    omega (arith, count_append is_number (number m ∷ []) b)
-marks_are_meaningful (mark ∷ items) label_count marks count are_meaningful (x ∷ b) items_after
-    items_are =
-    let x_is_mark : x ≡ mark = cc in
-    let tail_is : items ≡ b ++ mark ∷ items_after = cc in
-    let count_gt_0 = marks_are_meaningful items label_count (marks + 1) count are_meaningful.1 b
-    items_after tail_is in
-    let counts_equal : count_by is_number (x ∷ b) ≡ count_by is_number (mark ∷ b) =
-    ap (λ y. count_by is_number (y ∷ b)) x_is_mark in
-    omega (arith, count_append is_number (mark ∷ []) b)
+each_is_meaningful : (before after : List Item) (item : Item) (label_count marks count : ℕ)
+    → AreMeaningful label_count marks count (before ++ item ∷ after)
+    → IsMeaningful label_count (marks + count_by is_mark_item before)
+    (count + count_by is_number before) item
+each_is_meaningful [] after (number n) label_count marks count (fits, _) = omega arith
+each_is_meaningful [] after mark label_count marks count (follows, _) = omega arith
+each_is_meaningful (number m ∷ before) after item label_count marks count (_, later) =
+    meaningful_after_more item label_count _ _ _ _
+    (each_is_meaningful before after item label_count marks (count + 1) later)
+    (omega (arith, count_append is_mark_item (number m ∷ []) before))
+    (omega (arith, count_append is_number (number m ∷ []) before))
+each_is_meaningful (mark ∷ before) after item label_count marks count (_, later) =
+    meaningful_after_more item label_count _ _ _ _
+    (each_is_meaningful before after item label_count (marks + 1) count later)
+    (omega (arith, count_append is_mark_item (mark ∷ []) before))
+    (omega (arith, count_append is_number (mark ∷ []) before))
 
 meaningful_if_each_is : (items : List Item) (label_count marks count : ℕ)
-    → ((items_before items_after : List Item) (n : ℕ) → items
-    ≡ items_before ++ number n ∷ items_after
-    → n ≤ label_count + (marks + count_by is_mark_item items_before))
-    → ((items_before items_after : List Item) → items ≡ items_before ++ mark ∷ items_after
-    → 0 < count + count_by is_number items_before)
+    → ((before after : List Item) (item : Item) → items ≡ before ++ item ∷ after
+    → IsMeaningful label_count (marks + count_by is_mark_item before)
+    (count + count_by is_number before) item)
     → AreMeaningful label_count marks count items
-meaningful_if_each_is [] label_count marks count numbers_in_range marks_follow = tt
-meaningful_if_each_is (number n ∷ items) label_count marks count numbers_in_range marks_follow = (
-  (let first_in_range = numbers_in_range [] items n refl in omega arith),
-  meaningful_if_each_is items label_count marks (count + 1)
-      (λ b a m items_are. let m_le_count = numbers_in_range (number n ∷ b) a m (ap (λ xs. number n ∷
-      xs) items_are) in
-      omega (arith, m_le_count, count_append is_mark_item (number n ∷ []) b))
-      (λ b a items_are. let count_gt_0 = marks_follow (number n ∷ b) a (ap (λ xs. number n ∷ xs)
-      items_are) in
-      omega (arith, count_gt_0, count_append is_number (number n ∷ []) b)),
+meaningful_if_each_is [] label_count marks count each = tt
+meaningful_if_each_is (number n ∷ items) label_count marks count each = (
+  (let fits = each [] items (number n) refl in omega arith),
+  meaningful_if_each_is items label_count marks (count + 1) (λ b a item items_are.
+      meaningful_after_more item label_count _ _ _ _
+      (each (number n ∷ b) a item (ap (λ xs. number n ∷ xs) items_are))
+      (omega (arith, count_append is_mark_item (number n ∷ []) b))
+      (omega (arith, count_append is_number (number n ∷ []) b))),
 )
-meaningful_if_each_is (mark ∷ items) label_count marks count numbers_in_range marks_follow = (
-  (let first_follows = marks_follow [] items refl in omega arith),
-  meaningful_if_each_is items label_count (marks + 1) count
-      (λ b a m items_are. let m_le_count = numbers_in_range (mark ∷ b) a m (ap (λ xs. mark ∷ xs)
-      items_are) in
-      omega (arith, m_le_count, count_append is_mark_item (mark ∷ []) b))
-      (λ b a items_are. let count_gt_0 = marks_follow (mark ∷ b) a (ap (λ xs. mark ∷ xs) items_are)
-      in
-      omega (arith, count_gt_0, count_append is_number (mark ∷ []) b)),
+meaningful_if_each_is (mark ∷ items) label_count marks count each = (
+  (let follows = each [] items mark refl in omega arith),
+  meaningful_if_each_is items label_count (marks + 1) count (λ b a item items_are.
+      meaningful_after_more item label_count _ _ _ _
+      (each (mark ∷ b) a item (ap (λ xs. mark ∷ xs) items_are))
+      (omega (arith, count_append is_mark_item (mark ∷ []) b))
+      (omega (arith, count_append is_number (mark ∷ []) b))),
 )
 
 -- ---- groups of letters that spell items
 
 digit_is_early : (b d : ℕ) → IsEarlyDigit b d → is_early_letter b ≡ true
-digit_is_early b d is_early_digit =
-    let digit_ge_1 = is_early_digit.digit_ge_1 in
-    let digit_le_5 = is_early_digit.digit_le_5 in
-    let letter_is = is_early_digit.letter_is in
-    and_from (nat_le 85 b) (nat_le b 89) (le-leb 85 b (omega arith)) (le-leb b 89 (omega arith))
+digit_is_early b d is_early_digit = grind (arith, nat_tests)
 
 digit_is_last : (b d : ℕ) → IsLastDigit b d → is_last_letter b ≡ true
-digit_is_last b d is_last_digit =
-    let digit_ge_1 = is_last_digit.digit_ge_1 in
-    let digit_le_20 = is_last_digit.digit_le_20 in
-    let letter_is = is_last_digit.letter_is in
-    and_from (nat_le 65 b) (nat_le b 84) (le-leb 65 b (omega arith)) (le-leb b 84 (omega arith))
+digit_is_last b d is_last_digit = grind (arith, nat_tests)
 
 ending_byte_is_not_early : (b : ℕ) → EndsItem b → is_early_letter b ≡ false
-ending_byte_is_not_early b ends_item = not_early_by_test (is_early_letter b) refl
-  where
-    not_early_by_test : (x : Bool) → is_early_letter b ≡ x → is_early_letter b ≡ false
-    not_early_by_test true is_early_byte = absurd
-        (no_early b (b - 84) ends_item (early_byte_is_digit b is_early_byte))
-    not_early_by_test false not_early = not_early
+ending_byte_is_not_early b ends_item = grind (arith, nat_tests)
 
 letters_are_early : (xs : List Letter) (n : ℕ) → AreEarlyDigits (bytes_of xs) n → AreEarly xs
 letters_are_early [] n are_early_digits = tt
@@ -204,43 +130,26 @@ letters_are_early (x ∷ xs) n are_early_digits = (
   letters_are_early xs are_early_digits.1 are_early_digits.3,
 )
 
+group_ends : (early : List Letter) (x : Letter) (later : List Letter)
+    → is_early_letter x.byte ≡ false
+    → groups early (x ∷ later)
+    ≡ (record { early = early; last = x } ∷ (groups [] later).0, (groups [] later).1)
+group_ends early x later not_early = rw (not_early, groups) refl
+
+group_goes : (early : List Letter) (x : Letter) (later : List Letter)
+    → is_early_letter x.byte ≡ true → groups early (x ∷ later) ≡ groups (early ++ x ∷ []) later
+group_goes early x later is_early = rw (is_early, groups) refl
+
 group_of_run : (early front : List Letter) (x : Letter) (later : List Letter) → AreEarly front
     → is_early_letter x.byte ≡ false
     → groups early (front ++ x ∷ later)
     ≡ (record { early = early ++ front; last = x } ∷ (groups [] later).0, (groups [] later).1)
 group_of_run early [] x later front_is_early not_early =
-    let out : Bool → List Group × List Letter =
-    λ b. elim b [
-      | true ↦ groups (early ++ x ∷ []) later
-      | false ↦ (record { early = early; last = x } ∷ (groups [] later).0, (groups [] later).1)
-    ] in
-    ap out not_early
-    ∙ ap (λ (ys : List Letter). let r : List Group
-    × List Letter = (
-      record { early = ys; last = x }
-          ∷ (groups [] later).0,
-      (groups [] later).1,
-    ) in
-    r) (sym (append-nil early))
+    rw (group_ends early x later not_early, append-nil early) refl
 group_of_run early (y ∷ front) x later front_is_early not_early =
-    let out : Bool → List Group × List Letter =
-    λ b. elim b [
-      | true ↦ groups (early ++ y ∷ []) (front ++ x ∷ later)
-      | false ↦ (
-        record { early = early; last = y }
-            ∷ (groups [] (front ++ x ∷ later)).0,
-        (groups [] (front ++ x ∷ later)).1,
-      )
-    ] in
-    ap out front_is_early.0 ∙ group_of_run (early ++ y ∷ []) front x later front_is_early.1
-    not_early
-    ∙ ap (λ (ys : List Letter). let r : List Group
-    × List Letter = (
-      record { early = ys; last = x }
-          ∷ (groups [] later).0,
-      (groups [] later).1,
-    ) in
-    r) (append_assoc early (y ∷ []) front)
+    group_goes early y (front ++ x ∷ later) front_is_early.0
+    ∙ rw (group_of_run (early ++ y ∷ []) front x later front_is_early.1 not_early, append_assoc)
+    refl
 
 -- letters by their bytes
 record IsSplit (xs : List Letter) (es : List ℕ) (last_byte : ℕ) (later_bytes : List ℕ) : Type 0
@@ -369,62 +278,20 @@ no_faults_of_faultless : (gs : List Group) (label_count marks count : ℕ)
     → AreFaultless label_count marks count gs
     → group_faults label_count marks count gs ≡ []
 no_faults_of_faultless [] label_count marks count are_faultless = refl
-no_faults_of_faultless (g ∷ gs) label_count marks count are_faultless =
-    number_or_mark are_faultless (λ rest_is_faultless. no_faults_of_faultless gs label_count marks
-    (count + 1) rest_is_faultless)
-    (λ rest_is_faultless. no_faults_of_faultless gs label_count (marks + 1) count rest_is_faultless)
-  where
-    faults_without_number : Bool → List Fault
-    faults_without_number b = elim b [
-      | true ↦ faults_at g.last.at
-          (when (nat_lt 0 (length g.early)) OpenNumber ++ when (count == 0) MarkBeforeStep)
-      | false ↦ faults_at g.last.at
-          (elim (g.last.byte == 63) [ true ↦ IncompleteProof ∷ [] | false ↦ BadLetter ∷ [] ])
-    ]
-
-    faults_of_group : Bool → Bool → List Fault
-    faults_of_group a b =
-        elim a [
-          | true ↦ faults_at (starts_at g)
-              (when (nat_lt (label_count + marks) (value g)) NumberTooLarge)
-          | false ↦ faults_without_number b
-        ]
-
-    faults_of_later_groups : Bool → List Fault
-    faults_of_later_groups b =
-        elim b [
-          | true ↦ group_faults label_count (marks + 1) count gs
-          | false ↦ group_faults label_count marks (count + 1) gs
-        ]
-
-    number_or_mark : AreFaultless label_count marks count (g ∷ gs)
-        → (AreFaultless label_count marks (count + 1) gs
-        → group_faults label_count marks (count + 1) gs ≡ [])
-        → (AreFaultless label_count (marks + 1) count gs
-        → group_faults label_count (marks + 1) count gs ≡ [])
-        → faults_of_group (is_last_letter g.last.byte) (g.last.byte == 90)
-        ++ faults_of_later_groups (g.last.byte == 90) ≡ []
-    number_or_mark (inl group_is_faultless) after_number after_mark =
-        let byte_le_84 =
-        leb-true g.last.byte 84 (and_parts (nat_le 65 g.last.byte) (nat_le g.last.byte 84)
-        group_is_faultless.0).1 in
-        let not_mark : (g.last.byte == 90) ≡ false =
-        ne_eqb g.last.byte 90 (λ byte_is_90. omega arith) in
-        ap₂ (λ a b. faults_of_group a b ++ faults_of_later_groups b) group_is_faultless.0 not_mark
-        ∙ ap₂ (λ b ys. faults_at (starts_at g) (when b NumberTooLarge) ++ ys)
-        (le-ltb (label_count + marks) (value g) group_is_faultless.1) (after_number
-        group_is_faultless.2)
-    number_or_mark (inr group_is_faultless) after_number after_mark =
-        let is_mark_letter : (g.last.byte == 90) ≡ true = eq-eqb g.last.byte 90 group_is_faultless.1
-        in
-        let count_gt_0 = group_is_faultless.3 in
-        ap₂ (λ a b. faults_of_group a b ++ faults_of_later_groups b) group_is_faultless.0
-        is_mark_letter
-        ∙ ap₂ (λ (e : List Letter) (b : Bool). faults_at g.last.at
-        (when (nat_lt 0 (length e)) OpenNumber ++ when b MarkBeforeStep)
-        ++ group_faults label_count (marks + 1) count gs) group_is_faultless.2 (ne_eqb count
-        0 (λ count_is_0. omega arith))
-        ∙ after_mark group_is_faultless.4
+no_faults_of_faultless (g ∷ gs) label_count marks count (inl (ends_number, fits, later)) =
+    let not_mark : (g.last.byte == 90) ≡ false = grind (arith, nat_tests, ends_number) in
+    rw (ends_number, group_fault, le-ltb (label_count + marks) (value g) fits, not_mark)
+    (no_faults_of_faultless gs label_count marks (count + 1) later)
+no_faults_of_faultless (g ∷ gs) label_count marks count
+    (inr (no_number, is_mark, none_early, count_gt_0, later)) =
+    rw (
+      no_number,
+      group_fault,
+      eq-eqb g.last.byte 90 is_mark,
+      none_early,
+      ne_eqb count 0 (λ count_is_0. omega arith),
+    )
+    (no_faults_of_faultless gs label_count (marks + 1) count later)
 
 no_letter_faults : (label_count end : ℕ) (xs : List Letter) → xs ≢ []
     → AreFaultlessGroups label_count 0 0 (groups [] xs)
@@ -438,42 +305,24 @@ no_letter_faults label_count end (x ∷ xs) not_nil are_faultless_groups =
 
 -- ---- labels
 
-filter_is_not_nil : (passes : ℕ → Bool) (n a j : ℕ) → a ≤ j → j < a + n → passes j ≡ true
-    → filter passes (range_with_len a n) ≡ [] → ⊥
-filter_is_not_nil passes zero a j a_le_j j_lt_end passes_j is_nil = omega arith
-filter_is_not_nil passes (suc m) a j a_le_j j_lt_end passes_j is_nil =
-    is_j_by_test (passes a) refl is_nil (λ a_lt_j rest_is_nil. filter_is_not_nil passes m (a + 1) j
-    a_lt_j (omega arith) passes_j rest_is_nil)
-    (cases_eq a j)
-  where
-    is_j_by_test : (b : Bool) → passes a ≡ b
-        → ◌≡◌ {A = List ℕ}
-        (cond b (a ∷ filter passes (range_with_len (a + 1) m))
-        (filter passes (range_with_len (a + 1) m))) []
-        → (a + 1 ≤ j → filter passes (range_with_len (a + 1) m) ≡ [] → ⊥) → (a ≡ j) ⊎ (a ≡ j → ⊥)
-        → ⊥
-    is_j_by_test true passes_a is_nil rest_is_not_nil order = cc
-    is_j_by_test false not_a is_nil rest_is_not_nil (inl a_is_j) = true≢false (sym passes_j
-        ∙ sym (ap passes a_is_j) ∙ not_a)
-    is_j_by_test false not_a is_nil rest_is_not_nil (inr a_is_not_j) = rest_is_not_nil (omega arith)
-        is_nil
-
 usable_label_has_no_fault : (db : List Statement) (k : ℕ) (t : Token) (j : ℕ)
     → IsUsable db k t.word j
     → proof_label_faults db k t ≡ []
-usable_label_has_no_fault db k t j is_usable =
-    no_fault_if_usable (usable db k t.word)
-    (λ is_nil. filter_is_not_nil
-    (λ i. active_at db i k && list_any (is_labelled t.word) (statement_at db i)) k 0 j (omega arith)
-    (let j_lt_k = active_lt_place db j k is_usable.statement_is_active in omega arith)
-    (and_from (active_at db j k)
-    (list_any (is_labelled t.word) (statement_at db j)) is_usable.statement_is_active
-    is_usable.statement_has_label) is_nil)
+usable_label_has_no_fault db k t j is_usable = no_fault_if_usable (usable db k t.word) refl
   where
-    no_fault_if_usable : (js : List ℕ) → (js ≡ [] → ⊥)
+    is_usable_at : ℕ → Bool
+    is_usable_at i = active_at db i k && list_any (is_labelled t.word) (statement_at db i)
+
+    no_fault_if_usable : (js : List ℕ) → usable db k t.word ≡ js
         → ◌≡◌ {A = List Fault} (elim js [ [] ↦ fault t.at UnusableLabel ∷ [] | j ∷ js ↦ [] ]) []
-    no_fault_if_usable [] not_nil = absurd (not_nil refl)
-    no_fault_if_usable (j ∷ js) not_nil = refl
+    no_fault_if_usable [] none_is_usable =
+        let j_lt_k = active_lt_place db j k is_usable.statement_is_active in
+        let j_is_found : list_any (λ i. is_usable_at i && true) (range_with_len 0 k) ≡ true =
+        range_any (λ i. is_usable_at i && true) k 0 j (omega arith) (omega arith)
+        (rw (is_usable.statement_is_active, is_usable.statement_has_label) refl) in
+        absurd (true≢false (sym j_is_found ∙ sym (any_filter is_usable_at (λ i. true)
+        (range_with_len 0 k)) ∙ ap (list_any (λ i. true)) none_is_usable))
+    no_fault_if_usable (j ∷ js) some_are_usable = refl
 
 usable_labels_have_no_fault : (db : List Statement) (k : ℕ) (ts : List Token)
     → AllByRecursion (λ t. (j : ℕ) × IsUsable db k t.word j) ts
@@ -541,15 +390,12 @@ module _ (db : List Statement) (differ : LabelsDiffer db) (k end : ℕ) where
             (bytes_of_letters faultless.letters ∙ subst (Spells (letters_in faultless.letters))
             is_nil letters_spell));
         numbers_name_steps =
-            λ b a n items_are.
-            let n_le_count = numbers_are_meaningful items label_count 0 0 are_meaningful b a n
-            items_are in
-            subst
-            (λ ls. n ≤ length (mandatory_hypotheses db k) + length ls + count_by is_mark_item b)
-            labels_equal (omega arith);
+            λ b a n items_are. let n_le_count = each_is_meaningful b a (number n) label_count 0 0
+            (subst (AreMeaningful label_count 0 0) items_are are_meaningful) in
+            let counts_equal = ap length labels_equal in omega arith;
         marks_follow_numbers =
-            λ b a items_are. let count_gt_0 =
-            marks_are_meaningful items label_count 0 0 are_meaningful b a items_are in omega arith;
+            λ b a items_are. let count_gt_0 = each_is_meaningful b a mark label_count 0 0
+            (subst (AreMeaningful label_count 0 0) items_are are_meaningful) in omega arith;
       }
 
   well_spelled_is_read : (t : Token) (ts : List Token) → t.word ≡ codes "("
@@ -562,7 +408,8 @@ module _ (db : List Statement) (differ : LabelsDiffer db) (k end : ℕ) where
       is_well_spelled.labels_are_usable)
       (no_letter_faults label_count end (letters_of is_well_spelled.letters) has_letters
       (spelled_are_faultless is_well_spelled.items
-      (letters_of is_well_spelled.letters) label_count 0 0 letters_spell are_meaningful))
+      (letters_of is_well_spelled.letters) label_count 0 0 letters_spell
+      (meaningful_if_each_is is_well_spelled.items label_count 0 0 each_is)))
     where
       label_count : ℕ
       label_count = length (mandatory_hypotheses db k) + length is_well_spelled.labels
@@ -592,13 +439,12 @@ module _ (db : List Statement) (differ : LabelsDiffer db) (k end : ℕ) where
       letters_spell = subst (λ bs. Spells bs is_well_spelled.items) (sym (bytes_of_letters
           is_well_spelled.letters)) is_well_spelled.items_are_spelled
 
-      are_meaningful : AreMeaningful label_count 0 0 is_well_spelled.items
-      are_meaningful =
-          meaningful_if_each_is is_well_spelled.items label_count 0 0
-          (λ b a n items_are. let n_le_count = is_well_spelled.numbers_name_steps b a n items_are in
-          omega arith)
-          (λ b a items_are. let count_gt_0 = is_well_spelled.marks_follow_numbers b a items_are in
-          omega arith)
+      each_is : (b a : List Item) (item : Item) → is_well_spelled.items ≡ b ++ item ∷ a
+          → IsMeaningful label_count (0 + count_by is_mark_item b) (0 + count_by is_number b) item
+      each_is b a (number n) items_are =
+          let fits = is_well_spelled.numbers_name_steps b a n items_are in omega arith
+      each_is b a mark items_are =
+          let follows = is_well_spelled.marks_follow_numbers b a items_are in omega arith
 
       no_letters_no_items : (items : List Item) → Spells [] items → items ≡ []
       no_letters_no_items [] are_spelled = refl
