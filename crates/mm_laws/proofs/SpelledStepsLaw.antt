@@ -24,9 +24,9 @@ use Rattle.mm_spec.specs.NormalProof.{is_labelled, usable, proof_label_faults, n
 use Rattle.mm_spec.specs.NormalProof.{normal_steps}
 use Rattle.mm_spec.specs.CompressedProof.{bracketed, letters_of, Group, groups}
 use Rattle.mm_spec.specs.CompressedProof.{value}
-use Rattle.mm_spec.specs.CompressedProof.{starts_at, step_of, group_steps, letter_faults}
+use Rattle.mm_spec.specs.CompressedProof.{starts_at, step_of, group_steps}
 use Rattle.mm_spec.specs.CompressedProof.{compressed_faults, compressed_steps}
-use Rattle.mm_spec.specs.Proof.{steps, reading_faults}
+use Rattle.mm_spec.specs.Proof.{reading_faults}
 use Rattle.mm_spec.specs.Lexed.{LexedText}
 use Rattle.mm_spec.specs.Output.{IsRead}
 use Rattle.mm_laws.specs.Spelling.{Item, number, mark, is_number, is_mark_item, Spells, letters_in}
@@ -45,8 +45,9 @@ use Rattle.mm_spec.proofs.CompleteLaw.{lawful_is_faultless}
 use Rattle.mm_spec.proofs.GoodStepsLaw.{group_value_is_positive}
 use Rattle.mm_spec.proofs.GroupsLaw.{AreFaultless}
 use Rattle.mm_laws.proofs.ReadLaw.{read_statements_are_lawful}
-use Rattle.mm_laws.proofs.SpellingLaw.{bracketed_splits, letters_are_faultless, item_of}
-use Rattle.mm_laws.proofs.SpellingLaw.{groups_spell, bytes_of_letters, spelled_items_are_unique}
+use Rattle.mm_laws.proofs.SpellingLaw.{compressed_reads, letters_are_faultless, item_of}
+use Rattle.mm_laws.proofs.SpellingLaw.{items_of, letters_spell_items, spelled_items_are_unique}
+use Rattle.std.proofs.lemmas.Slice.Zip.{AllZip-long}
 
 -- ---- lists
 
@@ -491,31 +492,19 @@ module _ (db : List Statement) (labels_differ : LabelsDiffer db) where
         (compressed_steps db k (record { labels = labels; letters = Some letters })))
     letters_name_steps end labels letters items no_faults letters_spell =
         let label_count = length (mandatory_hypotheses db k) + length labels in
-        let js =
-        labels_are_usable labels
-        (both_are_empty (flat_map (proof_label_faults db k) labels)
-        (letter_faults label_count end (letters_of letters)) no_faults).0 in
-        let letters_faultless =
-        letters_are_faultless label_count end (letters_of letters)
-        (both_are_empty (flat_map (proof_label_faults db k) labels)
-        (letter_faults label_count end (letters_of letters)) no_faults).1 in
+        let none = both_are_empty _ _ no_faults in
+        let js = labels_are_usable labels none.0 in
+        let faultless = letters_are_faultless label_count end (letters_of letters) none.1 in
+        let items_equal : items_of letters ≡ items =
+        spelled_items_are_unique (letters_in letters) (items_of letters) items
+        (letters_spell_items label_count letters faultless) letters_spell in
         let gs = (groups [] (letters_of letters)).0 in
-        let groups_spell_letters : Spells (letters_in letters) (map item_of gs) =
-        subst (λ bs. Spells bs (map item_of gs)) (bytes_of_letters letters)
-        (groups_spell
-        (letters_of letters) [] label_count 0 0 tt letters_faultless.has_faultless_groups
-        letters_faultless.no_open_group) in
-        let items_equal : map item_of gs ≡ items =
-        spelled_items_are_unique (letters_in letters)
-        (map item_of gs) items groups_spell_letters letters_spell in
         let groups_faultless : AreFaultless
         (length (mandatory_hypotheses db k) + length js.0) 0 0 gs =
         subst (λ n. AreFaultless (length (mandatory_hypotheses db k) + n) 0 0 gs)
-        (lengths_equal labels js.0 js.1) letters_faultless.has_faultless_groups in
-        let group_steps_are : AreSteps (mandatory_hypotheses db k) js.0 (map item_of gs)
-        (map (λ p. p.step)
-        (group_steps (mandatory_hypotheses db k ++ js.0) [] 0 gs)) = groups_name_steps
-        (mandatory_hypotheses db k) js.0 gs groups_faultless in (
+        (sym (AllZip-long _ labels js.0 js.1)) faultless.has_faultless_groups in
+        let group_steps_are = groups_name_steps (mandatory_hypotheses db k) js.0 gs
+        groups_faultless in (
           js.0,
           js.1,
           subst (λ xs. AreSteps (mandatory_hypotheses db k) js.0 items
@@ -525,14 +514,6 @@ module _ (db : List Statement) (labels_differ : LabelsDiffer db) where
               (map (λ p. p.step) (group_steps (mandatory_hypotheses db k ++ js.0) [] 0 gs)))
               items_equal group_steps_are),
         )
-      where
-        lengths_equal : (ts : List Token) (js : List ℕ) → AllZip (λ t j. IsUsable db k t.word j) ts
-            js
-            → length ts ≡ length js
-        lengths_equal [] [] are_usable = refl
-        lengths_equal [] (j ∷ js) are_usable = absurd are_usable
-        lengths_equal (t ∷ ts) [] are_usable = absurd are_usable
-        lengths_equal (t ∷ ts) (j ∷ js) are_usable = ap suc (lengths_equal ts js are_usable.1)
 
     compressed_steps_are_named : (end : ℕ) (ts labels letters : List Token) (items : List Item)
         → reading_faults db k end ts ≡ [] → IsCompressed ts labels letters
@@ -540,49 +521,10 @@ module _ (db : List Statement) (labels_differ : LabelsDiffer db) where
         → (js : List ℕ) × AllZip (λ t j. IsUsable db k t.word j) labels js
         × AreSteps (mandatory_hypotheses db k) js items (bare_steps db k ts)
     compressed_steps_are_named end ts labels letters items no_faults is_compressed letters_spell =
-        subst (λ xs. Goal (bare_steps db k xs)) (sym is_compressed.words_are)
-        (subst (λ ps. Goal (map (λ p. p.step) ps)) (sym steps_are)
-        (letters_name_steps end labels letters items
-        (sym faults_are ∙ (ap (reading_faults db k end) (sym is_compressed.words_are)
-        ∙ no_faults)) letters_spell))
-      where
-        later_words : List Token
-        later_words = labels ++ is_compressed.closing ∷ letters
-
-        Goal : List Step → Type 0
-        Goal ss =
-            (js : List ℕ) × AllZip (λ t j. IsUsable db k t.word j) labels js
-            × AreSteps (mandatory_hypotheses db k) js items ss
-
-        parts_are : bracketed later_words ≡ record { labels = labels; letters = Some letters }
-        parts_are = bracketed_splits labels is_compressed.closing letters is_compressed.closing_is
-            is_compressed.no_label_closes
-
-        is_bracket : bytes_eq is_compressed.opening.word (codes "(") ≡ true
-        is_bracket = (bytes_eq-Decides is_compressed.opening.word (codes "(")).1
-            is_compressed.opening_is
-
-        faults : Bool → List Fault
-        faults b =
-            elim b [
-              | true ↦ compressed_faults db k end (bracketed later_words)
-              | false ↦ normal_faults db k end (is_compressed.opening ∷ later_words)
-            ]
-
-        out : Bool → List PlacedStep
-        out b =
-            elim b [
-              | true ↦ compressed_steps db k (bracketed later_words)
-              | false ↦ normal_steps db k (is_compressed.opening ∷ later_words)
-            ]
-
-        faults_are : reading_faults db k end (is_compressed.opening ∷ later_words)
-            ≡ compressed_faults db k end (record { labels = labels; letters = Some letters })
-        faults_are = ap faults is_bracket ∙ ap (compressed_faults db k end) parts_are
-
-        steps_are : steps db k (is_compressed.opening ∷ later_words)
-            ≡ compressed_steps db k (record { labels = labels; letters = Some letters })
-        steps_are = ap out is_bracket ∙ ap (compressed_steps db k) parts_are
+        let reads = compressed_reads db k end ts labels letters is_compressed in
+        subst (λ ps. (js : List ℕ) × AllZip (λ t j. IsUsable db k t.word j) labels js
+        × AreSteps (mandatory_hypotheses db k) js items (map (λ p. p.step) ps)) (sym reads.1)
+        (letters_name_steps end labels letters items (sym reads.0 ∙ no_faults) letters_spell)
 
 pub steps_are_named : WhereRead StepsAreNamed
 steps_are_named len x db fault is_read with_open k =

@@ -1,7 +1,7 @@
 -- Reading finds no fault in exactly the proofs that are well formed.
 use Rattle.std.proofs.Common.{◌≡◌, ◌≢◌, ℕ, ◌+◌, ◌==◌, ◌<◌, ◌≤◌, Bool, true}
 use Rattle.std.proofs.Common.{false, ◌&&◌, inl, inr, List, [], ◌∷◌, ◌++◌, map, length}
-use Rattle.std.proofs.Common.{flat_map, count_by, Some, nat_lt, bytes_eq, codes, refl, sym}
+use Rattle.std.proofs.Common.{flat_map, count_by, bytes_eq, codes, refl, sym}
 use Rattle.std.proofs.Common.{ap, ap₂, ◌∙◌, subst, true≢false, arith}
 use Rattle.std.proofs.Common.{eq-eqb, append_assoc, append-nil}
 use Rattle.std.specs.List.{list_any, range_with_len, AllByRecursion, AllZip}
@@ -12,7 +12,6 @@ use Rattle.mm_spec.specs.Text.{Token, fault}
 use Rattle.mm_spec.specs.declared.Fault.{Fault}
 use Rattle.mm_spec.specs.Statement.{Statement}
 use Rattle.mm_spec.specs.Scope.{active_at, statement_at}
-use Rattle.mm_spec.specs.Lawful.{when, faults_at}
 use Rattle.mm_spec.specs.Opened.{counted}
 use Rattle.mm_spec.specs.Frame.{mandatory_hypotheses}
 use Rattle.mm_spec.specs.NormalProof.{is_labelled, usable, proof_label_faults, normal_faults}
@@ -22,21 +21,20 @@ use Rattle.mm_spec.specs.CompressedProof.{groups, value, group_fault, group_faul
 use Rattle.mm_spec.specs.CompressedProof.{compressed_faults}
 use Rattle.mm_spec.specs.Proof.{reading_faults}
 use Rattle.mm_laws.specs.Spelling.{Item, number, mark, is_number, is_mark_item, IsEarlyDigit}
-use Rattle.mm_laws.specs.Spelling.{IsLastDigit, AreEarlyDigits, AreLettersOf, Spells, letters_in}
+use Rattle.mm_laws.specs.Spelling.{IsLastDigit, AreEarlyDigits, AreLettersOf, Spells}
 use Rattle.mm_laws.specs.Spelling.{IsUsable, IsWellSpelled}
 use Rattle.mm_laws.specs.Laws.Read.{WhereRead}
 use Rattle.mm_laws.specs.Laws.WellFormed.{CompressedIsExact, NormalIsExact}
-use Rattle.mm_spec.specs.declared.Code.TheVariants.{OpenNumber}
 use Rattle.mm_spec.specs.declared.Code.TheVariants.{UnusableLabel}
 use Rattle.mm_spec.proofs.FindsLaw.{equal_bytes_equal_words, active_lt_place, any_filter, range_any}
 use Rattle.mm_spec.proofs.FaultlessLaw.{both_are_empty}
 use Rattle.mm_laws.proofs.SpellingLaw.{EndsItem, spelled_item_is_unique}
 use Rattle.mm_laws.proofs.SpellingLaw.{group_spells_its_value}
-use Rattle.mm_laws.proofs.SpellingLaw.{front_with_last_is_not_nil, bracket_parts_of}
-use Rattle.mm_laws.proofs.SpellingLaw.{bracketed_splits, bytes_of, AreEarly}
+use Rattle.mm_laws.proofs.SpellingLaw.{group_ends, group_goes, items_of, letters_spell_items}
+use Rattle.mm_laws.proofs.SpellingLaw.{compressed_reads, bytes_of, AreEarly, last_digit_ends}
 use Rattle.mm_laws.proofs.SpellingLaw.{item_of}
 use Rattle.mm_spec.proofs.GroupsLaw.{AreFaultless}
-use Rattle.mm_laws.proofs.SpellingLaw.{groups_spell, bytes_of_letters}
+use Rattle.mm_laws.proofs.SpellingLaw.{bytes_of_letters, spelled_items_are_unique}
 use Rattle.mm_laws.proofs.SpellingLaw.{proof_is_faultless}
 use Rattle.mm_laws.proofs.SpelledStepsLaw.{count_append, LabelsDiffer, labels_differ}
 use Rattle.mm_laws.proofs.SpelledStepsLaw.{one_statement_is_usable, labels_are_usable, own_faults}
@@ -130,16 +128,6 @@ letters_are_early (x ∷ xs) n are_early_digits = (
   letters_are_early xs are_early_digits.1 are_early_digits.3,
 )
 
-group_ends : (early : List Letter) (x : Letter) (later : List Letter)
-    → is_early_letter x.byte ≡ false
-    → groups early (x ∷ later)
-    ≡ (record { early = early; last = x } ∷ (groups [] later).0, (groups [] later).1)
-group_ends early x later not_early = rw (not_early, groups) refl
-
-group_goes : (early : List Letter) (x : Letter) (later : List Letter)
-    → is_early_letter x.byte ≡ true → groups early (x ∷ later) ≡ groups (early ++ x ∷ []) later
-group_goes early x later is_early = rw (is_early, groups) refl
-
 group_of_run : (early front : List Letter) (x : Letter) (later : List Letter) → AreEarly front
     → is_early_letter x.byte ≡ false
     → groups early (front ++ x ∷ later)
@@ -173,32 +161,27 @@ split_by_bytes (x ∷ xs) [] last_byte later_bytes bytes_are =
       later = xs;
       letters_are = refl;
       front_bytes_are = refl;
-      byte_is =
-          cc;
+      byte_is = cc;
       later_bytes_are = cc;
     }
-split_by_bytes (x ∷ xs) (b ∷ es) last_byte later_bytes bytes_are = with_first (cc) (split_by_bytes
-    xs es last_byte later_bytes (cc))
+split_by_bytes (x ∷ xs) (b ∷ es) last_byte later_bytes bytes_are =
+    with_first (cc) (split_by_bytes xs es last_byte later_bytes (cc))
   where
     with_first : x.byte ≡ b → IsSplit xs es last_byte later_bytes
         → IsSplit (x ∷ xs) (b ∷ es) last_byte later_bytes
-    with_first heads_equal split =
-        record {
-          front = x ∷ split.front;
-          x = split.x;
-          later = split.later;
-          letters_are = ap (λ ys. x ∷ ys) split.letters_are;
-          front_bytes_are = ap₂ (λ c cs. c ∷ cs) heads_equal split.front_bytes_are;
-          byte_is = split.byte_is;
-          later_bytes_are = split.later_bytes_are;
-        }
+    with_first heads_equal split = record {
+      front = x ∷ split.front;
+      x = split.x;
+      later = split.later;
+      letters_are = ap (λ ys. x ∷ ys) split.letters_are;
+      front_bytes_are = ap₂ (λ c cs. c ∷ cs) heads_equal split.front_bytes_are;
+      byte_is = split.byte_is;
+      later_bytes_are = split.later_bytes_are;
+    }
 
 nil_if_no_bytes : (xs : List Letter) → bytes_of xs ≡ [] → xs ≡ []
 nil_if_no_bytes [] no_bytes = refl
 nil_if_no_bytes (x ∷ xs) no_bytes = absurd (cc)
-
-equal_if_numbers_equal : (m n : ℕ) → number m ≡ number n → m ≡ n
-equal_if_numbers_equal m n numbers_equal = cc
 
 abbrev AreFaultlessGroups : ℕ → ℕ → ℕ → List Group × List Letter → Type 0
 AreFaultlessGroups label_count marks count gs = AreFaultless label_count marks count gs.0 × (gs.1
@@ -212,65 +195,42 @@ spelled_are_faultless [] xs label_count marks count are_spelled are_meaningful =
     subst (λ ys. AreFaultlessGroups label_count marks count (groups [] ys)) (sym (nil_if_no_bytes xs
     are_spelled))
     (tt, refl)
-spelled_are_faultless (number n ∷ items) xs label_count marks count are_spelled are_meaningful =
-    let letters_of_n : AreLettersOf are_spelled.0 n = are_spelled.3 in
-    let split =
-    split_by_bytes xs letters_of_n.early_letters letters_of_n.last_letter are_spelled.1
-    (are_spelled.2 ∙ ap (λ bs. bs ++ are_spelled.1) letters_of_n.letters_are
-    ∙ append_assoc letters_of_n.early_letters (letters_of_n.last_letter ∷ []) are_spelled.1) in
-    let front_is_early : AreEarly split.front =
-    letters_are_early split.front letters_of_n.early_value (subst (λ bs. AreEarlyDigits bs
-    letters_of_n.early_value) (sym split.front_bytes_are) letters_of_n.are_early_digits) in
+spelled_are_faultless (number n ∷ items) xs label_count marks count
+    (bytes, later_bytes, bytes_are, are_letters, later_are_spelled) (fits, later_are_meaningful) =
+    let letters_of_n : AreLettersOf bytes n = are_letters in
+    let split = split_by_bytes xs letters_of_n.early_letters letters_of_n.last_letter later_bytes
+    (bytes_are ∙ rw (letters_of_n.letters_are, append_assoc) refl) in
+    let front_is_early = letters_are_early split.front letters_of_n.early_value
+    (rw split.front_bytes_are letters_of_n.are_early_digits) in
     let is_last_digit : IsLastDigit split.x.byte letters_of_n.last_digit =
-    subst (λ b. IsLastDigit b letters_of_n.last_digit) (sym split.byte_is)
-    letters_of_n.is_last_digit in
-    let digit_le_20 = is_last_digit.digit_le_20 in
-    let letter_is = is_last_digit.letter_is in
-    let not_early : is_early_letter split.x.byte ≡ false =
-    ending_byte_is_not_early split.x.byte (inl (omega arith)) in
-    let is_last_byte : is_last_letter split.x.byte ≡ true = digit_is_last split.x.byte
-    letters_of_n.last_digit is_last_digit in
+    rw split.byte_is letters_of_n.is_last_digit in
+    let not_early = ending_byte_is_not_early split.x.byte
+    (last_digit_ends split.x.byte letters_of_n.last_digit is_last_digit) in
+    let ends_number = digit_is_last split.x.byte letters_of_n.last_digit is_last_digit in
     let g : Group = record { early = split.front; last = split.x } in
-    let value_spelled : AreLettersOf are_spelled.0 (value g) =
-    subst (λ bs. AreLettersOf bs (value g))
-    (ap₂ (λ bs b. bs ++ b ∷ []) split.front_bytes_are split.byte_is ∙ sym letters_of_n.letters_are)
-    (group_spells_its_value g front_is_early is_last_byte) in
-    let value_is_n : value g ≡ n =
-    equal_if_numbers_equal (value g) n (spelled_item_is_unique (number (value g)) (number n)
-    are_spelled.0 value_spelled letters_of_n) in
-    let later_groups =
-    spelled_are_faultless items split.later label_count marks (count + 1)
-    (subst (λ bs. Spells bs items) (sym split.later_bytes_are) are_spelled.4) are_meaningful.1 in
-    let value_fits : value g ≤ label_count + marks = subst (λ i. i ≤ label_count + marks)
-    (sym value_is_n) are_meaningful.0 in
-    let are_faultless_groups : AreFaultlessGroups label_count marks count (groups [] (split.front ++
-    split.x ∷ split.later)) =
-    subst (AreFaultlessGroups label_count marks count)
-    (sym (group_of_run [] split.front split.x split.later front_is_early not_early))
-    (inl (is_last_byte, value_fits, later_groups.0), later_groups.1) in
-    subst (λ ys. AreFaultlessGroups label_count marks count (groups [] ys)) (sym split.letters_are)
-    are_faultless_groups
-spelled_are_faultless (mark ∷ items) xs label_count marks count are_spelled are_meaningful =
-    let split = split_by_bytes xs [] 90 are_spelled.1 (are_spelled.2
-    ∙ ap (λ bs. bs ++ are_spelled.1) are_spelled.3) in
-    let front_is_nil : split.front ≡ [] = nil_if_no_bytes split.front split.front_bytes_are in
+    let numbers_equal = spelled_item_is_unique (number (value g)) (number n) bytes
+    (subst (λ bs. AreLettersOf bs (value g)) (ap₂ (λ bs b. bs ++ b ∷ []) split.front_bytes_are
+    split.byte_is ∙ sym letters_of_n.letters_are)
+    (group_spells_its_value g front_is_early ends_number)) letters_of_n in
+    let value_is_n : value g ≡ n = cc in
+    let later = spelled_are_faultless items split.later label_count marks (count + 1)
+    (rw split.later_bytes_are later_are_spelled) later_are_meaningful in
+    rw (split.letters_are, group_of_run [] split.front split.x split.later front_is_early not_early)
+    (inl (ends_number, omega (arith, fits), later.0), later.1)
+spelled_are_faultless (mark ∷ items) xs label_count marks count
+    (bytes, later_bytes, bytes_are, is_mark, later_are_spelled) (follows, later_are_meaningful) =
+    let split = split_by_bytes xs [] 90 later_bytes
+    (bytes_are ∙ ap (λ bs. bs ++ later_bytes) is_mark) in
+    let front_is_nil = nil_if_no_bytes split.front split.front_bytes_are in
     let byte_is = split.byte_is in
-    let front_is_early : AreEarly split.front =
-    letters_are_early split.front 0 (subst (λ bs. AreEarlyDigits bs 0) (sym split.front_bytes_are)
-    refl) in
-    let not_early : is_early_letter split.x.byte ≡ false =
-    ending_byte_is_not_early split.x.byte (inr (omega arith)) in
-    let not_last : is_last_letter split.x.byte ≡ false = ap is_last_letter byte_is in
-    let later_groups =
-    spelled_are_faultless items split.later label_count (marks + 1) count
-    (subst (λ bs. Spells bs items) (sym split.later_bytes_are) are_spelled.4) are_meaningful.1 in
-    let are_faultless_groups : AreFaultlessGroups label_count marks count (groups [] (split.front ++
-    split.x ∷ split.later)) =
-    subst (AreFaultlessGroups label_count marks count)
-    (sym (group_of_run [] split.front split.x split.later front_is_early not_early))
-    (inr (not_last, byte_is, front_is_nil, are_meaningful.0, later_groups.0), later_groups.1) in
-    subst (λ ys. AreFaultlessGroups label_count marks count (groups [] ys)) (sym split.letters_are)
-    are_faultless_groups
+    let later = spelled_are_faultless items split.later label_count (marks + 1) count
+    (rw split.later_bytes_are later_are_spelled) later_are_meaningful in
+    rw (
+      split.letters_are,
+      group_of_run [] split.front split.x split.later
+          (rw front_is_nil tt) (ending_byte_is_not_early split.x.byte (inr (omega arith))),
+    )
+    (inr (ap is_last_letter byte_is, byte_is, front_is_nil, follows, later.0), later.1)
 
 -- ---- groups without faults
 
@@ -297,11 +257,8 @@ no_letter_faults : (label_count end : ℕ) (xs : List Letter) → xs ≢ []
     → AreFaultlessGroups label_count 0 0 (groups [] xs)
     → letter_faults label_count end xs ≡ []
 no_letter_faults label_count end [] not_nil are_faultless_groups = absurd (not_nil refl)
-no_letter_faults label_count end (x ∷ xs) not_nil are_faultless_groups =
-    ap₂ (λ fs (open_ : List Letter). fs
-    ++ faults_at end (when (nat_lt 0 (length open_)) OpenNumber))
-    (no_faults_of_faultless (groups [] (x ∷ xs)).0 label_count 0 0 are_faultless_groups.0)
-    are_faultless_groups.1
+no_letter_faults label_count end (x ∷ xs) not_nil (are_faultless, none_open) =
+    rw (no_faults_of_faultless (groups [] (x ∷ xs)).0 label_count 0 0 are_faultless, none_open) refl
 
 -- ---- labels
 
@@ -350,49 +307,23 @@ module _ (db : List Statement) (differ : LabelsDiffer db) (k end : ℕ) where
       → reading_faults db k end (t ∷ ts) ≡ [] → IsWellSpelled db k (t ∷ ts)
   read_is_well_spelled t ts is_opening no_faults =
       let faultless = proof_is_faultless db k end t ts is_opening no_faults in
-      let brackets = bracket_parts_of ts faultless.letters faultless.letters_are in
-      let label_count = length (mandatory_hypotheses db k) + length (bracketed ts).labels in
-      let items = map item_of (groups [] (letters_of faultless.letters)).0 in
-      let letters_spell : Spells (letters_in faultless.letters) items =
-      subst (λ bs. Spells bs items) (bytes_of_letters faultless.letters)
-      (groups_spell (letters_of faultless.letters) [] label_count 0 0 tt
-      faultless.has_faultless_letters.has_faultless_groups
-      faultless.has_faultless_letters.no_open_group) in
+      let label_count = length (mandatory_hypotheses db k) + length faultless.labels in
       let are_meaningful = faultless_are_meaningful
       (groups [] (letters_of faultless.letters)).0 label_count 0 0
       faultless.has_faultless_letters.has_faultless_groups in
-      let js = labels_are_usable db differ k (bracketed ts).labels faultless.labels_are_usable in
-      let labels_equal : (bracketed ts).labels ≡ brackets.labels =
-      ap (λ b. b.labels)
-      (ap bracketed brackets.words_are
-      ∙ bracketed_splits brackets.labels brackets.closing faultless.letters brackets.closing_is
-      brackets.no_label_closes) in
+      let js = labels_are_usable db differ k faultless.labels faultless.no_label_faults in
       record {
-        labels = brackets.labels;
+        labels = faultless.labels;
         letters = faultless.letters;
-        is_compressed =
-            record {
-              opening = t;
-              closing = brackets.closing;
-              words_are = ap (λ xs. t ∷ xs) brackets.words_are;
-              opening_is = is_opening;
-              closing_is = brackets.closing_is;
-              no_label_closes = brackets.no_label_closes;
-            };
-        labels_are_usable =
-            subst (AllByRecursion (λ u. (j : ℕ) × IsUsable db k u.word j)) labels_equal
-            (each_label_is_usable db k (bracketed ts).labels js.0 js.1);
-        items = items;
-        items_are_spelled = letters_spell;
-        has_items =
-            λ is_nil. faultless.has_faultless_letters.has_letters
-            (nil_if_no_bytes (letters_of faultless.letters)
-            (bytes_of_letters faultless.letters ∙ subst (Spells (letters_in faultless.letters))
-            is_nil letters_spell));
+        is_compressed = faultless.is_compressed;
+        labels_are_usable = each_label_is_usable db k faultless.labels js.0 js.1;
+        items = items_of faultless.letters;
+        items_are_spelled =
+            letters_spell_items label_count faultless.letters faultless.has_faultless_letters;
+        has_items = faultless.has_items;
         numbers_name_steps =
             λ b a n items_are. let n_le_count = each_is_meaningful b a (number n) label_count 0 0
-            (subst (AreMeaningful label_count 0 0) items_are are_meaningful) in
-            let counts_equal = ap length labels_equal in omega arith;
+            (subst (AreMeaningful label_count 0 0) items_are are_meaningful) in omega arith;
         marks_follow_numbers =
             λ b a items_are. let count_gt_0 = each_is_meaningful b a mark label_count 0 0
             (subst (AreMeaningful label_count 0 0) items_are are_meaningful) in omega arith;
@@ -402,8 +333,8 @@ module _ (db : List Statement) (differ : LabelsDiffer db) (k end : ℕ) where
       → IsWellSpelled db k (t ∷ ts)
       → reading_faults db k end (t ∷ ts) ≡ []
   well_spelled_is_read t ts is_opening is_well_spelled =
-      ap faults_by_bracket ((bytes_eq-Decides t.word (codes "(")).1 is_opening)
-      ∙ ap (compressed_faults db k end) brackets_are
+      (compressed_reads db k end (t ∷ ts) is_well_spelled.labels is_well_spelled.letters
+      is_well_spelled.is_compressed).0
       ∙ ap₂ (λ xs ys. xs ++ ys) (usable_labels_have_no_fault db k is_well_spelled.labels
       is_well_spelled.labels_are_usable)
       (no_letter_faults label_count end (letters_of is_well_spelled.letters) has_letters
@@ -413,27 +344,6 @@ module _ (db : List Statement) (differ : LabelsDiffer db) (k end : ℕ) where
     where
       label_count : ℕ
       label_count = length (mandatory_hypotheses db k) + length is_well_spelled.labels
-
-      faults_by_bracket : Bool → List Fault
-      faults_by_bracket b =
-          elim b [
-            | true ↦ compressed_faults db k end (bracketed ts)
-            | false ↦ normal_faults db k end (t ∷ ts)
-          ]
-
-      tails_equal : {s t : Token} {xs ys : List Token} → s ∷ xs ≡ t ∷ ys → xs ≡ ys
-      tails_equal lists_equal = cc
-
-      brackets_are : bracketed ts ≡ record {
-        labels = is_well_spelled.labels;
-        letters = Some
-            is_well_spelled.letters;
-      }
-      brackets_are =
-          ap bracketed (tails_equal is_well_spelled.is_compressed.words_are)
-          ∙ bracketed_splits is_well_spelled.labels is_well_spelled.is_compressed.closing
-          is_well_spelled.letters is_well_spelled.is_compressed.closing_is
-          is_well_spelled.is_compressed.no_label_closes
 
       letters_spell : Spells (bytes_of (letters_of is_well_spelled.letters)) is_well_spelled.items
       letters_spell = subst (λ bs. Spells bs is_well_spelled.items) (sym (bytes_of_letters
@@ -446,18 +356,10 @@ module _ (db : List Statement) (differ : LabelsDiffer db) (k end : ℕ) where
       each_is b a mark items_are =
           let follows = is_well_spelled.marks_follow_numbers b a items_are in omega arith
 
-      no_letters_no_items : (items : List Item) → Spells [] items → items ≡ []
-      no_letters_no_items [] are_spelled = refl
-      no_letters_no_items (number n ∷ items) are_spelled =
-          absurd (front_with_last_is_not_nil are_spelled.3.early_letters are_spelled.3.last_letter
-          are_spelled.1 (are_spelled.2 ∙ ap (λ bs. bs ++ are_spelled.1) are_spelled.3.letters_are))
-      no_letters_no_items (mark ∷ items) are_spelled = absurd (front_with_last_is_not_nil [] 90
-          are_spelled.1 (are_spelled.2 ∙ ap (λ bs. bs ++ are_spelled.1) are_spelled.3))
-
       has_letters : letters_of is_well_spelled.letters ≢ []
-      has_letters is_nil =
-          is_well_spelled.has_items (no_letters_no_items is_well_spelled.items (subst (λ xs. Spells
-          (bytes_of xs) is_well_spelled.items) is_nil letters_spell))
+      has_letters is_nil = is_well_spelled.has_items (spelled_items_are_unique []
+          is_well_spelled.items [] (subst (λ xs. Spells (bytes_of xs) is_well_spelled.items) is_nil
+          letters_spell) refl)
 
   abbrev IsUsableWord : Token → Type 0
   IsUsableWord u = (u.word ≢ codes "?") × ((j : ℕ) × IsUsable db k u.word j)
