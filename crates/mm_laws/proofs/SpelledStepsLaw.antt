@@ -1,11 +1,12 @@
 -- The steps of a proof are what its numbers or its labels name.
-use Rattle.std.proofs.Common.{cond, ◌≡◌, ◌≢◌, ℕ, zero, suc, ◌+◌, ◌-◌, ◌<◌, ◌≤◌, Bool, true}
+use Rattle.std.proofs.Common.{◌≡◌, ◌≢◌, ℕ, zero, suc, ◌+◌, ◌-◌, ◌<◌, ◌≤◌, Bool, true}
 use Rattle.std.proofs.Common.{false, ◌&&◌, ◌⊎◌, inl, inr, List, [], ◌∷◌, ◌++◌, map, length}
 use Rattle.std.proofs.Common.{flat_map, count_by, Option, Some, None, slice_get, nat_le, bytes_eq}
-use Rattle.std.proofs.Common.{codes, refl, sym, ap, ap₂, ◌∙◌, subst, true≢false, arith, leb-true}
+use Rattle.std.proofs.Common.{codes, refl, sym, ap, ◌∙◌, subst, true≢false, arith, leb-true}
 use Rattle.std.proofs.Common.{append_assoc, append-nil, length-append}
 use Rattle.std.specs.List.{list_any, range_with_len, AllZip, filter}
-use Rattle.std.proofs.lemmas.Bool.{and_parts, or_left, cases_order}
+use Rattle.std.proofs.lemmas.Bool.{and_parts, or_left, cases_order, cases_Bool, false_from_ne_true}
+use Rattle.std.proofs.lemmas.Bool.Decides.{not_from_Decides}
 use Rattle.std.proofs.lemmas.List.Sums.{sum_by-append}
 use Rattle.std.proofs.lemmas.Option.{slice_get_cases}
 use Rattle.std.proofs.lemmas.Slice.Eq.{bytes_eq-Decides}
@@ -20,22 +21,20 @@ use Rattle.mm_spec.specs.Lawful as lawful
 use Rattle.mm_spec.specs.Opened.{counted}
 use Rattle.mm_spec.specs.Frame.{mandatory_hypotheses}
 use Rattle.mm_spec.specs.Steps.{Step, PlacedStep, placed, label, marked}
-use Rattle.mm_spec.specs.NormalProof.{is_labelled, usable, proof_label_faults, normal_faults}
+use Rattle.mm_spec.specs.NormalProof.{is_labelled, usable, proof_label_faults}
 use Rattle.mm_spec.specs.NormalProof.{normal_steps}
-use Rattle.mm_spec.specs.CompressedProof.{bracketed, letters_of, Group, groups}
+use Rattle.mm_spec.specs.CompressedProof.{letters_of, Group, groups}
 use Rattle.mm_spec.specs.CompressedProof.{value}
 use Rattle.mm_spec.specs.CompressedProof.{starts_at, step_of, group_steps}
 use Rattle.mm_spec.specs.CompressedProof.{compressed_faults, compressed_steps}
-use Rattle.mm_spec.specs.Proof.{reading_faults}
+use Rattle.mm_spec.specs.Proof.{reading_faults, steps}
 use Rattle.mm_spec.specs.Lexed.{LexedText}
 use Rattle.mm_spec.specs.Output.{IsRead}
 use Rattle.mm_laws.specs.Spelling.{Item, number, mark, is_number, is_mark_item, Spells, letters_in}
-use Rattle.mm_laws.specs.Spelling.{IsCompressed, IsMark, NamesStep, AreSteps, IsUsable}
+use Rattle.mm_laws.specs.Spelling.{IsMark, NamesStep, AreSteps, IsUsable}
 use Rattle.mm_laws.specs.Laws.Read.{WhereRead}
-use Rattle.mm_laws.specs.Laws.BareSteps.{bare_steps}
 use Rattle.mm_laws.specs.Laws.NamedSteps.{StepsAreNamed}
 use Rattle.mm_laws.specs.Laws.NamedSteps.{StepsAreLabels}
-use Rattle.mm_spec.specs.declared.Code.TheVariants.{UnusableLabel}
 use Rattle.mm_spec.specs.declared.Code.TheVariants.{IncompleteProof}
 use Rattle.mm_spec.proofs.FindsLaw.{equal_bytes_equal_words, passing_statement}
 use Rattle.mm_spec.proofs.FindsLaw.{later_place_knows_declared}
@@ -241,26 +240,19 @@ module _ (hypotheses labels : List ℕ) where
 
 -- ---- labels
 
-word_is_new : (n : KnownNames) (l : Token) (w : Bytes) → bytes_eq l.word w ≡ true
-    → lawful.label_faults n l ≡ [] → is_in w n.labels ≡ false
-word_is_new n l w is_word no_fault = ap (λ v. is_in v n.labels)
-    (sym (equal_bytes_equal_words l.word w is_word))
-    ∙ faultless_label_is_new n l no_fault
+word_is_new : (n : KnownNames) (l : Token) (w : Bytes) (fs : List Fault)
+    → bytes_eq l.word w ≡ true → lawful.label_faults n l ++ fs ≡ [] → is_in w n.labels ≡ false
+word_is_new n l w fs is_word no_fault =
+    rw (← equal_bytes_equal_words l.word w is_word)
+    (faultless_label_is_new n l (both_are_empty _ fs no_fault).0)
 
 label_is_new : (n : KnownNames) (d : ℕ) (s : Statement) (w : Bytes) → scope_faults n d s ≡ []
     → is_labelled w s ≡ true → is_in w n.labels ≡ false
-label_is_new n d (floating l k xs e) w no_fault has_label =
-    word_is_new n l w has_label (both_are_empty (lawful.label_faults n l) (floating_faults n k xs)
-    no_fault).0
-label_is_new n d (essential l k xs e) w no_fault has_label =
-    word_is_new n l w has_label (both_are_empty (lawful.label_faults n l) (formula_faults n xs e)
-    no_fault).0
-label_is_new n d (axiomatic l k xs e) w no_fault has_label =
-    word_is_new n l w has_label (both_are_empty (lawful.label_faults n l) (formula_faults n xs e)
-    no_fault).0
+label_is_new n d (floating l k xs e) w no_fault has_label = word_is_new n l w _ has_label no_fault
+label_is_new n d (essential l k xs e) w no_fault has_label = word_is_new n l w _ has_label no_fault
+label_is_new n d (axiomatic l k xs e) w no_fault has_label = word_is_new n l w _ has_label no_fault
 label_is_new n d (provable l k xs p ps e) w no_fault has_label =
-    word_is_new n l w has_label (both_are_empty (lawful.label_faults n l) (formula_faults n xs p)
-    no_fault).0
+    word_is_new n l w _ has_label no_fault
 label_is_new n d _ w no_fault has_label = absurd (true≢false (sym has_label))
 
 label_is_word : (s : Statement) (w : Bytes) → is_labelled w s ≡ true
@@ -280,36 +272,18 @@ at_most_one_in_range : (passes : ℕ → Bool) → ((i j : ℕ) → passes i ≡
     → (filter passes (range_with_len a n) ≡ [])
     ⊎ ((j : ℕ) × (filter passes (range_with_len a n) ≡ j ∷ []) × (passes j ≡ true) × (a ≤ j))
 at_most_one_in_range passes passes_once zero a = inl refl
-at_most_one_in_range passes passes_once (suc n) a = passing_by_test (passes a) refl
-    (at_most_one_in_range passes passes_once n (a + 1))
-  where
-    passing_by_test : (b : Bool) → passes a ≡ b
-        → (filter passes (range_with_len (a + 1) n) ≡ [])
-        ⊎ ((j : ℕ) × (filter passes (range_with_len (a + 1) n) ≡ j ∷ []) × (passes j ≡ true)
-        × (a + 1 ≤ j))
-        → (cond b (a ∷ filter passes (range_with_len (a + 1) n))
-        (filter passes (range_with_len (a + 1) n))
-        ≡ [])
-        ⊎ ((j : ℕ)
-        × (cond b (a ∷ filter passes (range_with_len (a + 1) n))
-        (filter passes (range_with_len (a + 1) n))
-        ≡ j ∷ [])
-        × (passes j ≡ true) × (a ≤ j))
-    passing_by_test true passes_a (inl none_in_rest) = inr (
-      a,
-      ap (λ xs. a ∷ xs) none_in_rest,
-      passes_a,
-      omega arith,
-    )
-    passing_by_test true passes_a (inr one_in_rest) = let a_is_j = passes_once a one_in_rest.0
-        passes_a one_in_rest.2 in let a_lt_j = one_in_rest.3 in absurd (omega arith)
-    passing_by_test false not_a (inl none_in_rest) = inl none_in_rest
-    passing_by_test false not_a (inr one_in_rest) = let a_lt_j = one_in_rest.3 in inr (
-      one_in_rest.0,
-      one_in_rest.1,
-      one_in_rest.2,
-      omega arith,
-    )
+at_most_one_in_range passes passes_once (suc n) a =
+    let later = at_most_one_in_range passes passes_once n (a + 1) in
+    elim (cases_Bool (passes a)) [
+      | inl passes_a ↦ elim later [
+        | inl none ↦ rw (passes_a, filter) (inr (a, ap (λ xs. a ∷ xs) none, passes_a, omega arith))
+        | inr one ↦ absurd (omega (arith, one.3, passes_once a one.0 passes_a one.2))
+      ]
+      | inr not_a ↦ elim later [
+        | inl none ↦ rw (not_a, filter) (inl none)
+        | inr one ↦ rw (not_a, filter) (inr (one.0, one.1, one.2, omega (arith, one.3)))
+      ]
+    ]
 
 abbrev pub HasLabel : List Statement → Bytes → ℕ → Type 0
 HasLabel db w j = list_any (is_labelled w) (statement_at db j) ≡ true
@@ -330,158 +304,104 @@ module _ (db : List Statement) (are_lawful : (k : ℕ) → k < length db → IsL
       i_lt_j (label_is_word labelled_i.0 w labelled_i.2)) ∙ is_new)
 
   labels_are_distinct : LabelsDiffer db
-  labels_are_distinct w i j labels_i labels_j = i_is_j_by_order (cases_order i j)
-    where
-      i_is_j_by_order : (i ≡ j) ⊎ ((i < j) ⊎ (j < i)) → i ≡ j
-      i_is_j_by_order (inl i_is_j) = i_is_j
-      i_is_j_by_order (inr (inl i_lt_j)) = absurd (label_not_twice w i j i_lt_j labels_i labels_j)
-      i_is_j_by_order (inr (inr j_lt_i)) = absurd (label_not_twice w j i j_lt_i labels_j labels_i)
+  labels_are_distinct w i j labels_i labels_j = elim (cases_order i j) [
+    | inl i_is_j ↦ i_is_j
+    | inr (inl i_lt_j) ↦ absurd (label_not_twice w i j i_lt_j labels_i labels_j)
+    | inr (inr j_lt_i) ↦ absurd (label_not_twice w j i j_lt_i labels_j labels_i)
+  ]
 
 -- the labels of what is read differ, as it counts
 pub labels_differ : (len : ℕ) (x : LexedText) (db : List Statement) (fault : Option Fault)
     → IsRead len x db fault → (with_open : Bool) → LabelsDiffer (counted with_open db)
 labels_differ len x db fault is_read with_open w i j labels_i labels_j =
-    labels_are_distinct db (read_statements_are_lawful len x db fault is_read) w i j (sym
-    (label_test_counted i) ∙ labels_i)
-    (sym (label_test_counted j) ∙ labels_j)
-  where
-    label_test_counted : (j : ℕ)
-        → list_any (is_labelled w) (statement_at (counted with_open db) j)
-        ≡ list_any (is_labelled w) (statement_at db j)
-    label_test_counted = counted_any with_open db (is_labelled w) (λ l k xs e ps d. refl)
+    let same = counted_any with_open db (is_labelled w) (λ l k xs e ps d. refl) in
+    labels_are_distinct db (read_statements_are_lawful len x db fault is_read) w i j
+    (sym (same i) ∙ labels_i) (sym (same j) ∙ labels_j)
+
+-- the faults of a word of a normal proof
+abbrev pub own_faults : List Statement → ℕ → Token → List Fault
+own_faults db k u =
+    elim (bytes_eq u.word (codes "?"))
+    [ true ↦ fault u.at IncompleteProof ∷ [] | false ↦ proof_label_faults db k u ]
+
+pub no_own_faults : (db : List Statement) (k : ℕ) (u : Token) → own_faults db k u ≡ []
+    → (u.word ≢ codes "?") × (proof_label_faults db k u ≡ [])
+no_own_faults db k u no_fault = elim (cases_Bool (bytes_eq u.word (codes "?"))) [
+  | inl is_unknown ↦ (let some_fault = rw (is_unknown, own_faults) at no_fault in absurd (cc))
+  | inr is_known ↦ (
+    not_from_Decides _ (bytes_eq-Decides u.word (codes "?")) is_known,
+    rw (is_known, own_faults) at no_fault,
+  )
+]
+
+-- the words of a normal proof are read as one
+pub normal_reads : (db : List Statement) (k end : ℕ) (t : Token) (ts : List Token)
+    → t.word ≢ codes "("
+    → (reading_faults db k end (t ∷ ts) ≡ flat_map (own_faults db k) (t ∷ ts))
+    × (steps db k (t ∷ ts) ≡ normal_steps db k (t ∷ ts))
+normal_reads db k end t ts no_bracket =
+    let not_bracket = false_from_ne_true (bytes_eq t.word (codes "("))
+    (λ e. no_bracket (equal_bytes_equal_words t.word (codes "(") e)) in
+    (rw (not_bracket, reading_faults) refl, rw (not_bracket, steps) refl)
 
 module _ (db : List Statement) (labels_differ : LabelsDiffer db) where
   module _ (k : ℕ) where
     pub one_statement_is_usable : (t : Token) → proof_label_faults db k t ≡ []
         → (j : ℕ) × (usable db k t.word ≡ j ∷ []) × IsUsable db k t.word j
-    one_statement_is_usable t no_fault_of_t = none_or_one (at_most_one_in_range is_usable_at
-        at_most_once k 0)
+    one_statement_is_usable t no_fault =
+        elim (at_most_one_in_range is_usable_at at_most_once k 0) [
+          | inl none ↦ (let some_fault = rw (none, proof_label_faults) at no_fault in absurd (cc))
+          | inr (j, only_j, passes_j, _) ↦ let parts = parts_of j passes_j in (
+            j,
+            only_j,
+            record {
+              statement_is_active = parts.0;
+              statement_has_label = parts.1;
+              no_other_is_usable = λ i a b. labels_differ t.word i j b parts.1;
+            },
+          )
+        ]
       where
         is_usable_at : ℕ → Bool
         is_usable_at j = active_at db j k && list_any (is_labelled t.word) (statement_at db j)
 
+        parts_of : (j : ℕ) → is_usable_at j ≡ true
+            → (active_at db j k ≡ true) × HasLabel db t.word j
+        parts_of j =
+            and_parts (active_at db j k) (list_any (is_labelled t.word) (statement_at db j))
+
         at_most_once : (i j : ℕ) → is_usable_at i ≡ true → is_usable_at j ≡ true → i ≡ j
-        at_most_once i j is_usable_i is_usable_j =
-            labels_differ t.word i j
-            (and_parts (active_at db i k) (list_any (is_labelled t.word) (statement_at db i))
-            is_usable_i).1
-            (and_parts (active_at db j k) (list_any (is_labelled t.word) (statement_at db j))
-            is_usable_j).1
-
-        fault_of : List ℕ → List Fault
-        fault_of xs = elim xs [ [] ↦ fault t.at UnusableLabel ∷ [] | j ∷ js ↦ [] ]
-
-        not_none : usable db k t.word ≡ [] → ⊥
-        not_none none_is_usable = let no_fault_of_none : fault_of []
-            ≡ [] = ap fault_of (sym none_is_usable) ∙ no_fault_of_t in cc
-
-        none_or_one : (usable db k t.word ≡ [])
-            ⊎ ((j : ℕ) × (usable db k t.word ≡ j ∷ []) × (is_usable_at j ≡ true) × (0 ≤ j))
-            → (j : ℕ) × (usable db k t.word ≡ j ∷ []) × IsUsable db k t.word j
-        none_or_one (inl none_is_usable) = absurd (not_none none_is_usable)
-        none_or_one (inr one_is_usable) =
-            let is_active_and_labelled =
-            and_parts (active_at db one_is_usable.0 k)
-            (list_any (is_labelled t.word) (statement_at db one_is_usable.0)) one_is_usable.2 in (
-              one_is_usable.0,
-              one_is_usable.1,
-              record {
-                statement_is_active = is_active_and_labelled.0;
-                statement_has_label = is_active_and_labelled.1;
-                no_other_is_usable = λ i a b. labels_differ t.word i one_is_usable.0 b
-                    is_active_and_labelled.1;
-              },
-            )
+        at_most_once i j passes_i passes_j =
+            labels_differ t.word i j (parts_of i passes_i).1 (parts_of j passes_j).1
 
     pub labels_are_usable : (ts : List Token) → flat_map (proof_label_faults db k) ts ≡ []
         → (js : List ℕ) × AllZip (λ t j. IsUsable db k t.word j) ts js
         × (flat_map (λ t. usable db k t.word) ts ≡ js)
     labels_are_usable [] no_faults = ([], tt, refl)
     labels_are_usable (t ∷ ts) no_faults =
-        let usable_statement =
-        one_statement_is_usable t
-        (both_are_empty (proof_label_faults db k t) (flat_map (proof_label_faults db k) ts)
-        no_faults).0 in
-        let rest_usable =
-        labels_are_usable ts
-        (both_are_empty (proof_label_faults db k t) (flat_map (proof_label_faults db k) ts)
-        no_faults).1 in (
-          usable_statement.0 ∷ rest_usable.0,
-          (usable_statement.2, rest_usable.1),
-          ap₂ (λ xs ys. xs
-              ++ ys) usable_statement.1 rest_usable.2,
-        )
+        let none = both_are_empty (proof_label_faults db k t) _ no_faults in
+        let here = one_statement_is_usable t none.0 in
+        let later = labels_are_usable ts none.1 in
+        (here.0 ∷ later.0, (here.2, later.1), rw (here.1, later.2) refl)
 
     -- ---- proofs
 
-    abbrev pub own_faults : Token → Bool → List Fault
-    own_faults u b =
-        elim b [ true ↦ fault u.at IncompleteProof ∷ [] | false ↦ proof_label_faults db k u ]
-
-    labels_are_faultless : (ts : List Token)
-        → flat_map (λ u. own_faults u (bytes_eq u.word (codes "?"))) ts ≡ []
-        → flat_map (proof_label_faults db k) ts ≡ []
-    labels_are_faultless [] no_faults = refl
-    labels_are_faultless (t ∷ ts) no_faults =
-        let faults_of_t : List Fault = own_faults t (bytes_eq t.word (codes "?")) in
-        let faults_of_ts : List Fault = flat_map (λ u. own_faults u (bytes_eq u.word (codes "?")))
-        ts in
-        ap₂ (λ xs ys. xs ++ ys)
-        (no_label_faults_by_word (bytes_eq t.word (codes "?"))
-        (both_are_empty faults_of_t faults_of_ts no_faults).0)
-        (labels_are_faultless ts (both_are_empty faults_of_t faults_of_ts no_faults).1)
-      where
-        no_label_faults_by_word : (b : Bool) → own_faults t b ≡ [] → proof_label_faults db k t ≡ []
-        no_label_faults_by_word true no_fault = absurd (cc)
-        no_label_faults_by_word false no_fault = no_fault
-
-    steps_are_labels : (ts : List Token) → flat_map (proof_label_faults db k) ts ≡ []
+    steps_are_labels : (ts : List Token) → flat_map (own_faults db k) ts ≡ []
         → AllZip (λ u s. (j : ℕ) × (s ≡ label j) × IsUsable db k u.word j) ts
         (map (λ p. p.step) (normal_steps db k ts))
     steps_are_labels [] no_faults = tt
     steps_are_labels (t ∷ ts) no_faults =
-        let usable_statement =
-        one_statement_is_usable t
-        (both_are_empty (proof_label_faults db k t) (flat_map (proof_label_faults db k) ts)
-        no_faults).0 in
+        let none = both_are_empty (own_faults db k t) _ no_faults in
+        let here = one_statement_is_usable t (no_own_faults db k t none.0).1 in
         subst (λ js. AllZip (λ u s. (j : ℕ) × (s ≡ label j) × IsUsable db k u.word j) (t ∷ ts)
         (map (λ p. p.step) (map (λ j. placed t.at (label j)) js ++ normal_steps db k ts)))
-        (sym usable_statement.1) (
-          (usable_statement.0, refl, usable_statement.2),
-          steps_are_labels ts
-              (both_are_empty (proof_label_faults db k t) (flat_map (proof_label_faults db k) ts)
-              no_faults).1,
-        )
+        (sym here.1) ((here.0, refl, here.2), steps_are_labels ts none.1)
 
-    normal_steps_are_labels : (end : ℕ) (t : Token) (ts : List Token)
-        → reading_faults db k end (t ∷ ts) ≡ []
-        → t.word ≢ codes "("
-        → AllZip (λ u s. (j : ℕ) × (s ≡ label j) × IsUsable db k u.word j) (t ∷ ts)
-        (bare_steps db k (t ∷ ts))
-    normal_steps_are_labels end t ts no_faults no_bracket = labels_by_bracket
-        (bytes_eq t.word (codes "(")) refl no_faults
-      where
-        faults : Bool → List Fault
-        faults b =
-            elim b [
-              | true ↦ compressed_faults db k end (bracketed ts)
-              | false ↦ normal_faults db k end (t ∷ ts)
-            ]
-
-        out : Bool → List PlacedStep
-        out b =
-            elim b [
-              | true ↦ compressed_steps db k (bracketed ts)
-              | false ↦ normal_steps db k (t ∷ ts)
-            ]
-
-        labels_by_bracket : (b : Bool) → bytes_eq t.word (codes "(") ≡ b → faults b ≡ []
-            → AllZip (λ u s. (j : ℕ) × (s ≡ label j) × IsUsable db k u.word j) (t ∷ ts)
-            (map (λ p. p.step) (out b))
-        labels_by_bracket true is_bracket no_faults =
-            absurd (no_bracket (equal_bytes_equal_words t.word (codes "(") is_bracket))
-        labels_by_bracket false not_bracket no_faults = steps_are_labels (t ∷ ts)
-            (labels_are_faultless (t ∷ ts) no_faults)
+    normal_steps_are_labels : StepsAreLabels db k
+    normal_steps_are_labels end t ts no_faults no_bracket =
+        let reads = normal_reads db k end t ts no_bracket in
+        subst (λ ps. AllZip (λ u s. (j : ℕ) × (s ≡ label j) × IsUsable db k u.word j) (t ∷ ts)
+        (map (λ p. p.step) ps)) (sym reads.1) (steps_are_labels (t ∷ ts) (sym reads.0 ∙ no_faults))
 
     letters_name_steps : (end : ℕ) (labels letters : List Token) (items : List Item)
         → compressed_faults db k end (record { labels = labels; letters = Some letters }) ≡ []
@@ -502,24 +422,14 @@ module _ (db : List Statement) (labels_differ : LabelsDiffer db) where
         let groups_faultless : AreFaultless
         (length (mandatory_hypotheses db k) + length js.0) 0 0 gs =
         subst (λ n. AreFaultless (length (mandatory_hypotheses db k) + n) 0 0 gs)
-        (sym (AllZip-long _ labels js.0 js.1)) faultless.has_faultless_groups in
-        let group_steps_are = groups_name_steps (mandatory_hypotheses db k) js.0 gs
-        groups_faultless in (
+        (sym (AllZip-long _ labels js.0 js.1)) faultless.has_faultless_groups in (
           js.0,
           js.1,
-          subst (λ xs. AreSteps (mandatory_hypotheses db k) js.0 items
-              (map (λ p. p.step) (group_steps (mandatory_hypotheses db k ++ xs) [] 0 gs)))
-              (sym js.2)
-              (subst (λ is. AreSteps (mandatory_hypotheses db k) js.0 is
-              (map (λ p. p.step) (group_steps (mandatory_hypotheses db k ++ js.0) [] 0 gs)))
-              items_equal group_steps_are),
+          rw (js.2, ← items_equal)
+              (groups_name_steps (mandatory_hypotheses db k) js.0 gs groups_faultless),
         )
 
-    compressed_steps_are_named : (end : ℕ) (ts labels letters : List Token) (items : List Item)
-        → reading_faults db k end ts ≡ [] → IsCompressed ts labels letters
-        → Spells (letters_in letters) items
-        → (js : List ℕ) × AllZip (λ t j. IsUsable db k t.word j) labels js
-        × AreSteps (mandatory_hypotheses db k) js items (bare_steps db k ts)
+    compressed_steps_are_named : StepsAreNamed db k
     compressed_steps_are_named end ts labels letters items no_faults is_compressed letters_spell =
         let reads = compressed_reads db k end ts labels letters is_compressed in
         subst (λ ps. (js : List ℕ) × AllZip (λ t j. IsUsable db k t.word j) labels js

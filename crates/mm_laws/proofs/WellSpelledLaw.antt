@@ -1,24 +1,22 @@
 -- Reading finds no fault in exactly the proofs that are well formed.
 use Rattle.std.proofs.Common.{◌≡◌, ◌≢◌, ℕ, ◌+◌, ◌==◌, ◌<◌, ◌≤◌, Bool, true}
 use Rattle.std.proofs.Common.{false, ◌&&◌, inl, inr, List, [], ◌∷◌, ◌++◌, map, length}
-use Rattle.std.proofs.Common.{flat_map, count_by, bytes_eq, codes, refl, sym}
+use Rattle.std.proofs.Common.{flat_map, count_by, codes, refl, sym}
 use Rattle.std.proofs.Common.{ap, ap₂, ◌∙◌, subst, true≢false, arith}
 use Rattle.std.proofs.Common.{eq-eqb, append_assoc, append-nil}
 use Rattle.std.specs.List.{list_any, range_with_len, AllByRecursion, AllZip}
-use Rattle.std.proofs.lemmas.Bool.{le-ltb, ne_eqb}
+use Rattle.std.proofs.lemmas.Bool.{le-ltb, ne_eqb, false_from_ne_true}
 use Rattle.std.proofs.lemmas.Bool.Decides.{nat_tests}
-use Rattle.std.proofs.lemmas.Slice.Eq.{bytes_eq-Decides}
 use Rattle.mm_spec.specs.Text.{Token, fault}
 use Rattle.mm_spec.specs.declared.Fault.{Fault}
 use Rattle.mm_spec.specs.Statement.{Statement}
 use Rattle.mm_spec.specs.Scope.{active_at, statement_at}
 use Rattle.mm_spec.specs.Opened.{counted}
 use Rattle.mm_spec.specs.Frame.{mandatory_hypotheses}
-use Rattle.mm_spec.specs.NormalProof.{is_labelled, usable, proof_label_faults, normal_faults}
-use Rattle.mm_spec.specs.CompressedProof.{bracketed, Letter, letters_of, Group, is_early_letter}
+use Rattle.mm_spec.specs.NormalProof.{is_labelled, usable, proof_label_faults}
+use Rattle.mm_spec.specs.CompressedProof.{Letter, letters_of, Group, is_early_letter}
 use Rattle.mm_spec.specs.CompressedProof.{is_last_letter}
 use Rattle.mm_spec.specs.CompressedProof.{groups, value, group_fault, group_faults, letter_faults}
-use Rattle.mm_spec.specs.CompressedProof.{compressed_faults}
 use Rattle.mm_spec.specs.Proof.{reading_faults}
 use Rattle.mm_laws.specs.Spelling.{Item, number, mark, is_number, is_mark_item, IsEarlyDigit}
 use Rattle.mm_laws.specs.Spelling.{IsLastDigit, AreEarlyDigits, AreLettersOf, Spells}
@@ -38,6 +36,7 @@ use Rattle.mm_laws.proofs.SpellingLaw.{bytes_of_letters, spelled_items_are_uniqu
 use Rattle.mm_laws.proofs.SpellingLaw.{proof_is_faultless}
 use Rattle.mm_laws.proofs.SpelledStepsLaw.{count_append, LabelsDiffer, labels_differ}
 use Rattle.mm_laws.proofs.SpelledStepsLaw.{one_statement_is_usable, labels_are_usable, own_faults}
+use Rattle.mm_laws.proofs.SpelledStepsLaw.{no_own_faults, normal_reads}
 
 -- ---- items each of which has a meaning after those before it
 
@@ -364,68 +363,34 @@ module _ (db : List Statement) (differ : LabelsDiffer db) (k end : ℕ) where
   abbrev IsUsableWord : Token → Type 0
   IsUsableWord u = (u.word ≢ codes "?") × ((j : ℕ) × IsUsable db k u.word j)
 
-  abbrev faults_of_word : Token → List Fault
-  faults_of_word u = own_faults db differ k u (bytes_eq u.word (codes "?"))
-
-  read_are_usable_words : (ts : List Token) → flat_map faults_of_word ts ≡ []
+  read_are_usable_words : (ts : List Token) → flat_map (own_faults db k) ts ≡ []
       → AllByRecursion IsUsableWord ts
   read_are_usable_words [] no_faults = tt
-  read_are_usable_words (t ∷ ts) no_faults = (
-    usable_by_question_mark (bytes_eq t.word (codes "?")) refl
-        (both_are_empty (faults_of_word t) (flat_map faults_of_word ts) no_faults).0,
-    read_are_usable_words ts
-        (both_are_empty (faults_of_word t) (flat_map faults_of_word ts) no_faults).1,
-  )
-    where
-      usable_by_question_mark : (b : Bool) → bytes_eq t.word (codes "?") ≡ b
-          → own_faults db differ k t b ≡ []
-          → IsUsableWord t
-      usable_by_question_mark true is_question_mark no_fault = absurd (cc)
-      usable_by_question_mark false not_question_mark no_fault =
-          let usable_statement = one_statement_is_usable db differ k t no_fault in (
-            (λ is_question_word. true≢false (sym ((bytes_eq-Decides t.word (codes "?")).1
-                is_question_word) ∙ not_question_mark)),
-            (usable_statement.0, usable_statement.2),
-          )
+  read_are_usable_words (t ∷ ts) no_faults =
+      let none = both_are_empty (own_faults db k t) _ no_faults in
+      let own = no_own_faults db k t none.0 in
+      let here = one_statement_is_usable db differ k t own.1 in
+      ((own.0, (here.0, here.2)), read_are_usable_words ts none.1)
 
   usable_words_are_read : (ts : List Token) → AllByRecursion IsUsableWord ts
-      → flat_map faults_of_word ts ≡ []
-  usable_words_are_read [] are_usable_words = refl
-  usable_words_are_read (t ∷ ts) are_usable_words =
-      ap₂ (λ xs ys. xs ++ ys) (no_fault_by_question_mark (bytes_eq t.word (codes "?")) refl)
-      (usable_words_are_read ts are_usable_words.1)
-    where
-      no_fault_by_question_mark : (b : Bool) → bytes_eq t.word (codes "?") ≡ b
-          → own_faults db differ k t b ≡ []
-      no_fault_by_question_mark true is_question_mark =
-          absurd
-          (are_usable_words.0.0 (equal_bytes_equal_words t.word (codes "?") is_question_mark))
-      no_fault_by_question_mark false not_question_mark = usable_label_has_no_fault db k t
-          are_usable_words.0.1.0 are_usable_words.0.1.1
-
-  normal_faults_are : (t : Token) (ts : List Token) → t.word ≢ codes "("
-      → reading_faults db k end (t ∷ ts) ≡ flat_map faults_of_word (t ∷ ts)
-  normal_faults_are t ts no_bracket = faults_equal_by_bracket (bytes_eq t.word (codes "(")) refl
-    where
-      faults_equal_by_bracket : (b : Bool) → bytes_eq t.word (codes "(") ≡ b
-          → ◌≡◌ {A = List Fault}
-          (elim b [
-            | true ↦ compressed_faults db k end (bracketed ts)
-            | false ↦ normal_faults db k end (t ∷ ts)
-          ]) (flat_map faults_of_word (t ∷ ts))
-      faults_equal_by_bracket true is_bracket = absurd (no_bracket
-          (equal_bytes_equal_words t.word (codes "(") is_bracket))
-      faults_equal_by_bracket false not_bracket = refl
+      → flat_map (own_faults db k) ts ≡ []
+  usable_words_are_read [] are_usable = refl
+  usable_words_are_read (t ∷ ts) ((is_known, (j, is_usable)), later) =
+      rw (
+        false_from_ne_true _ (λ e. is_known (equal_bytes_equal_words t.word (codes "?") e)),
+        own_faults,
+        usable_label_has_no_fault db k t j is_usable,
+      ) (usable_words_are_read ts later)
 
 pub normal_is_exact : WhereRead NormalIsExact
 normal_is_exact len x db fault is_read with_open k end t ts no_bracket =
-    let labels_are_distinct = labels_differ len x db fault is_read with_open in
-    let faults_are = normal_faults_are (counted with_open db) labels_are_distinct k end t ts
-    no_bracket in (
-      (λ no_faults. read_are_usable_words (counted with_open db) labels_are_distinct k end (t ∷ ts)
-          (sym faults_are ∙ no_faults)),
-      λ are_usable_words. faults_are ∙ usable_words_are_read (counted with_open db)
-          labels_are_distinct k end (t ∷ ts) are_usable_words,
+    let statements = counted with_open db in
+    let differ = labels_differ len x db fault is_read with_open in
+    let faults_are = (normal_reads statements k end t ts no_bracket).0 in (
+      λ no_faults. read_are_usable_words statements differ k end (t ∷ ts)
+          (sym faults_are ∙ no_faults),
+      λ are_usable. faults_are
+          ∙ usable_words_are_read statements differ k end (t ∷ ts) are_usable,
     )
 
 pub compressed_is_exact : WhereRead CompressedIsExact
