@@ -2,10 +2,11 @@
 -- its words at the keywords, and its front at each `:`.
 use Rattle.std.proofs.Common.{◌≡◌, ◌∙◌, ℕ, ◌+◌, ◌<◌, ◌^◌, ◌%◌, Bool, true, false, ◌||◌}
 use Rattle.std.proofs.Common.{List, [], ◌∷◌, ◌++◌, length, map, refl, sym, ap, ap₂, subst, arith}
-use Rattle.std.proofs.Common.{true≢false, append_assoc, append-nil, length-append, decimal, not}
+use Rattle.std.proofs.Common.{true≢false, inl, inr, append_assoc, append-nil, length-append, decimal, not}
 use Rattle.std.specs.Prelude.{flat_map, codes, bytes_eq}
 use Rattle.std.specs.List.{list_any, AllByRecursion}
-use Rattle.std.proofs.lemmas.Bool.{agree_below_at}
+use Rattle.std.proofs.lemmas.Bool.{agree_below, agree_below_at, cases_Bool, or_parts}
+use Rattle.mm_spec.proofs.FindsLaw.{each_map, each_any}
 use Rattle.std.proofs.lemmas.Fmt.{decimal_by_steps, decimal_injective}
 use Rattle.std.proofs.lemmas.Grind.{flat_map-append}
 use Rattle.std.proofs.lemmas.List.Folds.{list_any-append, flat_map-map}
@@ -17,17 +18,12 @@ use Rattle.mm_spec.specs.Frame.{formula_at, mandatory_hypotheses, mandatory_pair
 use Rattle.mm_spec.specs.Assertion.{label_at, name_at, hypothesis_keyword, hypothesis_text, spaced}
 use Rattle.mm_spec.specs.Assertion.{pair_text, dummies_text, symbols_text, kind_letter, kind_keyword}
 use Rattle.mm_spec.specs.Assertion.{is_axiom_at, start_place, end_place, dummies, dummy_pairs}
-use Rattle.mm_spec.specs.Assertion.{front_text, conditions_text, assertion_line}
+use Rattle.mm_spec.specs.Assertion.{conditions_text, assertion_line}
 use Rattle.mm_laws.specs.Laws.Told.{Part, InWords, hypothesis_part, pair_part, dummies_part}
 use Rattle.mm_laws.specs.Laws.Told.{formula_part, in_words, is_gap, is_colon}
 use Rattle.mm_laws.specs.Laws.Told.{AreSpelled, LinesTellAssertions}
 
 -- ---- lists that are split where a test passes
-
-neither : (a b : Bool) → (a || b) ≡ false → (a ≡ false) × (b ≡ false)
-neither false false none = (refl, refl)
-neither true b none = absurd (true≢false none)
-neither false true none = absurd (true≢false none)
 
 module _ {X : Type 0} (p : X → Bool) where
   -- no element passes
@@ -40,8 +36,7 @@ module _ {X : Type 0} (p : X → Bool) where
   BeginsPassing (x ∷ xs) = p x ≡ true
 
   none_of_both : (xs ys : List X) → NonePasses xs → NonePasses ys → NonePasses (xs ++ ys)
-  none_of_both xs ys no_x no_y =
-      list_any-append p xs ys ∙ ap₂ (λ (a b : Bool). a || b) no_x no_y
+  none_of_both xs ys no_x no_y = rw (list_any-append p xs ys, no_x) no_y
 
   -- a list that begins passing doesn't begin with an element that fails
   not_begun : (rs : List X) (y : X) (ys : List X) → BeginsPassing rs → p y ≡ false
@@ -54,15 +49,15 @@ module _ {X : Type 0} (p : X → Bool) where
       → BeginsPassing ss → xs ++ rs ≡ ys ++ ss → (xs ≡ ys) × (rs ≡ ss)
   split [] [] rs ss no_x no_y rs_begin ss_begin equal = (refl, equal)
   split [] (y ∷ ys) rs ss no_x no_y rs_begin ss_begin equal =
-      absurd (not_begun rs y (ys ++ ss) rs_begin (neither (p y) (list_any p ys) no_y).0 equal)
+      absurd (not_begun rs y (ys ++ ss) rs_begin (or_parts (p y) (list_any p ys) no_y).0 equal)
   split (x ∷ xs) [] rs ss no_x no_y rs_begin ss_begin equal =
-      absurd (not_begun ss x (xs ++ rs) ss_begin (neither (p x) (list_any p xs) no_x).0 (sym equal))
+      absurd (not_begun ss x (xs ++ rs) ss_begin (or_parts (p x) (list_any p xs) no_x).0 (sym equal))
   split (x ∷ xs) (y ∷ ys) rs ss no_x no_y rs_begin ss_begin equal =
       let heads : x ≡ y = cc in
       let tails : xs ++ rs ≡ ys ++ ss = cc in
       let parts =
-      split xs ys rs ss (neither (p x) (list_any p xs) no_x).1
-      (neither (p y) (list_any p ys) no_y).1 rs_begin ss_begin tails in
+      split xs ys rs ss (or_parts (p x) (list_any p xs) no_x).1
+      (or_parts (p y) (list_any p ys) no_y).1 rs_begin ss_begin tails in
       (ap₂ (λ z zs. z ∷ zs) heads parts.0, parts.1)
 
 -- ---- lines
@@ -98,28 +93,21 @@ words_equal (w ∷ ws) (v ∷ vs) rs ss no_w no_v equal =
     let tails : (w ++ spaced ws) ++ 10 ∷ rs ≡ (v ++ spaced vs) ++ 10 ∷ ss = cc in
     let here =
     split is_gap w v (spaced ws ++ 10 ∷ rs) (spaced vs ++ 10 ∷ ss)
-    (neither (has_gap w) (list_any has_gap ws) no_w).0
-    (neither (has_gap v) (list_any has_gap vs) no_v).0 (rest_begins ws rs) (rest_begins vs ss)
+    (or_parts (has_gap w) (list_any has_gap ws) no_w).0
+    (or_parts (has_gap v) (list_any has_gap vs) no_v).0 (rest_begins ws rs) (rest_begins vs ss)
     (sym (append_assoc w (spaced ws) (10 ∷ rs)) ∙ tails
     ∙ append_assoc v (spaced vs) (10 ∷ ss)) in
     let later =
-    words_equal ws vs rs ss (neither (has_gap w) (list_any has_gap ws) no_w).1
-    (neither (has_gap v) (list_any has_gap vs) no_v).1 here.1 in
+    words_equal ws vs rs ss (or_parts (has_gap w) (list_any has_gap ws) no_w).1
+    (or_parts (has_gap v) (list_any has_gap vs) no_v).1 here.1 in
     (ap₂ (λ (z : Bytes) (zs : List Bytes). z ∷ zs) here.0 later.0, later.1)
-
-line_regrouped : (l : Line) (rs : List ℕ)
-    → line_text l ++ rs ≡ l.front ++ (spaced l.words ++ 10 ∷ rs)
-line_regrouped l rs =
-    append_assoc (l.front ++ spaced l.words) (10 ∷ []) rs
-    ∙ append_assoc l.front (spaced l.words) (10 ∷ rs)
 
 line_equal : (a b : Line) (rs ss : List ℕ) → IsLine a → IsLine b
     → line_text a ++ rs ≡ line_text b ++ ss → (a ≡ b) × (rs ≡ ss)
 line_equal a b rs ss is_a is_b equal =
     let fronts =
     split is_gap a.front b.front (spaced a.words ++ 10 ∷ rs) (spaced b.words ++ 10 ∷ ss) is_a.front
-    is_b.front (rest_begins a.words rs) (rest_begins b.words ss)
-    (sym (line_regrouped a rs) ∙ equal ∙ line_regrouped b ss) in
+    is_b.front (rest_begins a.words rs) (rest_begins b.words ss) (simp append_assoc at equal) in
     let later = words_equal a.words b.words rs ss is_a.words is_b.words fronts.1 in (
       ap₂ (λ (f : Bytes) (ws : List Bytes). record { front = f; words = ws }) fronts.0 later.0,
       later.1,
@@ -127,10 +115,12 @@ line_equal a b rs ss is_a is_b equal =
 
 no_empty_line : (l : Line) (rs : List ℕ) → ¬ ([] ≡ line_text l ++ rs)
 no_empty_line l rs equal =
-    let lengths = ap length equal in
-    let line_length = length-append (line_text l) rs in
-    let front_length = length-append (l.front ++ spaced l.words) (10 ∷ []) in
-    omega (arith, lengths, line_length, front_length)
+    omega (
+      arith,
+      ap length equal,
+      length-append (line_text l) rs,
+      length-append (l.front ++ spaced l.words) (10 ∷ []),
+    )
 
 -- a text has one list of lines
 lines_equal : (xs ys : List Line) → AllByRecursion IsLine xs → AllByRecursion IsLine ys
@@ -177,22 +167,21 @@ parts_equal (p ∷ ps) (q ∷ qs) are_p are_q equal =
     (parts_equal ps qs are_p.1 are_q.1 here.1)
 
 -- what is true of each part of two lists is true of both together
-all_of_both : {X : Type 0} (P : X → Type 0) (xs ys : List X) → AllByRecursion P xs
+pub all_of_both : {X : Type 0} (P : X → Type 0) (xs ys : List X) → AllByRecursion P xs
     → AllByRecursion P ys → AllByRecursion P (xs ++ ys)
 all_of_both P [] ys all_x all_y = all_y
 all_of_both P (x ∷ xs) ys all_x all_y = (all_x.0, all_of_both P xs ys all_x.1 all_y)
 
 all_mapped : {X Y : Type 0} (P : Y → Type 0) (f : X → Y) → ((x : X) → P (f x)) → (xs : List X)
     → AllByRecursion P (map f xs)
-all_mapped P f holds [] = tt
-all_mapped P f holds (x ∷ xs) = (holds x, all_mapped P f holds xs)
+all_mapped P f holds xs = each_map P f xs (each_any (λ x. P (f x)) xs holds)
 
 no_gap_in_parts : (ps : List Part) → AllByRecursion IsPart ps
     → NonePasses has_gap (flat_map part_words ps)
 no_gap_in_parts [] are_parts = refl
 no_gap_in_parts (p ∷ ps) are_parts =
-    none_of_both has_gap (part_words p) (flat_map part_words ps)
-    (ap₂ (λ (a b : Bool). a || b) are_parts.0.keyword_has_no_gap are_parts.0.words_have_no_gap)
+    none_of_both has_gap (part_words p) _
+    (rw are_parts.0.keyword_has_no_gap are_parts.0.words_have_no_gap)
     (no_gap_in_parts ps are_parts.1)
 
 -- ---- the text of parts
@@ -201,16 +190,14 @@ abbrev parts_text : List Part → List ℕ
 parts_text ps = spaced (flat_map part_words ps)
 
 parts_text-append : (ps qs : List Part) → parts_text (ps ++ qs) ≡ parts_text ps ++ parts_text qs
-parts_text-append ps qs =
-    ap spaced (flat_map-append part_words ps qs)
-    ∙ flat_map-append (λ (w : Bytes). 32 ∷ w) (flat_map part_words ps) (flat_map part_words qs)
+parts_text-append ps qs = simp flat_map-append
 
 text_of_mapped : {X : Type 0} (text : X → List ℕ) (part : X → Part)
     → ((x : X) → spaced (part_words (part x)) ≡ text x) → (xs : List X)
     → parts_text (map part xs) ≡ flat_map text xs
 text_of_mapped text part text_is [] = refl
-text_of_mapped {X} text part text_is (x ∷ xs) =
-    flat_map-append (λ (w : Bytes). 32 ∷ w) (part_words (part x)) (flat_map part_words (map part xs))
+text_of_mapped text part text_is (x ∷ xs) =
+    flat_map-append (λ (w : Bytes). 32 ∷ w) (part_words (part x)) _
     ∙ ap₂ (λ (a b : List ℕ). a ++ b) (text_is x) (text_of_mapped text part text_is xs)
 
 module _ (db : List Statement) where
@@ -218,23 +205,25 @@ module _ (db : List Statement) where
   names_text xs = flat_map-map (λ (w : Bytes). 32 ∷ w) (name_at db) xs
 
   hypothesis_part_text : (j : ℕ) → spaced (part_words (hypothesis_part db j)) ≡ hypothesis_text db j
-  hypothesis_part_text j =
-      ap (λ (x : List ℕ). (32 ∷ hypothesis_keyword db j) ++ ((32 ∷ label_at db j) ++ x))
-      (names_text (formula_at db j))
-      ∙ sym (append_assoc (32 ∷ hypothesis_keyword db j) (32 ∷ label_at db j)
-      (symbols_text db (formula_at db j)))
+  hypothesis_part_text j = simp (flat_map-map, append_assoc)
 
   pair_part_text : (p : Pair) → spaced (part_words (pair_part db p)) ≡ pair_text db p
-  pair_part_text p =
-      ap (λ (x : List ℕ). (32 ∷ codes "$d") ++ ((32 ∷ name_at db p.low) ++ x))
-      (append-nil (32 ∷ name_at db p.high))
-      ∙ sym (append_assoc (32 ∷ codes "$d") (32 ∷ name_at db p.low) (32 ∷ name_at db p.high))
+  pair_part_text p = simp (append-nil, append_assoc)
 
   dummies_part_text : (xs : List ℕ) → parts_text (dummies_part db xs) ≡ dummies_text db xs
   dummies_part_text [] = refl
   dummies_part_text (x ∷ xs) =
       ap spaced (append-nil (codes "$v" ∷ map (name_at db) (x ∷ xs)))
       ∙ ap (λ (y : List ℕ). (32 ∷ codes "$v") ++ y) (names_text (x ∷ xs))
+
+  hypotheses_text : (js : List ℕ)
+      → parts_text (map (hypothesis_part db) js) ≡ flat_map (hypothesis_text db) js
+  hypotheses_text js =
+      text_of_mapped (hypothesis_text db) (hypothesis_part db) hypothesis_part_text js
+
+  pairs_text : (ps : List Pair)
+      → parts_text (map (pair_part db) ps) ≡ flat_map (pair_text db) ps
+  pairs_text ps = text_of_mapped (pair_text db) (pair_part db) pair_part_text ps
 
   abbrev hypotheses_of : ℕ → List Part
   hypotheses_of k = map (hypothesis_part db) (mandatory_hypotheses db k)
@@ -244,123 +233,96 @@ module _ (db : List Statement) where
       map (pair_part db) (mandatory_pairs db k) ++ dummies_part db (dummies db k)
       ++ map (pair_part db) (dummy_pairs db k)
 
-  conditions_are : (k : ℕ)
-      → parts_text (hypotheses_of k ++ conditions_of k) ≡ conditions_text db k
-  conditions_are k =
-      let hypotheses = hypotheses_of k in
-      let pairs = map (pair_part db) (mandatory_pairs db k) in
-      let with_dummies = dummies_part db (dummies db k) in
-      let dummy = map (pair_part db) (dummy_pairs db k) in
-      let hypotheses_text = flat_map (hypothesis_text db) (mandatory_hypotheses db k) in
-      let pairs_text = flat_map (pair_text db) (mandatory_pairs db k) in
-      let variables_text = dummies_text db (dummies db k) in
-      let dummy_text = flat_map (pair_text db) (dummy_pairs db k) in
-      let hypotheses_are : parts_text hypotheses ≡ hypotheses_text =
-      text_of_mapped (hypothesis_text db) (hypothesis_part db) hypothesis_part_text
-      (mandatory_hypotheses db k) in
-      let pairs_are : parts_text pairs ≡ pairs_text =
-      text_of_mapped (pair_text db) (pair_part db) pair_part_text (mandatory_pairs db k) in
-      let dummy_are : parts_text dummy ≡ dummy_text =
-      text_of_mapped (pair_text db) (pair_part db) pair_part_text (dummy_pairs db k) in
-      let pairs_and_dummies : parts_text (pairs ++ with_dummies) ≡ pairs_text ++ variables_text =
-      parts_text-append pairs with_dummies
-      ∙ ap₂ (λ (a b : List ℕ). a ++ b) pairs_are (dummies_part_text (dummies db k)) in
-      let all_conditions : parts_text (conditions_of k)
-      ≡ pairs_text ++ variables_text ++ dummy_text =
-      parts_text-append (pairs ++ with_dummies) dummy
-      ∙ ap₂ (λ (a b : List ℕ). a ++ b) pairs_and_dummies dummy_are in
-      parts_text-append hypotheses (conditions_of k)
-      ∙ ap₂ (λ (a b : List ℕ). a ++ b) hypotheses_are all_conditions
-      ∙ sym (append_assoc hypotheses_text (pairs_text ++ variables_text) dummy_text)
-      ∙ ap (λ (x : List ℕ). x ++ dummy_text)
-      (sym (append_assoc hypotheses_text pairs_text variables_text))
-
   -- the parts of the line of an assertion, and the line
   abbrev parts_of : (is_open : Bool) → ℕ → List Part
-  parts_of is_open k = (hypotheses_of k ++ conditions_of k) ++ formula_part db is_open k ∷ []
+  parts_of is_open k = hypotheses_of k ++ (conditions_of k ++ formula_part db is_open k ∷ [])
+
+  abbrev front_of : (is_open : Bool) → ℕ → Bytes
+  front_of is_open k =
+      label_at db k ++ (58 ∷ kind_letter is_open (is_axiom_at db k) ∷ 58
+      ∷ (decimal (start_place db k) ++ (58 ∷ (decimal (end_place db k) ++ 58 ∷ []))))
 
   abbrev line_of : (is_open : Bool) → ℕ → Line
   line_of is_open k =
       record {
-        front = front_text db is_open k;
+        front = front_of is_open k;
         words = flat_map part_words (parts_of is_open k);
       }
+
+  formula_text : (is_open : Bool) (k : ℕ)
+      → parts_text (formula_part db is_open k ∷ [])
+      ≡ 32 ∷ kind_keyword is_open (is_axiom_at db k) ++ symbols_text db (formula_at db k)
+  formula_text is_open k =
+      ap spaced (append-nil (part_words (formula_part db is_open k)))
+      ∙ ap (λ (x : List ℕ). (32 ∷ kind_keyword is_open (is_axiom_at db k)) ++ x)
+      (names_text (formula_at db k))
 
   line_of_assertion : (is_open : Bool) (k : ℕ)
       → line_text (line_of is_open k) ≡ assertion_line db is_open k
   line_of_assertion is_open k =
-      let front = front_text db is_open k in
-      let conditions = conditions_text db k in
-      let formula =
-      32 ∷ kind_keyword is_open (is_axiom_at db k) ++ symbols_text db (formula_at db k) in
-      let formula_is : parts_text (formula_part db is_open k ∷ []) ≡ formula =
-      ap spaced (append-nil (part_words (formula_part db is_open k)))
-      ∙ ap (λ (x : List ℕ). (32 ∷ kind_keyword is_open (is_axiom_at db k)) ++ x)
-      (names_text (formula_at db k)) in
-      let words_are : parts_text (parts_of is_open k) ≡ conditions ++ formula =
-      parts_text-append (hypotheses_of k ++ conditions_of k) (formula_part db is_open k ∷ [])
-      ∙ ap₂ (λ (a b : List ℕ). a ++ b) (conditions_are k) formula_is in
-      ap (λ (x : List ℕ). front ++ x ++ 10 ∷ []) words_are
-      ∙ ap (λ (x : List ℕ). x ++ 10 ∷ []) (sym (append_assoc front conditions formula))
-      ∙ append_assoc (front ++ conditions) formula (10 ∷ [])
+      let words_are : parts_text (parts_of is_open k)
+      ≡ conditions_text db k ++ (32 ∷ kind_keyword is_open (is_axiom_at db k)
+      ++ symbols_text db (formula_at db k)) =
+      simp (
+        parts_text-append,
+        hypotheses_text,
+        pairs_text,
+        dummies_part_text,
+        formula_text,
+        append_assoc,
+      ) in
+      rw words_are (simp append_assoc)
 
 -- ---- what is spelled has lines and parts
 
 -- no digit of a number passes a test that no digit passes
-no_digit_passes : (p : ℕ → Bool) → ((n : ℕ) → n < 10 → p (48 + n) ≡ false) → (n : ℕ) → n < 2 ^ 64
-    → NonePasses p (decimal n)
+no_digit_passes : (p : ℕ → Bool) → agree_below (λ k. p (48 + k)) (λ k. false) 10 ≡ true → (n : ℕ)
+    → n < 2 ^ 64 → NonePasses p (decimal n)
 no_digit_passes p digits_fail =
     decimal_by_steps (λ n ds. NonePasses p ds)
-    (λ n n_lt_10. ap (λ (b : Bool). b || false) (digits_fail n n_lt_10))
-    (λ n ds ten_le_n earlier.
-    none_of_both p ds ((48 + n % 10) ∷ []) earlier
-    (ap (λ (b : Bool). b || false) (digits_fail (n % 10) (omega arith))))
-
-digits_are_no_gap : (n : ℕ) → n < 10 → is_gap (48 + n) ≡ false
-digits_are_no_gap n n_lt_10 = agree_below_at (λ k. is_gap (48 + k)) (λ k. false) 10 n refl n_lt_10
-
-digits_are_no_colon : (n : ℕ) → n < 10 → is_colon (48 + n) ≡ false
-digits_are_no_colon n n_lt_10 =
-    agree_below_at (λ k. is_colon (48 + k)) (λ k. false) 10 n refl n_lt_10
+    (λ n n_lt_10. rw (digit_fails n n_lt_10) refl)
+    (λ n ds ten_le_n earlier. none_of_both p ds ((48 + n % 10) ∷ []) earlier
+    (rw (digit_fails (n % 10) (omega arith)) refl))
+  where
+    digit_fails : (n : ℕ) → n < 10 → p (48 + n) ≡ false
+    digit_fails n n_lt_10 =
+        agree_below_at (λ k. p (48 + k)) (λ k. false) 10 n digits_fail n_lt_10
 
 letter_is_no_gap : (is_open is_axiom : Bool) → is_gap (kind_letter is_open is_axiom) ≡ false
 letter_is_no_gap true is_axiom = refl
 letter_is_no_gap false true = refl
 letter_is_no_gap false false = refl
 
-front_regrouped : (l s e : List ℕ) (c : ℕ)
-    → (l ++ 58 ∷ [] ++ c ∷ [] ++ 58 ∷ [] ++ s ++ 58 ∷ [] ++ e ++ 58 ∷ [])
-    ≡ l ++ (58 ∷ c ∷ 58 ∷ (s ++ (58 ∷ (e ++ 58 ∷ []))))
-front_regrouped [] s e c =
-    ap (λ (x : List ℕ). 58 ∷ c ∷ 58 ∷ x)
-    (append_assoc (s ++ 58 ∷ []) e (58 ∷ []) ∙ append_assoc s (58 ∷ []) (e ++ 58 ∷ []))
-front_regrouped (b ∷ l) s e c = ap (λ (x : List ℕ). b ∷ x) (front_regrouped l s e c)
+-- which parts are hypotheses, and which the formula
+abbrev is_no_hypothesis : Part → Bool
+is_no_hypothesis p = not (bytes_eq p.keyword (codes "$f") || bytes_eq p.keyword (codes "$e"))
+
+abbrev is_formula : Part → Bool
+is_formula p = bytes_eq p.keyword (codes "$a") || bytes_eq p.keyword (codes "$p")
+
+hypothesis_keyword_is : (db : List Statement) (j : ℕ)
+    → (has_dollar (hypothesis_keyword db j) ≡ true) × (has_gap (hypothesis_keyword db j) ≡ false)
+    × (is_no_hypothesis (hypothesis_part db j) ≡ false)
+hypothesis_keyword_is db j = elim (cases_Bool (list_any is_floating (statement_at db j))) [
+  | inl floats ↦ (rw floats refl, rw floats refl, rw floats refl)
+  | inr floats_not ↦ (rw floats_not refl, rw floats_not refl, rw floats_not refl)
+]
 
 module _ (db : List Statement) (spelled : AreSpelled db) where
-  front_has_no_gap : (is_open : Bool) (k : ℕ) → NonePasses is_gap (front_text db is_open k)
+  front_has_no_gap : (is_open : Bool) (k : ℕ) → NonePasses is_gap (front_of db is_open k)
   front_has_no_gap is_open k =
-      let label = label_at db k in
-      let letter = kind_letter is_open (is_axiom_at db k) in
-      let start = decimal (start_place db k) in
-      let end = decimal (end_place db k) in
-      let no_gap_in_end =
-      none_of_both is_gap end (58 ∷ [])
-      (no_digit_passes is_gap digits_are_no_gap (end_place db k) (spelled.places k).1) refl in
-      let no_gap_in_places =
-      none_of_both is_gap start (58 ∷ (end ++ 58 ∷ []))
-      (no_digit_passes is_gap digits_are_no_gap (start_place db k) (spelled.places k).0)
-      no_gap_in_end in
-      subst (NonePasses is_gap) (sym (front_regrouped label start end letter))
-      (none_of_both is_gap label (58 ∷ letter ∷ 58 ∷ (start ++ (58 ∷ (end ++ 58 ∷ []))))
-      (spelled.labels k).no_gap
-      (ap₂ (λ (x y : Bool). x || y) (letter_is_no_gap is_open (is_axiom_at db k))
-      no_gap_in_places))
+      simp (
+        list_any-append,
+        (spelled.labels k).no_gap,
+        letter_is_no_gap is_open (is_axiom_at db k),
+        no_digit_passes is_gap refl (start_place db k) (spelled.places k).0,
+        no_digit_passes is_gap refl (end_place db k) (spelled.places k).1,
+      )
 
   no_name_has : (p : Bytes → Bool) → ((x : ℕ) → p (name_at db x) ≡ false) → (xs : List ℕ)
       → NonePasses p (map (name_at db) xs)
   no_name_has p fails [] = refl
-  no_name_has p fails (x ∷ xs) =
-      ap₂ (λ (a b : Bool). a || b) (fails x) (no_name_has p fails xs)
+  no_name_has p fails (x ∷ xs) = rw (fails x) (no_name_has p fails xs)
 
   names_are_plain : (keyword : Bytes) (xs : List ℕ) → has_dollar keyword ≡ true
       → has_gap keyword ≡ false
@@ -373,26 +335,14 @@ module _ (db : List Statement) (spelled : AreSpelled db) where
   }
 
   hypothesis_is_part : (j : ℕ) → IsPart (hypothesis_part db j)
-  hypothesis_is_part j = by_kind (list_any is_floating (statement_at db j)) refl
-    where
-      by_kind : (b : Bool) → list_any is_floating (statement_at db j) ≡ b
-          → IsPart (hypothesis_part db j)
-      by_kind true floats = record {
-        keyword_has_dollar = rw floats refl;
-        words_have_no_dollar = ap₂ (λ (a b : Bool). a || b) (spelled.labels j).no_dollar
-            (no_name_has has_dollar (λ x. (spelled.names x).no_dollar) (formula_at db j));
-        keyword_has_no_gap = rw floats refl;
-        words_have_no_gap = ap₂ (λ (a b : Bool). a || b) (spelled.labels j).no_gap
-            (no_name_has has_gap (λ x. (spelled.names x).no_gap) (formula_at db j));
-      }
-      by_kind false floats_not = record {
-        keyword_has_dollar = rw floats_not refl;
-        words_have_no_dollar = ap₂ (λ (a b : Bool). a || b) (spelled.labels j).no_dollar
-            (no_name_has has_dollar (λ x. (spelled.names x).no_dollar) (formula_at db j));
-        keyword_has_no_gap = rw floats_not refl;
-        words_have_no_gap = ap₂ (λ (a b : Bool). a || b) (spelled.labels j).no_gap
-            (no_name_has has_gap (λ x. (spelled.names x).no_gap) (formula_at db j));
-      }
+  hypothesis_is_part j = record {
+    keyword_has_dollar = (hypothesis_keyword_is db j).0;
+    words_have_no_dollar = rw (spelled.labels j).no_dollar
+        (no_name_has has_dollar (λ x. (spelled.names x).no_dollar) (formula_at db j));
+    keyword_has_no_gap = (hypothesis_keyword_is db j).1;
+    words_have_no_gap = rw (spelled.labels j).no_gap
+        (no_name_has has_gap (λ x. (spelled.names x).no_gap) (formula_at db j));
+  }
 
   pair_is_part : (p : Pair) → IsPart (pair_part db p)
   pair_is_part p = names_are_plain (codes "$d") (p.low ∷ p.high ∷ []) refl refl
@@ -413,19 +363,15 @@ module _ (db : List Statement) (spelled : AreSpelled db) where
 
   are_parts : (is_open : Bool) (k : ℕ) → AllByRecursion IsPart (parts_of db is_open k)
   are_parts is_open k =
-      let pairs = map (pair_part db) (mandatory_pairs db k) in
-      let with_dummies = dummies_part db (dummies db k) in
-      let dummy = map (pair_part db) (dummy_pairs db k) in
-      all_of_both IsPart (hypotheses_of db k ++ conditions_of db k)
-      (formula_part db is_open k ∷ [])
-      (all_of_both IsPart (hypotheses_of db k) (conditions_of db k)
+      all_of_both IsPart _ _
       (all_mapped IsPart (hypothesis_part db) hypothesis_is_part (mandatory_hypotheses db k))
-      (all_of_both IsPart (pairs ++ with_dummies) dummy
-      (all_of_both IsPart pairs with_dummies
+      (all_of_both IsPart _ _
+      (all_of_both IsPart _ _
+      (all_of_both IsPart _ _
       (all_mapped IsPart (pair_part db) pair_is_part (mandatory_pairs db k))
       (dummies_are_parts (dummies db k)))
-      (all_mapped IsPart (pair_part db) pair_is_part (dummy_pairs db k))))
-      (formula_is_part is_open k, tt)
+      (all_mapped IsPart (pair_part db) pair_is_part (dummy_pairs db k)))
+      (formula_is_part is_open k, tt))
 
   is_line : (is_open : Bool) (k : ℕ) → IsLine (line_of db is_open k)
   is_line is_open k = record {
@@ -435,12 +381,6 @@ module _ (db : List Statement) (spelled : AreSpelled db) where
 
 -- ---- which parts are hypotheses, conditions, and the formula
 
-abbrev is_no_hypothesis : Part → Bool
-is_no_hypothesis p = not (bytes_eq p.keyword (codes "$f") || bytes_eq p.keyword (codes "$e"))
-
-abbrev is_formula : Part → Bool
-is_formula p = bytes_eq p.keyword (codes "$a") || bytes_eq p.keyword (codes "$p")
-
 record IsCondition (p : Part) : Type 0 where
   no_hypothesis : is_no_hypothesis p ≡ true
   no_formula : is_formula p ≡ false
@@ -448,7 +388,7 @@ record IsCondition (p : Part) : Type 0 where
 none_formula : (ps : List Part) → AllByRecursion IsCondition ps → NonePasses is_formula ps
 none_formula [] are_conditions = refl
 none_formula (p ∷ ps) are_conditions =
-    ap₂ (λ (a b : Bool). a || b) are_conditions.0.no_formula (none_formula ps are_conditions.1)
+    rw are_conditions.0.no_formula (none_formula ps are_conditions.1)
 
 conditions_begin : (ps : List Part) (f : Part) → AllByRecursion IsCondition ps
     → is_no_hypothesis f ≡ true → BeginsPassing is_no_hypothesis (ps ++ f ∷ [])
@@ -456,18 +396,9 @@ conditions_begin [] f are_conditions f_passes = f_passes
 conditions_begin (p ∷ ps) f are_conditions f_passes = are_conditions.0.no_hypothesis
 
 module _ (db : List Statement) where
-  hypothesis_fails : (j : ℕ) → is_no_hypothesis (hypothesis_part db j) ≡ false
-  hypothesis_fails j = by_kind (list_any is_floating (statement_at db j)) refl
-    where
-      by_kind : (b : Bool) → list_any is_floating (statement_at db j) ≡ b
-          → is_no_hypothesis (hypothesis_part db j) ≡ false
-      by_kind true floats = rw floats refl
-      by_kind false floats_not = rw floats_not refl
-
   none_without : (js : List ℕ) → NonePasses is_no_hypothesis (map (hypothesis_part db) js)
   none_without [] = refl
-  none_without (j ∷ js) =
-      ap₂ (λ (a b : Bool). a || b) (hypothesis_fails j) (none_without js)
+  none_without (j ∷ js) = rw (hypothesis_keyword_is db j).2 (none_without js)
 
   pair_is_condition : (p : Pair) → IsCondition (pair_part db p)
   pair_is_condition p = record { no_hypothesis = refl; no_formula = refl }
@@ -502,30 +433,6 @@ module _ (db : List Statement) where
 
 -- ---- equal lines
 
-abbrev with_fields : Bytes → ℕ → ℕ → ℕ → List Part → List Part → Part → InWords
-with_fields label kind start end hypotheses conditions formula =
-    record {
-      label = label;
-      kind = kind;
-      start = start;
-      end = end;
-      hypotheses = hypotheses;
-      conditions = conditions;
-      formula = formula;
-    }
-
-all_equal : (a b : InWords) → a.label ≡ b.label → a.kind ≡ b.kind → a.start ≡ b.start
-    → a.end ≡ b.end → a.hypotheses ≡ b.hypotheses → a.conditions ≡ b.conditions
-    → a.formula ≡ b.formula → a ≡ b
-all_equal a b labels kinds starts ends hypotheses conditions formulas =
-    ap₂ (λ (l : Bytes) (k : ℕ). with_fields l k a.start a.end a.hypotheses a.conditions a.formula)
-    labels kinds
-    ∙ ap₂ (λ (s e : ℕ). with_fields b.label b.kind s e a.hypotheses a.conditions a.formula) starts
-    ends
-    ∙ ap₂ (λ (h c : List Part). with_fields b.label b.kind b.start b.end h c a.formula) hypotheses
-    conditions
-    ∙ ap (with_fields b.label b.kind b.start b.end b.hypotheses b.conditions) formulas
-
 module _ (db other : List Statement) (spelled : AreSpelled db) (other_spelled : AreSpelled other)
     (o p : Bool) (k j : ℕ) where
   -- the parts tell hypotheses, conditions and formula
@@ -544,9 +451,7 @@ module _ (db other : List Statement) (spelled : AreSpelled db) (other_spelled : 
       (conditions_begin (conditions_of db k) (formula_part db o k) (are_conditions db k)
       (formula_passes db o k).1)
       (conditions_begin (conditions_of other j) (formula_part other p j) (are_conditions other j)
-      (formula_passes other p j).1)
-      (sym (append_assoc (hypotheses_of db k) (conditions_of db k) formulas) ∙ equal
-      ∙ append_assoc (hypotheses_of other j) (conditions_of other j) other_formulas) in
+      (formula_passes other p j).1) equal in
       let second =
       split is_formula (conditions_of db k) (conditions_of other j) formulas other_formulas
       (none_formula (conditions_of db k) (are_conditions db k))
@@ -556,7 +461,7 @@ module _ (db other : List Statement) (spelled : AreSpelled db) (other_spelled : 
       (first.0, (second.0, cc))
 
   -- the front tells label, kind and place
-  front_tells : front_text db o k ≡ front_text other p j
+  front_tells : front_of db o k ≡ front_of other p j
       → ((label_at db k ≡ label_at other j)
       × (kind_letter o (is_axiom_at db k) ≡ kind_letter p (is_axiom_at other j)))
       × ((start_place db k ≡ start_place other j) × (end_place db k ≡ end_place other j))
@@ -571,25 +476,23 @@ module _ (db other : List Statement) (spelled : AreSpelled db) (other_spelled : 
       split is_colon (label_at db k) (label_at other j)
       (58 ∷ letter ∷ 58 ∷ (start ++ (58 ∷ (end ++ 58 ∷ []))))
       (58 ∷ other_letter ∷ 58 ∷ (other_start ++ (58 ∷ (other_end ++ 58 ∷ []))))
-      (spelled.labels_without_colon k) (other_spelled.labels_without_colon j) refl refl
-      (sym (front_regrouped (label_at db k) start end letter) ∙ equal
-      ∙ front_regrouped (label_at other j) other_start other_end other_letter) in
+      (spelled.labels_without_colon k) (other_spelled.labels_without_colon j) refl refl equal in
       let after_label = labels.1 in
       let letters : letter ≡ other_letter = cc in
       let after_letter : start ++ (58 ∷ (end ++ 58 ∷ []))
       ≡ other_start ++ (58 ∷ (other_end ++ 58 ∷ [])) = cc in
       let starts =
       split is_colon start other_start (58 ∷ (end ++ 58 ∷ [])) (58 ∷ (other_end ++ 58 ∷ []))
-      (no_digit_passes is_colon digits_are_no_colon (start_place db k) (spelled.places k).0)
-      (no_digit_passes is_colon digits_are_no_colon (start_place other j)
+      (no_digit_passes is_colon refl (start_place db k) (spelled.places k).0)
+      (no_digit_passes is_colon refl (start_place other j)
       (other_spelled.places j).0)
       refl refl after_letter in
       let after_start = starts.1 in
       let after_colon : end ++ 58 ∷ [] ≡ other_end ++ 58 ∷ [] = cc in
       let ends =
       split is_colon end other_end (58 ∷ []) (58 ∷ [])
-      (no_digit_passes is_colon digits_are_no_colon (end_place db k) (spelled.places k).1)
-      (no_digit_passes is_colon digits_are_no_colon (end_place other j)
+      (no_digit_passes is_colon refl (end_place db k) (spelled.places k).1)
+      (no_digit_passes is_colon refl (end_place other j)
       (other_spelled.places j).1)
       refl refl after_colon in (
         (labels.0, letters),
@@ -607,15 +510,14 @@ module _ (db other : List Statement) (spelled : AreSpelled db) (other_spelled : 
       parts_tell (parts_equal (parts_of db o k) (parts_of other p j) (are_parts db spelled o k)
       (are_parts other other_spelled p j) (ap (λ (l : Line). l.words) equal)) in
       let front = front_tells (ap (λ (l : Line). l.front) equal) in
-      all_equal (in_words db o k) (in_words other p j) front.0.0 front.0.1 front.1.0 front.1.1
-      parts.0 parts.1.0 parts.1.1
+      cc (front.0.0, front.0.1, front.1.0, front.1.1, parts.0, parts.1.0, parts.1.1)
 
 lines_are : (db : List Statement) (is_open : ℕ → Bool) (ks : List ℕ)
     → flat_map line_text (map (λ k. line_of db (is_open k) k) ks)
     ≡ flat_map (λ k. assertion_line db (is_open k) k) ks
 lines_are db is_open [] = refl
 lines_are db is_open (k ∷ ks) =
-    ap₂ (λ (a b : List ℕ). a ++ b) (line_of_assertion db (is_open k) k) (lines_are db is_open ks)
+    rw (line_of_assertion db (is_open k) k, lines_are db is_open ks) refl
 
 assertions_equal : (db other : List Statement) (o p : ℕ → Bool) → AreSpelled db
     → AreSpelled other → (ks js : List ℕ)
