@@ -1,8 +1,11 @@
 -- Steps without a reading fault have a derivation of the formula, a step fault or an end fault, and
 -- no two of these.
-use Rattle.std.proofs.Common.{◌≡◌, ℕ, Bool, true, false, List, [], ◌∷◌, ◌++◌, map, Result, Ok, Err}
-use Rattle.std.proofs.Common.{refl, sym, ap, ap₂, ◌∙◌, subst, true≢false, bytes_eq}
+use Rattle.std.proofs.Common.{◌≡◌, ℕ, List, [], ◌∷◌, ◌++◌, map, Result, Ok, Err}
+use Rattle.std.proofs.Common.{refl, sym, ap, ap₂, ◌∙◌, subst, bytes_eq, inl, inr}
 use Rattle.std.proofs.lemmas.Slice.Eq.{bytes_eq-Decides}
+use Rattle.std.proofs.lemmas.List.{map-append}
+use Rattle.std.proofs.lemmas.Bool.{cases_Bool}
+use Rattle.std.proofs.lemmas.Bool.Decides.{not_from_Decides}
 use Rattle.mm_spec.specs.Text.{fault}
 use Rattle.mm_spec.specs.declared.Fault.{Fault}
 use Rattle.mm_spec.specs.Derivation.{Formula, Context, Trees, none, more, tree, formulas, postfix}
@@ -29,36 +32,40 @@ record PlacedSplit (ps : List PlacedStep) (steps_before : List Step) (step : Ste
   steps_are : ps ≡ front ++ record { at = place; step = step } ∷ back
   front_is : steps_of front ≡ steps_before
 
-tail_of_steps : List Step → List Step
-tail_of_steps [] = []
-tail_of_steps (s ∷ ss) = ss
-
-head_of_steps : Step → List Step → Step
-head_of_steps d [] = d
-head_of_steps d (s ∷ ss) = s
-
 placed_split : (steps_before steps_after : List Step) (step : Step) (ps : List PlacedStep)
     → steps_of ps ≡ steps_before ++ step ∷ steps_after → PlacedSplit ps steps_before step
-unfolding tail_of_steps head_of_steps
 placed_split [] steps_after step [] steps_are = cc
 placed_split [] steps_after step (p ∷ ps) steps_are =
+    let steps_equal : p.step ≡ step = cc in
     record {
       front = [];
       place = p.at;
       back = ps;
-      steps_are = ap (λ s. record { at = p.at; step = s } ∷ ps) (ap (head_of_steps step) steps_are);
+      steps_are = ap (λ s. record { at = p.at; step = s } ∷ ps) steps_equal;
       front_is = refl;
     }
 placed_split (s ∷ steps_before) steps_after step [] steps_are = cc
 placed_split (s ∷ steps_before) steps_after step (p ∷ ps) steps_are =
-    let split = placed_split steps_before steps_after step ps (ap tail_of_steps steps_are) in
-    record {
+    with_first (cc) (placed_split steps_before steps_after step ps (cc))
+  where
+    with_first : p.step ≡ s → PlacedSplit ps steps_before step
+        → PlacedSplit (p ∷ ps) (s ∷ steps_before) step
+    with_first heads_equal split = record {
       front = p ∷ split.front;
       place = split.place;
       back = split.back;
       steps_are = ap (λ x. p ∷ x) split.steps_are;
-      front_is = ap₂ (λ x y. x ∷ y) (ap (head_of_steps s) steps_are) split.front_is;
+      front_is = ap₂ (λ x y. x ∷ y) heads_equal split.front_is;
     }
+
+-- the same steps expand to one forest
+pub forests_are_equal : (c : Context) → ((l : ℕ) → HasCompleteFrame c (c.referent l))
+    → (steps : List Step) (t u : Trees) → AreDerivations c t → AreDerivations c u
+    → ExpandTo c steps (postfix t) → ExpandTo c steps (postfix u) → t ≡ u
+forests_are_equal c all_complete steps t u derives_t derives_u expansion_t expansion_u =
+    same_labels_same_forest c all_complete t u derives_t derives_u
+    (expansions_are_equal c all_complete steps [] [] (postfix t) (postfix u) expansion_t
+    expansion_u)
 
 module _ (c : Context) (all_complete : (l : ℕ) → HasCompleteFrame c (c.referent l))
     (ps : List PlacedStep)
@@ -99,31 +106,23 @@ module _ (c : Context) (all_complete : (l : ℕ) → HasCompleteFrame c (c.refer
       not_one_entry [] h g = refl
       not_one_entry (x ∷ []) h g = refl
       not_one_entry (x ∷ y ∷ xs) h g = refl
-  verdict_at_end (more none l g cs) derives expansion = verdict_by_formula (bytes_eq g formula) refl
-    where
-      verdict_by_formula : (b : Bool) → bytes_eq g formula ≡ b → Verdict
-      verdict_by_formula true formulas_equal =
-          valid (more none l g cs) (
-            l,
-            cs,
-            ap (λ z. tree l z cs) ((bytes_eq-Decides g formula).0 formulas_equal),
-            derives,
-            expansion,
-          )
-      verdict_by_formula false formulas_differ =
-          end_fault (fault end OtherFormula)
-          (record {
-            forest = more none l g cs;
-            derivations = derives;
-            expansion = expansion;
-            code = OtherFormula;
-            fails = (
-              (λ equal. true≢false (sym ((bytes_eq-Decides g formula).1 equal)
-                  ∙ formulas_differ)),
-              refl,
-            );
-            fault_is = refl;
-          })
+  verdict_at_end (more none l g cs) derives expansion = elim (cases_Bool (bytes_eq g formula)) [
+    | inl formulas_equal ↦ valid (more none l g cs) (
+      l,
+      cs,
+      ap (λ z. tree l z cs) ((bytes_eq-Decides g formula).0 formulas_equal),
+      derives,
+      expansion,
+    )
+    | inr formulas_differ ↦ end_fault (fault end OtherFormula) (record {
+      forest = more none l g cs;
+      derivations = derives;
+      expansion = expansion;
+      code = OtherFormula;
+      fails = (not_from_Decides _ (bytes_eq-Decides g formula) formulas_differ, refl);
+      fault_is = refl;
+    })
+  ]
 
   -- steps that are good have one of the three
   pub verdict : AreGoodSteps c 0 (steps_of ps) → Verdict
@@ -162,8 +161,9 @@ module _ (c : Context) (all_complete : (l : ℕ) → HasCompleteFrame c (c.refer
     before = steps_of step_fault_of_ps.before;
     failing = step_fault_of_ps.failing.step;
     after = steps_of step_fault_of_ps.after;
-    splits = ap steps_of step_fault_of_ps.splits ∙ map_append step_fault_of_ps.before
-        step_fault_of_ps.failing step_fault_of_ps.after;
+    splits = ap steps_of step_fault_of_ps.splits
+        ∙ map-append (λ p. p.step) step_fault_of_ps.before
+        (step_fault_of_ps.failing ∷ step_fault_of_ps.after);
     labels = postfix step_fault_of_ps.forest;
     expansion = step_fault_of_ps.expansion;
     forest = step_fault_of_ps.forest;
@@ -171,11 +171,6 @@ module _ (c : Context) (all_complete : (l : ℕ) → HasCompleteFrame c (c.refer
     labels_are = refl;
     fails = step_fault_of_ps.fails;
   }
-    where
-      map_append : (xs : List PlacedStep) (x : PlacedStep) (ys : List PlacedStep)
-          → steps_of (xs ++ x ∷ ys) ≡ steps_of xs ++ x.step ∷ steps_of ys
-      map_append [] x ys = refl
-      map_append (y ∷ xs) x ys = ap (λ z. y.step ∷ z) (map_append xs x ys)
 
   -- steps from which a derivation of the formula follows have no step fault
   pub no_step_fault : (d : Trees) → Derives c (steps_of ps) formula d → (f : Fault)
@@ -194,12 +189,7 @@ module _ (c : Context) (all_complete : (l : ℕ) → HasCompleteFrame c (c.refer
   pub no_end_fault : (d : Trees) → Derives c (steps_of ps) formula d → (f : Fault)
       → ¬ ProofEndFault c ps formula end f
   no_end_fault d derives f end_fault_of_ps =
-      let forests_equal : end_fault_of_ps.forest ≡ d =
-      same_labels_same_forest c all_complete end_fault_of_ps.forest d end_fault_of_ps.derivations
-      derives.3
-      (expansions_are_equal c all_complete (steps_of ps) [] [] (postfix end_fault_of_ps.forest)
-      (postfix d) end_fault_of_ps.expansion derives.4) in
-      let formula_is_only_entry : formulas end_fault_of_ps.forest
-      ≡ formula ∷ [] = ap formulas forests_equal ∙ ap formulas derives.2 in
-      (subst (λ x. IsEndCode x formula end_fault_of_ps.code) formula_is_only_entry
-      end_fault_of_ps.fails).0 refl
+      let forests_equal = forests_are_equal c all_complete (steps_of ps) end_fault_of_ps.forest d
+      end_fault_of_ps.derivations derives.3 end_fault_of_ps.expansion derives.4 in
+      (subst (λ x. IsEndCode x formula end_fault_of_ps.code) (ap formulas (forests_equal
+      ∙ derives.2)) end_fault_of_ps.fails).0 refl

@@ -1,9 +1,13 @@
 -- There is one output.
-use Rattle.std.proofs.Common.{◌≡◌, ◌≢◌, ℕ, zero, suc, ◌<◌, Bool, true, false, List, [], ◌∷◌, ◌++◌}
-use Rattle.std.proofs.Common.{map, length, Option, Some, None, Err, refl, sym, ap, ap₂, ◌∙◌, subst}
-use Rattle.std.proofs.Common.{append_assoc, arith, ◌⊎◌, inl, inr}
-use Rattle.std.specs.Prelude.{flat_map, Decides, slice_get, count_by, IsTrue}
+use Rattle.std.proofs.Common.{◌≡◌, ◌≢◌, ℕ, ◌<◌, Bool, true, false, List, [], ◌∷◌, ◌++◌}
+use Rattle.std.proofs.Common.{map, length, Option, Some, None, refl, sym, ap, ap₂, ◌∙◌, subst}
+use Rattle.std.proofs.Common.{append_assoc, length-append, take, drop, arith, ◌⊎◌, inl, inr}
+use Rattle.std.specs.Prelude.{flat_map, slice_get, count_by, IsTrue}
 use Rattle.std.specs.List.{AllZip}
+use Rattle.std.proofs.Math.Seq.{take-append_seam, drop-append_seam}
+use Rattle.std.proofs.lemmas.Option.{same_Some, none-some}
+use Rattle.mm_spec.specs.Citation.{is_theorem}
+use Rattle.mm_spec.proofs.FindsLaw.{passing_statement, got_lt_length}
 use Rattle.std.proofs.lemmas.Bool.{cases_order}
 use Rattle.std.proofs.lemmas.Bool.Decides.{same_from_decides}
 use Rattle.std.proofs.lemmas.List.{append_cancel_left}
@@ -19,7 +23,7 @@ use Rattle.mm_spec.specs.Derivation.{postfix, AreDerivations, is_member}
 use Rattle.mm_spec.specs.Steps.{Step, label, marked, PlacedStep}
 use Rattle.mm_spec.specs.Valid as proof
 use Rattle.mm_spec.specs.Valid.{Reason, code_of, Fails, StepFails, StepFault, ExpandTo, IsEndCode}
-use Rattle.mm_spec.specs.Citation.{context_at, steps_at, reading_faults_at, IsValid, RestsOn}
+use Rattle.mm_spec.specs.Citation.{context_at, steps_at, IsValid}
 use Rattle.mm_spec.specs.Frame.{formula_at}
 use Rattle.mm_spec.specs.Report.{Row, CitingRow, report, refusal}
 use Rattle.mm_spec.proofs.RisingListsLaw.{equal_if_same_members}
@@ -38,8 +42,8 @@ use Rattle.mm_spec.specs.Laws.Complete.{HasCompleteFrame, AreComplete}
 use Rattle.mm_spec.specs.Opened.{counted}
 use Rattle.mm_spec.proofs.CompleteLaw.{reads_complete}
 use Rattle.mm_spec.proofs.OpenedLaw.{counted_complete}
-use Rattle.mm_spec.proofs.CheckedLaw.{same_labels_same_forest, expansions_are_equal}
 use Rattle.mm_laws.proofs.ExcludedLaw.{excludes}
+use Rattle.mm_laws.proofs.JudgedLaw.{forests_are_equal}
 use Rattle.mm_laws.proofs.JudgedLaw.{stopped_steps, no_step_fault, no_end_fault, no_both_faults}
 use Rattle.mm_spec.proofs.LongestLaw.{longest_is_what_is_read}
 use Rattle.mm_spec.specs.declared.Code.TheVariants.{OpenStatement, OpenBlock}
@@ -51,47 +55,35 @@ Splits {X} xs x ys y =
     ((xs ≡ ys) × (x ≡ y))
     ⊎ (((zs : List X) × (ys ≡ xs ++ x ∷ zs)) ⊎ ((zs : List X) × (xs ≡ ys ++ y ∷ zs)))
 
-head_or : {X : Type 0} → X → List X → X
-head_or d [] = d
-head_or d (x ∷ xs) = x
-
-tail_of : {X : Type 0} → List X → List X
-tail_of [] = []
-tail_of (x ∷ xs) = xs
-
 splits_of : {X : Type 0} (xs ys us vs : List X) (x y : X) → xs ++ x ∷ us ≡ ys ++ y ∷ vs
     → Splits xs x ys y
-unfolding head_or tail_of
-splits_of [] [] us vs x y lists_equal = inl (refl, ap (head_or x) lists_equal)
-splits_of [] (b ∷ ys) us vs x y lists_equal = inr (inl (
-  ys,
-  ap (λ z. z ∷ ys) (sym (ap (head_or x) lists_equal)),
-))
-splits_of (a ∷ xs) [] us vs x y lists_equal = inr (inr (
-  xs,
-  ap (λ z. z ∷ xs) (ap (head_or y) lists_equal),
-))
-splits_of (a ∷ xs) (b ∷ ys) us vs x y lists_equal = with_first (splits_of xs ys us vs x y (ap
-    tail_of lists_equal))
-  where
-    heads_equal : a ≡ b
-    heads_equal = ap (head_or a) lists_equal
+splits_of [] [] us vs x y equal = inl (refl, cc)
+splits_of [] (b ∷ ys) us vs x y equal = let heads : b ≡ x = cc in
+    inr (inl (ys, ap (λ z. z ∷ ys) heads))
+splits_of (a ∷ xs) [] us vs x y equal = let heads : a ≡ y = cc in
+    inr (inr (xs, ap (λ z. z ∷ xs) heads))
+splits_of (a ∷ xs) (b ∷ ys) us vs x y equal =
+    let heads : a ≡ b = cc in
+    let tails : xs ++ x ∷ us ≡ ys ++ y ∷ vs = cc in
+    elim (splits_of xs ys us vs x y tails) [
+      | inl (fronts, next) ↦ inl (ap₂ (λ p q. p ∷ q) heads fronts, next)
+      | inr (inl (zs, longer)) ↦ inr (inl (zs, ap₂ (λ p q. p ∷ q) (sym heads) longer))
+      | inr (inr (zs, longer)) ↦ inr (inr (zs, ap₂ (λ p q. p ∷ q) heads longer))
+    ]
 
-    with_first : Splits xs x ys y → Splits (a ∷ xs) x (b ∷ ys) y
-    with_first (inl fronts_equal) = inl (
-      ap₂ (λ p q. p ∷ q) heads_equal fronts_equal.0,
-      fronts_equal.1,
-    )
-    with_first (inr (inl is_longer)) = inr (inl (
-      is_longer.0,
-      ap₂ (λ p q. p ∷ q) (sym heads_equal)
-          is_longer.1,
-    ))
-    with_first (inr (inr is_longer)) = inr (inr (
-      is_longer.0,
-      ap₂ (λ p q. p ∷ q) heads_equal
-          is_longer.1,
-    ))
+-- ---- lists of which each element is determined
+
+pub zip_is_unique : {A B : Type 0} (R : A → B → Type 0)
+    → ((x : A) (y z : B) → R x y → R x z → y ≡ z) → (xs : List A) (ys zs : List B)
+    → AllZip R xs ys → AllZip R xs zs → ys ≡ zs
+zip_is_unique R unique [] [] [] all_y all_z = refl
+zip_is_unique R unique [] [] (z ∷ zs) all_y all_z = absurd all_z
+zip_is_unique R unique [] (y ∷ ys) zs all_y all_z = absurd all_y
+zip_is_unique R unique (x ∷ xs) [] zs all_y all_z = absurd all_y
+zip_is_unique R unique (x ∷ xs) (y ∷ ys) [] all_y all_z = absurd all_z
+zip_is_unique R unique (x ∷ xs) (y ∷ ys) (z ∷ zs) all_y all_z =
+    ap₂ (λ p q. p ∷ q) (unique x y z all_y.0 all_z.0)
+    (zip_is_unique R unique xs ys zs all_y.1 all_z.1)
 
 -- ---- faults of steps and of the end
 
@@ -110,9 +102,9 @@ module _ (c : Context) (all_complete : (l : ℕ) → HasCompleteFrame c (c.refer
   reason_is_unique : (s : Step) (es : List Formula) (a b : Reason) → StepFails c s es a
       → StepFails c s es b → a ≡ b
   reason_is_unique (label l) es a b fails_by_a fails_by_b =
+      let stops = step_stops_if_fails c (c.referent l) es in
       let is_complete = referent_is_complete (c.referent l) es a (all_complete l) fails_by_a in
-      let errors_equal : Err a ≡ Err b = sym (step_stops_if_fails c (c.referent l) es a is_complete
-      fails_by_a) ∙ step_stops_if_fails c (c.referent l) es b is_complete fails_by_b in
+      let errors_equal = sym (stops a is_complete fails_by_a) ∙ stops b is_complete fails_by_b in
       cc
   reason_is_unique (marked j) es a b fails_by_a fails_by_b = absurd fails_by_a
 
@@ -147,36 +139,26 @@ module _ (c : Context) (all_complete : (l : ℕ) → HasCompleteFrame c (c.refer
       → StepFault c ps g
       → f ≡ g
   step_fault_is_unique ps f g faults_f faults_g =
-      faults_equal_by_split (splits_of faults_f.before faults_g.before faults_f.after faults_g.after
-      faults_f.failing faults_g.failing
-      (sym faults_f.splits ∙ faults_g.splits))
-    where
-      faults_equal_by_split
-          : Splits faults_f.before faults_f.failing faults_g.before faults_g.failing → f ≡ g
-      faults_equal_by_split (inl splits_equal) =
-          let expansion = subst (λ x. ExpandTo c (map (λ p. p.step) x) (postfix faults_f.forest))
-          splits_equal.0 faults_f.expansion in
-          let forests_equal : faults_f.forest ≡ faults_g.forest =
-          same_labels_same_forest c all_complete faults_f.forest faults_g.forest
-          faults_f.derivations
-          faults_g.derivations
-          (expansions_are_equal c all_complete (map (λ p. p.step) faults_g.before) [] [] (postfix
-          faults_f.forest)
-          (postfix faults_g.forest) expansion faults_g.expansion) in
-          let fails_by_reason =
-          subst (λ x. StepFails c x.step (formulas faults_g.forest) faults_f.reason) splits_equal.1
-          (subst (λ r. StepFails c faults_f.failing.step (formulas r) faults_f.reason) forests_equal
-          faults_f.fails) in
-          faults_f.fault_is ∙ ap₂ (λ p r. fault p.at (code_of r)) splits_equal.1
-          (reason_is_unique faults_g.failing.step (formulas faults_g.forest) faults_f.reason
-          faults_g.reason fails_by_reason faults_g.fails)
-          ∙ sym faults_g.fault_is
-      faults_equal_by_split (inr (inl is_longer)) =
-          absurd (no_later_fault ps f faults_f faults_g.forest faults_g.before is_longer.0
-          faults_g.derivations faults_g.expansion is_longer.1)
-      faults_equal_by_split (inr (inr is_longer)) =
-          absurd (no_later_fault ps g faults_g faults_f.forest faults_f.before is_longer.0
-          faults_f.derivations faults_f.expansion is_longer.1)
+      elim (splits_of faults_f.before faults_g.before faults_f.after faults_g.after
+      faults_f.failing faults_g.failing (sym faults_f.splits ∙ faults_g.splits)) [
+        | inl (fronts, failing) ↦
+            let forests_equal = forests_are_equal c all_complete (map (λ p. p.step) faults_g.before)
+            faults_f.forest faults_g.forest faults_f.derivations faults_g.derivations
+            (subst (λ x. ExpandTo c (map (λ p. p.step) x) (postfix faults_f.forest)) fronts
+            faults_f.expansion) faults_g.expansion in
+            let fails_by_reason =
+            subst (λ x. StepFails c x.step (formulas faults_g.forest) faults_f.reason) failing
+            (subst (λ r. StepFails c faults_f.failing.step (formulas r) faults_f.reason)
+            forests_equal faults_f.fails) in
+            faults_f.fault_is ∙ ap₂ (λ p r. fault p.at (code_of r)) failing
+            (reason_is_unique faults_g.failing.step (formulas faults_g.forest) faults_f.reason
+            faults_g.reason fails_by_reason faults_g.fails)
+            ∙ sym faults_g.fault_is
+        | inr (inl (zs, longer)) ↦ absurd (no_later_fault ps f faults_f faults_g.forest
+            faults_g.before zs faults_g.derivations faults_g.expansion longer)
+        | inr (inr (zs, longer)) ↦ absurd (no_later_fault ps g faults_g faults_f.forest
+            faults_f.before zs faults_f.derivations faults_f.expansion longer)
+      ]
 
   code_is_unique : (xs : List Formula) (formula : Formula) (a b : Code) → IsEndCode xs formula a
       → IsEndCode xs formula b → a ≡ b
@@ -187,11 +169,9 @@ module _ (c : Context) (all_complete : (l : ℕ) → HasCompleteFrame c (c.refer
   pub end_fault_is_unique : (ps : List PlacedStep) (formula : Formula) (end : ℕ) (f g : Fault)
       → proof.ProofEndFault c ps formula end f → proof.ProofEndFault c ps formula end g → f ≡ g
   end_fault_is_unique ps formula end f g faults_f faults_g =
-      let forests_equal : faults_f.forest ≡ faults_g.forest =
-      same_labels_same_forest c all_complete faults_f.forest faults_g.forest faults_f.derivations
-      faults_g.derivations
-      (expansions_are_equal c all_complete (map (λ p. p.step) ps) [] [] (postfix faults_f.forest)
-      (postfix faults_g.forest) faults_f.expansion faults_g.expansion) in
+      let forests_equal = forests_are_equal c all_complete (map (λ p. p.step) ps) faults_f.forest
+      faults_g.forest faults_f.derivations faults_g.derivations faults_f.expansion
+      faults_g.expansion in
       faults_f.fault_is ∙ ap (fault end)
       (code_is_unique (formulas faults_g.forest) formula faults_f.code faults_g.code
       (subst (λ r. IsEndCode (formulas r) formula faults_f.code) forests_equal faults_f.fails)
@@ -199,51 +179,39 @@ module _ (c : Context) (all_complete : (l : ℕ) → HasCompleteFrame c (c.refer
       ∙ sym faults_g.fault_is
 
 nil_has_no_least : (fs : List Fault) (f : Fault) → fs ≡ [] → least fs ≡ Some f → ⊥
-nil_has_no_least fs f fs_is_nil least_is_f = let none_is_some : None
-    ≡ Some f = sym (ap least fs_is_nil) ∙ least_is_f in cc
+nil_has_no_least fs f fs_is_nil least_is_f = none-some f (sym (ap least fs_is_nil) ∙ least_is_f)
 
 module _ (db : List Statement) (all_complete : AreComplete db) where
   pub proof_fault_is_unique : (k end : ℕ) (f g : Fault) → ProofFault db k end f
       → ProofFault db k end g
       → f ≡ g
-  proof_fault_is_unique k end f g (inl faults_f) (inl faults_g) = let options_equal : Some f
-      ≡ Some g = sym faults_f ∙ faults_g in cc
-  proof_fault_is_unique k end f g (inl faults_f) (inr faults_g) = absurd (nil_has_no_least
-      (reading_faults_at db k) f faults_g.0 faults_f)
-  proof_fault_is_unique k end f g (inr faults_f) (inl faults_g) = absurd (nil_has_no_least
-      (reading_faults_at db k) g faults_f.0 faults_g)
-  proof_fault_is_unique k end f g (inr faults_f) (inr faults_g) = faults_equal_by_kinds faults_f.1
-      faults_g.1
-    where
-      faults_equal_by_kinds : StepFault (context_at db k) (steps_at db k) f
-          ⊎ proof.ProofEndFault (context_at db k) (steps_at db k) (formula_at db k) end f
-          → StepFault (context_at db k) (steps_at db k) g
-          ⊎ proof.ProofEndFault (context_at db k) (steps_at db k) (formula_at db k) end g → f ≡ g
-      faults_equal_by_kinds (inl of_f) (inl of_g) =
-          step_fault_is_unique (context_at db k) (all_complete k) (steps_at db k) f g of_f of_g
-      faults_equal_by_kinds (inl of_f) (inr of_g) =
-          absurd (no_both_faults (context_at db k) (all_complete k) (steps_at db k)
-          (formula_at db k) end f g of_f of_g)
-      faults_equal_by_kinds (inr of_f) (inl of_g) =
-          absurd (no_both_faults (context_at db k) (all_complete k) (steps_at db k)
-          (formula_at db k) end g f of_g of_f)
-      faults_equal_by_kinds (inr of_f) (inr of_g) =
-          end_fault_is_unique (context_at db k) (all_complete k) (steps_at db k)
-          (formula_at db k) end f g of_f of_g
+  proof_fault_is_unique k end f g (inl least_is_f) (inl least_is_g) =
+      same_Some f g (sym least_is_f ∙ least_is_g)
+  proof_fault_is_unique k end f g (inl least_is_f) (inr (none, _)) =
+      absurd (nil_has_no_least _ f none least_is_f)
+  proof_fault_is_unique k end f g (inr (none, _)) (inl least_is_g) =
+      absurd (nil_has_no_least _ g none least_is_g)
+  proof_fault_is_unique k end f g (inr (_, inl of_f)) (inr (_, inl of_g)) =
+      step_fault_is_unique (context_at db k) (all_complete k) (steps_at db k) f g of_f of_g
+  proof_fault_is_unique k end f g (inr (_, inl of_f)) (inr (_, inr of_g)) =
+      absurd (no_both_faults (context_at db k) (all_complete k) (steps_at db k) (formula_at db k)
+      end f g of_f of_g)
+  proof_fault_is_unique k end f g (inr (_, inr of_f)) (inr (_, inl of_g)) =
+      absurd (no_both_faults (context_at db k) (all_complete k) (steps_at db k) (formula_at db k)
+      end g f of_g of_f)
+  proof_fault_is_unique k end f g (inr (_, inr of_f)) (inr (_, inr of_g)) =
+      end_fault_is_unique (context_at db k) (all_complete k) (steps_at db k) (formula_at db k) end
+      f g of_f of_g
 
   pub valid_has_no_fault : (k end : ℕ) (f : Fault) → IsValid db k → ProofFault db k end f → ⊥
-  valid_has_no_fault k end f is_valid (inl has_fault) = nil_has_no_least (reading_faults_at db k) f
-      is_valid.0 has_fault
-  valid_has_no_fault k end f is_valid (inr has_fault) = no_fault_by_kind has_fault.1
-    where
-      no_fault_by_kind : StepFault (context_at db k) (steps_at db k) f
-          ⊎ proof.ProofEndFault (context_at db k) (steps_at db k) (formula_at db k) end f → ⊥
-      no_fault_by_kind (inl of_step) =
-          no_step_fault (context_at db k) (all_complete k) (steps_at db k)
-          (formula_at db k) end is_valid.1 is_valid.2 f of_step
-      no_fault_by_kind (inr of_end) =
-          no_end_fault (context_at db k) (all_complete k) (steps_at db k)
-          (formula_at db k) end is_valid.1 is_valid.2 f of_end
+  valid_has_no_fault k end f is_valid (inl least_is_f) =
+      nil_has_no_least _ f is_valid.0 least_is_f
+  valid_has_no_fault k end f is_valid (inr (_, inl of_step)) =
+      no_step_fault (context_at db k) (all_complete k) (steps_at db k) (formula_at db k) end
+      is_valid.1 is_valid.2 f of_step
+  valid_has_no_fault k end f is_valid (inr (_, inr of_end)) =
+      no_end_fault (context_at db k) (all_complete k) (steps_at db k) (formula_at db k) end
+      is_valid.1 is_valid.2 f of_end
 
   no_first_fault_is_earlier : (j k : ℕ) (f g : Fault) → j < k → FirstProofFault db j f
       → FirstProofFault db k g
@@ -254,33 +222,15 @@ module _ (db : List Statement) (all_complete : AreComplete db) where
   first_proof_fault_is_unique : (j k : ℕ) (f g : Fault) → FirstProofFault db j f
       → FirstProofFault db k g
       → f ≡ g
-  first_proof_fault_is_unique j k f g is_first_f is_first_g =
-      faults_equal_by_order (cases_order j k)
-    where
-      faults_equal_by_order : (j ≡ k) ⊎ ((j < k) ⊎ (k < j)) → f ≡ g
-      faults_equal_by_order (inl j_is_k) =
-          proof_fault_is_unique k (proof_end (slice_get db k)) f g
-          (subst (λ n. ProofFault db n (proof_end (slice_get db n)) f) j_is_k is_first_f.2)
-          is_first_g.2
-      faults_equal_by_order (inr (inl j_lt_k)) = absurd
-          (no_first_fault_is_earlier j k f g j_lt_k is_first_f is_first_g)
-      faults_equal_by_order (inr (inr k_lt_j)) = absurd
-          (no_first_fault_is_earlier k j g f k_lt_j is_first_g is_first_f)
+  first_proof_fault_is_unique j k f g is_first_f is_first_g = elim (cases_order j k) [
+    | inl j_is_k ↦ proof_fault_is_unique k (proof_end (slice_get db k)) f g
+        (subst (λ n. ProofFault db n (proof_end (slice_get db n)) f) j_is_k is_first_f.2)
+        is_first_g.2
+    | inr (inl j_lt_k) ↦ absurd (no_first_fault_is_earlier j k f g j_lt_k is_first_f is_first_g)
+    | inr (inr k_lt_j) ↦ absurd (no_first_fault_is_earlier k j g f k_lt_j is_first_g is_first_f)
+  ]
 
 -- ---- rows of marks
-
-marks_are_unique : (db : List Statement) (by_essential : Bool) (t : ℕ) (axioms : List ℕ)
-    → (a b : List Bool)
-    → AllZip (λ x mark. Decides mark (RestsOn db by_essential t x)) axioms a
-    → AllZip (λ x mark. Decides mark (RestsOn db by_essential t x)) axioms b → a ≡ b
-marks_are_unique db by_essential t [] [] [] decides_a decides_b = refl
-marks_are_unique db by_essential t [] [] (y ∷ b) decides_a decides_b = absurd decides_b
-marks_are_unique db by_essential t [] (x ∷ a) b decides_a decides_b = absurd decides_a
-marks_are_unique db by_essential t (n ∷ axioms) [] b decides_a decides_b = absurd decides_a
-marks_are_unique db by_essential t (n ∷ axioms) (x ∷ a) [] decides_a decides_b = absurd decides_b
-marks_are_unique db by_essential t (n ∷ axioms) (x ∷ a) (y ∷ b) decides_a decides_b =
-    ap₂ (λ p q. p ∷ q) (same_from_decides x y decides_a.0 decides_b.0)
-    (marks_are_unique db by_essential t axioms a b decides_a.1 decides_b.1)
 
 row_is_unique : (db : List Statement) (request : Request) (t : ℕ) (r s : Row)
     → IsRowOf db request t r
@@ -288,19 +238,8 @@ row_is_unique : (db : List Statement) (request : Request) (t : ℕ) (r s : Row)
 row_is_unique db request t r s is_row_r is_row_s =
     ap₂ (λ (l : Bytes) (m : List Bool). record { label = l; marks = m }) (is_row_r.0
     ∙ sym is_row_s.0)
-    (marks_are_unique db request.essential t (columns db request.only) r.marks s.marks is_row_r.1
-    is_row_s.1)
-
-rows_are_unique : (db : List Statement) (request : Request) (ts : List ℕ) (a b : List Row)
-    → AllZip (IsRowOf db request) ts a → AllZip (IsRowOf db request) ts b → a ≡ b
-rows_are_unique db request [] [] [] are_rows_a are_rows_b = refl
-rows_are_unique db request [] [] (y ∷ b) are_rows_a are_rows_b = absurd are_rows_b
-rows_are_unique db request [] (x ∷ a) b are_rows_a are_rows_b = absurd are_rows_a
-rows_are_unique db request (n ∷ ts) [] b are_rows_a are_rows_b = absurd are_rows_a
-rows_are_unique db request (n ∷ ts) (x ∷ a) [] are_rows_a are_rows_b = absurd are_rows_b
-rows_are_unique db request (n ∷ ts) (x ∷ a) (y ∷ b) are_rows_a are_rows_b =
-    ap₂ (λ p q. p ∷ q) (row_is_unique db request n x y are_rows_a.0 are_rows_b.0) (rows_are_unique
-    db request ts a b are_rows_a.1 are_rows_b.1)
+    (zip_is_unique _ (λ x a b decides_a decides_b. same_from_decides a b decides_a decides_b)
+    (columns db request.only) r.marks s.marks is_row_r.1 is_row_s.1)
 
 -- ---- faults of the text
 
@@ -405,40 +344,12 @@ text_fault_is_unique len ts None f g (inr faults_f) (inr faults_g) = file_end_fa
 
 -- ---- what is read
 
-abbrev Fronts : {X : Type 0} → List X → List X → List X → List X → Type 0
-Fronts {X} xs us ys vs =
-    ((xs ≡ ys) × (us ≡ vs))
-    ⊎ (((s : X) × (zs : List X) × (us ≡ s ∷ zs) × (length xs < length ys))
-    ⊎ ((s : X) × (zs : List X) × (vs ≡ s ∷ zs) × (length ys < length xs)))
-
-fronts_of : {X : Type 0} (xs ys us vs : List X) → xs ++ us ≡ ys ++ vs → Fronts xs us ys vs
-unfolding head_or tail_of
-fronts_of [] [] us vs lists_equal = inl (refl, lists_equal)
-fronts_of [] (b ∷ ys) us vs lists_equal = inr (inl (b, ys ++ vs, lists_equal, omega arith))
-fronts_of (a ∷ xs) [] us vs lists_equal = inr (inr (a, xs ++ us, sym lists_equal, omega arith))
-fronts_of (a ∷ xs) (b ∷ ys) us vs lists_equal = with_first (fronts_of xs ys us vs (ap tail_of
-    lists_equal))
-  where
-    heads_equal : a ≡ b
-    heads_equal = ap (head_or a) lists_equal
-
-    with_first : Fronts xs us ys vs → Fronts (a ∷ xs) us (b ∷ ys) vs
-    with_first (inl fronts_equal) = inl (
-      ap₂ (λ p q. p ∷ q) heads_equal fronts_equal.0,
-      fronts_equal.1,
-    )
-    with_first (inr (inl is_longer)) = let lengths_lt = is_longer.3 in inr (inl (
-      is_longer.0,
-      is_longer.1,
-      is_longer.2,
-      omega (arith, lengths_lt),
-    ))
-    with_first (inr (inr is_longer)) = let lengths_lt = is_longer.3 in inr (inr (
-      is_longer.0,
-      is_longer.1,
-      is_longer.2,
-      omega (arith, lengths_lt),
-    ))
+fronts_equal : {X : Type 0} (xs ys us vs : List X) → length xs ≡ length ys
+    → xs ++ us ≡ ys ++ vs → (xs ≡ ys) × (us ≡ vs)
+fronts_equal xs ys us vs lengths equal = (
+  sym (take-append_seam xs us) ∙ ap₂ take lengths equal ∙ take-append_seam ys vs,
+  sym (drop-append_seam xs us) ∙ ap₂ drop lengths equal ∙ drop-append_seam ys vs,
+)
 
 stopping_fault_is_unique : (len : ℕ) (x : LexedText) (statements db later : List Statement) (f g :
     Option Fault)
@@ -454,53 +365,49 @@ stopping_fault_is_unique len x statements db [] (Some f) (Some g) stops_with_f s
     ap Some (text_fault_is_unique len x.tokens x.fault f g stops_with_f stops_with_g)
 
 no_reading_is_shorter : (len : ℕ) (x : LexedText) (a b : List Statement) (f g : Option Fault)
-    → (reads_a : IsRead len x a f) (reads_b : IsRead len x b g) (s : Statement) (zs : List
-    Statement)
-    → reads_a.rest ≡ s ∷ zs → length a < length b → ⊥
-no_reading_is_shorter len x a b f g reads_a reads_b s zs rest_is a_lt_b =
-    let stops_at_s = subst (λ r. StopsReading len x reads_a.statements a r f) rest_is reads_a.stops
-    in
-    let statements_equal = longest_statements_equal x.tokens reads_a.statements reads_b.statements
-    reads_a.are_statements
-    reads_b.are_statements in
-    stops_at_s.0 (sym stops_at_s.1 ∙ ap (λ r. scope_fault r (length a)) statements_equal
-    ∙ reads_b.lawful (length a) a_lt_b)
+    → IsRead len x a f → IsRead len x b g → length a < length b → ⊥
+no_reading_is_shorter len x a b f g reads_a reads_b a_lt_b =
+    stops_earlier reads_a.rest reads_a.splits reads_a.stops
+  where
+    statements_equal : reads_a.statements ≡ reads_b.statements
+    statements_equal = longest_statements_equal x.tokens reads_a.statements reads_b.statements
+        reads_a.are_statements reads_b.are_statements
+
+    stops_earlier : (rest : List Statement) → reads_a.statements ≡ a ++ rest
+        → StopsReading len x reads_a.statements a rest f → ⊥
+    stops_earlier [] splits stops =
+        let lengths = ap length (sym splits ∙ statements_equal ∙ reads_b.splits) in
+        omega (arith, lengths, length-append {A = Statement})
+    stops_earlier (s ∷ rest) splits stops =
+        stops.0 (sym stops.1 ∙ ap (λ r. scope_fault r (length a)) statements_equal
+        ∙ reads_b.lawful (length a) a_lt_b)
 
 reading_is_unique : (len : ℕ) (x : LexedText) (a b : List Statement) (f g : Option Fault)
     → IsRead len x a f → IsRead len x b g → (a ≡ b) × (f ≡ g)
-reading_is_unique len x a b f g reads_a reads_b =
-    both_equal_by_fronts (fronts_of a b reads_a.rest reads_b.rest
-    (sym reads_a.splits ∙ longest_statements_equal x.tokens reads_a.statements reads_b.statements
-    reads_a.are_statements
-    reads_b.are_statements ∙ reads_b.splits))
-  where
-    both_equal_by_fronts : Fronts a reads_a.rest b reads_b.rest → (a ≡ b) × (f ≡ g)
-    both_equal_by_fronts (inl fronts_equal) = (
-      fronts_equal.0,
-      stopping_fault_is_unique len x reads_b.statements b reads_b.rest f g
-          (subst (λ r. StopsReading len x r b reads_b.rest f)
-          (longest_statements_equal x.tokens reads_a.statements reads_b.statements
-          reads_a.are_statements reads_b.are_statements)
-          (subst (λ r. StopsReading len x reads_a.statements b r f) fronts_equal.1
-          (subst (λ d. StopsReading len x reads_a.statements d reads_a.rest f) fronts_equal.0
-          reads_a.stops)))
-          reads_b.stops,
-    )
-    both_equal_by_fronts (inr (inl is_shorter)) = absurd
-        (no_reading_is_shorter len x a b f g reads_a reads_b
-        is_shorter.0 is_shorter.1 is_shorter.2 is_shorter.3)
-    both_equal_by_fronts (inr (inr is_shorter)) = absurd
-        (no_reading_is_shorter len x b a g f reads_b reads_a
-        is_shorter.0 is_shorter.1 is_shorter.2 is_shorter.3)
+reading_is_unique len x a b f g reads_a reads_b = elim (cases_order (length a) (length b)) [
+  | inl lengths ↦
+      let statements_equal = longest_statements_equal x.tokens reads_a.statements
+      reads_b.statements reads_a.are_statements reads_b.are_statements in
+      let equal = fronts_equal a b reads_a.rest reads_b.rest lengths
+      (sym reads_a.splits ∙ statements_equal ∙ reads_b.splits) in (
+        equal.0,
+        stopping_fault_is_unique len x reads_b.statements b reads_b.rest f g
+            (subst (λ r. StopsReading len x r b reads_b.rest f) statements_equal
+            (subst (λ r. StopsReading len x reads_a.statements b r f) equal.1
+            (subst (λ d. StopsReading len x reads_a.statements d reads_a.rest f) equal.0
+            reads_a.stops)))
+            reads_b.stops,
+      )
+  | inr (inl a_lt_b) ↦ absurd (no_reading_is_shorter len x a b f g reads_a reads_b a_lt_b)
+  | inr (inr b_lt_a) ↦ absurd (no_reading_is_shorter len x b a g f reads_b reads_a b_lt_a)
+]
 
 -- ---- the output
 
 theorem_lt_length : (db : List Statement) (k : ℕ) → IsTrue (is_theorem_at db k) → k < length db
-theorem_lt_length [] zero is_theorem_k = let false_is_true : false ≡ true = is_theorem_k in cc
-theorem_lt_length [] (suc k) is_theorem_k = let false_is_true : false ≡ true = is_theorem_k in cc
-theorem_lt_length (s ∷ db) zero is_theorem_k = omega arith
-theorem_lt_length (s ∷ db) (suc k) is_theorem_k = let k_lt_length = theorem_lt_length db k
-    is_theorem_k in omega (arith, k_lt_length)
+theorem_lt_length db k is_theorem_k =
+    let statement_k = passing_statement db is_theorem k is_theorem_k in
+    got_lt_length db k statement_k.0 statement_k.1
 
 module _ (len : ℕ) (x : LexedText) (with_open : Bool) where
   IsCauseOf : List Statement → Option Fault → Fault → Type 0
@@ -535,15 +442,14 @@ module _ (len : ℕ) (x : LexedText) (with_open : Bool) where
     where
       faults_equal_by_causes : IsCauseOf faults_g.0 faults_g.1 f → IsCauseOf faults_g.0 faults_g.1 g
           → f ≡ g
-      faults_equal_by_causes (inl causes_f) (inl causes_g) =
+      faults_equal_by_causes (inl (j, first_f)) (inl (k, first_g)) =
           first_proof_fault_is_unique (counted with_open faults_g.0) (are_complete faults_g.0
-          faults_g.1 faults_g.2) causes_f.0 causes_g.0 f g causes_f.1 causes_g.1
-      faults_equal_by_causes (inl causes_f) (inr causes_g) = absurd
-          (fault_or_all_valid faults_g.0 faults_g.1 faults_g.2 causes_f.0 f causes_f.1 causes_g.0)
-      faults_equal_by_causes (inr causes_f) (inl causes_g) = absurd
-          (fault_or_all_valid faults_g.0 faults_g.1 faults_g.2 causes_g.0 g causes_g.1 causes_f.0)
-      faults_equal_by_causes (inr causes_f) (inr causes_g) = let options_equal : Some f
-          ≡ Some g = sym causes_f.1 ∙ causes_g.1 in cc
+          faults_g.1 faults_g.2) j k f g first_f first_g
+      faults_equal_by_causes (inl (j, first_f)) (inr (all_valid, _)) =
+          absurd (fault_or_all_valid faults_g.0 faults_g.1 faults_g.2 j f first_f all_valid)
+      faults_equal_by_causes (inr (all_valid, _)) (inl (k, first_g)) =
+          absurd (fault_or_all_valid faults_g.0 faults_g.1 faults_g.2 k g first_g all_valid)
+      faults_equal_by_causes (inr (_, is_f)) (inr (_, is_g)) = same_Some f g (sym is_f ∙ is_g)
 
   fault_or_none : (f : Fault) (db : List Statement) → FirstFault len x with_open f
       → HasNoFault len x with_open db → ⊥
@@ -556,10 +462,9 @@ module _ (len : ℕ) (x : LexedText) (with_open : Bool) where
       o f) readings_equal.1 has_fault.3))
     where
       no_fault_by_cause : IsCauseOf db None f → ⊥
-      no_fault_by_cause (inl is_cause) = fault_or_all_valid db None has_none.0 is_cause.0 f
-          is_cause.1
-          has_none.1
-      no_fault_by_cause (inr is_cause) = let none_is_some : None ≡ Some f = is_cause.1 in cc
+      no_fault_by_cause (inl (k, is_first)) =
+          fault_or_all_valid db None has_none.0 k f is_first has_none.1
+      no_fault_by_cause (inr (_, none_is_f)) = none-some f none_is_f
 
 -- ---- rows of citations
 
@@ -579,18 +484,6 @@ citing_row_is_unique db request t r s is_row_r is_row_s =
     is_row_s.1.0 is_row_r.1.1 is_row_s.1.1)
     ∙ sym is_row_s.1.2)
 
-citing_rows_are_unique : (db : List Statement) (request : Request) (ts : List ℕ) (a b : List
-    CitingRow)
-    → AllZip (IsCitingRowOf db request) ts a → AllZip (IsCitingRowOf db request) ts b → a ≡ b
-citing_rows_are_unique db request [] [] [] are_rows_a are_rows_b = refl
-citing_rows_are_unique db request [] [] (y ∷ b) are_rows_a are_rows_b = absurd are_rows_b
-citing_rows_are_unique db request [] (x ∷ a) b are_rows_a are_rows_b = absurd are_rows_a
-citing_rows_are_unique db request (n ∷ ts) [] b are_rows_a are_rows_b = absurd are_rows_a
-citing_rows_are_unique db request (n ∷ ts) (x ∷ a) [] are_rows_a are_rows_b = absurd are_rows_b
-citing_rows_are_unique db request (n ∷ ts) (x ∷ a) (y ∷ b) are_rows_a are_rows_b =
-    ap₂ (λ p q. p ∷ q) (citing_row_is_unique db request n x y are_rows_a.0 are_rows_b.0)
-    (citing_rows_are_unique db request ts a b are_rows_a.1 are_rows_b.1)
-
 -- a database has one report
 report_is_unique : (db : List Statement) (opened : Option ℕ) (lines : List ℕ)
     → (request : Request) (a b : List ℕ) → IsReportOf db opened lines request a
@@ -599,9 +492,9 @@ report_is_unique db opened lines request a b is_report_a is_report_b =
     is_report_a.bytes_are
     ∙ ap₂ (λ (rows : List Row) (citing : List CitingRow). report request opened
     (map (label_at db) (columns db request.only)) rows citing lines)
-    (rows_are_unique db request (theorems db) is_report_a.rows is_report_b.rows is_report_a.are_rows
+    (zip_is_unique _ (row_is_unique db request) (theorems db) is_report_a.rows is_report_b.rows is_report_a.are_rows
     is_report_b.are_rows)
-    (citing_rows_are_unique db request (theorems db) is_report_a.citing_rows is_report_b.citing_rows
+    (zip_is_unique _ (citing_row_is_unique db request) (theorems db) is_report_a.citing_rows is_report_b.citing_rows
     is_report_a.are_citing_rows is_report_b.are_citing_rows)
     ∙ sym is_report_b.bytes_are
 
