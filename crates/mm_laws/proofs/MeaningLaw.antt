@@ -1,7 +1,7 @@
 -- A theorem is valid if its words say steps that stand for a derivation of its formula, and else
 -- not.
-use Rattle.std.proofs.Common.{◌≡◌, ◌≢◌, ◌↔◌, ℕ, Bool, true, false, inl, inr, List, [], ◌∷◌, map}
-use Rattle.std.proofs.Common.{Option, Some, None, slice_get, bytes_eq, codes, refl, sym, ap, ap₂}
+use Rattle.std.proofs.Common.{◌≡◌, ◌≢◌, ◌↔◌, ℕ, true, inl, inr, List, [], ◌∷◌, map}
+use Rattle.std.proofs.Common.{Option, Some, None, slice_get, bytes_eq, codes, sym, ap}
 use Rattle.std.proofs.Common.{◌∙◌, subst, true≢false}
 use Rattle.std.specs.List.{AllZip, AllByRecursion, list_any}
 use Rattle.std.proofs.lemmas.Slice.Eq.{bytes_eq-Decides}
@@ -25,25 +25,14 @@ use Rattle.mm_laws.specs.Laws.Meaning.{IsProved, ValidIsProved}
 use Rattle.mm_spec.proofs.FindsLaw.{equal_bytes_equal_words}
 use Rattle.mm_laws.proofs.SpelledStepsLaw.{steps_are_named, steps_are_labels_where_read}
 use Rattle.mm_laws.proofs.UniqueStepsLaw.{named_steps_are_unique}
+use Rattle.mm_laws.proofs.OneOutputLaw.{zip_is_unique}
+use Rattle.std.proofs.lemmas.Bool.{cases_Bool}
+use Rattle.std.proofs.lemmas.Bool.Decides.{not_from_Decides}
 use Rattle.mm_laws.proofs.WellSpelledLaw.{compressed_is_exact, normal_is_exact}
 
 module _ (db : List Statement) (k : ℕ) where
   abbrev IsLabelOf : Token → ℕ → Type 0
   IsLabelOf t j = IsUsable db k t.word j
-
-  -- a word is the label of one statement
-  usable_statements_are_unique : (ts : List Token) (is_js js : List ℕ) → AllZip IsLabelOf ts is_js
-      → AllZip IsLabelOf ts js
-      → is_js ≡ js
-  usable_statements_are_unique [] [] [] usable_is usable_js = refl
-  usable_statements_are_unique [] [] (j ∷ js) usable_is usable_js = absurd usable_js
-  usable_statements_are_unique [] (i ∷ is_js) js usable_is usable_js = absurd usable_is
-  usable_statements_are_unique (t ∷ ts) [] js usable_is usable_js = absurd usable_is
-  usable_statements_are_unique (t ∷ ts) (i ∷ is_js) [] usable_is usable_js = absurd usable_js
-  usable_statements_are_unique (t ∷ ts) (i ∷ is_js) (j ∷ js) usable_is usable_js =
-      ap₂ (λ x xs. x ∷ xs) (usable_js.0.no_other_is_usable i usable_is.0.statement_is_active
-      usable_is.0.statement_has_label) (usable_statements_are_unique ts is_js js usable_is.1
-      usable_js.1)
 
   abbrev IsLabelStep : Token → Step → Type 0
   IsLabelStep u s = (j : ℕ) × (s ≡ label j) × IsUsable db k u.word j
@@ -56,44 +45,21 @@ module _ (db : List Statement) (k : ℕ) where
   says_label_steps [] [] are_usable are_label_steps = tt
   says_label_steps [] (s ∷ ss) are_usable are_label_steps = absurd are_label_steps
   says_label_steps (t ∷ ts) [] are_usable are_label_steps = absurd are_label_steps
-  says_label_steps (t ∷ ts) (s ∷ ss) are_usable are_label_steps = (
-    (
-      are_usable.0.0,
-      are_label_steps.0,
-    ),
-    says_label_steps ts ss are_usable.1 are_label_steps.1,
-  )
+  says_label_steps (t ∷ ts) (s ∷ ss) ((is_known, _), usable_later) (is_step, steps_later) =
+      ((is_known, is_step), says_label_steps ts ss usable_later steps_later)
 
   words_are_usable : (ts : List Token) (ss : List Step) → SaysNormal db k ts ss
       → AllByRecursion IsUsableWord ts
   words_are_usable [] ss says_steps = tt
   words_are_usable (t ∷ ts) [] says_steps = absurd says_steps
-  words_are_usable (t ∷ ts) (s ∷ ss) says_steps = (
-    (
-      says_steps.0.0,
-      (
-        says_steps.0.1.0,
-        says_steps.0.1.2,
-      ),
-    ),
-    words_are_usable ts ss says_steps.1,
-  )
+  words_are_usable (t ∷ ts) (s ∷ ss) ((is_known, (j, _, is_usable)), says_later) =
+      ((is_known, (j, is_usable)), words_are_usable ts ss says_later)
 
-  label_steps_are_unique : (ts : List Token) (ss other_steps : List Step) → SaysNormal db k ts ss
-      → AllZip IsLabelStep ts other_steps → ss ≡ other_steps
-  label_steps_are_unique [] [] [] says_steps are_label_steps = refl
-  label_steps_are_unique [] [] (s ∷ other_steps) says_steps are_label_steps = absurd are_label_steps
-  label_steps_are_unique [] (s ∷ ss) other_steps says_steps are_label_steps = absurd says_steps
-  label_steps_are_unique (t ∷ ts) [] other_steps says_steps are_label_steps = absurd says_steps
-  label_steps_are_unique (t ∷ ts) (s ∷ ss) [] says_steps are_label_steps = absurd are_label_steps
-  label_steps_are_unique (t ∷ ts) (s ∷ ss) (r ∷ other_steps) says_steps are_label_steps =
-      let is_label = says_steps.0.1 in
-      let is_other_label = are_label_steps.0 in
-      let labels_equal : is_label.0 ≡ is_other_label.0 = is_other_label.2.no_other_is_usable
-      is_label.0 is_label.2.statement_is_active is_label.2.statement_has_label in
-      ap₂ (λ x xs. x ∷ xs) (is_label.1 ∙ ap label labels_equal
-      ∙ sym is_other_label.1) (label_steps_are_unique ts ss other_steps says_steps.1
-      are_label_steps.1)
+  label_steps_are_unique : (t : Token) (r s : Step)
+      → (t.word ≢ codes "?") × IsLabelStep t r → (t.word ≢ codes "?") × IsLabelStep t s → r ≡ s
+  label_steps_are_unique t r s (_, (i, r_is, usable_i)) (_, (j, s_is, usable_j)) =
+      r_is ∙ ap label (usable_j.no_other_is_usable i usable_i.statement_is_active
+      usable_i.statement_has_label) ∙ sym s_is
 
   -- a derivation of the formula from steps
   abbrev HasDerivation : List Step → Type 0
@@ -138,7 +104,9 @@ module _ (db : List Statement) (k : ℕ) where
             let named = are_named end (t ∷ ts) well_spelled.labels well_spelled.letters
             well_spelled.items no_faults well_spelled.is_compressed well_spelled.items_are_spelled
             in
-            let statements_equal : says_steps.js ≡ named.0 = usable_statements_are_unique
+            let statements_equal : says_steps.js ≡ named.0 = zip_is_unique IsLabelOf
+            (λ t i j usable_i usable_j. usable_j.no_other_is_usable i usable_i.statement_is_active
+            usable_i.statement_has_label)
             well_spelled.labels says_steps.js named.0 says_steps.labels_name_js named.1 in
             let hypotheses = mandatory_hypotheses db k in
             let are_steps : AreSteps hypotheses named.0 well_spelled.items ss =
@@ -168,11 +136,12 @@ module _ (db : List Statement) (k : ℕ) where
         steps_are_read : (ss : List Step) → SaysNormal db k (t ∷ ts) ss → HasDerivation ss
             → IsReadAndDerived end (t ∷ ts)
         steps_are_read ss says_steps has_derivation =
-            let no_faults = (normal_exact end t ts no_bracket).1 (words_are_usable (t ∷ ts) ss
-            says_steps) in
-            let steps_equal =
-            label_steps_are_unique (t ∷ ts) ss (bare_steps db k (t ∷ ts)) says_steps (are_labels end
-            t ts no_faults no_bracket) in
+            let usable = words_are_usable (t ∷ ts) ss says_steps in
+            let no_faults = (normal_exact end t ts no_bracket).1 usable in
+            let steps_equal = zip_is_unique _ label_steps_are_unique (t ∷ ts) ss
+            (bare_steps db k (t ∷ ts)) says_steps
+            (says_label_steps (t ∷ ts) (bare_steps db k (t ∷ ts)) usable
+            (are_labels end t ts no_faults no_bracket)) in
             (no_faults, subst HasDerivation steps_equal has_derivation)
 
         said_is_read : SaysDerivation (t ∷ ts) → IsReadAndDerived end (t ∷ ts)
@@ -180,29 +149,13 @@ module _ (db : List Statement) (k : ℕ) where
         said_is_read (ss, inr says, has_derivation) = steps_are_read ss says.1 has_derivation
 
     read_exactly_if_said : (end : ℕ) (ps : List Token) → IsReadAndDerived end ps ↔ SaysDerivation ps
-    read_exactly_if_said end [] = (
-      (λ is_read. no_empty_proof is_read.0),
-      λ is_read. absurd
-          is_read.1,
-    )
-      where
-        no_empty_proof : reading_faults db k end [] ≡ [] → SaysDerivation []
-        no_empty_proof no_faults = absurd (cc)
-    read_exactly_if_said end (t ∷ ts) =
-        goal_by_bracket (bytes_eq t.word (codes "(")) refl (compressed_read_if_said end t ts)
-        (normal_read_if_said end t ts)
-      where
-        Goal : Type 0
-        Goal = IsReadAndDerived end (t ∷ ts) ↔ SaysDerivation (t ∷ ts)
-
-        goal_by_bracket : (b : Bool)
-            → bytes_eq t.word (codes "(") ≡ b → (t.word ≡ codes "(" → Goal)
-            → (t.word ≢ codes "(" → Goal) → Goal
-        goal_by_bracket true is_bracket compressed_case normal_case =
-            compressed_case (equal_bytes_equal_words t.word (codes "(") is_bracket)
-        goal_by_bracket false not_bracket compressed_case normal_case =
-            normal_case (λ is_bracket_word. true≢false (sym ((bytes_eq-Decides t.word (codes "(")).1
-            is_bracket_word) ∙ not_bracket))
+    read_exactly_if_said end [] = ((λ is_read. absurd (cc (is_read.0))), λ said. absurd said.1)
+    read_exactly_if_said end (t ∷ ts) = elim (cases_Bool (bytes_eq t.word (codes "("))) [
+      | inl is_bracket ↦ compressed_read_if_said end t ts
+          (equal_bytes_equal_words t.word (codes "(") is_bracket)
+      | inr no_bracket ↦ normal_read_if_said end t ts
+          (not_from_Decides _ (bytes_eq-Decides t.word (codes "(")) no_bracket)
+    ]
 
     valid_if_proved_and_back : ValidIsProved db k
     valid_if_proved_and_back is_theorem_k =

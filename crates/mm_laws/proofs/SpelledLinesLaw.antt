@@ -1,12 +1,15 @@
 -- What is read of a text is spelled as the lines of the statements need it.
-use Rattle.std.proofs.Common.{◌≡◌, ◌∙◌, ℕ, zero, suc, ◌+◌, ◌<◌, ◌≤◌, ◌^◌, Bool, true, false, ◌||◌, ◌&&◌}
-use Rattle.std.proofs.Common.{◌==◌, List, [], ◌∷◌, ◌++◌, length, map, refl, sym, ap, ap₂, subst, arith}
+use Rattle.std.proofs.Common.{◌≡◌, ◌∙◌, ℕ, zero, suc, ◌+◌, ◌<◌, ◌≤◌, ◌^◌, Bool, true, false, ◌&&◌}
+use Rattle.std.proofs.Common.{◌==◌, List, [], ◌∷◌, ◌++◌, length, map, refl, sym, ap, subst, arith}
 use Rattle.std.proofs.Common.{true≢false, append-nil, not, Option, Some, None, is_some, eqb-true}
-use Rattle.std.specs.Prelude.{flat_map, unwrap_or, slice_get, codes, ◌⊎◌}
+use Rattle.std.specs.Prelude.{flat_map, unwrap_or, slice_get, codes}
 use Rattle.std.proofs.Common.{inl, inr}
 use Rattle.std.specs.Option.{option_map, option_and_then}
 use Rattle.std.specs.List.{list_any, list_all, AllByRecursion}
-use Rattle.std.proofs.lemmas.Bool.{and_parts, cases_lt}
+use Rattle.std.proofs.lemmas.Bool.{and_parts, cases_lt, cases_Bool, or_from, false_from_ne_true}
+use Rattle.std.proofs.lemmas.Bool.{not-true}
+use Rattle.std.proofs.lemmas.Grind.{common_steps}
+use Rattle.mm_laws.proofs.ToldLaw.{all_of_both}
 use Rattle.std.proofs.lemmas.List.Elements.{recursion_from_All, All-weaker}
 use Rattle.mm_spec.specs.Text.{Bytes, Token, token, is_in, has_dollar, words, is_label, is_label_byte}
 use Rattle.mm_spec.specs.Bytes.{is_printable}
@@ -36,40 +39,30 @@ use Rattle.mm_laws.specs.Laws.Told.{is_gap, is_colon, IsPlainWord, AreSpelled, R
 
 -- a byte that passes a test isn't one that fails it
 differs : (p : ℕ → Bool) (c : ℕ) → p c ≡ false → (b : ℕ) → p b ≡ true → (b == c) ≡ false
-differs p c c_fails b passes = by_test (b == c) refl
-  where
-    by_test : (t : Bool) → (b == c) ≡ t → t ≡ false
-    by_test true is_c =
-        absurd (true≢false (sym passes ∙ ap p (eqb-true b c is_c) ∙ c_fails))
-    by_test false is_not_c = refl
+differs p c c_fails b passes =
+    false_from_ne_true (b == c) (λ is_c. true≢false (sym passes ∙ ap p (eqb-true b c is_c)
+    ∙ c_fails))
 
 none_if_all : (p q : ℕ → Bool) → ((b : ℕ) → p b ≡ true → q b ≡ false) → (w : Bytes)
     → list_all p w ≡ true → list_any q w ≡ false
 none_if_all p q fails [] all_pass = refl
 none_if_all p q fails (b ∷ w) all_pass =
     let parts = and_parts (p b) (list_all p w) all_pass in
-    ap₂ (λ (x y : Bool). x || y) (fails b parts.0) (none_if_all p q fails w parts.1)
+    rw (fails b parts.0) (none_if_all p q fails w parts.1)
 
-printable_is_no_gap : (b : ℕ) → is_printable b ≡ true → is_gap b ≡ false
-unfolding is_printable
-printable_is_no_gap b passes =
-    ap₂ (λ (x y : Bool). x || y) (differs is_printable 10 refl b passes)
-    (differs is_printable 32 refl b passes)
-
-label_byte_is_no_gap : (b : ℕ) → is_label_byte b ≡ true → is_gap b ≡ false
-label_byte_is_no_gap b passes =
-    ap₂ (λ (x y : Bool). x || y) (differs is_label_byte 10 refl b passes)
-    (differs is_label_byte 32 refl b passes)
+is_no_gap : (p : ℕ → Bool) → p 10 ≡ false → p 32 ≡ false → (b : ℕ) → p b ≡ true → is_gap b ≡ false
+is_no_gap p fails_10 fails_32 b passes =
+    or_from _ _ (differs p 10 fails_10 b passes) (differs p 32 fails_32 b passes)
 
 token_has_no_gap : (w : Bytes) → is_token w ≡ true → list_any is_gap w ≡ false
-unfolding is_token is_clean
+unfolding is_token is_clean is_printable
 token_has_no_gap w passes =
-    none_if_all is_printable is_gap printable_is_no_gap w
+    none_if_all is_printable is_gap (is_no_gap is_printable refl refl) w
     (and_parts (list_all is_printable w) _ passes).0
 
 label_is_plain : (w : Bytes) → is_label w ≡ true → IsPlainWord w
 label_is_plain w passes = record {
-  no_gap = none_if_all is_label_byte is_gap label_byte_is_no_gap w passes;
+  no_gap = none_if_all is_label_byte is_gap (is_no_gap is_label_byte refl refl) w passes;
   no_dollar =
       none_if_all is_label_byte (λ b. b == 0x24) (differs is_label_byte 0x24 refl) w passes;
 }
@@ -91,8 +84,7 @@ record IsTextToken (t : Token) : Type 0 where
 read_tokens : (text : List ℕ) (open_comment : Option ℕ) (ws : List Word)
     → AllByRecursion (λ w. w.start < length text) ws
     → AllByRecursion (IsTokenWord text) (reading text open_comment ws).tokens
-read_tokens text open_comment [] starts =
-    subst (λ r. AllByRecursion (IsTokenWord text) r.tokens) (sym (reading_end text open_comment)) tt
+read_tokens text open_comment [] starts = rw (reading_end text open_comment) tt
 read_tokens text open_comment (w ∷ ws) starts =
     by_role (role_of (is_some open_comment) (bytes_of text w)) refl
     (λ comment. read_tokens text comment ws starts.1)
@@ -101,36 +93,33 @@ read_tokens text open_comment (w ∷ ws) starts =
         → ((comment : Option ℕ) → AllByRecursion (IsTokenWord text) (reading text comment ws).tokens)
         → AllByRecursion (IsTokenWord text) (reading text open_comment (w ∷ ws)).tokens
     by_role role.Token role_is later =
-        subst (λ r. AllByRecursion (IsTokenWord text) r.tokens)
-        (sym (reading_token text [] open_comment w ws role_is)) (
+        rw (reading_token text [] open_comment w ws role_is) (
           (read_as_token (is_some open_comment) (bytes_of text w) role_is, starts.0),
           later open_comment,
         )
     by_role role.Opening role_is later =
-        subst (λ r. AllByRecursion (IsTokenWord text) r.tokens)
-        (sym (reading_opening text open_comment w ws role_is))
-        (later (Some w.start))
+        rw (reading_opening text open_comment w ws role_is) (later (Some w.start))
     by_role role.Closing role_is later =
-        subst (λ r. AllByRecursion (IsTokenWord text) r.tokens)
-        (sym (reading_closing text open_comment w ws role_is)) (later None)
+        rw (reading_closing text open_comment w ws role_is) (later None)
     by_role role.Comment role_is later =
-        subst (λ r. AllByRecursion (IsTokenWord text) r.tokens)
-        (sym (reading_comment text open_comment w ws role_is))
-        (later open_comment)
-    by_role role.Faulty role_is later =
-        subst (λ r. AllByRecursion (IsTokenWord text) r.tokens)
-        (sym (reading_faulty text open_comment w ws role_is)) tt
+        rw (reading_comment text open_comment w ws role_is) (later open_comment)
+    by_role role.Faulty role_is later = rw (reading_faulty text open_comment w ws role_is) tt
 
 words_start_within : (text : List ℕ) → AllByRecursion (λ w. w.start < length text) (words_of text)
 words_start_within text =
     recursion_from_All (λ w. w.start < length text) (words_of text)
     (All-weaker (IsWord text) (λ w. w.start < length text)
-    (λ w is_word. let nonempty = is_word.nonempty in
-    let within = is_word.within in omega (arith, nonempty, within))
+    (λ w is_word. omega (arith, is_word.nonempty, is_word.within))
     (words_of text) (words_of_are_words text).each)
 
 tokens_are_text_tokens : (text : List ℕ) → AllByRecursion IsTextToken (lexed_of text).tokens
-tokens_are_text_tokens text = by_length (cases_lt text_limit (length text))
+tokens_are_text_tokens text = elim (cases_lt text_limit (length text)) [
+  | inl too_long ↦ subst are_text_tokens (sym (tokens_of_long text too_long)) tt
+  | inr fits ↦ subst are_text_tokens
+      (sym (tokens_of_read text (reading text None (words_of text)) fits refl))
+      (as_tokens (reading text None (words_of text)).tokens fits
+      (read_tokens text None (words_of text) (words_start_within text)))
+]
   where
     as_tokens : (ws : List Word) → length text ≤ text_limit → AllByRecursion (IsTokenWord text) ws
         → AllByRecursion IsTextToken (map (λ w. token w.start (bytes_of text w)) ws)
@@ -138,35 +127,22 @@ tokens_are_text_tokens text = by_length (cases_lt text_limit (length text))
     as_tokens (w ∷ ws) fits are_tokens = (
       record {
         is_token = are_tokens.0.0;
-        place = let start_lt_length = are_tokens.0.1 in omega (arith, fits, start_lt_length);
+        place = omega (arith, fits, are_tokens.0.1);
       },
       as_tokens ws fits are_tokens.1,
     )
 
-    by_length : (text_limit < length text) ⊎ (length text ≤ text_limit)
-        → AllByRecursion IsTextToken (lexed_of text).tokens
-    by_length (inl too_long) =
-        subst (λ (ws : List Word). AllByRecursion IsTextToken
-        (map (λ w. token w.start (bytes_of text w)) ws)) (sym (tokens_of_long text too_long)) tt
-    by_length (inr fits) =
-        subst (λ (ws : List Word). AllByRecursion IsTextToken
-        (map (λ w. token w.start (bytes_of text w)) ws))
-        (sym (tokens_of_read text (reading text None (words_of text)) fits refl))
-        (as_tokens (reading text None (words_of text)).tokens fits
-        (read_tokens text None (words_of text) (words_start_within text)))
+    are_text_tokens : List Word → Type 0
+    are_text_tokens ws = AllByRecursion IsTextToken (map (λ w. token w.start (bytes_of text w)) ws)
 
 -- ---- statements
 
 -- what is true of all elements of two lists
-all_first : {X : Type 0} (P : X → Type 0) (xs ys : List X) → AllByRecursion P (xs ++ ys)
-    → AllByRecursion P xs
-all_first P [] ys all_hold = tt
-all_first P (x ∷ xs) ys all_hold = (all_hold.0, all_first P xs ys all_hold.1)
-
-all_second : {X : Type 0} (P : X → Type 0) (xs ys : List X) → AllByRecursion P (xs ++ ys)
-    → AllByRecursion P ys
-all_second P [] ys all_hold = all_hold
-all_second P (x ∷ xs) ys all_hold = all_second P xs ys all_hold.1
+all_split : {X : Type 0} (P : X → Type 0) (xs ys : List X) → AllByRecursion P (xs ++ ys)
+    → AllByRecursion P xs × AllByRecursion P ys
+all_split P [] ys all_hold = (tt, all_hold)
+all_split P (x ∷ xs) ys (holds, later) =
+    let parts = all_split P xs ys later in ((holds, parts.0), parts.1)
 
 -- a statement whose words are spelled as the lines need it
 record IsSpelled (s : Statement) : Type 0 where
@@ -186,33 +162,21 @@ plain_symbols (x ∷ xs) are_tokens plain =
     let parts = and_parts (not (has_dollar x.word)) (is_plain xs) plain in (
       record {
         no_gap = token_has_no_gap x.word are_tokens.0.is_token;
-        no_dollar = not_true (has_dollar x.word) parts.0;
+        no_dollar = not-true (has_dollar x.word) parts.0;
       },
       plain_symbols xs are_tokens.1 parts.1,
     )
-  where
-    not_true : (b : Bool) → not b ≡ true → b ≡ false
-    not_true false is_true = refl
-    not_true true is_true = absurd (true≢false (sym is_true))
-
--- the label that there may be, as words
-abbrev words_of_label : Option Token → List Bytes
-words_of_label o = elim o [ None ↦ [] | Some l ↦ l.word ∷ [] ]
 
 -- a statement without a label
 unlabelled : (s : Statement) (xs : List Token) (t : Token) → label_of s ≡ None
     → symbols_of s ≡ xs → AllByRecursion IsTextToken xs → is_plain xs ≡ true
     → IsTextToken t → end_at s ≡ t.at → IsSpelled s
 unlabelled s xs t no_label symbols_are are_tokens plain last end_is = record {
-  label = subst (λ o. IsPlainWord (flat_map (λ w. w) (words_of_label o))) (sym no_label)
-      no_label_is_plain;
-  label_without_colon =
-      ap (λ o. list_any is_colon (flat_map (λ w. w) (words_of_label o))) no_label;
-  symbols = subst (λ (ts : List Token). AllByRecursion IsPlainWord (words ts)) (sym symbols_are)
-      (plain_symbols xs are_tokens plain);
-  start = subst (λ o. unwrap_or (option_map (λ t. t.at) o) 0 < 2 ^ 31) (sym no_label)
-      (omega arith);
-  end = let place = last.place in omega (arith, place, end_is);
+  label = rw (no_label, label_words) no_label_is_plain;
+  label_without_colon = rw (no_label, label_words) refl;
+  symbols = rw symbols_are (plain_symbols xs are_tokens plain);
+  start = rw no_label (omega arith);
+  end = omega (arith, last.place, end_is);
 }
 
 -- a statement with a label
@@ -221,25 +185,17 @@ labelled : (s : Statement) (l : Token) (xs : List Token) (t : Token) → label_o
     → AllByRecursion IsTextToken xs → is_plain xs ≡ true → IsTextToken t → end_at s ≡ t.at
     → IsSpelled s
 labelled s l xs t label_is symbols_are label_token spelled are_tokens plain last end_is = record {
-  label = subst (λ o. IsPlainWord (flat_map (λ w. w) (words_of_label o))) (sym label_is)
-      (subst IsPlainWord (sym (append-nil l.word)) (label_is_plain l.word spelled));
+  label = rw (label_is, label_words, append-nil l.word) (label_is_plain l.word spelled);
   label_without_colon =
-      ap (λ o. list_any is_colon (flat_map (λ w. w) (words_of_label o))) label_is
-      ∙ ap (list_any is_colon) (append-nil l.word)
-      ∙ label_has_no_colon l.word spelled;
-  symbols = subst (λ (ts : List Token). AllByRecursion IsPlainWord (words ts)) (sym symbols_are)
-      (plain_symbols xs are_tokens plain);
-  start = subst (λ o. unwrap_or (option_map (λ t. t.at) o) 0 < 2 ^ 31) (sym label_is)
-      label_token.place;
-  end = let place = last.place in omega (arith, place, end_is);
+      rw (label_is, label_words, append-nil l.word) (label_has_no_colon l.word spelled);
+  symbols = rw symbols_are (plain_symbols xs are_tokens plain);
+  start = rw label_is label_token.place;
+  end = omega (arith, last.place, end_is);
 }
 
 complete_parts : (a b c : Bool) → (a && b && c) ≡ true
     → (a ≡ true) × ((b ≡ true) × (c ≡ true))
-complete_parts true true true complete = (refl, (refl, refl))
-complete_parts true true false complete = absurd (true≢false (sym complete))
-complete_parts true false c complete = absurd (true≢false (sym complete))
-complete_parts false b c complete = absurd (true≢false (sym complete))
+complete_parts a b c complete = grind (arith, common_steps, and_parts)
 
 -- a complete statement without a label: its keyword, its symbols and its `$.`
 without_label : (s : Statement) (k : ℕ) (xs : List Token) (d : ℕ) (keyword : Bytes)
@@ -248,10 +204,9 @@ without_label : (s : Statement) (k : ℕ) (xs : List Token) (d : ℕ) (keyword :
     → is_complete s ≡ true → IsSpelled s
 without_label s k xs d keyword no_label symbols_are end_is are_tokens complete =
     let parts = complete_parts _ (is_plain (symbols_of s)) _ complete in
-    unlabelled s xs (token d (codes "$.")) no_label symbols_are
-    (all_first IsTextToken xs (token d (codes "$.") ∷ []) are_tokens.1)
-    (sym (ap is_plain symbols_are) ∙ parts.1.0)
-    (all_second IsTextToken xs (token d (codes "$.") ∷ []) are_tokens.1).0 end_is
+    let tokens = all_split IsTextToken xs (token d (codes "$.") ∷ []) are_tokens.1 in
+    unlabelled s xs (token d (codes "$.")) no_label symbols_are tokens.0
+    (sym (ap is_plain symbols_are) ∙ parts.1.0) tokens.1.0 end_is
 
 -- a complete statement with a label
 with_label : (s : Statement) (l : Token) (k : ℕ) (xs : List Token) (d : ℕ) (keyword : Bytes)
@@ -260,11 +215,10 @@ with_label : (s : Statement) (l : Token) (k : ℕ) (xs : List Token) (d : ℕ) (
     → is_complete s ≡ true → IsSpelled s
 with_label s l k xs d keyword label_is symbols_are end_is are_tokens complete =
     let parts = complete_parts (is_label_if_any (label_of s)) (is_plain (symbols_of s)) _ complete in
+    let tokens = all_split IsTextToken xs (token d (codes "$.") ∷ []) are_tokens.1.1 in
     labelled s l xs (token d (codes "$.")) label_is symbols_are are_tokens.0
-    (sym (ap is_label_if_any label_is) ∙ parts.0)
-    (all_first IsTextToken xs (token d (codes "$.") ∷ []) are_tokens.1.1)
-    (sym (ap is_plain symbols_are) ∙ parts.1.0)
-    (all_second IsTextToken xs (token d (codes "$.") ∷ []) are_tokens.1.1).0 end_is
+    (sym (ap is_label_if_any label_is) ∙ parts.0) tokens.0
+    (sym (ap is_plain symbols_are) ∙ parts.1.0) tokens.1.0 end_is
 
 -- a complete statement of tokens
 statement_is_spelled : (s : Statement) → AllByRecursion IsTextToken (spelling_of s)
@@ -283,14 +237,11 @@ statement_is_spelled (axiomatic l k xs d) are_tokens complete =
     with_label (axiomatic l k xs d) l k xs d (codes "$a") refl refl refl are_tokens complete
 statement_is_spelled (provable l k xs e ps d) are_tokens complete =
     let parts = complete_parts (is_label l.word) (is_plain xs) (is_plain ps) complete in
-    let formula_and_proof = are_tokens.1.1 in
-    let proof_tokens =
-    all_second IsTextToken xs (token e (codes "$=") ∷ (ps ++ token d (codes "$.") ∷ []))
-    formula_and_proof in
-    labelled _ l xs (token d (codes "$.")) refl refl are_tokens.0 parts.0
-    (all_first IsTextToken xs (token e (codes "$=") ∷ (ps ++ token d (codes "$.") ∷ []))
-    formula_and_proof)
-    parts.1.0 (all_second IsTextToken ps (token d (codes "$.") ∷ []) proof_tokens.1).0 refl
+    let formula_and_proof =
+    all_split IsTextToken xs (token e (codes "$=") ∷ (ps ++ token d (codes "$.") ∷ []))
+    are_tokens.1.1 in
+    labelled _ l xs (token d (codes "$.")) refl refl are_tokens.0 parts.0 formula_and_proof.0
+    parts.1.0 (all_split IsTextToken ps (token d (codes "$.") ∷ []) formula_and_proof.1.1).1.0 refl
 statement_is_spelled (opening k) are_tokens complete =
     unlabelled _ [] (token k (codes "${")) refl refl tt refl are_tokens.0 refl
 statement_is_spelled (closing k) are_tokens complete =
@@ -301,12 +252,9 @@ all_statements_are_spelled : (ss : List Statement)
     → AllByRecursion IsSpelled ss
 all_statements_are_spelled [] are_tokens complete = tt
 all_statements_are_spelled (s ∷ ss) are_tokens complete =
-    let parts = and_parts (is_complete s) (list_all is_complete ss) complete in (
-      statement_is_spelled s
-          (all_first IsTextToken (spelling_of s) (flat_map spelling_of ss) are_tokens) parts.0,
-      all_statements_are_spelled ss
-          (all_second IsTextToken (spelling_of s) (flat_map spelling_of ss) are_tokens) parts.1,
-    )
+    let parts = and_parts (is_complete s) (list_all is_complete ss) complete in
+    let tokens = all_split IsTextToken (spelling_of s) (flat_map spelling_of ss) are_tokens in
+    (statement_is_spelled s tokens.0 parts.0, all_statements_are_spelled ss tokens.1 parts.1)
 
 -- ---- statements as they count
 
@@ -323,14 +271,7 @@ open_is_spelled (provable l k xs e ps d) spelled = by_openness (is_open_proof ps
       end = spelled.end;
     }
     by_openness false = spelled
-open_is_spelled (constants k xs d) spelled = spelled
-open_is_spelled (variables k xs d) spelled = spelled
-open_is_spelled (disjoint k xs d) spelled = spelled
-open_is_spelled (floating l k xs d) spelled = spelled
-open_is_spelled (essential l k xs d) spelled = spelled
-open_is_spelled (axiomatic l k xs d) spelled = spelled
-open_is_spelled (opening k) spelled = spelled
-open_is_spelled (closing k) spelled = spelled
+open_is_spelled _ spelled = spelled
 
 counted_are_spelled : (with_open : Bool) (db : List Statement) → AllByRecursion IsSpelled db
     → AllByRecursion IsSpelled (counted with_open db)
@@ -355,42 +296,23 @@ declared_words : (s : Statement) → IsSpelled s
 declared_words (constants k xs d) spelled =
     subst (AllByRecursion IsPlainWord) (sym (append-nil (words xs))) spelled.symbols
 declared_words (variables k xs d) spelled = spelled.symbols
-declared_words (disjoint k xs d) spelled = tt
-declared_words (floating l k xs d) spelled = tt
-declared_words (essential l k xs d) spelled = tt
-declared_words (axiomatic l k xs d) spelled = tt
-declared_words (provable l k xs e ps d) spelled = tt
-declared_words (opening k) spelled = tt
-declared_words (closing k) spelled = tt
-
-all_both : {X : Type 0} (P : X → Type 0) (xs ys : List X) → AllByRecursion P xs
-    → AllByRecursion P ys → AllByRecursion P (xs ++ ys)
-all_both P [] ys all_x all_y = all_y
-all_both P (x ∷ xs) ys all_x all_y = (all_x.0, all_both P xs ys all_x.1 all_y)
+declared_words _ spelled = tt
 
 all_declared : (db : List Statement) → AllByRecursion IsSpelled db
     → AllByRecursion IsPlainWord (flat_map (λ s. constants_of s ++ variables_of s) db)
 all_declared [] are_spelled = tt
 all_declared (s ∷ db) are_spelled =
-    all_both IsPlainWord (constants_of s ++ variables_of s) _ (declared_words s are_spelled.0)
+    all_of_both IsPlainWord (constants_of s ++ variables_of s) _ (declared_words s are_spelled.0)
     (all_declared db are_spelled.1)
 
 first_are_plain : (earlier ws : List Bytes) → AllByRecursion IsPlainWord ws
     → AllByRecursion IsPlainWord (first_occurrences earlier ws)
 first_are_plain earlier [] are_plain = tt
-first_are_plain earlier (w ∷ ws) are_plain =
-    by_test (is_in w earlier) (λ words_before. first_are_plain words_before ws are_plain.1)
-  where
-    by_test : (b : Bool)
-        → ((words_before : List Bytes)
-        → AllByRecursion IsPlainWord (first_occurrences words_before ws))
-        → AllByRecursion IsPlainWord
-        (elim b [
-          | true ↦ first_occurrences earlier ws
-          | false ↦ w ∷ first_occurrences (w ∷ earlier) ws
-        ])
-    by_test true later = later earlier
-    by_test false later = (are_plain.0, later (w ∷ earlier))
+first_are_plain earlier (w ∷ ws) are_plain = elim (cases_Bool (is_in w earlier)) [
+  | inl is_old ↦ rw (is_old, first_occurrences) (first_are_plain earlier ws are_plain.1)
+  | inr is_new ↦ rw (is_new, first_occurrences)
+      (are_plain.0, first_are_plain (w ∷ earlier) ws are_plain.1)
+]
 
 -- the label of what may be a statement
 abbrev label_in : Option Statement → Bytes
@@ -411,10 +333,10 @@ spelled_database db are_spelled = record {
       (λ w plain. plain) _ (first_are_plain [] _ (all_declared db are_spelled));
   places = λ k. (
     of_got IsSpelled (λ o. unwrap_or (option_map (λ t. t.at) (option_and_then label_of o)) 0 < 2 ^ 64)
-        (omega arith) (λ s spelled. let start = spelled.start in omega (arith, start)) db
+        (omega arith) (λ s spelled. omega (arith, spelled.start)) db
         are_spelled k,
     of_got IsSpelled (λ o. unwrap_or (option_map end_at o) 0 + 2 < 2 ^ 64) (omega arith)
-        (λ s spelled. let end = spelled.end in omega (arith, end)) db are_spelled k,
+        (λ s spelled. omega (arith, spelled.end)) db are_spelled k,
   );
 }
 
@@ -422,10 +344,10 @@ pub read_is_spelled : ReadIsSpelled
 read_is_spelled text db fault is_read with_open =
     spelled_database (counted with_open db)
     (counted_are_spelled with_open db
-    (all_first IsSpelled db is_read.rest
+    (all_split IsSpelled db is_read.rest
     (subst (AllByRecursion IsSpelled) is_read.splits
     (all_statements_are_spelled is_read.statements
-    (all_first IsTextToken (flat_map spelling_of is_read.statements) is_read.are_statements.rest
+    (all_split IsTextToken (flat_map spelling_of is_read.statements) is_read.are_statements.rest
     (subst (AllByRecursion IsTextToken) is_read.are_statements.splits
-    (tokens_are_text_tokens text)))
-    is_read.are_statements.are_statements.complete))))
+    (tokens_are_text_tokens text))).0
+    is_read.are_statements.are_statements.complete))).0)

@@ -1,5 +1,5 @@
 -- The words of a proof name no other steps than those that it has.
-use Rattle.std.proofs.Common.{◌≡◌, ℕ, zero, suc, ◌<◌, Bool}
+use Rattle.std.proofs.Common.{◌≡◌, ℕ, zero, suc, ◌+◌, ◌<◌, Bool}
 use Rattle.std.proofs.Common.{inl, inr, List, [], ◌∷◌, ◌++◌, length}
 use Rattle.std.proofs.Common.{count_by, Some, slice_get}
 use Rattle.std.proofs.Common.{refl, sym, ap, ap₂, ◌∙◌, subst, arith}
@@ -8,6 +8,7 @@ use Rattle.mm_laws.specs.Spelling.{Item, number, mark, is_number, is_mark_item}
 use Rattle.mm_laws.specs.Spelling.{IsMark, NamesStep}
 use Rattle.mm_laws.specs.Laws.NamedSteps.{NamedStepsAreUnique}
 use Rattle.mm_laws.proofs.SpelledStepsLaw.{count_append}
+use Rattle.std.proofs.lemmas.Option.{same_Some, slice_get_within}
 
 tail_counts_equal : (p : Item → Bool) (x : Item) (b c : List Item) → count_by p (x ∷ b)
     ≡ count_by p (x ∷ c)
@@ -19,19 +20,18 @@ tail_counts_equal p x b c counts_equal = omega (
   count_append p (x ∷ []) c,
 )
 
+no_mark_before : (b : List Item) (x : Item) → x ≡ mark → ¬ (0 ≡ count_by is_mark_item (x ∷ b))
+no_mark_before b x x_is_mark count_is_0 =
+    let with_mark = ap (λ y. count_by is_mark_item (y ∷ b)) x_is_mark in
+    omega (arith, count_append is_mark_item (mark ∷ []) b)
+
 fronts_equal : (b c d e : List Item) → b ++ mark ∷ d ≡ c ++ mark ∷ e
     → count_by is_mark_item b ≡ count_by is_mark_item c → b ≡ c
 fronts_equal [] [] d e lists_equal mark_counts_equal = refl
 fronts_equal [] (x ∷ c) d e lists_equal mark_counts_equal =
-    let x_is_mark : x ≡ mark = cc in
-    let mark_count_is_0 : 0 ≡ count_by is_mark_item (mark ∷ c) =
-    mark_counts_equal ∙ ap (λ y. count_by is_mark_item (y ∷ c)) x_is_mark in
-    absurd (omega (arith, mark_count_is_0, count_append is_mark_item (mark ∷ []) c))
+    absurd (no_mark_before c x (cc) mark_counts_equal)
 fronts_equal (x ∷ b) [] d e lists_equal mark_counts_equal =
-    let x_is_mark : x ≡ mark = cc in
-    let mark_count_is_0 : 0 ≡ count_by is_mark_item (mark ∷ b) =
-    sym mark_counts_equal ∙ ap (λ y. count_by is_mark_item (y ∷ b)) x_is_mark in
-    absurd (omega (arith, mark_count_is_0, count_append is_mark_item (mark ∷ []) b))
+    absurd (no_mark_before b x (cc) (sym mark_counts_equal))
 fronts_equal (x ∷ b) (y ∷ c) d e lists_equal mark_counts_equal =
     let heads_equal : x ≡ y = cc in
     let tails_equal : b ++ mark ∷ d ≡ c ++ mark ∷ e = cc in
@@ -55,55 +55,35 @@ marked_step_is_unique items k i j marks_i marks_j =
     let number_count_is_j = marks_j.number_count_is in
     omega arith
 
-index_lt_length : (xs : List ℕ) (i x : ℕ) → slice_get xs i ≡ Some x → i < length xs
-index_lt_length [] zero x x_is_at_i = absurd (cc)
-index_lt_length [] (suc i) x x_is_at_i = absurd (cc)
-index_lt_length (y ∷ xs) zero x x_is_at_i = omega arith
-index_lt_length (y ∷ xs) (suc i) x x_is_at_i = let index_lt_tail_length = index_lt_length xs i x
-    x_is_at_i in omega arith
-
 elements_equal : (xs : List ℕ) (i j x y : ℕ) → i ≡ j → slice_get xs i ≡ Some x → slice_get xs j
     ≡ Some y
     → x ≡ y
-elements_equal xs i j x y i_is_j x_is_at_i y_is_at_j = equal_if_some_equal (sym x_is_at_i
-    ∙ ap (slice_get xs) i_is_j ∙ y_is_at_j)
-  where
-    equal_if_some_equal : {a b : ℕ} → Some a ≡ Some b → a ≡ b
-    equal_if_some_equal options_equal = cc
+elements_equal xs i j x y i_is_j x_is_at_i y_is_at_j =
+    same_Some x y (sym x_is_at_i ∙ ap (slice_get xs) i_is_j ∙ y_is_at_j)
 
 -- a number names one step
 named_step_is_unique : (hypotheses labels : List ℕ) (before : List Item) (n : ℕ) (s t : Step)
     → NamesStep hypotheses labels before n s → NamesStep hypotheses labels before n t → s ≡ t
-named_step_is_unique hs ls items_before n (label i) (label j) (inl names_s) (inl names_t) =
-    let n_is_for_s = names_s.1 in let n_is_for_t = names_t.1 in ap label (elements_equal hs
-    names_s.0 names_t.0 i j (omega arith) names_s.2 names_t.2)
-named_step_is_unique hs ls items_before n (label i) (label j) (inr names_s) (inr names_t) =
-    let n_is_for_s = names_s.1 in let n_is_for_t = names_t.1 in ap label (elements_equal ls
-    names_s.0 names_t.0 i j (omega arith) names_s.2 names_t.2)
-named_step_is_unique hs ls items_before n (label i) (label j) (inl names_s) (inr names_t) =
-    let n_is_for_s = names_s.1 in let n_is_for_t = names_t.1 in let index_lt = index_lt_length hs
-    names_s.0 i names_s.2 in absurd (omega arith)
-named_step_is_unique hs ls items_before n (label i) (label j) (inr names_s) (inl names_t) =
-    let n_is_for_s = names_s.1 in let n_is_for_t = names_t.1 in let index_lt = index_lt_length hs
-    names_t.0 j names_t.2 in absurd (omega arith)
-named_step_is_unique hs ls items_before n (label i) (marked j) (inl names_s) names_t =
-    let n_is_for_s = names_s.1 in let n_is_for_t = names_t.1 in let index_lt = index_lt_length hs
-    names_s.0 i names_s.2 in absurd (omega arith)
-named_step_is_unique hs ls items_before n (label i) (marked j) (inr names_s) names_t =
-    let n_is_for_s = names_s.1 in let n_is_for_t = names_t.1 in let index_lt = index_lt_length ls
-    names_s.0 i names_s.2 in absurd (omega arith)
-named_step_is_unique hs ls items_before n (marked i) (label j) names_s (inl names_t) =
-    let n_is_for_s = names_s.1 in let n_is_for_t = names_t.1 in let index_lt = index_lt_length hs
-    names_t.0 j names_t.2 in absurd (omega arith)
-named_step_is_unique hs ls items_before n (marked i) (label j) names_s (inr names_t) =
-    let n_is_for_s = names_s.1 in let n_is_for_t = names_t.1 in let index_lt = index_lt_length ls
-    names_t.0 j names_t.2 in absurd (omega arith)
-named_step_is_unique hs ls items_before n (marked i) (marked j) names_s names_t =
-    let n_is_for_s = names_s.1 in
-    let n_is_for_t = names_t.1 in
-    let mark_indices_equal : names_s.0 ≡ names_t.0 = omega arith in
-    ap marked (marked_step_is_unique items_before names_t.0 i j (subst (λ k. IsMark items_before k
-    i) mark_indices_equal names_s.2) names_t.2)
+named_step_is_unique hs ls before n (label i) (label j) (inl (a, n_is, at_a)) (inl (b, m_is, at_b)) =
+    ap label (elements_equal hs a b i j (omega arith) at_a at_b)
+named_step_is_unique hs ls before n (label i) (label j) (inr (a, n_is, at_a)) (inr (b, m_is, at_b)) =
+    ap label (elements_equal ls a b i j (omega arith) at_a at_b)
+named_step_is_unique hs ls before n (label i) (label j) (inl (a, n_is, at_a)) (inr (b, m_is, at_b)) =
+    absurd (omega (arith, slice_get_within hs a i at_a))
+named_step_is_unique hs ls before n (label i) (label j) (inr (a, n_is, at_a)) (inl (b, m_is, at_b)) =
+    absurd (omega (arith, slice_get_within hs b j at_b))
+named_step_is_unique hs ls before n (label i) (marked j) (inl (a, n_is, at_a)) (b, m_is, _) =
+    absurd (omega (arith, slice_get_within hs a i at_a))
+named_step_is_unique hs ls before n (label i) (marked j) (inr (a, n_is, at_a)) (b, m_is, _) =
+    absurd (omega (arith, slice_get_within ls a i at_a))
+named_step_is_unique hs ls before n (marked i) (label j) (a, n_is, _) (inl (b, m_is, at_b)) =
+    absurd (omega (arith, slice_get_within hs b j at_b))
+named_step_is_unique hs ls before n (marked i) (label j) (a, n_is, _) (inr (b, m_is, at_b)) =
+    absurd (omega (arith, slice_get_within ls b j at_b))
+named_step_is_unique hs ls before n (marked i) (marked j) (a, n_is, marks_i) (b, m_is, marks_j) =
+    let a_is_b : a ≡ b = omega arith in
+    ap marked (marked_step_is_unique before b i j (subst (λ k. IsMark before k i) a_is_b marks_i)
+    marks_j)
 
 -- a number of the items, with so many before it
 record IsNth (items : List Item) (i : ℕ) : Type 0 where
@@ -112,6 +92,20 @@ record IsNth (items : List Item) (i : ℕ) : Type 0 where
   pub n : ℕ
   pub items_are : items ≡ items_before ++ number n ∷ items_after
   pub number_count_is : count_by is_number items_before ≡ i
+
+nth_later : (x : Item) (items : List Item) (i j : ℕ) → count_by is_number (x ∷ []) + i ≡ j
+    → IsNth items i → IsNth (x ∷ items) j
+nth_later x items i j count_is nth = record {
+  items_before = x ∷ nth.items_before;
+  items_after = nth.items_after;
+  n = nth.n;
+  items_are = ap (λ xs. x ∷ xs) nth.items_are;
+  number_count_is = omega (
+    arith,
+    nth.number_count_is,
+    count_append is_number (x ∷ []) nth.items_before,
+  );
+}
 
 number_at : (items : List Item) (i : ℕ) → i < count_by is_number items → IsNth items i
 number_at [] i i_lt_count = absurd (omega arith)
@@ -124,44 +118,11 @@ number_at (number n ∷ items) zero i_lt_count =
       number_count_is = refl;
     }
 number_at (number n ∷ items) (suc i) i_lt_count =
-    let in_tail = number_at items i (omega (
-      arith,
-      i_lt_count,
-      count_append is_number (number n ∷ []) items,
-    )) in
-    let count_in_tail = in_tail.number_count_is in
-    record {
-      items_before = number n ∷ in_tail.items_before;
-      items_after = in_tail.items_after;
-      n = in_tail.n;
-      items_are = ap (λ xs. number n ∷ xs) in_tail.items_are;
-      number_count_is = omega (
-        arith,
-        count_in_tail,
-        count_append is_number (number n ∷ [])
-            in_tail.items_before,
-      );
-    }
+    nth_later (number n) items i (suc i) (omega arith)
+    (number_at items i (omega (arith, i_lt_count, count_append is_number (number n ∷ []) items)))
 number_at (mark ∷ items) i i_lt_count =
-    let in_tail = number_at items i (omega (
-      arith,
-      i_lt_count,
-      count_append is_number (mark ∷ [])
-          items,
-    )) in
-    let count_in_tail = in_tail.number_count_is in
-    record {
-      items_before = mark ∷ in_tail.items_before;
-      items_after = in_tail.items_after;
-      n = in_tail.n;
-      items_are = ap (λ xs. mark ∷ xs) in_tail.items_are;
-      number_count_is = omega (
-        arith,
-        count_in_tail,
-        count_append is_number (mark ∷ [])
-            in_tail.items_before,
-      );
-    }
+    nth_later mark items i i (omega arith)
+    (number_at items i (omega (arith, i_lt_count, count_append is_number (mark ∷ []) items)))
 
 lists_equal : (a b : List Step) → length a ≡ length b
     → ((i : ℕ) → i < length a → slice_get a i ≡ slice_get b i) → a ≡ b
@@ -169,11 +130,8 @@ lists_equal [] [] lengths_equal equal_at_each = refl
 lists_equal [] (t ∷ b) lengths_equal equal_at_each = absurd (omega arith)
 lists_equal (s ∷ a) [] lengths_equal equal_at_each = absurd (omega arith)
 lists_equal (s ∷ a) (t ∷ b) lengths_equal equal_at_each =
-    ap₂ (λ x xs. x ∷ xs) (equal_if_some_equal (equal_at_each 0 (omega arith)))
+    ap₂ (λ x xs. x ∷ xs) (same_Some s t (equal_at_each 0 (omega arith)))
     (lists_equal a b (omega arith) (λ i i_lt_length. equal_at_each (suc i) (omega arith)))
-  where
-    equal_if_some_equal : {x y : Step} → Some x ≡ Some y → x ≡ y
-    equal_if_some_equal options_equal = cc
 
 pub named_steps_are_unique : NamedStepsAreUnique
 named_steps_are_unique hypotheses labels items ss other_steps are_steps are_other_steps =
