@@ -1,9 +1,10 @@
 -- What a reading of words stands for: the grammar of tokens and comments.
-use Rattle.std.proofs.Common.{◌≡◌, ℕ, ◌==◌, ◌&&◌, Bool, true, false, List, [], ◌∷◌, ◌++◌, length}
+use Rattle.std.proofs.Common.{◌≡◌, ℕ, ◌==◌, ◌&&◌, true, false, List, [], ◌∷◌, ◌++◌, length}
 use Rattle.std.proofs.Common.{get_or, Option, Some, None, is_some, refl, sym, ap, subst, ◌∙◌, arith}
 use Rattle.std.proofs.Common.{append_assoc, append-nil, eqb-true, true≢false}
 use Rattle.std.specs.List.{flat_map, AllByRecursion}
-use Rattle.std.proofs.lemmas.Bool.{and_parts}
+use Rattle.std.proofs.Common.{inl, inr}
+use Rattle.std.proofs.lemmas.Bool.{and_parts, cases_Bool, false_from_ne_true}
 use Rattle.std.specs.Option.{option_map}
 use Rattle.mm_spec.specs.declared.Word.{Word}
 use Rattle.mm_spec.specs.declared.Fault.{Fault}
@@ -56,12 +57,9 @@ closing_is_no_comment_word word closes = rw (dollar_and_byte 0x29 word closes) r
 
 comment_word_is_no_closing : (word : List ℕ) → is_comment_word word ≡ true
     → closes_comment word ≡ false
-comment_word_is_no_closing word is_comment = not_closing_by_test (closes_comment word) refl
-  where
-    not_closing_by_test : (b : Bool) → closes_comment word ≡ b → closes_comment word ≡ false
-    not_closing_by_test true closes = absurd (true≢false (sym is_comment
-        ∙ closing_is_no_comment_word word closes))
-    not_closing_by_test false no_closing = no_closing
+comment_word_is_no_closing word is_comment =
+    false_from_ne_true (closes_comment word) (λ closes. true≢false (sym is_comment
+    ∙ closing_is_no_comment_word word closes))
 
 -- the role that a word of each class has
 role_is_token : (word : List ℕ) → is_token word ≡ true → role_of false word ≡ roles.Token
@@ -93,26 +91,23 @@ data RoleInside (word : List ℕ) : Type 0 where
 
 role_outside : (word : List ℕ) → RoleOutside word
 unfolding role_of
-role_outside word = role_outside_by_tests (is_token word) (opens_comment word) refl refl
-  where
-    role_outside_by_tests : (a b : Bool) → is_token word ≡ a → opens_comment word ≡ b
-        → RoleOutside word
-    role_outside_by_tests true b is_token_word opens = token is_token_word (rw is_token_word refl)
-    role_outside_by_tests false true not_token opens = opening opens (rw (not_token, opens) refl)
-    role_outside_by_tests false false not_token no_opening = RoleOutside.neither
-        (rw (not_token, no_opening) refl)
+role_outside word = elim (cases_Bool (is_token word)) [
+  | inl is_token_word ↦ token is_token_word (role_is_token word is_token_word)
+  | inr not_token ↦ elim (cases_Bool (opens_comment word)) [
+    | inl opens ↦ opening opens (role_is_opening word opens)
+    | inr no_opening ↦ RoleOutside.neither (rw (not_token, no_opening) refl)
+  ]
+]
 
 role_inside : (word : List ℕ) → RoleInside word
 unfolding role_of
-role_inside word = role_inside_by_tests (closes_comment word) (is_comment_word word) refl refl
-  where
-    role_inside_by_tests : (a b : Bool) → closes_comment word ≡ a → is_comment_word word ≡ b
-        → RoleInside word
-    role_inside_by_tests true b closes is_comment = closing closes (rw closes refl)
-    role_inside_by_tests false true no_closing is_comment = comment is_comment
-        (rw (no_closing, is_comment) refl)
-    role_inside_by_tests false false no_closing not_comment = RoleInside.neither
-        (rw (no_closing, not_comment) refl)
+role_inside word = elim (cases_Bool (closes_comment word)) [
+  | inl closes ↦ closing closes (role_is_closing word closes)
+  | inr no_closing ↦ elim (cases_Bool (is_comment_word word)) [
+    | inl is_comment ↦ comment is_comment (role_is_comment word is_comment)
+    | inr not_comment ↦ RoleInside.neither (rw (no_closing, not_comment) refl)
+  ]
+]
 
 -- ---- a well-begun row is read as its tokens and its open comment
 
@@ -201,20 +196,17 @@ record BothAreBegun (text : List ℕ) (ws : List Word) : Type 0 where
 
 both_are_begun : (text : List ℕ) (ws : List Word) → BothAreBegun text ws
 both_are_begun text [] = record {
-  outside_comment = subst (IsBegunIfFaultless text []) (sym (reading_end text None))
-      (λ _. record {
-        lexemes = [];
-        last_comment = None;
-        are_lexemes = tt;
-        is_last_comment = tt;
-        words_are = refl;
-        tokens_are = refl;
-        comment_start_is = refl;
-      });
+  outside_comment = rw (reading_end text None) (λ _. record {
+    lexemes = [];
+    last_comment = None;
+    are_lexemes = tt;
+    is_last_comment = tt;
+    words_are = refl;
+    tokens_are = refl;
+    comment_start_is = refl;
+  });
   inside_comment =
-      λ o us opens are_comment_words. subst (IsBegunIfFaultless text (o ∷ (us ++ [])))
-      (sym (reading_end text (Some o.start)))
-      (λ _. record {
+      λ o us opens are_comment_words. rw (reading_end text (Some o.start)) (λ _. record {
         lexemes = [];
         last_comment = Some (record { opening = o; words = us });
         are_lexemes = tt;
@@ -225,49 +217,42 @@ both_are_begun text [] = record {
       });
 }
 both_are_begun text (w ∷ ws) = record {
-  outside_comment = begun_by_role_outside (role_outside (bytes_of text w)) (both_are_begun text ws);
+  outside_comment = begun_outside (role_outside (bytes_of text w)) (both_are_begun text ws);
   inside_comment =
-      λ o us opens are_comment_words. begun_by_role_inside o us opens are_comment_words (role_inside
-      (bytes_of text w))
-      (both_are_begun text ws);
+      λ o us opens are_comment_words. begun_inside o us opens are_comment_words
+      (role_inside (bytes_of text w)) (both_are_begun text ws);
 }
   where
-    begun_by_role_outside : RoleOutside (bytes_of text w) → BothAreBegun text ws
+    begun_outside : RoleOutside (bytes_of text w) → BothAreBegun text ws
         → IsBegunIfFaultless text (w ∷ ws) (reading text None (w ∷ ws))
-    begun_by_role_outside (token is_token_word role) later_are_begun =
-        subst (IsBegunIfFaultless text (w ∷ ws)) (sym (reading_of_token text None w ws role))
+    begun_outside (token is_token_word role) later =
+        rw (reading_of_token text None w ws role)
         (λ no_fault. IsWellBegun_cons text (Single w) ws _ _ is_token_word
-        (later_are_begun.outside_comment no_fault))
-    begun_by_role_outside (opening opens role) later_are_begun =
-        subst (IsBegunIfFaultless text (w ∷ ws)) (sym (reading_opening text None w ws role))
-        (later_are_begun.inside_comment w [] opens tt)
-    begun_by_role_outside (RoleOutside.neither role) later_are_begun =
-        subst (IsBegunIfFaultless text (w ∷ ws)) (sym (reading_faulty text None w ws role))
-        (λ no_fault. absurd cc)
+        (later.outside_comment no_fault))
+    begun_outside (opening opens role) later =
+        rw (reading_opening text None w ws role) (later.inside_comment w [] opens tt)
+    begun_outside (RoleOutside.neither role) later =
+        rw (reading_faulty text None w ws role) (λ no_fault. absurd cc)
 
-    begun_by_role_inside : (o : Word) (us : List Word) → opens_comment (bytes_of text o) ≡ true
+    begun_inside : (o : Word) (us : List Word) → opens_comment (bytes_of text o) ≡ true
         → AreCommentWords text us → RoleInside (bytes_of text w) → BothAreBegun text ws →
         IsBegunIfFaultless text (o ∷ (us ++ w ∷ ws)) (reading text (Some o.start) (w ∷ ws))
-    begun_by_role_inside o us opens are_comment_words (closing closes role) later_are_begun =
-        subst (IsBegunIfFaultless text (o ∷ (us ++ w ∷ ws)))
-        (sym (reading_closing text (Some o.start) w ws role))
+    begun_inside o us opens are_comment_words (closing closes role) later =
+        rw (reading_closing text (Some o.start) w ws role)
         (λ no_fault. subst
         (λ (vs : List Word). IsWellBegun text (o ∷ vs) (reading text None ws).tokens
         (reading text None ws).open_comment) (append_assoc us (w ∷ []) ws)
         (IsWellBegun_cons text (Comment o us w) ws _ _ (opens, are_comment_words, closes)
-        (later_are_begun.outside_comment no_fault)))
-    begun_by_role_inside o us opens are_comment_words (comment is_comment role) later_are_begun =
-        subst (IsBegunIfFaultless text (o ∷ (us ++ w ∷ ws)))
-        (sym (reading_comment text (Some o.start) w ws role))
+        (later.outside_comment no_fault)))
+    begun_inside o us opens are_comment_words (comment is_comment role) later =
+        rw (reading_comment text (Some o.start) w ws role)
         (subst (λ (vs : List Word). IsBegunIfFaultless text (o ∷ vs)
         (reading text (Some o.start) ws))
         (append_assoc us (w ∷ []) ws)
-        (later_are_begun.inside_comment o (us ++ w ∷ []) opens (AreCommentWords_push text us w
+        (later.inside_comment o (us ++ w ∷ []) opens (AreCommentWords_push text us w
         are_comment_words is_comment)))
-    begun_by_role_inside o us opens are_comment_words (RoleInside.neither role) later_are_begun =
-        subst (IsBegunIfFaultless text (o ∷ (us ++ w ∷ ws)))
-        (sym (reading_faulty text (Some o.start) w ws role))
-        (λ no_fault. absurd cc)
+    begun_inside o us opens are_comment_words (RoleInside.neither role) later =
+        rw (reading_faulty text (Some o.start) w ws role) (λ no_fault. absurd cc)
 
 -- ---- a fault is that of the first faulty word
 
@@ -286,60 +271,50 @@ abbrev IsSplitIfFault : List ℕ → Option ℕ → List Word → Fault → Read
 IsSplitIfFault text c ws f r = r.fault ≡ Some f → IsSplit text c ws f r
 
 -- one word further in front, which leads from the comment c to d
-split_cons : (text : List ℕ) (c d : Option ℕ) (x : Word) (xs : List Word) (f : Fault) (r : Reading)
-    →
-    ((us : List Word) → reading text c (x ∷ us) ≡ reading text d us) → IsSplit text d xs f r
-    → IsSplit text c (x ∷ xs) f r
-split_cons text c d x xs f r step_is split = record {
+split_cons : (text : List ℕ) (c d : Option ℕ) (x : Word) (xs ts : List Word) (f : Fault)
+    (r : Reading)
+    → ((us : List Word)
+    → reading text d us ≡ record { tokens = r.tokens; fault = None; open_comment = r.open_comment }
+    → reading text c (x ∷ us) ≡ record { tokens = ts; fault = None; open_comment = r.open_comment })
+    → IsSplit text d xs f r → IsSplit text c (x ∷ xs) f (record r { tokens = ts })
+split_cons text c d x xs ts f r step split = record {
   words_before = x ∷ split.words_before;
   w = split.w;
   words_after = split.words_after;
   words_split = ap (λ (us : List Word). x ∷ us) split.words_split;
-  front_is_read = step_is split.words_before ∙ split.front_is_read;
+  front_is_read = step split.words_before split.front_is_read;
   role_is_faulty = split.role_is_faulty;
   fault_is = split.fault_is;
 }
 
 reading_is_split : (text : List ℕ) (c : Option ℕ) (ws : List Word) (f : Fault)
     → IsSplitIfFault text c ws f (reading text c ws)
-reading_is_split text c [] f = subst (IsSplitIfFault text c [] f) (sym (reading_end text c)) (λ
-    no_fault. absurd cc)
+reading_is_split text c [] f = rw (reading_end text c) (λ no_fault. absurd cc)
 reading_is_split text c (x ∷ xs) f =
     split_by_role (role_of (is_some c) (bytes_of text x)) refl (λ d. reading_is_split text d xs f)
   where
     split_by_role : (r : Role) → role_of (is_some c) (bytes_of text x) ≡ r
         → ((d : Option ℕ) → IsSplitIfFault text d xs f (reading text d xs))
         → IsSplitIfFault text c (x ∷ xs) f (reading text c (x ∷ xs))
-    split_by_role roles.Token role_is later_is_split =
-        subst (IsSplitIfFault text c (x ∷ xs) f) (sym (reading_of_token text c x xs role_is)) (λ
-        has_fault.
-        let split = later_is_split c has_fault in record {
-          words_before = x ∷ split.words_before;
-          w = split.w;
-          words_after = split.words_after;
-          words_split = ap (λ (us : List Word). x ∷ us) split.words_split;
-          front_is_read = reading_of_token text c x split.words_before role_is
-              ∙ ap (with_tokens (x ∷ [])) split.front_is_read;
-          role_is_faulty = split.role_is_faulty;
-          fault_is = split.fault_is;
-        })
-    split_by_role roles.Opening role_is later_is_split =
-        subst (IsSplitIfFault text c (x ∷ xs) f) (sym (reading_opening text c x xs role_is))
-        (λ has_fault. split_cons text c (Some x.start) x xs f _ (λ us. reading_opening text c x us
-        role_is)
-        (later_is_split (Some x.start) has_fault))
-    split_by_role roles.Closing role_is later_is_split =
-        subst (IsSplitIfFault text c (x ∷ xs) f) (sym (reading_closing text c x xs role_is))
-        (λ has_fault. split_cons text c None x xs f _ (λ us. reading_closing text c x us role_is)
-        (later_is_split None has_fault))
-    split_by_role roles.Comment role_is later_is_split =
-        subst (IsSplitIfFault text c (x ∷ xs) f) (sym (reading_comment text c x xs role_is))
-        (λ has_fault. split_cons text c c x xs f _ (λ us. reading_comment text c x us role_is)
-        (later_is_split c has_fault))
-    split_by_role roles.Faulty role_is later_is_split =
-        subst (IsSplitIfFault text c (x ∷ xs) f) (sym (reading_faulty text c x xs role_is)) (λ
-        has_fault.
-        record {
+    split_by_role roles.Token role_is later =
+        rw (reading_of_token text c x xs role_is)
+        (λ has_fault. split_cons text c c x xs _ f _ (λ us front_is.
+        reading_of_token text c x us role_is ∙ ap (with_tokens (x ∷ [])) front_is)
+        (later c has_fault))
+    split_by_role roles.Opening role_is later =
+        rw (reading_opening text c x xs role_is)
+        (λ has_fault. split_cons text c (Some x.start) x xs _ f _ (λ us front_is.
+        reading_opening text c x us role_is ∙ front_is) (later (Some x.start) has_fault))
+    split_by_role roles.Closing role_is later =
+        rw (reading_closing text c x xs role_is)
+        (λ has_fault. split_cons text c None x xs _ f _ (λ us front_is.
+        reading_closing text c x us role_is ∙ front_is) (later None has_fault))
+    split_by_role roles.Comment role_is later =
+        rw (reading_comment text c x xs role_is)
+        (λ has_fault. split_cons text c c x xs _ f _ (λ us front_is.
+        reading_comment text c x us role_is ∙ front_is) (later c has_fault))
+    split_by_role roles.Faulty role_is later =
+        rw (reading_faulty text c x xs role_is) (λ has_fault. record {
           words_before = [];
           w = x;
           words_after = xs;

@@ -40,22 +40,9 @@ module _ (db : List Statement) (all_complete : AreComplete db) (k : ℕ) where
       judged_by_verdict : reading_faults_at db k ≡ []
           → Verdict (context_at db k) (all_complete k) (steps_at db k) (formula_at db k) end
           → IsValid db k ⊎ ((f : Fault) × ProofFault db k end f)
-      judged_by_verdict no_reading_faults (valid d derives) = inl (no_reading_faults, d, derives)
-      judged_by_verdict no_reading_faults (step_fault f is_step_fault) = inr (
-        f,
-        inr (
-          no_reading_faults,
-          inl is_step_fault,
-        ),
-      )
-      judged_by_verdict no_reading_faults (end_fault f is_end_fault) = inr (
-        f,
-        inr (
-          no_reading_faults,
-          inr
-              is_end_fault,
-        ),
-      )
+      judged_by_verdict no_faults (valid d derives) = inl (no_faults, d, derives)
+      judged_by_verdict no_faults (step_fault f is_fault) = inr (f, inr (no_faults, inl is_fault))
+      judged_by_verdict no_faults (end_fault f is_fault) = inr (f, inr (no_faults, inr is_fault))
 
       judged_by_reading_faults : (fs : List Fault) → reading_faults_at db k ≡ fs
           → IsValid db k ⊎ ((f : Fault) × ProofFault db k end f)

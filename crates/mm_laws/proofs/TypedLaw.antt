@@ -1,11 +1,11 @@
 -- Each mandatory variable of an assertion has a mandatory `$f`, and the variables of its frame are
 -- the mandatory ones.
 use Rattle.std.proofs.Common.{◌≡◌, ℕ, ◌==◌, ◌<◌, Bool, true, ◌&&◌, ◌||◌, ◌⊎◌, inl, inr, List}
-use Rattle.std.proofs.Common.{[], ◌∷◌, ◌++◌, length, flat_map, refl, sym, ap, ap₂, ◌∙◌}
+use Rattle.std.proofs.Common.{◌++◌, length, flat_map, refl, sym, ap, ap₂, ◌∙◌}
 use Rattle.std.proofs.Common.{true≢false, eqb-true, eq-eqb, IsTrue}
 use Rattle.std.specs.List.{list_any}
 use Rattle.std.proofs.lemmas.Bool.{or_cases, or_left, or_right, and_parts, and_from}
-use Rattle.std.proofs.lemmas.List.Folds.{list_any-append}
+use Rattle.std.proofs.lemmas.List.Folds.{list_any-append, Any-from_list_any}
 use Rattle.mm_spec.specs.Statement.{Statement, axiomatic, provable}
 use Rattle.mm_spec.specs.Scope.{active_at, active, statement_at}
 use Rattle.mm_spec.specs.Opened.{counted}
@@ -38,15 +38,7 @@ assertion_has_formula _ is_assertion_s = absurd (true≢false (sym is_assertion_
 -- some item passes
 one_passes : {X : Type 0} (p : X → Bool) (xs : List X) → list_any p xs ≡ true
     → (x : X) × (p x ≡ true)
-one_passes p [] some_pass = absurd (true≢false (sym some_pass))
-one_passes {X} p (x ∷ xs) some_pass =
-    at_first_or_later (or_cases (p x) (list_any p xs) some_pass) (one_passes p xs)
-  where
-    at_first_or_later : (p x ≡ true) ⊎ (list_any p xs ≡ true)
-        → (list_any p xs ≡ true → (y : X) × (p y ≡ true))
-        → (y : X) × (p y ≡ true)
-    at_first_or_later (inl passes_x) one_of_rest = (x, passes_x)
-    at_first_or_later (inr some_pass) one_of_rest = one_of_rest some_pass
+one_passes p xs some_pass = let found = Any-from_list_any p xs some_pass in (found.1, found.4)
 
 module _ (db : List Statement) (are_lawful : (k : ℕ) → k < length db → IsLawful db k) (k : ℕ) where
   abbrev IsMandatory : ℕ → Type 0

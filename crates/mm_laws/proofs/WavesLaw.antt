@@ -1,9 +1,9 @@
 -- Where all theorems are valid, each has one wave.
-use Rattle.std.proofs.Common.{◌≡◌, ℕ, zero, suc, ◌<◌, ◌≤◌, Bool, true, false, ◌⊎◌, inl, inr, List}
+use Rattle.std.proofs.Common.{ℕ, zero, suc, ◌<◌, ◌≤◌, Bool, true, false, ◌⊎◌, inl, inr, List}
 use Rattle.std.proofs.Common.{length, None, refl, subst, arith, true≢false, sym, ◌∙◌}
 use Rattle.std.specs.Prelude.{IsTrue}
 use Rattle.std.specs.List.{list_any}
-use Rattle.std.proofs.lemmas.Bool.{cases_eq, cases_lt}
+use Rattle.std.proofs.lemmas.Bool.{cases_eq, cases_lt, cases_Bool}
 use Rattle.mm_spec.specs.Statement.{Statement}
 use Rattle.mm_spec.specs.Scope.{statement_at}
 use Rattle.mm_spec.specs.Laws.Chains.{TheoremChain}
@@ -27,20 +27,17 @@ module _ (db : List Statement) (by_essential : Bool) (all_complete : AreComplete
   IsLink t b = Cites db by_essential t b × IsTrue (list_any is_theorem (statement_at db b))
 
   link_or_none : (t b : ℕ) → IsLink t b ⊎ (IsLink t b → ⊥)
-  link_or_none t b =
-      link_by_citation (cites_is_decided db by_essential all_complete are_valid t b)
-      (list_any is_theorem (statement_at db b)) refl
+  link_or_none t b = elim (cases_Bool (list_any is_theorem (statement_at db b))) [
+    | inr no_theorem ↦ inr (λ is_link. true≢false (sym is_link.1 ∙ no_theorem))
+    | inl is_theorem_b ↦ link_by_citation is_theorem_b
+        (cites_is_decided db by_essential all_complete are_valid t b)
+  ]
     where
-      link_by_citation : IsDecided (Cites db by_essential t b) → (m : Bool)
-          → list_any is_theorem (statement_at db b) ≡ m → IsLink t b ⊎ (IsLink t b → ⊥)
-      link_by_citation citation false not_theorem_b = inr (λ is_link. true≢false (sym is_link.1
-          ∙ not_theorem_b))
-      link_by_citation (true, decides_citation) true is_theorem_b = inl (
-        decides_citation.0 refl,
-        is_theorem_b,
-      )
-      link_by_citation (false, decides_citation) true is_theorem_b = inr (λ is_link. true≢false (sym
-          (decides_citation.1 is_link.0)))
+      link_by_citation : IsTrue (list_any is_theorem (statement_at db b))
+          → IsDecided (Cites db by_essential t b) → IsLink t b ⊎ (IsLink t b → ⊥)
+      link_by_citation is_theorem_b (true, decides) = inl (decides.0 refl, is_theorem_b)
+      link_by_citation is_theorem_b (false, decides) =
+          inr (λ is_link. true≢false (sym (decides.1 is_link.0)))
 
   -- a longest chain from t whose first link is below n
   abbrev LongestBelow : ℕ → ℕ → Type 0
@@ -53,61 +50,45 @@ module _ (db : List Statement) (by_essential : Bool) (all_complete : AreComplete
       → LongestBelow t n
   longest_below t zero have_waves_below = (0, tt, λ b b_lt_0. absurd (omega arith))
   longest_below t (suc n) have_waves_below =
-      longest_by_link (link_or_none t n) (have_waves_below n (omega arith))
-      (longest_below t n (λ b b_lt_n. have_waves_below b (omega arith)))
+      let longest = longest_below t n (λ b b_lt_n. have_waves_below b (omega arith)) in
+      let wave = have_waves_below n (omega arith) in
+      elim (link_or_none t n) [
+        | inr not_linked ↦ (
+          longest.0,
+          longest.1,
+          λ b b_lt is_link k is_chain. elim (cases_eq b n) [
+            | inl b_is_n ↦ absurd (not_linked (subst (IsLink t) b_is_n is_link))
+            | inr b_is_not_n ↦ longest.2 b (omega arith) is_link k is_chain
+          ],
+        )
+        | inl is_link ↦ elim (cases_lt wave.0 longest.0) [
+          | inl wave_lt ↦ (
+            longest.0,
+            longest.1,
+            next_is_longest wave longest longest.0 wave_lt (omega arith),
+          )
+          | inr longest_le ↦ (
+            suc wave.0,
+            (n, is_link.0, is_link.1, wave.1.0),
+            next_is_longest wave longest (suc wave.0) (omega arith) (omega arith),
+          )
+        ]
+      ]
     where
-      longest_without_link : (IsLink t n → ⊥) → (r : LongestBelow t n) → (b : ℕ) → b < suc n
-          → IsLink t b
-          → (k : ℕ)
-          → TheoremChain (Cites db by_essential) (IsTheorem db) b k → (b ≡ n) ⊎ (b ≡ n → ⊥)
-          → k < r.0
-      longest_without_link not_linked longest b b_lt_suc_n is_link k is_chain (inl b_is_n) = absurd
-          (not_linked (subst (IsLink t) b_is_n is_link))
-      longest_without_link not_linked longest b b_lt_suc_n is_link k is_chain (inr b_is_not_n) =
-          longest.2 b (omega arith) is_link k is_chain
-
       next_is_longest : (wave : (wave : ℕ) × IsWave db by_essential n wave) (r : LongestBelow t n)
-          (m : ℕ)
-          → wave.0 < m → r.0 ≤ m
+          (m : ℕ) → wave.0 < m → r.0 ≤ m
           → (b : ℕ) → b < suc n → IsLink t b → (k : ℕ)
-          → TheoremChain (Cites db by_essential) (IsTheorem db) b k → (b ≡ n) ⊎ (b ≡ n → ⊥) → k < m
-      next_is_longest wave longest m wave_lt_m longest_le_m b b_lt_suc_n is_link k is_chain (inl
-          b_is_n) =
-          let k_le_wave = wave.1.1 k
-          (subst (λ i. TheoremChain (Cites db by_essential) (IsTheorem db) i k) b_is_n is_chain) in
-          omega arith
-      next_is_longest wave longest m wave_lt_m longest_le_m b b_lt_suc_n is_link k is_chain (inr
-          b_is_not_n) = let k_lt_longest = longest.2 b (omega arith) is_link k is_chain in omega
-          arith
-
-      longest_with_link : IsLink t n → (wave : (wave : ℕ) × IsWave db by_essential n wave) (r :
-          LongestBelow t n)
-          → (wave.0 < r.0) ⊎ (r.0 ≤ wave.0) → LongestBelow t (suc n)
-      longest_with_link is_link wave longest (inl wave_lt_longest) = (
-        longest.0,
-        longest.1,
-        λ b b_lt_suc_n b_is_link k is_chain. next_is_longest wave longest
-            longest.0 wave_lt_longest (omega arith) b b_lt_suc_n b_is_link k is_chain (cases_eq b
-            n),
-      )
-      longest_with_link is_link wave longest (inr longest_le_wave) = (
-        suc wave.0,
-        (n, is_link.0, is_link.1, wave.1.0),
-        λ b b_lt_suc_n b_is_link k is_chain. next_is_longest wave longest (suc wave.0) (omega arith)
-            (omega arith) b b_lt_suc_n b_is_link k is_chain (cases_eq b n),
-      )
-
-      longest_by_link : IsLink t n ⊎ (IsLink t n → ⊥) → (w : ℕ) × IsWave db by_essential n w
-          → LongestBelow t n
-          → LongestBelow t (suc n)
-      longest_by_link (inl is_link) wave longest = longest_with_link is_link wave longest
-          (cases_lt wave.0 longest.0)
-      longest_by_link (inr not_linked) wave longest = (
-        longest.0,
-        longest.1,
-        λ b b_lt_suc_n is_link k is_chain. longest_without_link not_linked
-            longest b b_lt_suc_n is_link k is_chain (cases_eq b n),
-      )
+          → TheoremChain (Cites db by_essential) (IsTheorem db) b k → k < m
+      next_is_longest wave longest m wave_lt_m longest_le_m b b_lt is_link k is_chain =
+          elim (cases_eq b n) [
+            | inl b_is_n ↦ omega (
+              arith,
+              wave.1.1 k
+                  (subst (λ i. TheoremChain (Cites db by_essential) (IsTheorem db) i k) b_is_n
+                  is_chain),
+            )
+            | inr b_is_not_n ↦ omega (arith, longest.2 b (omega arith) is_link k is_chain)
+          ]
 
   -- a longest chain is the wave
   longest_is_wave : (t : ℕ) → LongestBelow t t → (w : ℕ) × IsWave db by_essential t w
