@@ -22,9 +22,9 @@ from pathlib import Path
 
 from query.tests.browser import browsers, parts, proofs, views, whole
 from query.tests.browser.browsers import Browser
-from query.tests.browser.counting import checks, count, figure, same
 from query.tests.browser.truth import DATABASES, Truth, metamath_conditions
 from query.tests.browser.views import Shown
+from query.tests.counting import checks, count, figure, same
 
 
 def missing(what: str) -> None:

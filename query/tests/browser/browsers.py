@@ -10,9 +10,9 @@ from abc import ABC, abstractmethod
 from pathlib import Path
 from typing import Any
 
-from query.tests.browser.counting import count, same
 from query.tests.browser.marionette import Marionette
 from query.tests.browser.scripts import GATHER
+from query.tests.counting import count, same
 
 
 def optional(name: str) -> Any:

@@ -7,9 +7,9 @@ from pathlib import Path
 from typing import Any
 
 from query.tests.browser.browsers import Browser, Chromium, Keys
-from query.tests.browser.counting import count, same
 from query.tests.browser.scripts import BROKEN_LABELS, CONTRAST, NAMES, TARGETS
 from query.tests.browser.truth import Truth, as_shown, definitions
+from query.tests.counting import count, same
 
 LEAST_CONTRAST = 4.5
 TALLEST = 8000  # dots of the overview on a telephone

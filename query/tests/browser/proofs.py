@@ -6,8 +6,8 @@ from pathlib import Path
 from typing import Any
 
 from query.tests.browser.browsers import Browser
-from query.tests.browser.counting import count, same
 from query.tests.browser.truth import Truth
+from query.tests.counting import count, same
 
 # The steps that are shown, each with the steps that it uses, what it applies, and its formula as
 # the database spells it; null until they are there.

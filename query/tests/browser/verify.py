@@ -12,10 +12,10 @@ from pathlib import Path
 
 from query.tests.browser import browsers, verifying, whole
 from query.tests.browser.browsers import Browser, WebKit
-from query.tests.browser.counting import checks
 from query.tests.browser.truth import DATABASES, PROGRAM
 from query.tests.browser.verifying import Room
 from query.tests.browser.views import Shown, check_sample
+from query.tests.counting import checks
 
 
 def options_of(told: str) -> argparse.Namespace:

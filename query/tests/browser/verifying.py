@@ -21,12 +21,12 @@ from query.options import Options
 from query.tests.blocks import blocks_in
 from query.tests.browser import proofs
 from query.tests.browser.browsers import Browser, Chromium, Keys, WebKit
-from query.tests.browser.counting import count, figure, same
 from query.tests.browser.databases import EVIL, EVIL_TYPESETTING, NEWER, OLDER, OPEN
 from query.tests.browser.scripts import CONTRAST, GATHER, NAMES, TARGETS
 from query.tests.browser.truth import DATABASES, HERE, PROGRAM, Truth
 from query.tests.browser.views import Shown
 from query.tests.browser.whole import Asked, run
+from query.tests.counting import count, figure, same
 
 BUILD = HERE / "web" / "verifier" / "build"
 STUB = HERE / "query" / "tests" / "library_stub.js"

@@ -6,8 +6,8 @@ from pathlib import Path
 from typing import Any
 
 from query.tests.browser.browsers import Browser
-from query.tests.browser.counting import count, same
 from query.tests.browser.truth import Truth, as_shown, definitions, metamath_conditions
+from query.tests.counting import count, same
 
 HUES = {"wff": "blue", "setvar": "red", "class": "purple"}
 SENTENCE = re.compile(r"\((?:New\s+usage|Proof\s+modification)\s+is\s+discouraged\.\)")

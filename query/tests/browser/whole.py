@@ -13,7 +13,6 @@ from pathlib import Path
 from typing import Any
 
 from query.tests.browser.browsers import Browser, Keys
-from query.tests.browser.counting import count, figure, same
 from query.tests.browser.databases import (
     CORNERS,
     EVIL,
@@ -28,6 +27,7 @@ from query.tests.browser.parts import check_narrow
 from query.tests.browser.scripts import CONTRAST
 from query.tests.browser.truth import DATABASES, HERE, PROGRAM, Truth
 from query.tests.browser.views import Shown
+from query.tests.counting import count, figure, same
 
 MOST_BYTES = 12_000_000
 MOST_SECONDS = 12
