@@ -10,8 +10,8 @@ from typing import Any, NoReturn
 
 from query.errors import NoAnswer, nearest, shown
 
-Given = list[tuple[argparse.Action, list[str]]]
-"""Arguments with the words that are given for them."""
+Given = tuple[argparse.Action, list[str]]
+"""An argument with the words that are given for it."""
 SHARES: dict[int | str | None, str] = {None: "(.)", "+": "(.+)", "*": "(.*)", "?": "(.?)"}
 """How many words an argument takes, as a pattern that has a sign for each."""
 
@@ -54,7 +54,7 @@ class Parser(argparse.ArgumentParser):
     def read(self, words: list[str]) -> argparse.Namespace:
         """What the words give: options from anywhere before a `--`, then the others. NoAnswer where
         they aren't what the command takes."""
-        given: Given = []
+        given: list[Given] = []
         plain: list[str] = []
         left = iter(words)
         for word in left:
@@ -65,30 +65,31 @@ class Parser(argparse.ArgumentParser):
             else:
                 plain.append(word)
         for names in self.apart:
-            some = [each for each in dict(given) if each.option_strings[0] in names]
-            if len(some) > 1:
-                refuse(some[1], f"not allowed with argument {some[0].option_strings[0]}")
-        given += self.shared_out(plain, dict(given))
+            both = [each for each in dict(given) if each.option_strings[0] in names]
+            if len(both) > 1:
+                refuse(both[1], f"not allowed with argument {both[0].option_strings[0]}")
         found = argparse.Namespace(**{each.dest: each.default for each in self.actions})
         for action, texts in given:
-            values = [value_of(action, text) for text in texts]
-            action(self, found, values[0] if action.nargs in (None, "?") else values)
+            action(self, found, meant(action, texts))
+        for action, texts in self.shared_out(plain, dict(given)):
+            action(self, found, meant(action, texts))
         return found
 
-    def read_option(self, word: str, left: Iterator[str]) -> tuple[argparse.Action, list[str]]:
+    def read_option(self, word: str, left: Iterator[str]) -> Given:
         """An option with its value, which is taken from what is left where it follows."""
         name, sign, value = word.partition("=")
         action = self.options().get(name)
         if action is None:
             raise NoAnswer(shown(f"there is no option {name}{nearest(name, self.options())}"))
-        if action.nargs == 0 and sign:
+        most = 0 if action.nargs == 0 else 1
+        values = [value] if sign else list(islice(left, most))
+        if len(values) > most:
             refuse(action, f"ignored explicit argument {value!r}")
-        values = [value] if sign else list(islice(left, action.nargs != 0))
-        if action.nargs != 0 and not values:
+        if len(values) < most:
             raise NoAnswer(f"the option {name} lacks its value")
         return action, values
 
-    def shared_out(self, plain: list[str], given: Container[argparse.Action]) -> Given:
+    def shared_out(self, plain: list[str], given: Container[argparse.Action]) -> list[Given]:
         """The plain words by what they are given for. NoAnswer where some are missing or too many,
         or where an option is missing that isn't among those given."""
         wanted = [each for each in self.actions if not each.option_strings]
@@ -104,7 +105,7 @@ class Parser(argparse.ArgumentParser):
         else:
             spans = [share.span(place + 1) for place in range(len(wanted))]
             shared = [(each, plain[slice(*span)]) for each, span in zip(wanted, spans)]
-            return [(each, words) for each, words in shared if words or each.nargs == "*"]
+            return [(each, texts) for each, texts in shared if texts or each.nargs == "*"]
         raise NoAnswer(f"{shown(told)}; {self.format_usage().strip()}")
 
 
@@ -113,16 +114,17 @@ def refuse(action: argparse.Action, why: str) -> NoReturn:
     raise NoAnswer(shown(str(argparse.ArgumentError(action, why))))
 
 
-def value_of(action: argparse.Action, text: str) -> Any:
-    """What a word means for an argument."""
+def meant(action: argparse.Action, words: list[str]) -> Any:
+    """What the words for an argument mean."""
     try:
-        value = action.type(text) if callable(action.type) else text
+        values = [action.type(word) if callable(action.type) else word for word in words]
     except argparse.ArgumentTypeError as error:
         refuse(action, str(error))
-    if action.choices is not None and value not in action.choices:
-        known = ", ".join(map(repr, action.choices))
-        refuse(action, f"invalid choice: {value!r} (choose from {known})")
-    return value
+    for value in values:
+        if action.choices is not None and value not in action.choices:
+            known = ", ".join(map(repr, action.choices))
+            refuse(action, f"invalid choice: {value!r} (choose from {known})")
+    return values[0] if action.nargs in (None, "?") else values
 
 
 @dataclass(frozen=True)

@@ -47,6 +47,7 @@ class CommandLine(World):
         self.refuses("rests", "--formt=json", "small.mm", "a2", why="did you mean --format?")
         self.refuses("rests", "small.mm", "a2", "--xyzzy", why="no option --xyzzy\n")
         self.refuses("rests", "small.mm", "a2", "--format", "xml", why="xml")
+        self.refuses("rests", "--format=xml", why="'xml'")
         self.refuses("rests", "small.mm", "a2", "--format", why="lacks its value")
         self.refuses("rests", why="usage: mmquery rests [OPTIONS] DATABASE LABEL..\n")
         self.refuses(
