@@ -243,6 +243,14 @@ class Database:
             return counted(self.said(COUNTS))
         return found.axioms, len(found.theorems)
 
+    def see_statements(self) -> None:
+        """Refused where something else than a proof is at fault."""
+        try:
+            self.counts()
+        except Refused as refused:
+            if not refused.is_of_proof:
+                raise
+
     def graph(self) -> Graph:
         """The citations alone, which need no marks. NoAnswer where the database is refused, or the
         report is damaged or lacks them.

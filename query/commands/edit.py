@@ -6,7 +6,6 @@ from query.bare import Stretch, bare, proof_of
 from query.commands import Command
 from query.context import Context
 from query.errors import NoAnswer, shown
-from query.faults import Refused
 from query.options import Options, Parser, add_database
 
 PAGE = """
@@ -38,11 +37,7 @@ def run(context: Context, arguments: argparse.Namespace) -> int:
     """Answers."""
     database = context.database(arguments.database, Options(only=None, open=True))
     data = database.data()
-    try:
-        database.counts()
-    except Refused as refused:
-        if not refused.is_of_proof:
-            raise
+    database.see_statements()
     text = bare(data)
     start, end = found_proof(text, database.name, arguments.theorem)
     given = b" ? "
