@@ -198,6 +198,7 @@ export class Finder {
 
     close() {
         this.results.hidden = true;
+        this.results.children[this.active]?.setAttribute("aria-selected", "false");
         this.active = -1;
         this.input.setAttribute("aria-expanded", "false");
         this.input.removeAttribute("aria-activedescendant");

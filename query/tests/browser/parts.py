@@ -196,7 +196,9 @@ def check_axiom_keys(browser: Browser, truth: Truth, axiom: str, other: str) -> 
     name = browser.name
     browser.press("/")
     browser.press(axiom)
-    browser.press(Keys.DOWN)
+    browser.press(Keys.DOWN, Keys.DOWN, Keys.ESCAPE, Keys.DOWN)
+    chosen = browser.run("return texts('#results [aria-selected=true] .label', document)")
+    same(chosen, [axiom], f"{name}: the arrow key chooses one line, also after Escape")
     active = browser.run(
         "const chosen = document.getElementById('search').getAttribute('aria-activedescendant');"
         "return document.getElementById(chosen).dataset.label"
