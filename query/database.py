@@ -303,6 +303,11 @@ class Database:
         columns = self.prepared.columns
         return [columns[number] for number in self.of_typecode()]
 
+    def see_axioms(self) -> None:
+        """NoAnswer where it has no axiom of this typecode."""
+        if not self.of_typecode():
+            raise NoAnswer(f"{self.name}: has no axiom{self.which()}")
+
     def left_out(self, label: str) -> str:
         """Which option left an axiom out, as the end of a sentence; empty where none did."""
         if label in self.axioms():
@@ -320,9 +325,8 @@ class Database:
 
     def chosen_columns(self, found: Prepared) -> Sequence[int]:
         """The columns of the axioms that the options choose. NoAnswer where there are none."""
+        self.see_axioms()
         options, columns = self.options, self.of_typecode()
-        if not columns:
-            raise NoAnswer(f"{self.name}: has no axiom{self.which()}")
         if not options.axioms and not options.ignore_definitions:
             return columns
         for word in options.axioms:

@@ -5,7 +5,6 @@ import argparse
 from query.commands import Command
 from query.context import Context
 from query.definitions import Definitions
-from query.errors import NoAnswer
 from query.options import Parser, add_choice_of_citations, add_database, options_of
 from query.output import Value
 
@@ -48,8 +47,8 @@ def configure(parser: Parser) -> None:
 def run(context: Context, arguments: argparse.Namespace) -> int:
     """Answers."""
     database = context.database(arguments.database, options_of(arguments))
-    if not database.axioms():
-        raise NoAnswer(f"{database.name}: has no axiom{database.which()}")
+    database.see_text()
+    database.see_axioms()
     rows: list[list[Value]] = [
         [each.label, WORDS[each.is_sound], each.why]
         for each in Definitions(database.text.assertions).verdicts()
