@@ -2,6 +2,7 @@
 -- memory, `allocate` turns the units of a room into the block that is asked for, and `deallocate`
 -- turns that block back into them.
 pub mod MemoryLaw
+pub mod DroppedLaw
 pub mod RoomLaw
 pub mod BlockLaw
 pub mod ReuseLaw

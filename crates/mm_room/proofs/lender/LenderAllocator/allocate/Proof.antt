@@ -16,19 +16,19 @@ use types.Match.{vrt, in_variant}
 use types.Run.{enter, of_opd, lit, stop, fld, no_more, and_then, first, switches_on, exec, returns}
 use types.ByLocal.{alloc_all, pass_all, free_all, look_at, get, get_in, get_tag, sets, sets_last}
 use types.ByLocal.{lands_as, env}
-use denote.Builtin.{RefOf, usize}
 use denote.Plain.{uint_vals, uint_Tells}
 use denote.RawPtr.{block_ptr}
 use denote.Ref.{shr_vals, shr_Tells}
 use denote.RattleType.{owns}
-use denote.Signature.{Slot, plain, types_at}
+use denote.Signature.{types_at}
 use denote.Steps.{nothing, heard}
 use denote.Triple.Call.{calls_at}
 use denote.Triple.Clauses.{Lasts, lasts}
 use denote.Triple.Entry.{alive}
 use denote.Triple.Spec.{triple_of}
 use denote.Triple.Table.{framed}
-use denote.Triple.Walked.{Stays, walk_of, stay_dropped, Goes-dropped, ends_at}
+use denote.Triple.Walked.{walk_of, ends_at}
+use Rattle.mm_room.proofs.DroppedLaw.{all_dropped, all_go}
 use Rattle.core.proofs.alloc.Calls.{Answer, answer_val, Answer-Ok, Answer-err}
 use Rattle.core.proofs.alloc.Shapes.{arm_body}
 use Rattle.mm_room.specs.Units.{way_back}
@@ -41,24 +41,14 @@ use Rattle.mm_room.proofs.lender.LenderAllocator.allocate.Code as code
 use Rattle.mm_room.specs.contracts.lender.Lender.take_memory as g
 use Rattle.mm_room.proofs.lender.Lender.take_memory.Met.{met}
 
--- the slot of the lender
-abbrev lender_slot : Slot 1
-lender_slot = RefOf (0 ∷ []) tt (plain (λ _. lender.the_row)) (λ _. tt)
-
-abbrev stayed : Stays f.ended.signature.params f.ended.kept
-stayed = (stay_dropped _ _, (stay_dropped _ _, (stay_dropped _ _, tt)))
-
 pub allocate_spec : {M : Type 1} → statement M
 allocate_spec 𝓤 𝓛 𝓜 𝓡 wired =
+    let stayed = all_dropped f.ended.signature.params f.ended.kept in
     let c = f.clauses 𝓛 𝓜.mem 𝓡.returns in let W = walk_of 𝓛 f.ended stayed c in
     let 𝓣 = tables 𝓤 𝓛.H 𝓜 𝓡 𝓡.env in
-    proved 𝓛 f.ended stayed c 𝓜 𝓡 (
-      Goes-dropped 𝓛 1 lender_slot f.ended.kept.0 (λ κs x w. refl),
-      (
-        Goes-dropped 𝓛 1 (plain (λ _. usize)) f.ended.kept.1.0 (λ κs x w. refl),
-        (Goes-dropped 𝓛 1 (plain (λ _. usize)) f.ended.kept.1.1.0 (λ κs x w. refl), tt),
-      ),
-    )
+    proved 𝓛 f.ended stayed c 𝓜 𝓡
+    (all_go 𝓛 _ f.ended.signature.params f.ended.kept
+    ((λ κs x w. refl), ((λ κs x w. refl), ((λ κs x w. refl), tt))))
     f.Key.name code.function (code.unfolded 𝓤 𝓛.H 𝓜 𝓡 wired)
     (λ κs. (shr_vals, (uint_vals w64, (uint_vals w64, tt))))
     (λ κs. (shr_Tells (named 0) κs.0 lender.the_row, (uint_Tells w64, (uint_Tells w64, tt))))

@@ -15,20 +15,21 @@ use types.Kit.{split, split3, join, fsplit, fjoin, feq_i, feq_l, pick, await, su
 use types.Part.{agg}
 use types.Run.{enter, of_opd, unit_lit, no_more, and_then, returns}
 use types.ByLocal.{alloc_all, pass_all, free_all, look_at, get, sets, lands_as}
-use denote.Builtin.{RefOf, usize, unit}
+use denote.Builtin.{unit}
 use denote.Laws.{Is}
 use denote.Plain.{uint_vals, uint_Tells}
 use denote.RattleType.{owns}
-use denote.RawPtr.{RawPtr, room_for, rawptr_vals, rawptr_Tells, rawptr_Lawful}
+use denote.RawPtr.{room_for, rawptr_vals, rawptr_Tells, rawptr_Lawful}
 use denote.Ref.{shr_vals, shr_Tells}
-use denote.Signature.{Slot, plain, types_at}
+use denote.Signature.{types_at}
 use denote.Steps.{nothing, owned, only}
 use denote.Triple.Call.{calls_at}
 use denote.Triple.Clauses.{Lasts, lasts}
 use denote.Triple.Entry.{alive}
 use denote.Triple.Spec.{triple_of}
 use denote.Triple.Table.{framed}
-use denote.Triple.Walked.{Stays, walk_of, stay_dropped, Goes-dropped, ends_at}
+use denote.Triple.Walked.{walk_of, ends_at}
+use Rattle.mm_room.proofs.DroppedLaw.{all_dropped, all_go}
 use Rattle.mm_room.specs.Units.{units_at, way_back}
 use Rattle.mm_room.specs.contracts.lender.Lender as lender
 use Rattle.mm_room.specs.contracts.memory.Memory as memory
@@ -40,26 +41,13 @@ use Rattle.mm_room.proofs.lender.LenderAllocator.deallocate.Code as code
 use Rattle.mm_room.specs.contracts.lender.Lender.put_back as g
 use Rattle.mm_room.proofs.lender.Lender.put_back.Met.{met}
 
--- the slot of the lender
-abbrev lender_slot : Slot 1
-lender_slot = RefOf (0 ∷ []) tt (plain (λ _. lender.the_row)) (λ _. tt)
-
-abbrev stayed : Stays f.ended.signature.params f.ended.kept
-stayed = (stay_dropped _ _, (stay_dropped _ _, (stay_dropped _ _, (stay_dropped _ _, tt))))
-
 pub deallocate_spec : {M : Type 1} → statement M
 deallocate_spec 𝓤 𝓛 𝓜 𝓡 wired =
+    let stayed = all_dropped f.ended.signature.params f.ended.kept in
     let c = f.clauses 𝓛 𝓜.mem 𝓡.returns in let W = walk_of 𝓛 f.ended stayed c in
-    proved 𝓛 f.ended stayed c 𝓜 𝓡 (
-      Goes-dropped 𝓛 1 lender_slot f.ended.kept.0 (λ κs x w. refl),
-      (
-        Goes-dropped 𝓛 1 (plain (λ _. RawPtr)) f.ended.kept.1.0 (λ κs x w. refl),
-        (
-          Goes-dropped 𝓛 1 (plain (λ _. usize)) f.ended.kept.1.1.0 (λ κs x w. refl),
-          (Goes-dropped 𝓛 1 (plain (λ _. usize)) f.ended.kept.1.1.1.0 (λ κs x w. refl), tt),
-        ),
-      ),
-    )
+    proved 𝓛 f.ended stayed c 𝓜 𝓡
+    (all_go 𝓛 _ f.ended.signature.params f.ended.kept
+    ((λ κs x w. refl), ((λ κs x w. refl), ((λ κs x w. refl), ((λ κs x w. refl), tt)))))
     f.Key.name code.function (code.unfolded 𝓤 𝓛.H 𝓜 𝓡 wired)
     (λ κs. (shr_vals, (rawptr_vals, (uint_vals w64, (uint_vals w64, tt)))))
     (λ κs. (

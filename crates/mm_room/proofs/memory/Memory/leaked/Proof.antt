@@ -20,19 +20,19 @@ use types.Run.{enter, of_opd, lit, bin, stop, fld, no_more, and_then, first, swi
 use types.Run.{returns}
 use types.ByLocal.{alloc_all, pass_all, free_all, look_at, get, get_in, get_tag, sets, sets_last}
 use types.ByLocal.{lands_as, env}
-use denote.Builtin.{RefOf, usize}
 use denote.Laws.{Is}
 use denote.Param.{param, bounded}
 use denote.Plain.{uint_vals, uint_Tells}
 use denote.RattleType.{owns}
 use denote.RawPtr.{block_ptr}
 use denote.Ref.{shr_vals, shr_Tells}
-use denote.Signature.{Slot, plain, types_at}
+use denote.Signature.{types_at}
 use denote.Steps.{nothing, heard, owned}
 use denote.Triple.Call.{calls_at}
 use denote.Triple.Entry.{alive}
 use denote.Triple.Table.{framed}
-use denote.Triple.Walked.{Stays, walk_of, stay_dropped, Goes-dropped, says, ends_at}
+use denote.Triple.Walked.{walk_of, says, ends_at}
+use Rattle.mm_room.proofs.DroppedLaw.{all_dropped, all_go}
 use Rattle.core.proofs.alloc.Calls.{Al, seen, Takes, at_takes, Answered, Takes-goes, Takes-gives}
 use Rattle.core.proofs.alloc.Calls.{answers}
 use Rattle.core.proofs.alloc.Shapes.{after, head, arm_body}
@@ -53,16 +53,11 @@ leaked_spec 𝓤 𝓛 𝓜 𝓡 wired A L g d dd met md =
     let args : Args = bounded (a_type ∷ []) (A, tt) (dcons d (dcons dd dnil)) in
     let fn : Fn = inst_fn args code.function in
     let 𝓣 = tables 𝓤 𝓛.H 𝓜 𝓡 𝓡.env in
-    let alloc_slot : Slot 2 = RefOf (0 ∷ []) tt (plain (λ _. param 0 A)) (λ _. tt) in
-    let stayed : Stays T.signature.params T.kept = (
-      stay_dropped alloc_slot T.kept.0,
-      (stay_dropped (plain (λ _. usize)) T.kept.1.0, tt),
-    ) in
+    let stayed = all_dropped T.signature.params T.kept in
     let W = walk_of 𝓛 T stayed c in
-    proved 𝓛 T stayed c 𝓜 𝓡 (
-      Goes-dropped 𝓛 2 alloc_slot T.kept.0 (λ κs x w. refl),
-      (Goes-dropped 𝓛 2 (plain (λ _. usize)) T.kept.1.0 (λ κs x w. refl), tt),
-    )
+    proved 𝓛 T stayed c 𝓜 𝓡
+    (all_go 𝓛 _ T.signature.params T.kept
+    ((λ κs x w. refl), ((λ κs x w. refl), tt)))
     (f.Key.name args) fn (code.unfolded 𝓤 𝓛.H 𝓜 𝓡 wired (A, tt) d dd)
     (λ κs. (shr_vals, (uint_vals w64, tt)))
     (λ κs. (shr_Tells (named 0) κs.0 (param 0 A), (uint_Tells w64, tt)))

@@ -20,20 +20,21 @@ use types.Kit.{group}
 use types.Part.{agg}
 use types.Run.{enter, of_opd, unit_lit, no_more, and_then, returns}
 use types.ByLocal.{alloc_all, pass_all, free_all, look_at, get, sets, lands_as}
-use denote.Builtin.{RefOf, usize, unit}
+use denote.Builtin.{usize, unit}
 use denote.Laws.{Is}
 use denote.Plain.{uint_vals, uint_Tells}
 use denote.RattleType.{RattleType, owns}
-use denote.RawPtr.{RawPtr, room_for, rawptr_vals, rawptr_Tells, rawptr_Lawful}
+use denote.RawPtr.{room_for, rawptr_vals, rawptr_Tells, rawptr_Lawful}
 use denote.Ref.{shr_vals, shr_Tells}
-use denote.Signature.{Slot, plain, types_at}
+use denote.Signature.{types_at}
 use denote.Steps.{heard, nothing, owned, only}
 use denote.Triple.Call.{calls_at}
 use denote.Triple.Clauses.{Lasts, lasts}
 use denote.Triple.Entry.{alive}
 use denote.Triple.Spec.{triple_of}
 use denote.Triple.Table.{framed}
-use denote.Triple.Walked.{Stays, walk_of, stay_dropped, Goes-dropped, ends_at}
+use denote.Triple.Walked.{walk_of, ends_at}
+use Rattle.mm_room.proofs.DroppedLaw.{all_dropped, all_go}
 use Rattle.mm_room.specs.Units.{block_at, block_units, block_back}
 use Rattle.mm_room.specs.contracts.reuse.Reusing as lists
 use Rattle.mm_room.specs.contracts.block.Block as block
@@ -51,28 +52,11 @@ deallocate_spec 𝓤 𝓛 𝓜 𝓡 wired A L g d dd met md =
     let fn : Fn = inst_fn args code.function in
     let 𝓣 = tables 𝓤 𝓛.H 𝓜 𝓡 𝓡.env in
     let row : RattleType = lists.the_row (param 0 A) g in
-    let lists_slot : Slot 2 = RefOf (0 ∷ []) tt (plain (λ _. row)) (λ _. tt) in
-    let stayed : Stays T.signature.params T.kept = (
-      stay_dropped lists_slot T.kept.0,
-      (
-        stay_dropped (plain (λ _. RawPtr)) T.kept.1.0,
-        (
-          stay_dropped (plain (λ _. usize)) T.kept.1.1.0,
-          (stay_dropped (plain (λ _. usize)) T.kept.1.1.1.0, tt),
-        ),
-      ),
-    ) in
+    let stayed = all_dropped T.signature.params T.kept in
     let W = walk_of 𝓛 T stayed c in
-    proved 𝓛 T stayed c 𝓜 𝓡 (
-      Goes-dropped 𝓛 2 lists_slot T.kept.0 (λ κs x w. refl),
-      (
-        Goes-dropped 𝓛 2 (plain (λ _. RawPtr)) T.kept.1.0 (λ κs x w. refl),
-        (
-          Goes-dropped 𝓛 2 (plain (λ _. usize)) T.kept.1.1.0 (λ κs x w. refl),
-          (Goes-dropped 𝓛 2 (plain (λ _. usize)) T.kept.1.1.1.0 (λ κs x w. refl), tt),
-        ),
-      ),
-    )
+    proved 𝓛 T stayed c 𝓜 𝓡
+    (all_go 𝓛 _ T.signature.params T.kept
+    ((λ κs x w. refl), ((λ κs x w. refl), ((λ κs x w. refl), ((λ κs x w. refl), tt)))))
     (f.Key.name args) fn (code.unfolded 𝓤 𝓛.H 𝓜 𝓡 wired (A, tt) d dd)
     (λ κs. (shr_vals, (rawptr_vals, (uint_vals w64, (uint_vals w64, tt)))))
     (λ κs. (shr_Tells (named 0) κs.0 row, (rawptr_Tells, (uint_Tells w64, (uint_Tells w64, tt)))))
