@@ -28,15 +28,10 @@ module _ (c : Context) where
   pub step_stops_if_fails : (r : Option Referent) (es : List Formula) (reason : Reason)
       → IsCompleteReferent c r
       → Fails c r es reason → label_entries c r es ≡ Err reason
-  step_stops_if_fails None es too_few is_complete fails = absurd fails
-  step_stops_if_fails None es unmatched is_complete fails = absurd fails
-  step_stops_if_fails None es not_disjoint is_complete fails = absurd fails
-  step_stops_if_fails None es too_long is_complete fails = absurd fails
-  step_stops_if_fails (Some (hypothesis g)) es too_few is_complete fails = absurd fails
-  step_stops_if_fails (Some (hypothesis g)) es unmatched is_complete fails = absurd fails
-  step_stops_if_fails (Some (hypothesis g)) es not_disjoint is_complete fails = absurd fails
+  step_stops_if_fails None es _ is_complete fails = absurd fails
   step_stops_if_fails (Some (hypothesis g)) es too_long is_complete fails =
       ap (λ b. unless_too_long b (es ++ g ∷ [])) (lt-leb (length g) formula_limit fails)
+  step_stops_if_fails (Some (hypothesis g)) es _ is_complete fails = absurd fails
   step_stops_if_fails (Some (assertion a)) es too_few is_complete fails =
       ap (λ b. apply c a b (take (length es - length a.hypotheses) es)
       (drop (length es - length a.hypotheses) es))

@@ -1,5 +1,5 @@
 -- A text above the limit is refused at its first byte, whatever its bytes are.
-use Rattle.std.proofs.Common.{◌≡◌, ◌↔◌, ◌⊎◌, ℕ, ◌<◌, ◌≤◌, Bool, true, false, inl, inr, List, []}
+use Rattle.std.proofs.Common.{◌≡◌, ℕ, ◌<◌, Bool, true, false, inl, inr, List, []}
 use Rattle.std.proofs.Common.{map, length, take, Option, Some, codes, refl, sym, ap₂, ◌∙◌}
 use Rattle.std.proofs.Common.{subst, arith, length-take-le, take_all}
 use Rattle.std.proofs.lemmas.Bool.{cases_lt}
@@ -86,24 +86,18 @@ long_texts_are_refused text request bytes is_long = (
 )
 
 pub front_decides_output : FrontsDecide
-front_decides_output text request bytes n limit_lt_n = shorter_or_whole (cases_lt n (length text))
-  where
-    shorter_or_whole : (n < length text) ⊎ (length text ≤ n)
-        → IsOutput (take n text) request bytes ↔ IsOutput text request bytes
-    shorter_or_whole (inl n_lt_length) =
-        let front_length_is : length (take n text) ≡ n = length-take-le n text (omega arith) in
-        let front_is_refused = long_texts_are_refused (take n text) request bytes (omega (
-          arith,
-          limit_lt_n,
-          front_length_is,
-        )) in
-        let text_is_refused = long_texts_are_refused text request bytes (omega arith) in (
-          λ is_output. text_is_refused.1 (front_is_refused.0 is_output),
-          λ is_output.
-              front_is_refused.1 (text_is_refused.0 is_output),
-        )
-    shorter_or_whole (inr length_le_n) =
-        let front_is_text : take n text ≡ text = take_all n text length_le_n in (
-          (λ is_output. subst (λ t. IsOutput t request bytes) front_is_text is_output),
-          λ is_output. subst (λ t. IsOutput t request bytes) (sym front_is_text) is_output,
-        )
+front_decides_output text request bytes n limit_lt_n = elim (cases_lt n (length text)) [
+  | inl n_lt_length ↦
+      let front_length_is = length-take-le n text (omega arith) in
+      let front_is_refused = long_texts_are_refused (take n text) request bytes
+      (omega (arith, front_length_is)) in
+      let text_is_refused = long_texts_are_refused text request bytes (omega arith) in (
+        λ is_output. text_is_refused.1 (front_is_refused.0 is_output),
+        λ is_output. front_is_refused.1 (text_is_refused.0 is_output),
+      )
+  | inr length_le_n ↦
+      let front_is_text = take_all n text length_le_n in (
+        subst (λ t. IsOutput t request bytes) front_is_text,
+        subst (λ t. IsOutput t request bytes) (sym front_is_text),
+      )
+]

@@ -92,10 +92,7 @@ module _ (c : Context) (all_complete : (l : ℕ) → HasCompleteFrame c (c.refer
       → HasCompleteFrame c r
       → Fails c r es a
       → IsCompleteReferent c r
-  referent_is_complete None es a frame_is_complete fails = none_never_fails a fails
-    where
-      none_never_fails : (a : Reason) → Fails c None es a → ⊥
-      none_never_fails _ fails = fails
+  referent_is_complete None es _ frame_is_complete fails = absurd fails
   referent_is_complete (Some (hypothesis g)) es a frame_is_complete fails = tt
   referent_is_complete (Some (assertion g)) es a frame_is_complete fails = frame_is_complete
 

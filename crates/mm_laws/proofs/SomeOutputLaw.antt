@@ -46,14 +46,8 @@ output_exists_for_text text request =
   where
     sound_or_faulty_text : IsSoundOrFaulty (length text) (lexed_of text) request.with_open
         → (bytes : List ℕ) × IsOutput text request bytes
-    sound_or_faulty_text (inl has_fault) = (
-      refusal text has_fault.0,
-      inl (
-        has_fault.0,
-        has_fault.1,
-        refl,
-      ),
-    )
+    sound_or_faulty_text (inl (fault, is_first)) =
+        (refusal text fault, inl (fault, is_first, refl))
     sound_or_faulty_text (inr has_no_fault) =
         let all_complete =
         counted_complete request.with_open has_no_fault.0

@@ -141,44 +141,29 @@ module _ (db : List Statement) (are_lawful : (k : ℕ) → k < length db → IsL
   in_frame_is_mandatory : (x : ℕ) → is_variable_number db x ≡ true → is_in_frame db k x ≡ true
       → IsMandatory x
   in_frame_is_mandatory x is_variable_x is_in_frame_x =
-      in_formula_or_rest (or_cases (in_formula x k) (in_hypotheses x || in_pairs x) is_in_frame_x)
-    where
-      all_pairs : List Pair
-      all_pairs = pairs_below (length (symbol_names db))
-
-      pair_symbol_is_mandatory : (p : Pair) → is_mandatory_pair db k p ≡ true
-          → ((x == p.low) ≡ true) ⊎ ((x == p.high) ≡ true) → IsMandatory x
-      pair_symbol_is_mandatory p is_mandatory_p (inl x_is_low) =
-          ap (is_member (mandatory_variables db k)) (eqb-true x p.low x_is_low)
-          ∙ (pair_is_mandatory db are_lawful k p is_mandatory_p).0
-      pair_symbol_is_mandatory p is_mandatory_p (inr x_is_high) =
-          ap (is_member (mandatory_variables db k)) (eqb-true x p.high x_is_high)
-          ∙ (pair_is_mandatory db are_lawful k p is_mandatory_p).1
-
-      in_hypotheses_or_pairs : (in_hypotheses x ≡ true) ⊎ (in_pairs x ≡ true) → IsMandatory x
-      in_hypotheses_or_pairs (inl x_is_in_hypotheses) =
-          let some_active = sym (any_filter (is_mandatory db k) (in_formula x) (active db k))
-          ∙ x_is_in_hypotheses in
-          let found = passing_active db k (λ j. is_mandatory db k j && in_formula x j) some_active
-          in
-          let parts = and_parts (is_mandatory db k found.0) (in_formula x found.0) found.2 in
-          hypothesis_variable_is_mandatory db are_lawful k found.0 x found.1 parts.0 parts.1
-          is_variable_x
-      in_hypotheses_or_pairs (inr x_is_in_pairs) =
-          let found =
-          one_passes (λ p. is_mandatory_pair db k p && in_pair x p) all_pairs
-          (sym (any_filter (is_mandatory_pair db k) (in_pair x) all_pairs) ∙ x_is_in_pairs) in
-          let parts = and_parts (is_mandatory_pair db k found.0) (in_pair x found.0) found.1 in
-          pair_symbol_is_mandatory found.0 parts.0 (or_cases (x == found.0.low) (x == found.0.high)
-          parts.1)
-
-      in_formula_or_rest : (in_formula x k ≡ true) ⊎ ((in_hypotheses x || in_pairs x) ≡ true)
-          → IsMandatory x
-      in_formula_or_rest (inl x_is_in_formula) =
-          formula_variable_is_mandatory db are_lawful k x x_is_in_formula
-          is_variable_x
-      in_formula_or_rest (inr x_is_in_rest) =
-          in_hypotheses_or_pairs (or_cases (in_hypotheses x) (in_pairs x) x_is_in_rest)
+      elim (or_cases (in_formula x k) (in_hypotheses x || in_pairs x) is_in_frame_x) [
+        | inl in_own ↦ formula_variable_is_mandatory db are_lawful k x in_own is_variable_x
+        | inr in_rest ↦ elim (or_cases (in_hypotheses x) (in_pairs x) in_rest) [
+          | inl in_hypothesis ↦
+              let found = passing_active db k (λ j. is_mandatory db k j && in_formula x j)
+              (sym (any_filter (is_mandatory db k) (in_formula x) (active db k)) ∙ in_hypothesis) in
+              let parts = and_parts (is_mandatory db k found.0) (in_formula x found.0) found.2 in
+              hypothesis_variable_is_mandatory db are_lawful k found.0 x found.1 parts.0 parts.1
+              is_variable_x
+          | inr in_some_pair ↦
+              let all_pairs = pairs_below (length (symbol_names db)) in
+              let found = one_passes (λ p. is_mandatory_pair db k p && in_pair x p) all_pairs
+              (sym (any_filter (is_mandatory_pair db k) (in_pair x) all_pairs) ∙ in_some_pair) in
+              let parts = and_parts (is_mandatory_pair db k found.0) (in_pair x found.0) found.1 in
+              let both = pair_is_mandatory db are_lawful k found.0 parts.0 in
+              elim (or_cases (x == found.0.low) (x == found.0.high) parts.1) [
+                | inl is_low ↦ ap (is_member (mandatory_variables db k))
+                    (eqb-true x found.0.low is_low) ∙ both.0
+                | inr is_high ↦ ap (is_member (mandatory_variables db k))
+                    (eqb-true x found.0.high is_high) ∙ both.1
+              ]
+        ]
+      ]
 
 -- ---- the statements as they count
 
