@@ -203,7 +203,7 @@ class Spare(World):
         ]
         self.assertEqual([row[:6] for row in rows], wanted)
         self.assertEqual(self.query("verify", "new.mm").status, 0)
-        self.refuses("spare", "steps.mm", "--shorter", "--new-steps", why="--shorter excludes")
+        self.refuses("spare", "steps.mm", "--shorter", "--new-steps", why="--new-steps exclude one")
 
     def test_deep_formulas(self) -> None:
         """Formulas that are nested as deeply as they are long, on either side."""
