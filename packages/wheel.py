@@ -36,8 +36,8 @@ TOLD = {
     ANY: "For any system: the command mmdepend needs Node 18 or later, and the module\n"
     "mmdepend the shared library libmmdepend, which isn't in this package.",
 }
-# What each wheel has of the packed file.
-PACKED = (
+# What each wheel takes from the packed file.
+FROM_PACKED = (
     "README.md",
     "CHANGELOG.md",
     *LICENCES,
@@ -59,7 +59,7 @@ def make(packed: Packed, folder: Path, tag: str) -> Path:
         put_copy(packed.folder / "python" / "mmdepend.py", package / "__init__.py")
         put_copy(FILES / "commands.py", package / "commands.py")
         put(package / "py.typed", "")
-        packed.copy([*PACKED, "mmdepend"] if is_native else PACKED, package / "packed")
+        packed.copy([*FROM_PACKED, "mmdepend"] if is_native else FROM_PACKED, package / "packed")
         if is_native:
             put_copy(packed.library(), package / f"libmmdepend.so.{packed.version.split('.')[0]}")
         info = room / f"mmdepend-{packed.version}.dist-info"

@@ -12,7 +12,6 @@ from __future__ import annotations
 import re
 from collections.abc import Iterator
 from dataclasses import dataclass
-from itertools import chain
 from string import ascii_letters, digits
 from typing import NamedTuple
 
@@ -20,7 +19,8 @@ from query.errors import NoAnswer
 
 LABEL, SYMBOL, NUMBER = r"[A-Za-z0-9._-]++", r"[!-#%-~]++", r"(?:0|[1-9][0-9]{0,9})"
 LABEL_SIGNS = frozenset(f"{ascii_letters}{digits}._-")
-NUMBERS = re.compile(NUMBER)
+NUMBER_LIMIT = 10**10
+"""No place is that large: a `NUMBER` has at most ten digits."""
 # Possessive is only what has no choice within: Python before 3.11.5 takes other patterns wrongly.
 SAID = re.compile(
     rf"(?P<given>(?: \$f {LABEL} {SYMBOL} {SYMBOL}| \$e {LABEL}(?: {SYMBOL})+)*)"
@@ -146,9 +146,19 @@ def fields_of(section: str) -> Fields:
     labels, letters, places, ends, said = ([*each] for each in zip(*lines))
     if not all(labels) or not {*"".join(labels)} <= LABEL_SIGNS or not {*letters} <= {*"apo"}:
         raise Damaged
-    if not all(map(NUMBERS.fullmatch, chain(places, ends))):
+    return Fields(labels, letters, numbers_of(places), numbers_of(ends), said)
+
+
+def numbers_of(words: list[str]) -> list[int]:
+    """The numbers that words are. Damaged where one is written otherwise."""
+    try:
+        numbers = [*map(int, words)]
+    except ValueError:
+        raise Damaged from None
+    # Python reads more as a number than what stands in a report.
+    if [*map(str, numbers)] != words or not 0 <= min(numbers) <= max(numbers) < NUMBER_LIMIT:
         raise Damaged
-    return Fields(labels, letters, list(map(int, places)), list(map(int, ends)), said)
+    return numbers
 
 
 def assertions_of(section: bytes, data: bytes) -> list[Assertion]:

@@ -14,7 +14,7 @@ PROOF = re.compile(rb"\$=[^$]*+\$\.")
 Stretch = tuple[int, int]
 
 
-def bare(data: bytes) -> bytes:
+def without_comments(data: bytes) -> bytes:
     """The text with spaces in place of its comments."""
     return COMMENT.sub(lambda match: b" " * len(match[0]), data)
 

@@ -21,7 +21,8 @@ from contextlib import suppress
 from query import secret, system
 from query.files import fill, replacing
 
-MOST = 1_000_000_000
+MOST_CACHE_BYTES = 1_000_000_000
+"""Of all results together; one alone may have half of them."""
 FORM = b"mmquery result 3\n"
 CODE = 32  # bytes
 NEW = ".new-"
@@ -81,7 +82,7 @@ def read_whole(path: str) -> bytes:
     descriptor = secret.opened(path)
     with open(descriptor, "rb", buffering=0) as file:
         state = os.fstat(descriptor)
-        if secret.wrong_owner(state, 0o022) is not None or state.st_size > MOST:
+        if secret.wrong_owner(state, 0o022) is not None or state.st_size > MOST_CACHE_BYTES:
             raise OSError("isn't the user's own")
         system.note_use(descriptor)
         return file.readall()
@@ -108,7 +109,7 @@ def store(key: str, parts: dict[str, bytes]) -> None:
     """Keeps a result under a key, if it can be."""
     place = own_folder()
     data = packed(parts)
-    if place is None or len(data) > MOST // 2:
+    if place is None or len(data) > MOST_CACHE_BYTES // 2:
         return
     sealed_by = secret.made()
     if sealed_by is None:
@@ -127,8 +128,11 @@ def entries(place: str) -> list[tuple[float, int, str]]:
     with os.scandir(place) as files:
         for file in files:
             if OWN.fullmatch(file.name) and file.is_file(follow_symlinks=False):
-                state = file.stat(follow_symlinks=False)
-                found.append((state.st_mtime, state.st_size, file.path))
+                # What another process is about to keep may have got its name since the folder was
+                # listed.
+                with suppress(FileNotFoundError):
+                    state = file.stat(follow_symlinks=False)
+                    found.append((state.st_mtime, state.st_size, file.path))
     return sorted(found)
 
 
@@ -140,7 +144,7 @@ def make_room(place: str, size: int) -> None:
     before = time.time() - OLD_NEW
     for used, length, path in found:
         is_new = os.path.basename(path).startswith(NEW)
-        if (is_new and used < before) or (not is_new and total > MOST):
+        if (is_new and used < before) or (not is_new and total > MOST_CACHE_BYTES):
             with suppress(FileNotFoundError):
                 os.unlink(path)
             total -= length

@@ -17,6 +17,7 @@ from query.errors import NoAnswer
 from query.faults import Refused
 from query.graph import Graph
 from query.parallel import begun
+from query.source import NO_TEXT
 from query.statements import Pairer, Pairing
 from query.text import Text
 
@@ -41,6 +42,11 @@ class Side:
             known = self.cited[label] = frozenset(labels[each] for each in cited)
         return known
 
+    def has_citation(self, citing: str, cited: str) -> bool:
+        """Whether a theorem of this database cites an assertion of it."""
+        user, used = self.graph.index.get(citing), self.graph.index.get(cited)
+        return user is not None and used is not None and used in self.graph.cites[user]
+
     def users(self, axiom: str) -> list[str]:
         """The theorems that rest on an axiom, in file order; none where it isn't one here."""
         column = self.dependence.columns.get(axiom)
@@ -51,7 +57,7 @@ class Side:
 def text_of_side(side: Side) -> Text:
     """The text of a side. NoAnswer where it is a report."""
     if side.text is None:
-        raise NoAnswer(f"{side.name}: a report, where the database is wanted")
+        raise NoAnswer(f"{side.name}: {NO_TEXT}")
     return side.text
 
 

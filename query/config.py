@@ -63,7 +63,7 @@ PART = r"""(?:[\w-]+|"[^"]*"|'[^']*')"""
 KEY = re.compile(rf"\s*({PART}(?:\s*\.\s*{PART})*)\s*=")
 LABEL = re.compile(r"[A-Za-z0-9._-]+\Z")
 PATTERN = re.compile(r"[A-Za-z0-9._-]*\*?\Z")
-LONGEST = 1 << 20
+MOST_CONFIG_BYTES = 1 << 20
 """How many bytes of a file are read."""
 
 
@@ -162,8 +162,8 @@ def load_config(path: Path | None) -> Config:
 
 def read_config(data: bytes, name: str) -> Config:
     """Reads the content of the file."""
-    if len(data) > LONGEST:
-        raise Misread(name, f"longer than {LONGEST} bytes")
+    if len(data) > MOST_CONFIG_BYTES:
+        raise Misread(name, f"longer than {MOST_CONFIG_BYTES} bytes")
     try:
         text = data.decode("utf-8")
         table = tomllib.loads(text)

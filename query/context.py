@@ -34,17 +34,18 @@ class Context:
         self.asked = self.asked or found
         return found
 
-    def keeps(self) -> Test:
-        """Whether a label passes the filters. NoAnswer where these name what isn't there."""
+    def test(self) -> Test:
+        """Whether a label passes the filters, as a test. NoAnswer where these name what isn't
+        there."""
         if self.asked is None or not self.filters.are_given:
             return lambda label: True
         return self.filters.test(self.asked)
 
-    def kept(self, rows: Iterable[Sequence[Value]], column: int = 0) -> list[Sequence[Value]]:
+    def passing(self, rows: Iterable[Sequence[Value]], column: int = 0) -> list[Sequence[Value]]:
         """The rows whose label in a column passes the filters."""
         rows = list(rows)
-        keeps = self.keeps()
-        left = [row for row in rows if keeps(str(row[column]))]
+        passes = self.test()
+        left = [row for row in rows if passes(str(row[column]))]
         if rows and not left:
             self.tell(f"none of the {len(rows)} that there are passes the filters")
         return left
@@ -66,7 +67,7 @@ class Context:
         said = [told.format(len(some), some[0]) for told, some in remarks.items() if some]
         if not rows:
             self.tell("; ".join([empty, *said]))
-        left = rows if listed is None else self.kept(rows, columns.index(listed))
+        left = rows if listed is None else self.passing(rows, columns.index(listed))
         self.out.table(columns, left, aside)
         if rows and said and self.asked is not None:
             self.tell(f"{self.asked.name}: {'; '.join(said)}")

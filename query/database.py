@@ -15,8 +15,9 @@ from query.faults import Refused
 from query.graph import Graph, Lists
 from query.marks import Marks, columns_of, mask
 from query.options import Options
+from query.prepared import Prepared
 from query.program import REFUSAL, Program
-from query.report import Prepared, checked
+from query.report import checked
 from query.source import Source, opened
 from query.told import COUNTS, SECTIONS, counted, told
 
@@ -163,8 +164,7 @@ class Database:
 
     def see_text(self) -> None:
         """NoAnswer where DATABASE is a report."""
-        if self.is_report:
-            raise NoAnswer(f"{self.name}: a report, where the database is wanted")
+        self.source.see_text()
 
     def data(self) -> bytes:
         """The bytes of the database, not compressed. NoAnswer where DATABASE is a report."""

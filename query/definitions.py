@@ -26,8 +26,8 @@ EQUATIONS = {("(", WFF, "<->", WFF, ")"), (CLASS, "=", CLASS)}
 """The forms whose left side is defined, by typecodes in place of variables."""
 ANY = ""
 """What stands for each symbol."""
-MOST = 100
-"""Variables of a left side that are judged. Each two of them are looked at."""
+MOST_LEFT_VARIABLES = 100
+"""Of more variables of a left side nothing is judged, since each two of them are looked at."""
 
 
 @dataclass(frozen=True)
@@ -58,25 +58,26 @@ class Form:
     binds: Mapping[int, frozenset[int]]
 
 
-def given(arguments: Sequence[str]) -> Form:
+def undefined_form(arguments: Sequence[str]) -> Form:
     """What a syntax axiom binds that has no definition."""
     setvars = [number for number, each in enumerate(arguments) if each == SETVAR]
     others = frozenset(number for number, each in enumerate(arguments) if each != SETVAR)
-    if not others or len(arguments) > MOST:
+    if not others or len(arguments) > MOST_LEFT_VARIABLES:
         return Form(frozenset(setvars), {})
     return Form(frozenset(), dict.fromkeys(setvars, others))
 
 
 @dataclass
 class Definition:
-    """A definition of the right form. `form` is the syntax axiom of its left side, `left` has the
-    variables of that in order, and `right` is the right side."""
+    """A definition that reads `( LEFT <-> RIGHT )` or `LEFT = RIGHT`. `defined` is the label of the
+    syntax axiom of its left side, `left` has the variables of that in order, and `right` is the
+    right side."""
 
     one: Assertion
     symbols: list[str]
     variables: dict[str, str]
     tree: Tree
-    form: str
+    defined: str
     left: list[str]
     right: Part
 
@@ -93,8 +94,9 @@ class Definition:
 @dataclass
 class Scopes:
     """What is bound where on a right side. For each variable of typecode `setvar`, `bound` are the
-    stretches of symbols in which it is, and `free` the places where it is free unless that holds
-    there. `places` are those of other variables."""
+    stretches of symbols in which it is. `free` has the places where it is free, unless a stretch
+    of `bound` covers them. `places` are those of other variables. `known` keeps the answers of
+    `stretches`."""
 
     bound: dict[str, list[tuple[int, int]]] = field(default_factory=dict)
     free: dict[str, list[int]] = field(default_factory=dict)
@@ -135,7 +137,8 @@ class Definitions:
         for one in assertions:
             if is_syntax(one):
                 add_to(self.grammar, one)
-                self.forms[one.label] = given(self.grammar.arguments.get(one.label, ()))
+                arguments = self.grammar.arguments.get(one.label, ())
+                self.forms[one.label] = undefined_form(arguments)
             elif is_definition(one):
                 self.read.append(self.definition(one))
         known = [each for each in self.read if isinstance(each, Definition)]
@@ -157,7 +160,8 @@ class Definitions:
     def equation(
         self, one: Assertion, symbols: list[str], variables: dict[str, str], tree: Tree
     ) -> Definition:
-        """The definition that a formula is. Unsound where it is none."""
+        """The definition that a formula is. Unsound where it is none, NotJudged where no definition
+        can stand yet."""
         rule = tree.rules.get(tree.root)
         if EQUATIONS.isdisjoint(self.grammar.shapes.values()):
             raise NotJudged("there is neither a form ( wff <-> wff ) nor class = class before it")
@@ -195,14 +199,14 @@ class Definitions:
 
     def see_new(self, each: Definition) -> None:
         """Unsound where the form is used before, or on the right side."""
-        if each.form in (each.tree.rules[part] for part in parts_within(each.tree, each.right)):
-            raise Unsound(f"its right side has the form {each.form}, which it defines")
-        user = self.uses.first.get(each.form)
+        if each.defined in (each.tree.rules[part] for part in parts_within(each.tree, each.right)):
+            raise Unsound(f"its right side has the form {each.defined}, which it defines")
+        user = self.uses.first.get(each.defined)
         if user is not None and user.number < each.one.number:
-            raise Unsound(f"{user.label} before it has the form {each.form}, which it defines")
-        if each.form in self.uses.unread:
+            raise Unsound(f"{user.label} before it has the form {each.defined}, which it defines")
+        if each.defined in self.uses.unread:
             raise NotJudged(
-                f"it isn't seen whether {each.form} is new: {self.uses.unread[each.form]}"
+                f"it isn't seen whether {each.defined} is new: {self.uses.unread[each.defined]}"
             )
 
     def see_bound(self, each: Definition) -> None:
@@ -216,9 +220,9 @@ class Definitions:
                 if name not in scopes.bound:
                     raise Unsound(f"nothing binds the dummy {name}")
                 raise NotJudged(f"the dummy {name} stands also where nothing binds it")
-        if len(each.left) > MOST:
-            raise NotJudged(f"the left side has more than {MOST} variables")
-        self.forms[each.form] = form_of(each, scopes)
+        if len(each.left) > MOST_LEFT_VARIABLES:
+            raise NotJudged(f"the left side has more than {MOST_LEFT_VARIABLES} variables")
+        self.forms[each.defined] = form_of(each, scopes)
 
     def scopes(self, each: Definition) -> Scopes:
         """What is bound where on the right side."""
@@ -228,14 +232,14 @@ class Definitions:
             if rule is None:
                 found.places.setdefault(each.symbols[part.start], []).append(part.start)
                 continue
-            below, form = each.tree.below[part], self.forms[rule]
-            for number, one in enumerate(below):
-                name = each.symbols[one.start]
+            arguments, form = each.tree.below[part], self.forms[rule]
+            for number, argument in enumerate(arguments):
+                variable = each.symbols[argument.start]
                 if number in form.free:
-                    found.free.setdefault(name, []).append(one.start)
+                    found.free.setdefault(variable, []).append(argument.start)
                 for other in form.binds.get(number, ()):
-                    stretch = below[other].start, below[other].end
-                    found.bound.setdefault(name, []).append(stretch)
+                    stretch = arguments[other].start, arguments[other].end
+                    found.bound.setdefault(variable, []).append(stretch)
         return found
 
 
@@ -276,7 +280,7 @@ class Uses:
         self.first: dict[str, Assertion] = {}
         self.unread: dict[str, str] = {}
         self.grammar = Grammar()
-        self.defined = {each.form for each in known}
+        self.defined = {each.defined for each in known}
         self.signs: dict[str, str] = {}  # for each form that is awaited a constant of it
         self.awaited: dict[str, set[str]] = {}  # for each such constant the forms
         self.counts: Counter[str] = Counter()  # in how many syntax axioms a constant is

@@ -5,8 +5,9 @@ import os
 from collections.abc import Iterable
 from contextlib import suppress
 
-FEW, MANY = 500, 20_000
-"""Of more than `FEW` words not all are compared, and of `MANY` the first ones."""
+ALL_COMPARED_WORDS, MOST_COMPARED_WORDS = 500, 20_000
+"""So many words are all compared. Of more only those are that begin alike and are about as long, at
+most so many."""
 
 
 class NoAnswer(Exception):
@@ -43,9 +44,9 @@ def nearest(word: str, known: Iterable[str], cutoff: float = 0.5) -> str:
     if alike is not None:
         words = [alike]
         cutoff = 0
-    elif len(words) > FEW:
+    elif len(words) > ALL_COMPARED_WORDS:
         words = [each for each in words if each[:1] == word[:1] and abs(len(each) - len(word)) < 4]
-    near = difflib.get_close_matches(word, words[:MANY], n=1, cutoff=cutoff)
+    near = difflib.get_close_matches(word, words[:MOST_COMPARED_WORDS], n=1, cutoff=cutoff)
     return f"; did you mean {shown(near[0])}?" if near else ""
 
 

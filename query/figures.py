@@ -23,8 +23,8 @@ from query.marks import columns_of
 from query.objects import Objects
 from query.options import Options
 from query.parallel import Task, begun
-from query.report import Prepared
-from query.source import Source, unpacked
+from query.prepared import Prepared
+from query.source import NO_TEXT, Source, unpacked
 
 AT_ONCE = 4
 """So many revisions are judged at once, where there are as many processors."""
@@ -102,7 +102,7 @@ def figures(objects: Objects, revision: Revision, question: Question) -> Figures
     except NoAnswer as why:
         return Figures(fault=str(why))
     if source.is_report():
-        return Figures(fault="a report, where the database is wanted")
+        return Figures(fault=NO_TEXT)
     parts = kept(Database(source, question.options, question.uses_cache), question.theorem)
     columns = parts["axioms"].decode().split("\n") if parts["axioms"] else []
     numbers = dict(zip(columns, numbers_of(parts["numbers"])))

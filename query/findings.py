@@ -12,9 +12,9 @@ from query.rules import Finding
 
 MOST_ROWS = 1000
 """How many findings a summary in Markdown lists."""
-MOST_BYTES = 1_000_000
+MOST_SUMMARY_BYTES = 1_000_000
 """How long a summary is at the most, with what the file has already: GitHub takes 1 MB."""
-LONGEST = 1000
+SHOWN_TEXT = 1000
 """How many characters of a text a summary shows."""
 ENDING = 500
 """Bytes that are kept for the last line of a summary."""
@@ -113,19 +113,19 @@ def as_annotations(verdict: Verdict) -> str:
 
 def plain(text: str) -> str:
     """A text in Markdown that shows it as it is, cut where it is long."""
-    cut = text if len(text) <= LONGEST else text[:LONGEST] + " .."
+    cut = text if len(text) <= SHOWN_TEXT else text[:SHOWN_TEXT] + " .."
     return MARKS.sub(r"\\\1", shown(cut))
 
 
 def as_markdown(verdict: Verdict) -> str:
     """As a summary in Markdown: the answer, a table of the findings, and the notes."""
-    return markdown_within(verdict, MOST_BYTES)
+    return markdown_within(verdict, MOST_SUMMARY_BYTES)
 
 
 def as_summary(verdict: Verdict, path: str) -> str:
     """The same for the end of a file, which may have something already."""
     try:
-        return markdown_within(verdict, MOST_BYTES - os.stat(path).st_size)
+        return markdown_within(verdict, MOST_SUMMARY_BYTES - os.stat(path).st_size)
     except OSError:
         return as_markdown(verdict)
 

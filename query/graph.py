@@ -5,10 +5,8 @@ row; then the axioms. A theorem cites only theorems before it.
 """
 
 from array import array
-from bisect import bisect_right
-from collections.abc import Iterable
+from collections.abc import Iterable, Iterator, Mapping, Set
 from functools import cached_property
-from itertools import compress
 
 from query.errors import NoAnswer, nearest, shown
 
@@ -56,11 +54,32 @@ class Graph:
     def citing(self, nodes: Iterable[int]) -> dict[int, list[int]]:
         """For each of these nodes the theorems that cite it, in file order."""
         found: dict[int, list[int]] = {node: [] for node in nodes}
-        wanted = [node in found for node in range(len(self.labels))]
-        places, targets = self.cites.places, self.cites.targets
-        for place in compress(range(len(targets)), map(wanted.__getitem__, targets)):
-            found[targets[place]].append(bisect_right(places, place) - 1)
+        wanted = set(found)
+        for theorem, cited in self.citing_any(wanted):
+            for node in wanted.intersection(cited):
+                found[node].append(theorem)
         return found
+
+    def citing_any(self, nodes: Set[int]) -> Iterator[tuple[int, "array[int]"]]:
+        """The theorems that cite one of these nodes, in file order, each with all that it cites."""
+        places, targets = self.cites.places, self.cites.targets
+        for theorem in range(self.theorems):
+            cited = targets[places[theorem] : places[theorem + 1]]
+            if not nodes.isdisjoint(cited):
+                yield theorem, cited
+
+    def entering(self, part_of: Mapping[int, int]) -> list[tuple[int, int]]:
+        """The citations that lead into a part from outside it, as what cites and what is cited.
+        `part_of` has the parts of nodes, as numbers; other nodes are in none. What is cited comes
+        in the order of `part_of`, and what cites it in file order."""
+        found = []
+        inside = set(part_of)
+        for theorem, cited in self.citing_any(inside):
+            own = part_of.get(theorem)
+            into = (node for node in inside.intersection(cited) if part_of[node] != own)
+            found += [(theorem, node) for node in into]
+        order = {node: number for number, node in enumerate(part_of)}
+        return sorted(found, key=lambda each: (order[each[1]], each[0]))
 
     def is_theorem(self, node: int) -> bool:
         """Whether the node is a theorem."""

@@ -7,7 +7,7 @@ from itertools import compress
 HAS = [bytes(1 if byte & (0x80 >> bit) else 0 for byte in range(256)) for bit in range(8)]
 # Makes bits of the digits of a number in base 2.
 BITS = bytes.maketrans(b"01", b"\0\1")
-FEW = 16  # bits of a row that are taken one by one
+MOST_SINGLY_TAKEN = 16  # bits of a row that are taken one by one
 
 
 class Marks:
@@ -77,7 +77,7 @@ def mask(columns: int, numbers: Iterable[int]) -> int:
 def columns_of(row: int, columns: int) -> list[int]:
     """The columns whose bits a row has, rising."""
     last = 8 * width_of(columns) - 1
-    if row.bit_count() <= FEW:
+    if row.bit_count() <= MOST_SINGLY_TAKEN:
         found = []
         while row:
             found.append(last - row.bit_length() + 1)

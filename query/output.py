@@ -26,7 +26,7 @@ WIDEST = 200
 long."""
 
 
-def _shown(value: Value) -> str:
+def _text_field(value: Value) -> str:
     """A value in a field of text."""
     if value is None or value == []:
         return "-"
@@ -49,13 +49,13 @@ def _field(value: Value) -> str:
 def _aligned(columns: Sequence[str], rows: Sequence[Sequence[Value]]) -> str:
     """The table for a person: one column as lines, several aligned under a line of their names."""
     if len(columns) == 1:
-        return "".join(_shown(row[0]) + "\n" for row in rows)
+        return "".join(_text_field(row[0]) + "\n" for row in rows)
     if not rows:
         return ""
     forms = []
     words = []
     for name, column in zip(columns, zip(*rows, strict=True)):
-        words.append([name, *map(_shown, column)])
+        words.append([name, *map(_text_field, column)])
         is_right = all(isinstance(value, (int, float)) or value is None for value in column)
         width = min(max(map(len, words[-1])), WIDEST)
         forms.append(f"{{:{'>' if is_right else '<'}{width}}}")

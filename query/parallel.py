@@ -15,6 +15,7 @@ from query.errors import NoAnswer
 from query.program import PIPE
 
 DONE, WITHOUT_ANSWER = b"+", b"-"
+LARGE = 1 << 20
 
 
 class Task(Protocol):
@@ -28,9 +29,10 @@ class Task(Protocol):
         """Ends the work, where its result isn't wanted any more."""
 
 
-def begun(work: Callable[[], bytes]) -> Task:
-    """Begins work in a copy of this process, or leaves it for later where there are no copies."""
-    if system.has_copies():
+def begun(work: Callable[[], bytes], size: int = LARGE) -> Task:
+    """Begins work in a copy of this process, or leaves it for later where there are no copies, or
+    `size` says that it looks at so few bytes that a copy would take longer."""
+    if size >= LARGE and system.can_fork():
         return Copy(work)
     return Later(work)
 
@@ -62,7 +64,7 @@ class Copy:
         self.is_over = False
         try:
             with signals.held():
-                self.process = system.copy()
+                self.process = system.fork()
                 if self.process == 0:
                     os.close(self.reading)
                     _do(work, writing)

@@ -16,7 +16,7 @@ from query.source import Source
 
 REFUSAL = re.compile(rb"refused ([1-9][0-9]{0,9}):([1-9][0-9]{0,9}) (E[0-9]{2})\n")
 PIPE = 1 << 20  # bytes that wait in a pipe
-MOST = 2_000_000_000
+MOST_OUTPUT_BYTES = 2_000_000_000
 """Bytes that are read of what the program says. Of set.mm it says 47 million."""
 HOME = os.path.dirname(os.path.dirname(os.path.realpath(__file__)))
 SCRIPT = "mmdepend.mjs"
@@ -63,7 +63,7 @@ class Running:
         out = bytearray()
         while chunk := os.read(self.process.stdout.fileno(), PIPE):
             out += chunk
-            if len(out) > MOST:
+            if len(out) > MOST_OUTPUT_BYTES:
                 self.process.kill()
                 break
         self.process.stdout.close()
@@ -204,7 +204,7 @@ def over(program: Program, source: Source, words: list[str]) -> Running:
 def judged(source: Source, running: Running) -> bytes:
     """The report of a running program."""
     out, errors, status = running.ended()
-    if len(out) > MOST:
+    if len(out) > MOST_OUTPUT_BYTES:
         raise NoAnswer(f"{source.name}: what the program says of it takes more than 2 GB")
     if status == 0:
         return out

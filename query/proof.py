@@ -10,13 +10,13 @@ from collections.abc import Callable
 
 from query import program
 from query.assertions import Assertion, Hypothesis, assertions_of
-from query.bare import bare, floating, without_proofs
+from query.bare import floating, without_comments, without_proofs
 from query.errors import NoAnswer
 from query.source import Source
 from query.told import statements_of
 
 FIRST_LETTER = ord("A")
-MOST = 10_000_000
+MOST_REPLAYED_SYMBOLS = 10_000_000
 """So many symbols are read and written at the most: a short proof may build long formulas."""
 
 
@@ -32,7 +32,7 @@ class Replay:
         self.floating = floating
         self.given = told[-1].frame().hypotheses()
         self.named = {each.label: each.formula.split(" ") for each in self.given}
-        self.left = MOST
+        self.left = MOST_REPLAYED_SYMBOLS
         self.stack: list[list[str]] = []
         self.marked: list[list[str]] = []
         self.frames: dict[str, list[Hypothesis]] = {}
@@ -100,13 +100,13 @@ class Replay:
 def proved(source: Source, end: int) -> tuple[str, str] | None:
     """The formula that a proof proves and that of its theorem, whose `$.` ends at a place; None
     where the proof isn't one whose end alone was refused, or its formulas are too long."""
-    text = bare(source.data[:end])
-    words = text[text.rindex(b"$=") + 2 : -2].decode("latin-1").split()
-    before = Source(source.name, without_proofs(text))
+    bare_text = without_comments(source.data[:end])
+    words = bare_text[bare_text.rindex(b"$=") + 2 : -2].decode("latin-1").split()
+    before = Source(source.name, without_proofs(bare_text))
     try:
         said = program.report(program.ready(), before, ["--open", "--report=statements"])
         told = assertions_of(statements_of(said), before.data)
-        found = Replay(told, lambda label: floating(text, label)).carried_out(words)
+        found = Replay(told, lambda label: floating(bare_text, label)).carried_out(words)
     except (IndexError, KeyError, ValueError, TooLong, NoAnswer):
         return None
     return " ".join(found), told[-1].formula

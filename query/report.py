@@ -8,7 +8,7 @@ where what it cites is the axiom or is marked. What doesn't fit is NoAnswer with
 
 import re
 from array import array
-from dataclasses import dataclass, field
+from dataclasses import dataclass
 from functools import reduce
 from itertools import compress
 from operator import or_
@@ -18,12 +18,13 @@ from query.assertions import LINE
 from query.errors import NoAnswer, shown
 from query.graph import Lists
 from query.marks import Marks, bit, mask, packed, width_of
+from query.prepared import Prepared
 
 SECTIONS = ("matrix", "counts", "usage", "citations", "statements")
 LABELS = re.compile(r"[A-Za-z0-9._-]+(?:\n[A-Za-z0-9._-]+)*")
 WRONG_COUNT = "the number isn't that of the labels after it"
 NUMBER = re.compile(r"0|[1-9][0-9]{0,9}")
-MANY = 8192
+MOST_BIT_AXIOMS = 8192
 """Up to so many axioms the bits of each are kept apart, 4 MB at the most."""
 
 
@@ -38,27 +39,6 @@ class Section:
     form: int
     axioms: int
     theorems: int
-
-
-@dataclass
-class Prepared:
-    """What the program or reports say.
-
-    `theorems` are the labels of rows and `columns` those of axioms with marks, in file order.
-    Where there are no marks or no citations, `marks` or `cites` is None. `others` are the labels
-    of axioms that aren't columns and are cited. In `cites` a node is the number of a theorem, or
-    of an axiom of `columns` and `others`, in this order, after the theorems. Of a database,
-    `typecodes` has that of each column, and `statements` the lines of the section.
-    """
-
-    theorems: list[str] = field(default_factory=list)
-    columns: list[str] = field(default_factory=list)
-    others: list[str] = field(default_factory=list)
-    marks: Marks | None = None
-    cites: Lists | None = None
-    axioms: int = 0  # how many the heads say, the most of them
-    typecodes: list[str] = field(default_factory=list)
-    statements: bytes = b""
 
 
 class Report:
@@ -131,7 +111,7 @@ class Report:
         return axioms if name == "usage" else theorems
 
 
-class Checker:
+class Reader:
     """Reads the sections of a report, each checked against those read before."""
 
     def __init__(self, report: Report) -> None:
@@ -141,8 +121,8 @@ class Checker:
         self.rows: dict[str, int] = {}
         self.has_theorems = False
 
-    def check(self) -> Prepared:
-        """All of it."""
+    def read(self) -> Prepared:
+        """Reads all sections."""
         if len({each.theorems for each in self.sections.values()}) > 1:
             self.differ("theorems")
         if len({each.axioms for name, each in self.sections.items() if name != "citations"}) > 1:
@@ -316,14 +296,14 @@ class CitationReader:
     """Reads the section `citations`, and gives the marks that follow from it: of each theorem
     those of what it cites, and the axioms that it cites."""
 
-    def __init__(self, checker: Checker) -> None:
-        self.checker = checker
-        self.found = checker.found
+    def __init__(self, reader: Reader) -> None:
+        self.reader = reader
+        self.found = reader.found
         first, columns = len(self.found.theorems), len(self.found.columns)
         self.nodes = {label: first + place for place, label in enumerate(self.found.columns)}
         # The marks of each node as bits; those of theorems come as their lines are read. Where
         # axioms are many, theirs together would take the square of their number.
-        self.has_many = columns > MANY
+        self.has_many = columns > MOST_BIT_AXIOMS
         self.bits = [0] * first
         self.bits += [0] * columns if self.has_many else (bit(columns, i) for i in range(columns))
 
@@ -333,7 +313,7 @@ class CitationReader:
         targets = array("I")
         nodes, bits = self.nodes, self.bits
         node_of, bits_of = nodes.__getitem__, bits.__getitem__
-        for number, line in enumerate(self.checker.lines("citations")):
+        for number, line in enumerate(self.reader.lines("citations")):
             words = fields(line)
             if words is None:
                 self.damaged(number, WRONG_COUNT)
@@ -359,13 +339,13 @@ class CitationReader:
 
     def damaged(self, number: int, why: str) -> NoReturn:
         """Raises NoAnswer about a line."""
-        self.checker.damaged("citations", number, why)
+        self.reader.damaged("citations", number, why)
 
     def known(self, number: int, word: str) -> int:
         """The node of a label, a new one where it is an axiom that comes for the first time."""
         node = self.nodes.get(word)
         if node is None:
-            if word in self.checker.rows:
+            if word in self.reader.rows:
                 self.damaged(number, f"'{word}' stands not before this theorem")
             if not LABELS.fullmatch(word):
                 self.damaged(number, "a word that is no label")
@@ -434,4 +414,4 @@ def of_digits(rows: list[str], form: int) -> bytes | None:
 
 def checked(name: str, data: bytes) -> Prepared:
     """What a text of reports says. NoAnswer where it is damaged or its parts don't fit together."""
-    return Checker(Report(name, data)).check()
+    return Reader(Report(name, data)).read()

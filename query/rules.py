@@ -6,18 +6,20 @@ gives a `Finding` for each thing that breaks it, in file order.
 
 from __future__ import annotations
 
+import json
 import os
 import re
 from bisect import bisect_right
 from collections.abc import Callable, Iterable, Iterator
-from dataclasses import dataclass
-from functools import cached_property
+from dataclasses import astuple, dataclass
+from functools import cached_property, partial
 
 from query.assertions import Assertion
 from query.boxes import exposed
 from query.changes import Comparison, Side, text_of_side
 from query.config import RULES, Claim, Config, Labels, is_meant
 from query.graph import Graph
+from query.parallel import begun
 from query.remarks import tokens
 from query.statements import difference, statement_of
 from query.text import Text
@@ -29,9 +31,9 @@ MARKED = re.compile(rb"\$\(\s+\$j(?=\s)")
 TOKEN = re.compile(r"'([^']*)'|\"([^\"]*)\"|(;)|([^\s;'\"]+)")
 MOST_REASONS = 1_000_000
 """So many reasons are remembered at the most."""
-LONGEST = 200
+SHOWN_FORMULA = 200
 """How many characters of a formula are shown."""
-BEFORE = 60
+SHOWN_BEFORE = 60
 """How many of these stand before the place where two formulas differ."""
 
 
@@ -55,8 +57,9 @@ class Case:
 
     comparison: Comparison
     config: Config
-    of_config: tuple[Finding, ...] = ()
-    """What breaks the rule `config`: what the file of NEW asks less than that of OLD."""
+    config_findings: tuple[Finding, ...] = ()
+    """What breaks the rule `config`, by `compared` of `query/branch.py`: what the file of NEW asks
+    less than that of OLD, or its fault."""
 
     @property
     def old(self) -> Side:
@@ -89,7 +92,7 @@ class Case:
         moved = self.comparison.theorems.moved
         return self.comparison.to_old.get(label, moved.get(label, ""))
 
-    def is_judged(self, typecode: str) -> bool:
+    def judges_axioms_of(self, typecode: str) -> bool:
         """Whether the rule `axioms` judges the axioms of a typecode."""
         return self.config.typecode in (None, typecode)
 
@@ -102,17 +105,17 @@ class Case:
 def shown_formula(assertion: Assertion) -> str:
     """A formula, cut where it is long."""
     formula = assertion.formula
-    return formula if len(formula) <= LONGEST else formula[:LONGEST] + " .."
+    return formula if len(formula) <= SHOWN_FORMULA else formula[:SHOWN_FORMULA] + " .."
 
 
 def shown_change(old: str, new: str) -> tuple[str, str]:
     """Two formulas, where they are long from a little before the place where they differ on."""
     start = 0
-    if len(old) > LONGEST or len(new) > LONGEST:
-        start = max(0, len(os.path.commonprefix([old, new])) - BEFORE)
+    if len(old) > SHOWN_FORMULA or len(new) > SHOWN_FORMULA:
+        start = max(0, len(os.path.commonprefix([old, new])) - SHOWN_BEFORE)
     both = []
     for formula in (old, new):
-        end = start + LONGEST
+        end = start + SHOWN_FORMULA
         dots = ".. " if start else "", " .." if end < len(formula) else ""
         both.append(dots[0] + formula[start:end] + dots[1])
     return both[0], both[1]
@@ -133,7 +136,7 @@ def axioms_now(case: Case) -> Iterator[tuple[str, str]]:
     new = {*pairing.new, *pairing.renamed}
     changed = set(pairing.changed)
     for one in case.text.assertions:
-        if one.label in new and case.is_judged(one.typecode):
+        if one.label in new and case.judges_axioms_of(one.typecode):
             yield one.label, reason_of_new(case, one)
         elif one.label in changed and (reason := reason_of_changed(case, one)):
             yield one.label, reason
@@ -145,7 +148,7 @@ def axioms_gone(case: Case) -> Iterator[tuple[str, str]]:
     pairing = case.comparison.axioms
     kept = set(pairing.origin) - set(pairing.renamed)
     for one in case.old_text.assertions:
-        if one.kind == "a" and one.label not in kept and case.is_judged(one.typecode):
+        if one.kind == "a" and one.label not in kept and case.judges_axioms_of(one.typecode):
             yield one.label, reason_of_gone(case, one.label)
 
 
@@ -169,7 +172,7 @@ def was_theorem(case: Case, label: str) -> bool:
 def reason_of_changed(case: Case, axiom: Assertion) -> str:
     """How an axiom was changed; "" where it isn't of the typecode, in neither database."""
     before = case.old_text.by_label[axiom.label]
-    if not any(map(case.is_judged, (axiom.typecode, before.typecode))):
+    if not any(map(case.judges_axioms_of, (axiom.typecode, before.typecode))):
         return ""
     parts = difference(statement_of(before), statement_of(axiom))
     if "formula" not in parts:
@@ -321,8 +324,9 @@ def promises_gone(case: Case) -> Iterator[tuple[str, str]]:
     """The theorems and axioms of NEW of which a comment of OLD rightly said that the one avoids the
     other, and none of NEW does."""
     to_new, old = case.comparison.to_new, case.old.dependence
-    kept = set(promises(case.text))
-    for theorem, axiom in dict.fromkeys(promises(case.old_text)):
+    before = dict.fromkeys(promises(case.old_text))
+    kept = set(promises(case.text)) if before else set()
+    for theorem, axiom in before:
         now = (to_new.get(theorem, ""), to_new.get(axiom, ""))
         row, column = old.rows.get(theorem), old.columns.get(axiom)
         if row is None or column is None or old.is_marked(row, column):
@@ -466,11 +470,13 @@ def citations(graph: Graph, labels: Iterable[str]) -> Iterator[tuple[str, str]]:
 def across_mathboxes(graph: Graph, text: Text) -> Iterator[tuple[str, str, str | None, str]]:
     """Each citation of an assertion in a mathbox from outside it: what cites, what it cites, and
     the mathboxes of both."""
-    boxes = {one.label: number for one, number, _ in text.boxed()}
-    names = {one.label: name for one, _, name in text.boxed()}
-    for user, cited in citations(graph, boxes):
-        if boxes.get(user) != boxes[cited]:
-            yield user, cited, names.get(user), names[cited]
+    boxes, names = {}, {}
+    for one, number, name in text.boxed():
+        node = graph.index.get(one.label)
+        if node is not None:
+            boxes[node], names[node] = number, name
+    for user, cited in graph.entering(boxes):
+        yield graph.labels[user], graph.labels[cited], names.get(user), names[cited]
 
 
 def mathboxes(case: Case) -> Iterator[Finding]:
@@ -516,7 +522,7 @@ def discouraged(case: Case) -> Iterator[Finding]:
     marked = dict.fromkeys(discouraged_labels(case.text))
     for user, cited in citations(case.new.graph, marked):
         was, used = case.was(user), case.was(cited)
-        if used and used in case.old.cites(was) or case.config.allows("discouraged", user):
+        if case.old.has_citation(was, used) or case.config.allows("discouraged", user):
             continue
         yield case.finding("discouraged", user, f"cites {cited}, whose new usage is discouraged")
     for label in discouraged_labels(case.old_text):
@@ -527,8 +533,8 @@ def discouraged(case: Case) -> Iterator[Finding]:
 
 
 def config(case: Case) -> Iterator[Finding]:
-    """The file `mmdepend.toml` of NEW asks less than that of OLD."""
-    yield from case.of_config
+    """The file `mmdepend.toml` of NEW asks less than that of OLD, or has a fault."""
+    yield from case.config_findings
 
 
 JUDGES: dict[str, Callable[[Case], Iterator[Finding]]] = {
@@ -546,6 +552,31 @@ JUDGES: dict[str, Callable[[Case], Iterator[Finding]]] = {
 assert tuple(JUDGES) == RULES
 
 
+APART = ("mathboxes", "discouraged")
+"""The rules that look at all citations. Each is judged by a process of its own."""
+
+
 def judge(case: Case) -> list[Finding]:
     """What breaks the rules that the file doesn't switch off, rule by rule."""
-    return [one for rule in RULES if rule in case.config.rules for one in JUDGES[rule](case)]
+    rules = [rule for rule in RULES if rule in case.config.rules]
+    # The processes are copies of this one: what all of them ask for is found before they begin.
+    _ = case.comparison.to_new
+    size = len(case.text.data)
+    tasks = {rule: begun(partial(packed, case, rule), size) for rule in rules if rule in APART}
+    try:
+        found = {rule: list(JUDGES[rule](case)) for rule in rules if rule not in tasks}
+        found |= {rule: unpacked(task.result()) for rule, task in tasks.items()}
+    finally:
+        for task in tasks.values():
+            task.stop()
+    return [one for rule in rules for one in found[rule]]
+
+
+def packed(case: Case, rule: str) -> bytes:
+    """What breaks a rule, as bytes for `unpacked`."""
+    return json.dumps([astuple(one) for one in JUDGES[rule](case)]).encode()
+
+
+def unpacked(found: bytes) -> list[Finding]:
+    """What `packed` found."""
+    return [Finding(*fields) for fields in json.loads(found)]

@@ -18,7 +18,9 @@ if TYPE_CHECKING:
     from query.git import Repository
 
 # The program refuses longer texts, so no more than one byte more is unpacked.
-LONGEST = 2_147_483_647
+MOST_DATABASE_BYTES = 2_147_483_647
+NO_TEXT = "a report, where the database is wanted"
+"""Why a report isn't enough for a question on the text."""
 GZIP, BZIP2, XZ = b"\x1f\x8b", b"BZh", b"\xfd7zXZ\0"
 
 
@@ -72,6 +74,11 @@ class Source:
         if words[0] == b"mmdepend" and len(words) == 2:
             return words[1].isdigit()
         return words[0] == b"refused" and len(words) == 3 and words[2].startswith(b"E")
+
+    def see_text(self) -> None:
+        """NoAnswer where it is a report."""
+        if self.is_report():
+            raise NoAnswer(f"{self.name}: {NO_TEXT}")
 
 
 def stamp_of(descriptor: int) -> tuple[int, ...]:
@@ -204,12 +211,12 @@ def unpacked(name: str, data: bytes) -> bytes:
             # A millisecond for few databases, as that of bz2 and lzma, which some systems lack.
             import gzip
 
-            return gzip.GzipFile(fileobj=io.BytesIO(data)).read(LONGEST + 1)
+            return gzip.GzipFile(fileobj=io.BytesIO(data)).read(MOST_DATABASE_BYTES + 1)
         if data.startswith(BZIP2):
             # See gzip.
             import bz2
 
-            return bz2.BZ2File(io.BytesIO(data)).read(LONGEST + 1)
+            return bz2.BZ2File(io.BytesIO(data)).read(MOST_DATABASE_BYTES + 1)
         if data.startswith(XZ):
             return of_xz(data)
     except (OSError, EOFError, zlib.error):
@@ -223,6 +230,6 @@ def of_xz(data: bytes) -> bytes:
     import lzma
 
     try:
-        return lzma.LZMAFile(io.BytesIO(data)).read(LONGEST + 1)
+        return lzma.LZMAFile(io.BytesIO(data)).read(MOST_DATABASE_BYTES + 1)
     except lzma.LZMAError:
         raise EOFError from None

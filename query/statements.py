@@ -142,6 +142,12 @@ class Candidates:
         return None
 
 
+def of_kind(assertions: Iterable[Assertion], kind: str) -> Iterator[Assertion]:
+    """The axioms (`a`) or the theorems (`p`)."""
+    # This asks for no kind, since the property of so many takes longer than all else.
+    return (one for one in assertions if (one.letter == "a") == (kind == "a"))
+
+
 class Pairer:
     """Pairs the assertions of two databases."""
 
@@ -152,8 +158,8 @@ class Pairer:
     def pair(self, kind: str, old_cites: Cites, new_cites: Cites) -> Pairing:
         """Pairs the axioms (`a`) or the theorems (`p`)."""
         pairing = Pairing()
-        old = {one.label: one for one in self.old.assertions if one.kind == kind}
-        new = {one.label: one for one in self.new.assertions if one.kind == kind}
+        old = {one.label: one for one in of_kind(self.old.assertions, kind)}
+        new = {one.label: one for one in of_kind(self.new.assertions, kind)}
         for label, assertion in new.items():
             if label in old and is_same(old[label], assertion):
                 pairing.origin[label] = label

@@ -105,12 +105,12 @@ def told(path: str, name: str) -> int | None:
     return None
 
 
-def has_copies() -> bool:
+def can_fork() -> bool:
     """Whether a process can make a copy of itself."""
     return hasattr(os, "fork")
 
 
-def copy() -> int:
+def fork() -> int:
     """Makes a copy of this process. Returns its number, and 0 in the copy."""
     return os.fork()
 

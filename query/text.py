@@ -25,7 +25,7 @@ from dataclasses import dataclass
 from functools import cached_property
 
 from query.assertions import Assertion, assertions_of
-from query.bare import bare
+from query.bare import without_comments
 
 # The lines that enclose the title of a part, a chapter, a section and a subsection.
 DECORATIONS = ("####", "#*#*", "=-=-", "-.-.")
@@ -42,9 +42,9 @@ ENDS = (b"$.", b"${", b"$}")
 """What stands before a comment that is in no statement, but for other comments."""
 
 BLOCK = 1 << 10  # bytes, of which the lines are counted at once
-FEW = 64  # bytes that are looked at first
+FIRST_LOOK = 64  # bytes that are looked at first
 
-Place = int
+Place = int  # the number of a byte of the text, from 0
 
 
 @dataclass(slots=True)
@@ -84,7 +84,7 @@ class Text:
 
     def _end_before(self, before: Place, place: Place) -> Place:
         """The end of the last word between two places; the first of them where there is none."""
-        size = FEW
+        size = FIRST_LOOK
         while True:
             start = max(before, place - size)
             length = len(self.data[start:place].rstrip())
@@ -96,7 +96,9 @@ class Text:
         """The words of the proof; none for a `$a`."""
         if assertion.kind == "a":
             return []
-        words = bare(self.data[assertion.place : assertion.end]).decode("latin-1").split()
+        words = (
+            without_comments(self.data[assertion.place : assertion.end]).decode("latin-1").split()
+        )
         return words[words.index("$=") + 1 : -1]
 
     def find(self, label: str) -> Assertion | None:
@@ -158,7 +160,7 @@ class Text:
                 continue
             if end > since:
                 since, is_within = end, False
-            last = bare(self.data[since:place]).rstrip()
+            last = without_comments(self.data[since:place]).rstrip()
             if last:
                 is_within = not last.endswith(ENDS)
             since = self.data.index(b"$)", place) + 2

@@ -10,11 +10,13 @@ from __future__ import annotations
 import re
 from array import array
 from binascii import unhexlify
+from functools import partial
 
 from query.assertions import NUMBER, Damaged, typecode_of
 from query.graph import Lists
 from query.marks import Marks
-from query.report import Prepared
+from query.parallel import Task, begun
+from query.prepared import Prepared
 
 SECTIONS = "--report=matrix,citations,statements"
 COUNTS = "--report=citations"
@@ -56,8 +58,12 @@ class Told:
         theorems, axioms, typecodes = labels_of(plain(statements))
         if (len(axioms), len(theorems)) != (self.axioms, self.theorems):
             raise Damaged
-        marks = marks_of(matrix, theorems, len(axioms))
-        cites = cites_of(plain(citations), theorems, axioms)
+        coming = Citations(plain(citations), theorems, axioms)
+        try:
+            marks = marks_of(matrix, theorems, len(axioms))
+            cites = coming.lists()
+        finally:
+            coming.stop()
         return Prepared(theorems, axioms, [], marks, cites, len(axioms), typecodes, statements)
 
 
@@ -111,22 +117,54 @@ def marks_of(section: bytes, theorems: list[str], columns: int) -> Marks:
         raise Damaged from None
 
 
-def cites_of(section: str, theorems: list[str], axioms: list[str]) -> Lists:
-    """What each theorem cites, by the numbers of theorems and of axioms after them."""
-    node = {label: number for number, label in enumerate([*theorems, *axioms])}.__getitem__
-    targets: list[int] = []  # quicker to fill than an array
+class Citations:
+    """What each theorem cites, by the numbers of theorems and of axioms after them. Other processes
+    read it, one each half of the section, since that takes longer than all else."""
+
+    def __init__(self, section: str, theorems: list[str], axioms: list[str]) -> None:
+        node = {label: number for number, label in enumerate([*theorems, *axioms])}
+        middle = section.find("\n", len(section) // 2) + 1
+        first = section.count("\n", 0, middle)
+        halves = ((section[:middle], theorems[:first]), (section[middle:], theorems[first:]))
+        self.tasks: list[Task] = []
+        for lines, labels in halves:
+            self.tasks.append(begun(partial(packed_cites, lines, labels, node), len(section)))
+        self.sizes = [len(labels) for _, labels in halves]
+
+    def lists(self) -> Lists:
+        """Waits for them. Damaged where the section is."""
+        places, targets = array("I", [0]), array("I")
+        for task, size in zip(self.tasks, self.sizes):
+            numbers = array("I")
+            numbers.frombytes(task.result())
+            if not numbers:
+                raise Damaged
+            places.extend(len(targets) + place for place in numbers[1 : size + 1])
+            targets += numbers[size + 1 :]
+        return Lists(places, targets)
+
+    def stop(self) -> None:
+        """Ends what isn't done."""
+        for task in self.tasks:
+            task.stop()
+
+
+def packed_cites(section: str, theorems: list[str], node: dict[str, int]) -> bytes:
+    """As bytes of numbers 0, for each of these theorems where the list ends of what it cites, and
+    the lists; b"" where the section is damaged."""
     places = [0]
+    targets: list[int] = []  # quicker to fill than an array
     try:
         for line, theorem in zip(section.split("\n")[:-1], theorems, strict=True):
             label, count, words = line.split(":")
             if words:
-                targets.extend(map(node, words.split(" ")))
+                targets.extend(map(node.__getitem__, words.split(" ")))
             if label != theorem or count != str(len(targets) - places[-1]):
-                raise Damaged
+                return b""
             places.append(len(targets))
     except (KeyError, ValueError):
-        raise Damaged from None
-    return Lists(array("I", places), array("I", targets))
+        return b""
+    return array("I", places).tobytes() + array("I", targets).tobytes()
 
 
 def told(data: bytes) -> Prepared:

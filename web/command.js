@@ -13,7 +13,8 @@ import { visible } from "./packer/visible.js";
  *     | { ends: "help", text: string } | { ends: "misread", text: string }} Line
  */
 
-const MOST = 64;
+/** So many workers, and so many pieces, are the most of a run: the program says the same. */
+const LARGEST_COUNT = 64;
 const FORMS = ["1", "2"];
 /** The options, as Node reads them; the names of those that have a value are in `SHOWN`. */
 const OPTIONS = /** @type {const} */ ({
@@ -89,9 +90,9 @@ function judge(name, value, isRight, wanted) {
     if (!isRight) throw misread(`invalid value '${value}' for '${SHOWN[name]}', which is ${wanted}`);
 }
 
-/** Whether a word is a number from 1 to 64, as the program reads numbers. */
+/** Whether a word is a number from 1 to LARGEST_COUNT, as the program reads numbers. */
 function isCount(/** @type {string} */ word) {
-    return /^\+?[0-9]+$/.test(word) && Number(word) >= 1 && Number(word) <= MOST;
+    return /^\+?[0-9]+$/.test(word) && Number(word) >= 1 && Number(word) <= LARGEST_COUNT;
 }
 
 /** What was read so far, by the names of options; `file` is the word that is no option. */
@@ -135,7 +136,7 @@ class Found {
         if (value === undefined || (!isInline && /^-./s.test(value))) {
             throw misread(`a value is required for '${SHOWN[name]}' but none was supplied`);
         }
-        if (name === "workers" || name === "pieces") judge(name, value, isCount(value), `a number from 1 to ${MOST}`);
+        if (name === "workers" || name === "pieces") judge(name, value, isCount(value), `a number from 1 to ${LARGEST_COUNT}`);
         if (name === "form") judge(name, value, FORMS.includes(value), FORMS.join(" or "));
         this.add(name, value);
     }

@@ -15,17 +15,18 @@ const SIGNS = [" $.", "$(", "$)", " ${ ", " $} ", "$[ x $]", "\xff", "\t", " ? "
 const SMALL = 1 << 20;
 const runs = { passed: 0, failed: 0 };
 
-/** Numbers by lot, the same each time. */
+/** Numbers by lot, the same each time: the linear congruential generator of Knuth's MMIX. */
 class Lot {
-    /** @param {bigint} start */
-    constructor(start) {
-        this.state = start * 2654435761n + 1n;
+    /** @param {bigint} seed */
+    constructor(seed) {
+        this.state = seed;
     }
 
     /** @param {number} below */
     number(below) {
-        this.state = (this.state * 6364136223846793005n + 1442695040888963407n) & ((1n << 64n) - 1n);
-        return Number((this.state >> 33n) % BigInt(below));
+        this.state = BigInt.asUintN(64, this.state * 6364136223846793005n + 1442695040888963407n);
+        // The lower bits repeat soon.
+        return Number((this.state >> 32n) % BigInt(below));
     }
 
     /**

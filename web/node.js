@@ -1,10 +1,12 @@
 // The program in Node: reads the words of the command line, the database and the module, and writes what the module wrote.
 
+import { isMainThread } from "node:worker_threads";
 import { inflateRawSync } from "node:zlib";
 import { readWords } from "./command.js";
 import { compile, report, version } from "./library.js";
+import { packWhenAsked } from "./packing.js";
 import { page } from "./page.js";
-import { Ending, STDERR, STDOUT, bytesOf, join, outOfMemory, piecesOf, sizeOf, writeAll } from "./streams.js";
+import { Ending, STDERR, STDOUT, bytesOf, failedBy, join, outOfMemory, piecesOf, sizeOf, writeAll } from "./streams.js";
 
 /**
  * What `web/build` puts into the one file of the program, each deflated and in base64: the module, and what the command
@@ -47,20 +49,25 @@ async function status(words, assets) {
 }
 
 /**
- * How the program ends after an error. Node says by a RangeError that there is no room for an array.
+ * How the program ends after an error. Node says by a RangeError that there is no room for an array, and by a code that
+ * there is none for what another thread makes.
  * @param {unknown} error
  */
 function endingOf(error) {
     if (error instanceof Ending) return error;
-    if (error instanceof RangeError) return outOfMemory();
+    if (error instanceof RangeError || failedBy(error, "ERR_WORKER_OUT_OF_MEMORY")) return outOfMemory();
     throw error;
 }
 
 /**
- * Runs the program on the words that Node was given.
+ * Runs the program on the words that Node was given. In another thread than the main one it packs a text.
  * @param {Assets} assets
  */
 export async function main(assets) {
+    if (!isMainThread) {
+        await packWhenAsked();
+        return;
+    }
     try {
         process.exitCode = await status(process.argv.slice(2), assets);
     } catch (error) {

@@ -1,5 +1,10 @@
 // What the program in Node needs of Node, for who checks its types where Node's own declarations aren't at hand.
 
+declare module "node:child_process" {
+    type Run = { status: number | null; stdout: Uint8Array; stderr: Uint8Array; error?: Error };
+    export function spawnSync(path: string, words: string[], given: { input: Uint8Array; maxBuffer: number }): Run;
+}
+
 declare module "node:fs" {
     export function openSync(path: string): number;
     export function readFileSync(path: URL): Uint8Array;
@@ -24,6 +29,19 @@ declare module "node:v8" {
 
 declare module "node:crypto" {
     export const webcrypto: unknown;
+}
+
+declare module "node:worker_threads" {
+    type Port = { once(event: "message", hear: (message: any) => void): void; postMessage(message: unknown): void };
+    export const isMainThread: boolean;
+    export const parentPort: Port;
+    export const workerData: any;
+    export class Worker {
+        constructor(script: URL, options: { workerData: unknown });
+        on(event: "message" | "error", hear: (heard: any) => void): void;
+        postMessage(message: unknown): void;
+        terminate(): Promise<number>;
+    }
 }
 
 declare module "node:path" {

@@ -1,24 +1,55 @@
 // The command `page` in Node: one HTML file that shows a whole database, or one beside an older release of it.
 
-import { webcrypto } from "node:crypto";
 import { basename } from "node:path";
-import { parseArgs, promisify } from "node:util";
+import { parseArgs } from "node:util";
 import { setFlagsFromString } from "node:v8";
-import { deflate, gunzipSync } from "node:zlib";
+import { gunzipSync } from "node:zlib";
+import { Deflating } from "./deflating.js";
 import { READING_LIMIT, compile, report } from "./library.js";
 import { explained, faultOf, refusalOf } from "./packer/faults.js";
-import { levelOf, pageFile } from "./packer/file.js";
-import { Making, NoAnswer } from "./packer/making.js";
+import { pageFile } from "./packer/file.js";
+import { NoAnswer, packComparison, sideOf } from "./packer/making.js";
+import { packMarks } from "./packer/pack.js";
+import { ProofPacker } from "./packer/proofs.js";
+import { OddReport } from "./packer/reports.js";
+import { UnreadableText, readText } from "./packer/text.js";
 import { visible } from "./packer/visible.js";
+import { Packing, shared } from "./packing.js";
+import { answerOf } from "./program.js";
 import { Ending, STDOUT, bytesOf, join, outOfMemory, piecesOf, sizeOf, writeAll } from "./streams.js";
 
 /** @typedef {import("./packer/file.js").Shell} Shell */
 /** @typedef {import("./packer/reports.js").Request} Request */
+/** @typedef {import("./packing.js").ProofTask} ProofTask */
+/** @typedef {import("./packing.js").TextTask} TextTask */
+/** @typedef {import("./program.js").Said} Said */
+/** @typedef {import("./types.js").Request} Whole */
 /** @typedef {import("./types.js").Tables} Tables */
 
 /**
  * What the command works with.
  * @typedef {{ module: Uint8Array, shell: Shell, tables: Tables }} Tools
+ */
+
+/**
+ * What verifies a text, the module or a program, and what is said of faults.
+ * @typedef {{ judge: (data: Uint8Array, request: Whole) => Promise<Said>, tables: Tables }} Core
+ */
+
+/**
+ * How the command line calls a database, and how the page does.
+ * @typedef {{ word: string, name: string }} Naming
+ */
+
+/**
+ * What the words ask for.
+ * @typedef {object} Asked
+ * @property {Naming} naming
+ * @property {string} title
+ * @property {string[]} watched labels of axioms
+ * @property {Request} request
+ * @property {Naming | null} older
+ * @property {string | null} program what verifies in place of the module
  */
 
 const OPTIONS = /** @type {const} */ ({
@@ -30,6 +61,7 @@ const OPTIONS = /** @type {const} */ ({
     watch: { type: "string", multiple: true },
     essential: { type: "boolean" },
     open: { type: "boolean" },
+    program: { type: "string" },
     help: { type: "boolean", short: "h" },
 });
 const USAGE = "usage: node mmdepend.mjs page [OPTIONS] DATABASE > FILE";
@@ -50,6 +82,7 @@ Options:
       --name <NAME>    How the page calls DATABASE (else: by the name of its file)
       --against-name <NAME>
                        The same for OLD
+      --program <PATH> Verify by this program, an mmdepend that is built for the system, which takes a third of the time
   -h, --help           Print help
 
 The database is verified first. The page loads nothing else; a browser of 2023 or later shows it.
@@ -59,7 +92,9 @@ failed, 4 out of memory. For 1 to 4 the standard error says why, and nothing is 
 const GZIP = [0x1f, 0x8b];
 /** From how many bytes on a text makes up for the time that it takes to compile all functions well before they run. */
 const LARGE = 1 << 23;
-/** What the module answers. */
+/** Up to which part of the text the main thread packs the proofs. It packs the marks too, and so all threads end together. */
+const FIRST_PART = 0.25;
+/** What the module answers, and the program by its status. */
 const Status = { report: 0, refusal: 1, memory: 4 };
 
 /**
@@ -89,20 +124,30 @@ function nameOf(word) {
 }
 
 /**
- * The text that a word names, unpacked where it is compressed.
+ * The text that a word names, unpacked where it is compressed. Its bytes are shared.
  * @param {string} word
  */
 function textOf(word) {
     const pieces = piecesOf(word);
-    const bytes = new Uint8Array(sizeOf(pieces));
+    const bytes = shared(sizeOf(pieces));
     join(pieces, bytes);
     if (bytes[0] !== GZIP[0] || bytes[1] !== GZIP[1]) return bytes;
     try {
-        return gunzipSync(bytes, { maxOutputLength: READING_LIMIT });
+        return sharedCopy(gunzipSync(bytes, { maxOutputLength: READING_LIMIT }));
     } catch (error) {
         if (error instanceof RangeError) throw error;
         throw new Ending(3, `mmdepend: ${visible(word)}: the compressed file is damaged\n`);
     }
+}
+
+/**
+ * The same bytes, shared.
+ * @param {Uint8Array} bytes
+ */
+function sharedCopy(bytes) {
+    const copy = shared(bytes.length);
+    copy.set(bytes);
+    return copy;
 }
 
 /**
@@ -115,42 +160,65 @@ function lacking(word, lack) {
 }
 
 /**
- * Verifies a text. Returns its report with matrix, citations and statements, of all typecodes: chains may lead over other
- * assertions than those of one typecode.
- * @param {string} word how the command line calls it
- * @param {Uint8Array} data
- * @param {Request} request
- * @param {Tools} tools
+ * Compiles the module for a text of so many bytes.
+ * @param {Uint8Array} module
+ * @param {number} size
  */
-async function reportOf(word, data, request, { module, tables }) {
-    const wanted = /** @type {const} */ ({ only: null, report: "matrix,citations,statements", form: 2 });
-    if (data.length >= LARGE) {
+function compiledFor(module, size) {
+    if (size >= LARGE) {
         // Else V8 compiles a function in haste, and a loop that is begun so stays so to its end.
         setFlagsFromString("--no-liftoff");
         setFlagsFromString("--no-wasm-lazy-compilation");
     }
-    const compiled = await compile(module);
-    const answer = await report(compiled, data.length, (bytes) => bytes().set(data), { ...request, ...wanted });
+    return compile(module);
+}
+
+/**
+ * What verifies: the program that is asked for, else the module, which is compiled for a text of so many bytes.
+ * @param {string | null} program
+ * @param {Uint8Array} module
+ * @param {number} size
+ * @returns {Promise<Core["judge"]>}
+ */
+async function judgeFor(program, module, size) {
+    if (program !== null) return async (data, request) => answerOf(program, data, request);
+    const compiled = await compiledFor(module, size);
+    return (data, request) => report(compiled, data.length, (bytes) => bytes().set(data), request);
+}
+
+/**
+ * Verifies a text. Returns its report with matrix, citations and statements, of all typecodes: chains may lead over other
+ * assertions than those of one typecode. Its bytes are shared, and the module's memory is free.
+ * @param {string} word how the command line calls it
+ * @param {Uint8Array} data
+ * @param {Request} request
+ * @param {Core} core
+ */
+async function verifiedReport(word, data, request, { judge, tables }) {
+    const wanted = /** @type {const} */ ({ only: null, report: "matrix,citations,statements", form: 2 });
+    const answer = await judge(data, { ...request, ...wanted });
     if (answer.status === Status.memory) throw outOfMemory();
     if (answer.status === Status.refusal) {
         const fault = faultOf(data, refusalOf(answer.report));
         throw new Ending(1, `mmdepend: ${explained(visible(word), fault, tables)}\n`);
     }
     if (answer.status !== Status.report) throw new Error(`the module answers ${answer.status}`);
-    return answer.report;
+    return sharedCopy(answer.report);
 }
 
 /** A database that is accepted, on its way into a page. */
 class Database {
     /**
-     * @param {string} word how the command line calls it
-     * @param {Making} making
+     * @param {Naming} naming
+     * @param {Uint8Array} data
+     * @param {Request} request
+     * @param {Uint8Array} report
      */
-    constructor(word, making) {
+    constructor({ word, name }, data, request, report) {
         this.word = word;
-        this.making = making;
+        this.name = name;
         try {
-            this.side = making.side();
+            this.side = sideOf(name, readText(data, report), request, report);
         } catch (error) {
             throw error instanceof NoAnswer ? lacking(word, error.lack) : error;
         }
@@ -164,95 +232,97 @@ class Database {
 }
 
 /**
- * Reads and verifies a database.
- * @param {string} word
- * @param {string} name how the page calls it
- * @param {Request} request
- * @param {Tools} tools
- */
-async function opened(word, name, request, tools) {
-    const data = textOf(word);
-    const report = await reportOf(word, data, request, tools);
-    return new Database(word, new Making(name, data, request, report));
-}
-
-/**
- * The axioms that are watched, each of which has to be one.
- * @param {readonly string[]} words
+ * Sees that what is watched are axioms.
+ * @param {readonly string[]} labels
  * @param {Database} database
  */
-function watchedIn(words, { word, axioms }) {
+function seeAxioms(labels, { word, axioms }) {
     const known = new Set(axioms);
-    const labels = words.flatMap((each) => each.split(",")).filter((label) => label !== "");
     const unknown = labels.find((label) => !known.has(label));
     if (unknown !== undefined) throw lacking(word, `has no axiom '${visible(unknown)}' to be watched`);
-    return labels;
 }
-
-/** Deflates blocks as they come: other threads do that, while more of them are made. */
-class Deflating {
-    constructor() {
-        /** @type {Map<string, Promise<string>>} */
-        this.coming = new Map();
-    }
-
-    /**
-     * @param {string} name
-     * @param {Uint8Array} block
-     */
-    set(name, block) {
-        this.coming.set(name, deflated(block, levelOf(name)));
-    }
-
-    /** All of them, in base64. */
-    async blocks() {
-        /** @type {Map<string, string>} */
-        const blocks = new Map();
-        for (const [name, signs] of this.coming) blocks.set(name, await signs);
-        return blocks;
-    }
-}
-
-const asDeflated = promisify(deflate);
 
 /**
- * @param {Uint8Array} block
- * @param {number} level
+ * Packs what became of an older release, which is read and verified for that.
+ * @param {Naming} naming
+ * @param {Database} now
+ * @param {Request} request
+ * @param {Core} core
+ * @param {Deflating} blocks
  */
-async function deflated(block, level) {
-    // All in one piece: after each piece the other thread waits for this one.
-    const chunkSize = block.length + (block.length >>> 8) + 64;
-    return (await asDeflated(block, { level, chunkSize })).toString("base64");
+async function packAgainst(naming, now, request, core, blocks) {
+    const data = textOf(naming.word);
+    const older = new Database(naming, data, request, await verifiedReport(naming.word, data, request, core));
+    for (const each of [now, older]) if (each.axioms.length === 0) throw lacking(each.word, "has no axiom");
+    packComparison(older, now, blocks);
 }
 
 /**
- * The page of what the words ask for.
+ * The blocks of a page, in base64. Other threads pack the text, and the proofs behind its first part.
+ * @param {Asked} asked
+ * @param {Uint8Array} data
+ * @param {{ text: Packing<TextTask>, proofs: Packing<ProofTask> }} threads
+ * @param {Core} core
+ */
+async function blocksOf({ naming, title, watched, request, older }, data, threads, core) {
+    const report = await verifiedReport(naming.word, data, request, core);
+    const { maker, entities } = core.tables;
+    const ofText = threads.text.pack({ name: naming.name, request, report, wishes: { maker, title, watched }, entities });
+    const ofOtherProofs = threads.proofs.pack({ request, report, behind: FIRST_PART });
+    const database = new Database(naming, data, request, report);
+    seeAxioms(watched, database);
+    const ofReport = new Deflating();
+    packMarks(database.side.dependence, ofReport);
+    const proofs = new ProofPacker(database.side.dependence);
+    proofs.packFrames(ofReport);
+    proofs.packSteps(0, proofs.chunkBehind(FIRST_PART), ofReport);
+    const ofComparison = new Deflating();
+    if (older) await packAgainst(older, database, request, core, ofComparison);
+    const parts = await Promise.all([ofText, ofReport.blocks(), ofOtherProofs, ofComparison.blocks()]);
+    return new Map(parts.flatMap((blocks) => [...blocks]));
+}
+
+/**
+ * What the words ask for.
  * @param {ReturnType<typeof readWords>} read
- * @param {Tools} tools
+ * @returns {Asked}
  */
-async function made({ values, positionals }, tools) {
+function askedBy({ values, positionals }) {
     const [word, ...others] = positionals;
     if (word === undefined) throw misread("DATABASE is missing");
     if (others.length > 0) throw misread(`one DATABASE is wanted, and '${others[0]}' is another`);
-    const { only = null, essential = false, open = false, against } = values;
-    const request = { only, essential, open };
+    const { only = null, essential = false, open = false, watch = [], against, program = null } = values;
     const name = values.name ?? nameOf(word);
-    const database = await opened(word, name, request, tools);
-    const watched = watchedIn(values.watch ?? [], database);
-    let older = null;
-    if (against !== undefined) {
-        const oldName = values["against-name"] ?? nameOf(against);
-        const old = await opened(against, oldName, request, tools);
-        for (const each of [database, old]) if (each.axioms.length === 0) throw lacking(each.word, "has no axiom");
-        older = { name: oldName, side: old.side };
+    return {
+        naming: { word, name },
+        title: values.title ?? name,
+        watched: watch.flatMap((each) => each.split(",")).filter((label) => label !== ""),
+        request: { only, essential, open },
+        older: against === undefined ? null : { word: against, name: values["against-name"] ?? nameOf(against) },
+        program,
+    };
+}
+
+/**
+ * The page that is asked for.
+ * @param {Asked} asked
+ * @param {Tools} tools
+ */
+async function made(asked, tools) {
+    const data = textOf(asked.naming.word);
+    const core = { judge: await judgeFor(asked.program, tools.module, data.length), tables: tools.tables };
+    // Begun here, they are ready when the text is verified, which takes this thread alone.
+    /** @type {Parameters<typeof blocksOf>[2]} */
+    const threads = { text: new Packing("text", data), proofs: new Packing("proofs", data) };
+    try {
+        return pageFile(tools.shell, visible(asked.title), await blocksOf(asked, data, threads, core));
+    } catch (error) {
+        // What the module says is read; what another program says may be anything.
+        if (asked.program === null || !(error instanceof OddReport || error instanceof UnreadableText)) throw error;
+        throw new Ending(3, `mmdepend: ${visible(asked.program)}: ${visible(error.message)}\n`);
+    } finally {
+        await Promise.all([threads.text.end(), threads.proofs.end()]);
     }
-    const { making, side } = database;
-    const { title = name } = values;
-    const { maker, entities } = tools.tables;
-    const packed = new Deflating();
-    await making.packText({ maker, entities, title, watched }, packed);
-    making.packReports(side, older, packed);
-    return pageFile(tools.shell, visible(title), await packed.blocks());
 }
 
 /**
@@ -266,8 +336,6 @@ export async function page(words, tools) {
         writeAll(STDOUT, bytesOf(HELP));
         return 0;
     }
-    // Node 18 has it under this name alone.
-    globalThis.crypto ??= /** @type {Crypto} */ (webcrypto);
-    writeAll(STDOUT, bytesOf(await made(read, tools)));
+    writeAll(STDOUT, bytesOf(await made(askedBy(read), tools)));
     return 0;
 }

@@ -23,11 +23,11 @@ export class Ending extends Error {
 }
 
 /**
- * Whether a call of the system failed in this way.
+ * Whether a call of the system or of Node failed in this way.
  * @param {unknown} error
  * @param {string} code
  */
-function failedBy(error, code) {
+export function failedBy(error, code) {
     return error instanceof Error && /** @type {{ code?: string }} */ (error).code === code;
 }
 

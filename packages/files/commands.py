@@ -20,10 +20,11 @@ def run(line: list[str]) -> NoReturn:
     os.execv(line[0], line)
 
 
-def node() -> str | None:
-    """Where Node is; None where it isn't. It isn't taken from a folder of PATH that is relative,
-    nor from the working folder, in which Windows looks first."""
-    name = "node.exe" if os.name == "nt" else "node"
+def located(command: str) -> str | None:
+    """Where a command is. A folder of PATH that is relative to the working folder doesn't count,
+    since whoever fills that folder could bring a command; nor does the working folder itself, in
+    which Windows looks first."""
+    name = f"{command}.exe" if os.name == "nt" else command
     for folder in os.environ.get("PATH", os.defpath).split(os.pathsep):
         if os.path.isabs(folder) and (found := shutil.which(os.path.join(folder, name))):
             return found
@@ -35,10 +36,10 @@ def mmdepend() -> NoReturn:
     native = PACKED / "mmdepend"
     if native.exists():
         run([str(native), *sys.argv[1:]])
-    place = node()
-    if place is None:
+    path = located("node")
+    if path is None:
         sys.exit("mmdepend: this package needs the command node, of Node 18 or later")
-    run([place, str(PACKED / "mmdepend.mjs"), *sys.argv[1:]])
+    run([path, str(PACKED / "mmdepend.mjs"), *sys.argv[1:]])
 
 
 def mmquery() -> NoReturn:

@@ -231,7 +231,7 @@ def run_frees(context: Context, arguments: argparse.Namespace) -> int:
     elif not freeing:
         context.tell(nothing_rests(graph, end))
     found: list[list[Value]] = [[freed, graph.labels[node]] for freed, node in freeing]
-    context.out.table(FREED, context.kept(found, 1)[: arguments.most])
+    context.out.table(FREED, context.passing(found, 1)[: arguments.most])
     return 0
 
 

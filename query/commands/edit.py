@@ -2,7 +2,7 @@
 
 import argparse
 
-from query.bare import Stretch, bare, proof_of
+from query.bare import Stretch, proof_of, without_comments
 from query.commands import Command
 from query.context import Context
 from query.errors import NoAnswer, shown
@@ -38,7 +38,7 @@ def run(context: Context, arguments: argparse.Namespace) -> int:
     database = context.database(arguments.database, Options(only=None, open=True))
     data = database.data()
     database.see_statements()
-    text = bare(data)
+    text = without_comments(data)
     start, end = found_proof(text, database.name, arguments.theorem)
     given = b" ? "
     if arguments.other != "?":

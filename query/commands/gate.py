@@ -90,8 +90,7 @@ def configure(parser: Parser) -> None:
 
 def opened(source: Source, context: Context) -> Database:
     """The database of these bytes. NoAnswer where they are a report."""
-    if source.is_report():
-        raise NoAnswer(f"{source.name}: a report, where the database is wanted")
+    source.see_text()
     return Database(source, ASKED, context.uses_cache)
 
 

@@ -33,9 +33,9 @@ nothing cites aren't in it.
 PICTURE_PAGE = """
 Draws the marks: theorems down and axioms across, both in file order. Each dot is for as many
 theorems and axioms as the others; it is black where one of these theorems rests on one of these
-axioms. The picture is a PBM file (P4), or with --png a PNG file, with the headers of the database
-beside it (labels of theorems where it has none, and of a report), labels of axioms above it, a
-scale and a legend.
+axioms. The picture is a PBM file (P4), or with --png a PNG file with axes and a legend: the headers
+of the database beside it (labels of theorems where it has none, and of a report), and labels of
+axioms above it.
 
   $ mmquery picture set.mm --png > set.png
 """

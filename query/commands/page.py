@@ -12,7 +12,7 @@ from query.context import Context
 from query.database import Database
 from query.errors import NoAnswer
 from query.options import Options, Parser, add_choice_of_citations, add_database
-from query.program import HOME, SCRIPT, Running, wanted, why_ended, without_node
+from query.program import HOME, SCRIPT, Program, Running, wanted, why_ended, without_node
 from query.source import Source
 
 PAGE = """
@@ -55,7 +55,13 @@ def words_of(arguments: argparse.Namespace) -> list[str]:
     return words + [f"--watch={word}" for word in arguments.watch]
 
 
-def program() -> str:
+def words_for(program: Program) -> list[str]:
+    """The option by which a database is verified by the program that verifies for all other
+    answers. Where that is the one for Node, it needs none."""
+    return [f"--program={program.path}"] if program.node is None else []
+
+
+def packer() -> str:
     """The program for Node: beside `mmquery` where it was unpacked, else where it was built.
     NoAnswer where there is none."""
     for path in (os.path.join(HOME, SCRIPT), os.path.join(HOME, "out", "web", SCRIPT)):
@@ -89,7 +95,7 @@ def made(databases: list[Database], words: list[str]) -> bytes:
     NoAnswer where it makes none."""
     with handed([database.source for database in databases]) as (places, passed):
         first, *others = places
-        line = [program(), "page", *words, *(f"--against={place}" for place in others), first]
+        line = [packer(), "page", *words, *(f"--against={place}" for place in others), first]
         node = wanted("node", "pages are made by Node 18 or later, and there is no command node")
         running = Running(node, line, None, True, passed, without_node())
         out, errors, status = running.ended()
@@ -114,6 +120,7 @@ def run(context: Context, arguments: argparse.Namespace) -> int:
         words.append(f"--against-name={name_of(arguments.against)}")
     for database in databases:
         database.see_text()
+    words += words_for(databases[0].program)
     progress.now(f"verifying {databases[0].name}")
     context.out.write(made(databases, words))
     return 0

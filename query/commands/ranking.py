@@ -104,10 +104,10 @@ def put_ranking(context: Context, arguments: argparse.Namespace, dependence: Dep
         why = f"{dependence.name}: on each axiom{dependence.which} {arguments.below} or more rest"
     if not rows:
         context.tell(why)
-    kept = context.kept(rows, 1)
+    passing = context.passing(rows, 1)
     if arguments.below is None or arguments.number is not None:
-        kept = sorted(kept, key=lambda row: -int(str(row[0])))[: arguments.number or 10]
-    context.out.table(columns, kept)
+        passing = sorted(passing, key=lambda row: -int(str(row[0])))[: arguments.number or 10]
+    context.out.table(columns, passing)
 
 
 def configure_within(parser: Parser) -> None:

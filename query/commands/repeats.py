@@ -12,7 +12,7 @@ from query.options import Options, Parser, add_database, add_only, add_open
 from query.output import Value
 from query.rules import is_discouraged
 from query.spare.conventions import LAST, conventions_of, is_fit
-from query.spare.library import UNREAD, Library, Rule, library_of
+from query.spare.rules import UNREAD, Rule, Rules, rules_of
 from query.spare.repeats import Finder
 from query.spare.search import Shelf
 
@@ -49,14 +49,14 @@ def configure(parser: Parser) -> None:
     parser.flag("--kept", "also labels that end in ALT or OLD, and discouraged")
 
 
-def theorems_of(library: Library, with_kept: bool, keeps: Test) -> Iterator[Rule]:
+def theorems_of(rules: Rules, with_kept: bool, keeps: Test) -> Iterator[Rule]:
     """The theorems that may be listed, of those that pass a test."""
-    for one in library.text.assertions:
-        rule = library.rules[one.number]
+    for one in rules.text.assertions:
+        rule = rules[one.number]
         if one.number % 1000 == 0:
-            progress.now(f"searching, {one.number} of {len(library.rules)} assertions are done")
+            progress.now(f"searching, {one.number} of {len(rules)} assertions are done")
         if one.kind == "p" and keeps(one.label) and is_fit(rule):
-            is_kept = one.label.endswith(LAST) or is_discouraged(library.text, one)
+            is_kept = one.label.endswith(LAST) or is_discouraged(rules.text, one)
             if with_kept or not is_kept:
                 yield rule
 
@@ -69,17 +69,17 @@ def run(context: Context, arguments: argparse.Namespace) -> int:
     database.see_text()
     dependence = database.dependence()
     kept: bool = arguments.kept
-    library = library_of(database, arguments.only)
-    shelf = Shelf(library, conventions_of(library, cites_discouraged=kept, cites_old=kept))
-    finder = Finder(library, shelf)
-    found = finder.repeats(theorems_of(library, kept, context.keeps()))
+    rules = rules_of(database, arguments.only)
+    shelf = Shelf(rules, conventions_of(rules, cites_discouraged=kept, cites_old=kept))
+    finder = Finder(rules, shelf)
+    found = finder.repeats(theorems_of(rules, kept, context.test()))
     rows = [[one.theorem, one.earlier, one.how] for one in found]
     context.table(
         COLUMNS,
         [[*row, *rests_apart(dependence, row[0], row[1])] for row in rows],
         f"{database.name}: no theorem says what an earlier statement says",
         "theorem",
-        remarks={GIVEN_UP: finder.given_up, UNREAD: library.unread},
+        remarks={GIVEN_UP: finder.given_up, UNREAD: rules.unread},
     )
     return 0
 

@@ -13,8 +13,8 @@ from query.output import Value
 from query.text import Text
 
 COLUMNS = ("theorem", "status", "was", "axioms", "gained", "lost", "via", "bytes")
-MOST = 60
-"""Rows of a comment. A longer one isn't read."""
+SHOWN_ROWS = 60
+"""Rows of a comment's table, and axioms of a line. A longer one isn't read."""
 
 PAGE = """
 Lists the theorems that a change from OLD to NEW is about, in file order, and last those that are
@@ -171,14 +171,15 @@ def comment(comparison: Comparison, changes: Sequence[Change]) -> str:
     ):
         told = [f"`{axiom}` ({count})" for axiom, count in counts.items() if count]
         if told:
-            more = f" and {len(told) - MOST} more" if len(told) > MOST else ""
-            lines += ["", f"Theorems of both {words} {', '.join(told[:MOST])}{more}."]
+            more = f" and {len(told) - SHOWN_ROWS} more" if len(told) > SHOWN_ROWS else ""
+            lines += ["", f"Theorems of both {words} {', '.join(told[:SHOWN_ROWS])}{more}."]
     if changes:
         lines += ["", "| theorem | status | axioms | gained | lost | bytes |"]
         lines += ["|---|---|---|---|---|---|"]
-        lines += [line_of(each) for each in changes[:MOST]]
-    if len(changes) > MOST:
-        lines += ["", f"{len(changes) - MOST} more aren't shown; `mmquery review` lists them."]
+        lines += [line_of(each) for each in changes[:SHOWN_ROWS]]
+    if len(changes) > SHOWN_ROWS:
+        more = f"{len(changes) - SHOWN_ROWS} more aren't shown"
+        lines += ["", f"{more}; `mmquery review` lists them."]
     return "\n".join(lines) + "\n"
 
 

@@ -9,10 +9,10 @@ from query.errors import NoAnswer, nearest, shown
 from query.files import see_missing, write_new
 from query.options import Options, Parser, add_database, add_only, add_open, count
 from query.output import Value
-from query.spare.changes import Changer, Place, Wanted
+from query.spare.changes import Changer, ProofRange, Wanted
 from query.spare.kept import Change
 from query.spare.judge import judge, rewritten
-from query.spare.library import UNREAD
+from query.spare.rules import UNREAD
 from query.text import Text
 
 COLUMNS = ("how", "theorem", "loses", "replaced", "by", "step", "bytes", "chapter")
@@ -44,8 +44,8 @@ another mathbox; and no proof is changed whose modification is discouraged. Opti
 these aside. A proof with a comment between its $= and $. isn't changed.
 
 A proof whose search takes too long is given up. A formula that the syntax axioms of the database
-don't build, or build in two ways, is only compared with others as it stands. Standard error says
-how many there were.
+don't build, or build in two ways, or that takes too long to read, is only compared with others as
+it stands. Standard error says how many there were.
 
 Several processes search, one for each processor, at most 4, as far as memory goes; --jobs says how
 many. The answer is the same. What was found is kept each minute, so that a search that was
@@ -108,15 +108,15 @@ def wanted_of(database: Database, arguments: argparse.Namespace) -> Wanted:
     if not axioms and not arguments.all and not theorems and not arguments.shorter:
         raise NoAnswer("an AXIOM is wanted, or --theorem T, or --all, or --shorter")
     return Wanted(
-        arguments.only,
-        tuple(axioms or reversed(dependence.axioms)),
-        frozenset(theorems) or None,
-        arguments.cite_discouraged,
-        arguments.cite_old,
-        arguments.cite_mathboxes,
-        arguments.change_discouraged,
-        arguments.new_steps,
-        arguments.shorter,
+        typecode=arguments.only,
+        axioms=tuple(axioms or reversed(dependence.axioms)),
+        theorems=frozenset(theorems) or None,
+        cites_discouraged=arguments.cite_discouraged,
+        cites_old=arguments.cite_old,
+        cites_mathboxes=arguments.cite_mathboxes,
+        changes_discouraged=arguments.change_discouraged,
+        has_new_steps=arguments.new_steps,
+        is_shorter=arguments.shorter,
     )
 
 
@@ -138,7 +138,7 @@ def run(context: Context, arguments: argparse.Namespace) -> int:
     else:
         empty = f"{database.name}: no theorem was found that can do without"
         given_up = [change.theorem for change in changes if change.is_given_up]
-        remarks = {GIVEN_UP: given_up, UNREAD: changer.library.unread}
+        remarks = {GIVEN_UP: given_up, UNREAD: changer.rules.unread}
         context.table(COLUMNS, rows_of(database, changes), empty, remarks=remarks)
     if arguments.write is not None:
         write_new(arguments.write, data)
@@ -179,8 +179,8 @@ def new_statement(database: Database, changes: list[Change], label: str) -> str:
     for change in changes:
         if change.theorem == label and change.proof is not None:
             one = text.by_label[label]
-            place = Place(text.data, one.place, one.end)
-            data = text.data[one.place : place.start] + change.proof + b"$."
+            proof_range = ProofRange(text.data, one.place, one.end)
+            data = text.data[one.place : proof_range.start] + change.proof + b"$."
             return data.decode("latin-1") + "\n"
     known = [change.theorem for change in changes if change.proof is not None]
     raise NoAnswer(f"{database.name}: no new proof of '{shown(label)}'{nearest(label, known, 0.8)}")

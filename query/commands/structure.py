@@ -156,7 +156,7 @@ def run_order(context: Context, arguments: argparse.Namespace) -> int:
         kind = "open" if one.is_open else "axiom" if one.kind == "a" else "theorem"
         line = text.line(one.place)
         rows.append([line, kind, one.typecode, counts.get(one.label), one.label])
-    context.out.table(["line", "kind", "typecode", "count", "label"], context.kept(rows, 4))
+    context.out.table(["line", "kind", "typecode", "count", "label"], context.passing(rows, 4))
     return 0
 
 
@@ -176,8 +176,7 @@ def run_unfinished(context: Context, arguments: argparse.Namespace) -> int:
     """Answers `unfinished`."""
     options = Options(only=None, open=True, essential=arguments.essential)
     database = context.database(arguments.database, options)
-    if database.is_report:
-        raise NoAnswer(f"{database.name}: a report, where the database is wanted")
+    database.see_text()
     dependence = database.dependence()
     found = open_theorems(dependence, database.text)
     if arguments.theorem is None:
@@ -239,11 +238,11 @@ def run_discouraged(context: Context, arguments: argparse.Namespace) -> int:
             rows.append(["proof", one.label, None, steps(text, one)])
     if not rows:
         context.tell(f"{database.name}: no comment says that something is discouraged")
-    kept = context.kept(rows, 1)
+    passing = context.passing(rows, 1)
     if context.out.format != "text":
-        context.out.table(["what", "label", "by", "count"], kept)
+        context.out.table(["what", "label", "by", "count"], passing)
         return 0
-    for line in sorted(map(discouraged_line, kept)):
+    for line in sorted(map(discouraged_line, passing)):
         context.out.line(line)
     return 0
 

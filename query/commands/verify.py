@@ -5,7 +5,7 @@ from collections.abc import Iterator
 from functools import cached_property
 
 from query import program, progress
-from query.bare import bare, declared_at, leave_open
+from query.bare import declared_at, leave_open, without_comments
 from query.commands import Command
 from query.context import Context
 from query.database import Database
@@ -36,7 +36,7 @@ other proofs are judged on. --most N ends with the Nth fault.
 
 NOTHING = ["--report=citations", "--only="]
 """The report of the axioms of no typecode, in which nothing is listed."""
-LONGEST = 1000
+SHOWN_WORD = 1000
 """Bytes of a word that are shown."""
 FIELDS = ["line", "column", "code", "statement", "meaning", "advice"]
 FIELDS += ["proved", "wanted", "word", "declared"]
@@ -74,7 +74,7 @@ def run(context: Context, arguments: argparse.Namespace) -> int:
 
 def others(database: Database, first: Refused, most: int) -> Iterator[Refused]:
     """The faults of other proofs than the first that has one, in file order; so many at most."""
-    text = bare(database.data())
+    text = without_comments(database.data())
     data = bytearray(database.data())
     refusal = first
     for number in range(most):
@@ -142,7 +142,7 @@ class Words:
     @cached_property
     def text(self) -> bytes:
         """The text without its comments, which is made once for all words."""
-        return bare(self.source.data)
+        return without_comments(self.source.data)
 
     def of(self, refusal: Refused) -> tuple[str | None, int | None]:
         """The word for which a proof is refused, and the line on which something of this name is
@@ -150,7 +150,7 @@ class Words:
         if refusal.code != "E33" or self.source.is_report():
             return None, None
         place = refusal.at()
-        word = self.source.data[place : place + LONGEST].split(None, 1)[0].decode("latin-1")
+        word = self.source.data[place : place + SHOWN_WORD].split(None, 1)[0].decode("latin-1")
         if word not in self.known:
             self.known[word] = self.line_of(word)
         return word, self.known[word]

@@ -5,25 +5,25 @@ from __future__ import annotations
 
 import time
 from collections.abc import Iterator
-from dataclasses import asdict, dataclass
+from dataclasses import KW_ONLY, asdict, dataclass
 
 from query import progress
-from query.bare import bare
+from query.bare import without_comments
 from query.database import Database, key_of
 from query.rules import is_discouraged, is_proof_discouraged
 from query.spare import kept as kept_changes
 from query.spare.conventions import conventions_of
 from query.spare.kept import Change, Replaced
 from query.spare.index import GivenUp
-from query.spare.library import Rule, bits_of, joined, library_of
+from query.spare.rules import Rule, bits_of, joined, rules_of
 from query.spare.proofs import Proof, Step, Unfit, run
-from query.spare.search import Options, Search, Shelf, Steps, World
+from query.spare.search import AllSteps, Search, Shelf, Steps, World
 from query.spare.sharing import number_at_once, searched
 from query.spare.writing import Writer, laid_out, width_of
 
 SECONDS = 60
 """After so many seconds what was found is kept."""
-MOST_SYMBOLS = 400
+SHOWN_SYMBOLS = 400
 """Of a formula so many symbols are shown."""
 
 
@@ -33,6 +33,7 @@ class Wanted:
 
     typecode: str
     axioms: tuple[str, ...] = ()
+    _: KW_ONLY
     theorems: frozenset[str] | None = None
     """Whose proofs may be changed; None for all."""
     cites_discouraged: bool = False
@@ -50,12 +51,12 @@ class Wanted:
         return {**asdict(self), "theorems": theorems}
 
 
-class Place:
+class ProofRange:
     """Where the proof of a theorem stands: `start` is the byte behind its `$=`, `end` that of its
     `$.`."""
 
     def __init__(self, data: bytes, place: int, end: int) -> None:
-        text = bare(data[place:end])
+        text = without_comments(data[place:end])
         self.start = place + text.index(b"$=") + 2
         self.end = end - 2
         self.has_comment = text != data[place:end] and b"$(" in data[self.start : self.end]
@@ -68,9 +69,9 @@ class Changer:
         self.text = database.text
         self.wanted = wanted
         self.at_once = at_once
-        self.library = library_of(database, wanted.typecode)
-        self.numbers = {rule.label: rule.number for rule in self.library.rules}
-        self.names = [rule.label for rule in self.library.rules]
+        self.rules = rules_of(database, wanted.typecode)
+        self.numbers = {rule.label: rule.number for rule in self.rules}
+        self.names = [rule.label for rule in self.rules]
         prepared = database.prepared
         assert prepared.marks is not None and prepared.cites is not None
         self.columns = prepared.columns
@@ -84,16 +85,16 @@ class Changer:
         self.world = World(self.rests(prepared.theorems))
         self.old_rests = list(self.world.rests)
         conventions = conventions_of(
-            self.library, wanted.cites_discouraged, wanted.cites_old, wanted.cites_mathboxes
+            self.rules, wanted.cites_discouraged, wanted.cites_old, wanted.cites_mathboxes
         )
-        self.shelf = Shelf(self.library, conventions)
-        self.writer = Writer(self.library, self.syntax())
+        self.shelf = Shelf(self.rules, conventions)
+        self.writer = Writer(self.rules, self.syntax())
         self.width = width_of(self.proofs())
-        self.closed = 0
+        self.closed = 0  # the statements that may be new steps, as bits
         if wanted.has_new_steps:
             citable = self.shelf.citable
             self.closed = joined(each for each in citable if not citable[each].premises)
-        self.axioms = 0
+        self.axioms = 0  # those that proofs shall do without, as bits
         for label in wanted.axioms:
             self.axioms |= self.bit_of[label]
         fields = [f"{name} {value}" for name, value in sorted(wanted.fields().items())]
@@ -125,8 +126,8 @@ class Changer:
         data = self.text.data
         for one in self.text.assertions:
             if one.kind == "p":
-                place = Place(data, one.place, one.end)
-                proof = data[place.start : place.end]
+                proof_range = ProofRange(data, one.place, one.end)
+                proof = data[proof_range.start : proof_range.end]
                 if proof.lstrip().startswith(b"("):
                     yield proof
 
@@ -187,13 +188,13 @@ class Changer:
         if not self.is_sought(number):
             return False
         allowed = self.shelf.conventions.allowed(number)
-        trees = [self.library.rules[other].tree for other in others if allowed >> other & 1]
+        trees = [self.rules[other].tree for other in others if allowed >> other & 1]
         if not trees:
             return False
         if self.closed and any(self.closed >> other & 1 for other in others):
             return True
-        first = len(self.library.trees)
-        match = self.library.trees.match
+        first = len(self.rules.trees)
+        match = self.rules.trees.match
         try:
             formulas = self.proof(number).steps
             return any(
@@ -202,12 +203,12 @@ class Changer:
         except Unfit:
             return False
         finally:
-            self.library.trees.forget(first)
+            self.rules.trees.forget(first)
 
     def proof(self, number: int) -> Proof:
         """The proof of a theorem. Unfit where it isn't of the kind that is changed."""
         words = self.text.proof(self.text.assertions[number])
-        return run(self.library, self.numbers, self.library.rules[number], words)
+        return run(self.rules, self.numbers, self.rules[number], words)
 
     def change(self, number: int) -> Change | None:
         """What becomes of a theorem."""
@@ -241,25 +242,25 @@ class Changer:
         """The change of a theorem whose proof can be another one; None where none is found. `rests`
         are the axioms on which it rests with its old one."""
         one = self.text.assertions[number]
-        rule = self.library.rules[number]
+        rule = self.rules[number]
         if not rule.is_logical or one.is_open or not self.may_change(number):
             return None
-        place = Place(self.text.data, one.place, one.end)
-        first = len(self.library.trees)
+        proof_range = ProofRange(self.text.data, one.place, one.end)
+        first = len(self.rules.trees)
         steps: Steps | None = None
         try:
-            if place.has_comment:
+            if proof_range.has_comment:
                 return None
             proof = self.proof(number)
             if self.wanted.is_shorter:
-                steps = Options(self.shelf, self.world, rule, proof, rests).shortest()
+                steps = AllSteps(self.shelf, self.world, rule, proof, rests).shortest()
             elif self.needs(proof, wanted):
                 steps = self.best(rule, proof, wanted & rests, rests)
-            return None if steps is None else self.made(rule, proof, steps, place, rests)
+            return None if steps is None else self.made(rule, proof, steps, proof_range, rests)
         except Unfit:
             return None
         finally:
-            self.library.trees.forget(first)
+            self.rules.trees.forget(first)
 
     def may_change(self, number: int) -> bool:
         """Whether the proof of a theorem may be changed."""
@@ -277,7 +278,7 @@ class Changer:
         """A proof without as many of the axioms as are found: all at once that it can do without
         one by one, or else one after the other, in the order in which they are wanted."""
         if axioms.bit_count() > 1 and not self.closed:
-            axioms &= Options(self.shelf, self.world, rule, proof, rests).losable()
+            axioms &= AllSteps(self.shelf, self.world, rule, proof, rests).losable()
         if not axioms:
             return None
         search = Search(self.shelf, self.world, rule, proof)
@@ -295,7 +296,7 @@ class Changer:
         return steps
 
     def made(
-        self, rule: Rule, proof: Proof, steps: Steps, place: Place, rests: int
+        self, rule: Rule, proof: Proof, steps: Steps, proof_range: ProofRange, rests: int
     ) -> Change | None:
         """The change of a proof into other steps; None where it would rest on what it didn't, or
         isn't shorter where that is wanted."""
@@ -304,7 +305,7 @@ class Changer:
         new = self.resting(numbers)
         if new & ~rests:
             return None
-        old = self.text.data[place.start : place.end]
+        old = self.text.data[proof_range.start : proof_range.end]
         written = laid_out(labels, letters, old, self.width)
         change = Change(rule.label, (), written, len(old))
         formulas = used(proof, steps)
@@ -322,7 +323,7 @@ class Changer:
 
     def replaced(self, tree: int, step: Step, was: dict[Step, None]) -> Replaced:
         """What stands in place of the steps by which a formula was proved."""
-        symbols = self.library.grammar.written(tree, MOST_SYMBOLS)
+        symbols = self.rules.grammar.written(tree, SHOWN_SYMBOLS)
         formula = " ".join([self.wanted.typecode, *symbols])
         labels = dict.fromkeys(self.names[each.rule] for each in was)
         return Replaced(tuple(labels), self.names[step.rule], formula)

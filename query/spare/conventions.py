@@ -6,7 +6,7 @@ from collections.abc import Callable
 from dataclasses import dataclass
 
 from query.rules import is_discouraged
-from query.spare.library import Library, Rule, joined
+from query.spare.rules import Rule, Rules, joined
 
 LAST = ("ALT", "OLD")
 """How labels end of statements that nothing new should cite."""
@@ -33,20 +33,20 @@ class Conventions:
 
 
 def conventions_of(
-    library: Library,
+    rules: Rules,
     cites_discouraged: bool = False,
     cites_old: bool = False,
     cites_mathboxes: bool = False,
 ) -> Conventions:
     """Which statements may be cited, where some of the conventions are set aside."""
-    text = library.text
+    text = rules.text
     boxes = {}
     if not cites_mathboxes:
         boxes = {one.number: box for one, box, _ in text.boxed()}
     citable = joined(
         one.number
         for one in text.assertions
-        if is_fit(library.rules[one.number])
+        if is_fit(rules[one.number])
         and (cites_old or not one.label.endswith(LAST))
         and (cites_discouraged or not is_discouraged(text, one))
     )

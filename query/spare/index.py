@@ -6,11 +6,12 @@ from collections.abc import Iterator
 from dataclasses import dataclass, field
 
 from query.spare.grammar import Grammar
-from query.spare.library import bits_of, joined
+from query.spare.rules import bits_of, joined
 from query.spare.trees import Trees
 
-MANY = 100
-"""Of more statements with one formula the wanted ones are found by bits."""
+MOST_SINGLY_CHOSEN = 100
+"""Up to so many statements with one formula are looked at one by one; of more, the wanted ones are
+found by bits."""
 
 Left = tuple[int, "Left | None"]
 """Trees that are still to be matched: the first one, and the others."""
@@ -102,7 +103,7 @@ class Index:
             branch, left, bound = work.pop()
             if left is None:
                 found += [(statement, bound) for statement in chosen(branch, wanted, flags)]
-                budget.take(min(MANY, len(branch.statements)))
+                budget.take(min(MOST_SINGLY_CHOSEN, len(branch.statements)))
                 continue
             budget.left -= 1 + len(branch.slots)
             one, rest = left
@@ -127,7 +128,7 @@ class Index:
 
 def chosen(branch: Branch, wanted: int, flags: str) -> list[int]:
     """The statements of a branch that are wanted."""
-    if len(branch.statements) > MANY:
+    if len(branch.statements) > MOST_SINGLY_CHOSEN:
         branch.bits = branch.bits or joined(branch.statements)
         return list(bits_of(branch.bits & wanted))
     count = len(flags)

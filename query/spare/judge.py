@@ -11,11 +11,11 @@ from typing import NoReturn
 
 from query import progress
 from query.assertions import Assertion
-from query.bare import bare
+from query.bare import without_comments
 from query.database import Database
 from query.errors import NoAnswer
 from query.faults import Refused
-from query.report import Prepared
+from query.prepared import Prepared
 from query.source import Source
 from query.spare.kept import Change
 from query.text import Text
@@ -68,7 +68,7 @@ def compare_texts(old: Text, new: Text, changes: dict[str, Change]) -> None:
 def head_of(text: Text, theorem: Assertion) -> bytes:
     """A theorem up to its `$=`."""
     data = text.data[theorem.place : theorem.end]
-    return data[: bare(data).index(b"$=") + 2]
+    return data[: without_comments(data).index(b"$=") + 2]
 
 
 def compare_marks(old: Prepared, new: Prepared, changes: dict[str, Change]) -> None:

@@ -9,7 +9,7 @@ from collections.abc import Sequence
 from dataclasses import dataclass, field
 from functools import cache
 
-from query.spare.library import Library, Rule, Scope
+from query.spare.rules import Rule, Rules, Scope
 
 NUMBER = re.compile(r"[U-Y]*[A-T]|Z")
 STEPS, STEPS_OF_LETTER = 100_000, 20
@@ -58,16 +58,16 @@ class Machine:
     """The stack while a proof is carried out. What is proved stands there as `~tree`, and what is
     built as its tree."""
 
-    def __init__(self, library: Library, numbers: dict[str, int], theorem: Rule) -> None:
-        self.library = library
+    def __init__(self, rules: Rules, numbers: dict[str, int], theorem: Rule) -> None:
+        self.rules = rules
         self.numbers = numbers
-        scope = library.scope(theorem)
+        scope = rules.scope(theorem)
         essential = theorem.essential()
         if any(each.number < 0 for each in essential):
             raise Unfit
         self.entries = {each.label: ~each.number for each in essential}
         for variable, label in scope.labels.items():
-            self.entries[label] = library.trees.made((~variable,))
+            self.entries[label] = rules.trees.made((~variable,))
         given: dict[int, str] = {}
         for each in essential:
             given.setdefault(each.number, each.label)
@@ -106,14 +106,14 @@ class Machine:
         """What a label stands for: a hypothesis by its entry, or a rule."""
         number = self.numbers.get(label)
         if number is not None:
-            return self.library.rules[number]
+            return self.rules[number]
         if label not in self.entries:
-            name = self.library.floating.get(label)
+            name = self.rules.floating.get(label)
             if name is None:
                 raise Unfit
-            tree = self.library.grammar.variable(*name)
+            tree = self.rules.grammar.variable(*name)
             self.entries[label] = tree
-            self.proof.scope.add_dummy(~self.library.trees.heads[tree], name[1], label)
+            self.proof.scope.add_dummy(~self.rules.trees.heads[tree], name[1], label)
         return self.entries[label]
 
     def step(self, meant: int | Rule) -> None:
@@ -132,11 +132,11 @@ class Machine:
             return
         if entries and min(entries) < 0:
             raise Unfit
-        trees, form = self.library.trees, meant.form
+        trees, form = self.rules.trees, meant.form
         if form is not None:
             stack.append(trees.made((form, *entries)))
         else:
-            stack.append(trees.instance(self.library.code(meant), entries))
+            stack.append(trees.instance(self.rules.code(meant), entries))
 
     def cited(self, rule: Rule, entries: list[int]) -> int:
         """The formula that a citation proves."""
@@ -146,9 +146,9 @@ class Machine:
             if (entry < 0) == one.is_floating:
                 raise Unfit
             (filled if one.is_floating else premises).append(entry)
-        code = self.library.code(rule)
+        code = self.rules.code(rule)
         self.left -= len(code) // 8
-        tree = self.library.trees.instance(code, filled)
+        tree = self.rules.trees.instance(code, filled)
         if tree not in self.proof.given and ~tree not in premises:
             trees = tuple(entry if entry >= 0 else ~entry for entry in entries)
             step = Step(rule.number, trees, tuple(~entry for entry in premises))
@@ -156,6 +156,6 @@ class Machine:
         return tree
 
 
-def run(library: Library, numbers: dict[str, int], theorem: Rule, words: Sequence[str]) -> Proof:
+def run(rules: Rules, numbers: dict[str, int], theorem: Rule, words: Sequence[str]) -> Proof:
     """Carries out a proof that is valid. Unfit where it isn't of the kind that is changed."""
-    return Machine(library, numbers, theorem).run(theorem, words)
+    return Machine(rules, numbers, theorem).run(theorem, words)

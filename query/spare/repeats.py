@@ -6,7 +6,7 @@ from collections.abc import Iterator
 from dataclasses import dataclass
 
 from query.spare.index import GivenUp
-from query.spare.library import Library, Rule
+from query.spare.rules import Rule, Rules
 from query.spare.proofs import Proof, Step
 from query.spare.search import Citable, Search, Shelf, World, step_of
 from query.spare.trees import Binding
@@ -38,7 +38,7 @@ class Ways(Search):
         self.found.append(step_of(citable, binding, premises))
         return False
 
-    def cut(self) -> None:
+    def leave_untried(self) -> None:
         """Gives up: another one might have been nearer."""
         raise GivenUp
 
@@ -70,8 +70,8 @@ class Ways(Search):
 class Finder:
     """Finds what repeats what."""
 
-    def __init__(self, library: Library, shelf: Shelf) -> None:
-        self.library = library
+    def __init__(self, rules: Rules, shelf: Shelf) -> None:
+        self.rules = rules
         self.shelf = shelf
         self.world = World([])
         self.given_up: list[str] = []
@@ -80,27 +80,27 @@ class Finder:
     def repeat(self, theorem: Rule) -> Repeat | None:
         """What a theorem repeats, of several the nearest, and of these the first one."""
         given = {each.number: each.label for each in theorem.essential()}
-        proof = Proof(self.library.scope(theorem), given, theorem.tree, {theorem.tree: {}})
+        proof = Proof(self.rules.scope(theorem), given, theorem.tree, {theorem.tree: {}})
         best: tuple[int, int] | None = None
         ways = Ways(self.shelf, self.world, theorem, proof)
         for step in ways.alike(theorem.tree):
             if self.how(theorem, step) == "same":
-                return Repeat(theorem.label, self.library.rules[step.rule].label, "same")
+                return Repeat(theorem.label, self.rules[step.rule].label, "same")
         for step in ways.all(theorem.tree):
             found = (HOW.index(self.how(theorem, step)), step.rule)
             best = found if best is None else min(best, found)
         if best is None:
             return None
-        return Repeat(theorem.label, self.library.rules[best[1]].label, HOW[best[0]])
+        return Repeat(theorem.label, self.rules[best[1]].label, HOW[best[0]])
 
     def how(self, theorem: Rule, step: Step) -> str:
         """How a theorem says what a statement says that would prove it in one step."""
-        rule, heads = self.library.rules[step.rule], self.library.trees.heads
+        rule, heads = self.rules[step.rule], self.rules.trees.heads
         named = [tree for one, tree in zip(rule.given, step.trees) if one.is_floating]
         if len({*named}) < len(named) or any(heads[tree] >= 0 for tree in named):
             return "instance"
         has_same_given = len({*step.premises}) == len({each.number for each in theorem.essential()})
-        pairs = self.library.pairs
+        pairs = self.rules.pairs
         has_same_pairs = len({*pairs(rule)}) == len({*pairs(theorem)})
         return "same" if has_same_given and has_same_pairs else "weaker"
 

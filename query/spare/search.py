@@ -15,7 +15,7 @@ from dataclasses import dataclass
 
 from query.spare.conventions import Conventions
 from query.spare.index import Budget, Index, Key, key_of, keys_of
-from query.spare.library import Library, Rule, bits_of, joined
+from query.spare.rules import Rule, Rules, bits_of, joined
 from query.spare.proofs import Proof, Step
 from query.spare.trees import Binding, Code, Trees
 
@@ -103,16 +103,16 @@ class World:
 class Shelf:
     """All statements that may be cited, by their formulas."""
 
-    def __init__(self, library: Library, conventions: Conventions) -> None:
-        self.library = library
+    def __init__(self, rules: Rules, conventions: Conventions) -> None:
+        self.rules = rules
         self.conventions = conventions
-        self.index = Index(library.trees, library.grammar)
+        self.index = Index(rules.trees, rules.grammar)
         self.citable: dict[int, Citable] = {}
         needing: dict[Key, list[int]] = {}
         for number in bits_of(conventions.citable):
-            for key in self.add(library.rules[number]):
+            for key in self.add(rules[number]):
                 needing.setdefault(key, []).append(number)
-        most = MOST_KEYS // (len(library.rules) + 1)
+        most = MOST_KEYS // (len(rules) + 1)
         often = sorted(needing, key=lambda key: len(needing[key]), reverse=True)[:most]
         self.needing = {key: joined(needing[key]) for key in often}
 
@@ -124,13 +124,13 @@ class Shelf:
         bound = set(slots)
         premises.sort(key=lambda each: not each.variables <= bound)
         keys = [each.key for each in premises]
-        pairs = self.library.pairs(rule)
+        pairs = self.rules.pairs(rule)
         self.citable[rule.number] = Citable(rule, slots, premises, keys, pairs)
         return {key for key in keys if key is not None}
 
     def premise(self, place: int, pattern: int) -> Premise:
         """A hypothesis of a statement."""
-        trees = self.library.trees
+        trees = self.rules.trees
         variables = frozenset(bits_of(trees.variables(pattern)))
         code, key = trees.open_code(pattern), key_of(trees, pattern)
         return Premise(pattern, place, key, variables, code, *ends_of(trees, pattern))
@@ -209,7 +209,7 @@ class Search:
         self.world = world
         self.theorem = theorem
         self.proof = proof
-        self.trees = shelf.library.trees
+        self.trees = shelf.rules.trees
         self.keys = {tree: keys_of(self.trees, tree) for tree in (*proof.given, *proof.steps)}
         self.budget = Budget(STEPS + STEPS_OF_FORMULA * len(self.keys))
         lacking = shelf.lacking(set[Key]().union(*self.keys.values()))
@@ -301,8 +301,9 @@ class Search:
         """Whether this step is taken, where there may be others with the same statement."""
         return True
 
-    def cut(self) -> None:
-        """Notes that not all premises of a statement were tried."""
+    def leave_untried(self) -> None:
+        """Is called where not all premises of a statement are tried, since they are too many. Here
+        nothing is lost but a proof that might have been found."""
 
     def has_premises(
         self, citable: Citable, left: list[Premise], binding: Binding, premises: list[int]
@@ -321,7 +322,7 @@ class Search:
             self.left -= 1
             self.budget.take(1 + len(chosen.code) // 16)
             if self.left < 0:
-                self.cut()
+                self.leave_untried()
                 return False
             new = self.match(chosen.pattern, formula, binding)
             if new is None:
@@ -373,7 +374,7 @@ class Search:
     def match(self, pattern: int, formula: int, binding: Binding) -> list[int] | None:
         """Binds the variables of a premise's pattern."""
         if self.trees.heads[pattern] < 0:
-            typecode = self.shelf.library.grammar.typecode
+            typecode = self.shelf.rules.grammar.typecode
             if typecode(pattern) != typecode(formula):
                 return None
         return self.trees.match(pattern, formula, binding)
@@ -391,7 +392,7 @@ class Search:
         return True
 
 
-class Options(Search):
+class AllSteps(Search):
     """All steps by which the formulas of a proof follow from one another, its own and others."""
 
     def __init__(self, shelf: Shelf, world: World, theorem: Rule, proof: Proof, rests: int) -> None:

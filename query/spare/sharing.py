@@ -77,7 +77,7 @@ def stretches(search: Searching, numbers: Sequence[int]) -> Iterator[Stretch]:
 def searched(search: Searching, numbers: Sequence[int], at_once: int) -> Iterator[Change | None]:
     """What becomes of theorems, in order, by so many processes."""
     waiting = deque(stretches(search, numbers))
-    if at_once == 1 or len(waiting) == 1 or not system.has_copies():
+    if at_once == 1 or len(waiting) == 1 or not system.can_fork():
         yield from map(search.change, numbers)
         return
     running: deque[Stretch] = deque()

@@ -7,7 +7,7 @@ from collections import Counter
 from collections.abc import Iterable
 from dataclasses import dataclass, field
 
-from query.spare.library import Library, Rule
+from query.spare.rules import Rule, Rules
 from query.spare.proofs import Proof, Step
 from query.spare.search import Steps
 
@@ -27,13 +27,13 @@ Item = int
 class Writer:
     """Writes proofs."""
 
-    def __init__(self, library: Library, is_usable: Iterable[int]) -> None:
-        self.library = library
+    def __init__(self, rules: Rules, is_usable: Iterable[int]) -> None:
+        self.rules = rules
         self.abbreviations: dict[int, list[Rule]] = {}
         for number in is_usable:
-            rule = library.rules[number]
+            rule = rules[number]
             if rule.form is None and not rule.is_logical and rule.tree >= 0:
-                head = library.trees.heads[rule.tree]
+                head = rules.trees.heads[rule.tree]
                 several = self.abbreviations.setdefault(head, [])
                 if head >= 0 and len(several) < MOST_ALIKE:
                     several.append(rule)
@@ -108,27 +108,27 @@ class Writing:
 
     def node(self, item: Item) -> Node:
         """How an item is made."""
-        library = self.writer.library
+        rules = self.writer.rules
         if item < 0:
             step = self.steps[~item]
             if step is None:
                 return Node(self.proof.given[~item], [])
             return self.citation(step)
-        head = library.trees.heads[item]
+        head = rules.trees.heads[item]
         if head < 0:
             return Node(self.proof.scope.labels[~head], [])
         for rule in self.writer.abbreviations.get(head, ()):
             binding: dict[int, int] = {}
             if rule.number < self.theorem.number:
-                if library.trees.match(rule.tree, item, binding) is not None:
+                if rules.trees.match(rule.tree, item, binding) is not None:
                     return Node(rule.label, [binding[slot] for slot in rule.slots])
-        label = library.grammar.forms[head].label
+        label = rules.grammar.forms[head].label
         assert label is not None
-        return Node(label, list(library.trees.parts[item]))
+        return Node(label, list(rules.trees.parts[item]))
 
     def citation(self, step: Step) -> Node:
         """How a citation is made."""
-        rule = self.writer.library.rules[step.rule]
+        rule = self.writer.rules[step.rule]
         parts = [tree if one.is_floating else ~tree for one, tree in zip(rule.given, step.trees)]
         return Node(rule.label, parts)
 

@@ -5,7 +5,7 @@ import time
 from dataclasses import dataclass, field
 from typing import Any, NoReturn
 
-LONGEST = 20_000  # letters of what is said of a check that failed
+SHOWN_FAILURE = 20_000  # letters of what is said of a check that failed
 ADDING = 0.45  # seconds to add ten million numbers where the machine is quiet
 
 
@@ -34,7 +34,7 @@ class Counting:
             self.passed += 1
         else:
             self.failed += 1
-            print(f"failed: {what} {came}".rstrip()[:LONGEST], flush=True)
+            print(f"failed: {what} {came}".rstrip()[:SHOWN_FAILURE], flush=True)
         return bool(good)
 
     def same(self, came: Any, wanted: Any, what: str) -> bool:

@@ -12,7 +12,7 @@ import zlib
 
 from unittest import mock
 
-from query.bare import bare, declared_at
+from query.bare import declared_at, without_comments
 from query.tests import world
 from query.tests.world import MMQUERY, SMALL, World, asked
 
@@ -90,8 +90,8 @@ class Answers(World):
         bad = "".join(f"bad{number} $p wff p $= no{number % 3} $.\n" for number in range(9))
         path = str(self.room / self.write("bad.mm", SMALL + bad))
         with (
-            mock.patch.dict(os.environ, {"MMDEPEND": world.program() or ""}),
-            mock.patch("query.commands.verify.bare", wraps=bare) as passed,
+            mock.patch.dict(os.environ, {"MMDEPEND": world.built_program()}),
+            mock.patch("query.commands.verify.without_comments", wraps=without_comments) as passed,
             mock.patch("query.commands.verify.declared_at", wraps=declared_at) as searched,
         ):
             rows = asked("verify", path, "--each")

@@ -5,6 +5,8 @@ import os
 import subprocess
 import time
 import unittest
+from collections.abc import Iterator
+from contextlib import contextmanager
 from pathlib import Path
 from unittest import mock
 
@@ -172,9 +174,30 @@ class Cache(World):
                 self.assertEqual(process.communicate(), (b"ax-1\nax-mp\n", b""))
             self.assertEqual(clear.wait(), 0)
 
+    def test_what_goes_while_the_folder_is_listed(self) -> None:
+        self.folder.mkdir(mode=0o700)
+        unfinished = self.folder / ".new-1-0d"
+        unfinished.write_text("x")
+        listed = os.scandir
+
+        @contextmanager
+        def renamed_meanwhile(place: str) -> Iterator[list["os.DirEntry[str]"]]:
+            with listed(place) as files:
+                found = list(files)
+            unfinished.unlink()
+            yield found
+
+        key = f"{0:040x}"
+        with mock.patch.dict(os.environ, self.places()):
+            with mock.patch("os.scandir", renamed_meanwhile):
+                cache.store(key, {"part": b"x"})
+            self.assertEqual(cache.load(key), {"part": b"x"})
+
     def test_the_oldest_go_first(self) -> None:
         keys = [f"{number:040x}" for number in range(9)]
-        with mock.patch.dict(os.environ, self.places()), mock.patch.object(cache, "MOST", 10_000):
+        with mock.patch.dict(os.environ, self.places()), mock.patch.object(
+            cache, "MOST_CACHE_BYTES", 10_000
+        ):
             for number, key in enumerate(keys[:8]):
                 cache.store(key, {"part": bytes(2000)})
                 os.utime(self.folder / key, (number, number))

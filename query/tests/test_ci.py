@@ -9,7 +9,7 @@ import unittest
 from pathlib import Path
 
 from query.tests.repositories import ADDED, BASE, WATCH, Repositories, changed
-from query.tests.world import PROGRAM_FOR_NODE, TOP, Came, World, program
+from query.tests.world import PROGRAM_FOR_NODE, TOP, Came, World, built_program
 
 SCRIPT = TOP / "docs" / "ci" / "check-database"
 JOB = TOP / "docs" / "ci" / "github.yml"
@@ -73,18 +73,20 @@ class Script(Repositories):
         folder = self.room.parent / "mmdepend-0"
         folder.mkdir()
         shutil.copy(TOP / "mmquery", folder)
-        shutil.copy(program() or "", folder / "mmdepend")
+        shutil.copy(built_program(), folder / "mmdepend")
         shutil.copy(PROGRAM_FOR_NODE, folder)
         hidden = shutil.ignore_patterns("tests", "__pycache__")
         shutil.copytree(TOP / "query", folder / "query", ignore=hidden)
-        names = sorted(
-            str(each.relative_to(folder)) for each in folder.rglob("*.*") if each.is_file()
-        )
-        names = sorted({*names, "mmquery", "mmdepend"})
-        sums = [f"{self.sum(folder / each)}  {each}\n" for each in names]
-        (folder / "SHA256SUMS").write_text("".join(sums))
         self.folder = folder
+        self.write_sums()
         self.pack()
+
+    def write_sums(self) -> None:
+        """Lists all files of the folder with their sums, as `sha256sum` does, by their names."""
+        listed = self.folder / "SHA256SUMS"
+        files = (path for path in self.folder.rglob("*") if path.is_file() and path != listed)
+        sums = {str(path.relative_to(self.folder)): self.sum(path) for path in files}
+        listed.write_text("".join(f"{sums[name]}  {name}\n" for name in sorted(sums)))
 
     def pack(self) -> None:
         """Packs the folder."""
@@ -209,10 +211,7 @@ class Script(Repositories):
     def test_the_action(self) -> None:
         (self.folder / "docs" / "ci").mkdir(parents=True)
         shutil.copy(SCRIPT, self.folder / "docs" / "ci")
-        listed = self.folder / "SHA256SUMS"
-        line = f"{self.sum(SCRIPT)}  docs/ci/check-database\n"
-        lines = [*listed.read_text().splitlines(keepends=True), line]
-        listed.write_text("".join(sorted(lines, key=lambda each: each[66:])))
+        self.write_sums()
         self.branch()
         self.commit(changed(BASE, ("2p2e4 $p", "ax-cheat $a |- ( 2 + 2 ) = 4 $.\n2p2e4 $p")))
         runner = self.room.parent / "runner"

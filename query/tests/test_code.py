@@ -133,3 +133,38 @@ class Code(unittest.TestCase):
 
 if __name__ == "__main__":
     unittest.main()
+
+
+class Copies(unittest.TestCase):
+    """What stands twice, since one place can't import the other, is the same."""
+
+    def test_where_a_command_is(self) -> None:
+        places = ("query/program.py", "packages/files/commands.py")
+        one, other = (function_of(TOP / place, "located") for place in places)
+        self.assertEqual(one, other)
+
+
+def function_of(path: Path, name: str) -> str:
+    """The source of a function of a module."""
+    text = path.read_text("utf-8")
+    found = [each for each in ast.parse(text).body if getattr(each, "name", "") == name]
+    return "\n".join(ast.get_source_segment(text, each) or "" for each in found)
+
+
+class Packages(unittest.TestCase):
+    """`./test` installs what the quick checks need, and `./check` tells where to get it."""
+
+    # What we build, what the toolchain has, and what is on each Debian.
+    THERE = frozenset({"program", "library", "web", "rt", "python3", "dpkg-deb"})
+
+    def test_both_name_the_same_packages(self) -> None:
+        (table,) = re.findall(r"commands\(\) \{\n.*\n([^}]*)END\n\}", (TOP / "test").read_text())
+        lines = [line.split() for line in table.splitlines()]
+        installed = {re.split("[/:]", command)[-1]: package for command, package in lines}
+        check = (TOP / "check").read_text()
+        told = dict(re.findall(r"^ +([\w-]+)\) .*apt-get install ([\w-]+)", check, re.MULTILINE))
+        quick = re.findall(r"^quick (\S+) ", check, re.MULTILINE)
+        needed = {need for needs in quick for need in needs.split(",")} - self.THERE
+        self.assertTrue(needed)
+        for need in sorted(needed):
+            self.assertEqual(installed[need], told.get(need, need), need)

@@ -7,7 +7,7 @@ from unittest import mock
 
 from query.statements import difference, statement_of
 from query.tests.generations import Generation, generation, next_generation
-from query.tests.world import SMALL, World, asked, program, told_of
+from query.tests.world import SMALL, World, asked, built_program, told_of
 
 Row = dict[str, str]
 COLUMNS = ("change", "kind", "label", "was", "axiom", "citing", "cited")
@@ -43,7 +43,7 @@ class Comparisons(World):
 
     def setUp(self) -> None:
         super().setUp()
-        patch = mock.patch.dict(os.environ, {"MMDEPEND": program() or ""})
+        patch = mock.patch.dict(os.environ, {"MMDEPEND": built_program()})
         patch.start()
         self.addCleanup(patch.stop)
 

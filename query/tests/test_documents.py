@@ -14,7 +14,7 @@ from collections.abc import Iterator
 from dataclasses import dataclass
 from pathlib import Path
 
-from query.tests.world import PROGRAM_FOR_NODE, TOP, World, program
+from query.tests.world import PROGRAM_FOR_NODE, TOP, World, built_program
 
 FENCE = re.compile(r"^( *)```(\w*)\n(.*?)^ *```$", re.DOTALL | re.MULTILINE)
 COMMANDS = ("sh", "console", "python", "js", "sql")
@@ -148,7 +148,7 @@ class Commands(World):
         self.write("pull.mm", stand_in() + "wbad $a wff ( p -> p ) $.\n")
         programs = self.room.parent / "programs"
         programs.mkdir()
-        (programs / "mmdepend").symlink_to(program() or "")
+        (programs / "mmdepend").symlink_to(built_program())
         self.path = f"{programs}:{TOP}:{self.surroundings()['PATH']}"
 
     def all_answer(self, page: str) -> int:

@@ -4,13 +4,30 @@ import json
 import os
 import re
 import unittest
+from unittest import mock
 
+from query import parallel
+from query.changes import Comparison, sides
+from query.commands.gate import ASKED
+from query.config import Config
+from query.database import Database
+from query.rules import Case, judge
 from query.tests.repositories import ADDED, BASE, FREED, WATCH, Repositories, changed
-from query.tests.world import DATABASES, TOP
+from query.tests.world import DATABASES, TOP, built_program
 
 CHEAT = (
     "2p2e4 $p |- ( 2 + 2 ) = 4 $= df-4",
     "ax-cheat $a |- ( 2 + 2 ) = 4 $.\n2p2e4 $p |- ( 2 + 2 ) = 4 $= ax-cheat",
+)
+BOXES = (
+    BASE
+    + "".join(
+        f"$(\n=-=-\n  Mathbox for {name}\n=-=-\n$)\n"
+        f"{name}1 $p |- ( p -> ( q -> p ) ) $= wp wq {cited} $.\n"
+        f"{name}2 $p |- ( p -> ( q -> p ) ) $= wp wq {name}1 $.\n"
+        for name, cited in (("Ann", "ax1"), ("Bo", "Ann1"))
+    )
+    + "$(\n####\n  Main again\n####\n$)\nlast $p |- ( p -> ( q -> p ) ) $= wp wq Bo2 $.\n"
 )
 
 
@@ -491,19 +508,9 @@ class Rules(Repositories):
             self.breaks("open", new, part, allow='[allow]\nopen = ["todo"]\n')
 
     def test_mathboxes(self) -> None:
-        boxes = (
-            BASE
-            + "".join(
-                f"$(\n=-=-\n  Mathbox for {name}\n=-=-\n$)\n"
-                f"{name}1 $p |- ( p -> ( q -> p ) ) $= wp wq {cited} $.\n"
-                f"{name}2 $p |- ( p -> ( q -> p ) ) $= wp wq {name}1 $.\n"
-                for name, cited in (("Ann", "ax1"), ("Bo", "Ann1"))
-            )
-            + "$(\n####\n  Main again\n####\n$)\nlast $p |- ( p -> ( q -> p ) ) $= wp wq Bo2 $.\n"
-        )
         self.breaks(
             "mathboxes",
-            boxes,
+            BOXES,
             "Bo1: in the mathbox for Bo, cites Ann1 of the mathbox for Ann",
             "last: cites Bo2 of the mathbox for Bo",
             allow='[allow]\nmathboxes = ["Bo1", "last"]\n',
@@ -523,6 +530,18 @@ class Rules(Repositories):
         self.commit(text + user)
         renamed = (text + user).replace("user", "usher").replace("axac3", "axac4")
         self.assertEqual(self.gate_of(renamed, status=0), [])
+
+    def test_what_other_processes_judge(self) -> None:
+        self.write("new.mm", BOXES.replace("Ann1 $p", "$( (New usage is discouraged.) $)\nAnn1 $p"))
+        surroundings = {"MMDEPEND": built_program()}
+        with mock.patch.dict("os.environ", surroundings), mock.patch.object(parallel, "LARGE", 0):
+            old, new = (
+                Database.opened(str(self.room / name), ASKED, False) for name in ("db.mm", "new.mm")
+            )
+            case = Case(Comparison(*sides(old, new)), Config())
+            apart = judge(case)
+        self.assertEqual(judge(case), apart)
+        self.assertEqual({one.rule for one in apart}, {"mathboxes", "discouraged"})
 
     def test_a_database_that_is_refused(self) -> None:
         lines = self.gate_of(changed(BASE, ("wp ax-ac2 $.", "wp $.")), status=1)

@@ -5,7 +5,7 @@ import unittest
 from pathlib import Path
 
 from query import rules
-from query.bare import bare, declared_at, proof_of
+from query.bare import declared_at, proof_of, without_comments
 from query.remarks import tokens
 from query.tests import shapes
 from query.tests.world import World
@@ -47,8 +47,8 @@ class Refused(unittest.TestCase):
             b"x" * many,
             b"x $p " * many,
         ):
-            self.assertIsNone(proof_of(bare(text), "x"))
-            self.assertIsNone(declared_at(bare(text), "y"))
+            self.assertIsNone(proof_of(without_comments(text), "x"))
+            self.assertIsNone(declared_at(without_comments(text), "y"))
 
 
 class Parts(unittest.TestCase):

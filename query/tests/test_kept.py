@@ -30,20 +30,22 @@ class Kept(World):
         (self.path,) = self.folder.iterdir()
         self.whole = self.path.read_bytes()
 
-    def places(self, **more: str) -> dict[str, str]:
-        """The variables that say where these are."""
+    def folder_variables(self, **more: str) -> dict[str, str]:
+        """The environment variables that say in which folders the cache and the secret are."""
         found = {"XDG_CACHE_HOME": str(self.cache), "XDG_CONFIG_HOME": str(self.config)}
         return {**found, **more}
 
     @contextmanager
     def as_someone_else(self) -> Iterator[None]:
         """With another secret, as who doesn't know that of the user."""
-        with mock.patch.dict(os.environ, self.places(XDG_CONFIG_HOME=str(self.room / "other"))):
+        with mock.patch.dict(
+            os.environ, self.folder_variables(XDG_CONFIG_HOME=str(self.room / "other"))
+        ):
             yield
 
     def loaded(self, **more: str) -> dict[str, bytes] | None:
         """What is taken under the key of the first question."""
-        with mock.patch.dict(os.environ, self.places(**more)):
+        with mock.patch.dict(os.environ, self.folder_variables(**more)):
             return cache.load(self.path.name)
 
     def stays_right(self) -> None:
@@ -55,7 +57,7 @@ class Kept(World):
         self.assertIsNotNone(self.loaded())
 
     def test_a_lie_with_the_right_secret_would_be_believed(self) -> None:
-        with mock.patch.dict(os.environ, self.places()):
+        with mock.patch.dict(os.environ, self.folder_variables()):
             cache.store(self.path.name, LIE)
         self.refuses("rests", "small.mm", "a2", why="has no axiom")
 

@@ -5,6 +5,7 @@ import re
 import shutil
 import unittest
 
+from query.tests import metamath
 from query.tests.world import DATABASES, World, asked
 
 QUESTIONS = 40
@@ -21,14 +22,7 @@ class Told(World):
 
     def told(self, questions: list[str]) -> list[str]:
         """What metamath.exe says to each question of the database."""
-        script = ["set scroll continuous", "set width 9999", f"read {self.DATABASE}"]
-        for question in questions:
-            script += ["! question", question]
-        self.write("script", "\n".join([*script, "! question", "exit", ""]))
-        came = self.ran(shutil.which("metamath") or "metamath", "submit script")
-        parts = re.split(r"(?m)^MM> ! question.*\n", came.out)[1:-1]
-        self.assertEqual(len(parts), len(questions))
-        return parts
+        return metamath.asked(self.room / self.DATABASE, questions)
 
     def said(self, questions: list[str]) -> list[list[str]]:
         """What metamath.exe answers to each question: the labels on the lines that are indented."""

@@ -5,7 +5,7 @@ import random
 from unittest import mock
 
 from query.tests.test_structure import PARTS
-from query.tests.world import World, asked, invented, program
+from query.tests.world import World, asked, built_program, invented
 
 
 class Moved(World):
@@ -13,14 +13,14 @@ class Moved(World):
 
     def setUp(self) -> None:
         super().setUp()
-        patch = mock.patch.dict(os.environ, {"MMDEPEND": program() or ""})
+        patch = mock.patch.dict(os.environ, {"MMDEPEND": built_program()})
         patch.start()
         self.addCleanup(patch.stop)
 
     def is_valid(self, lines: list[str]) -> bool:
         """Whether the program accepts a database of these lines."""
         self.write("moved.mm", "\n".join(lines) + "\n")
-        came = self.ran(program() or "", "--report=counts", "moved.mm")
+        came = self.ran(built_program(), "--report=counts", "moved.mm")
         self.assertIn(came.status, (0, 1), came)
         return came.status == 0
 

@@ -11,7 +11,7 @@ from dataclasses import dataclass, replace
 
 from query.cli import parser_of
 from query.commands import command, names
-from query.tests.world import TOP, program
+from query.tests.world import TOP, built_program, program
 
 SOURCE = "crates/mm_line/src/words.rt"
 
@@ -226,7 +226,7 @@ class OfTheProgram(unittest.TestCase):
         text = in_node("process.stdout.write(readWords(['--help'], '').text)")
         self.assertEqual(of_help(text), self.known)
         if program():
-            done = subprocess.run([program() or "", "--help"], capture_output=True, check=True)
+            done = subprocess.run([built_program(), "--help"], capture_output=True, check=True)
             self.assertEqual(done.stdout.decode(), text)
 
     def test_the_manual_page(self) -> None:
@@ -385,7 +385,7 @@ class OfMmquery(unittest.TestCase):
             for word, action in of_parser("page").items()
             if word.startswith("--") and word != "--no-cache"
         }
-        for name in ("name", "against-name"):
+        for name in ("name", "against-name", "program"):
             self.assertTrue(found.pop(name))
         self.assertEqual(python, found)
 
@@ -407,7 +407,7 @@ class OfMmquery(unittest.TestCase):
         """An option that a page for users names is one of a command."""
         known = {word for name in names() for word in of_parser(name)}
         known |= {f"--{name}" for name in of_source(read(SOURCE))}
-        known |= {"--name", "--against-name"}  # of pages that Node makes
+        known |= {"--name", "--against-name", "--program"}  # of pages that Node makes
         tried = 0
         for name in USED:
             text = re.sub(r"```.*?```", "", read(name), flags=re.S)

@@ -12,7 +12,7 @@ from typing import Any
 from query.tests.blocks import Blocks, blocks_in, lines_in
 from query.tests.browser import databases
 from query.tests.repositories import Repositories
-from query.tests.world import PROGRAM_FOR_NODE, SMALL, World, invented, told_of
+from query.tests.world import PROGRAM_FOR_NODE, SMALL, World, invented, program, told_of
 
 TYPESET = databases.EVIL + databases.EVIL_TYPESETTING
 FORBIDDEN = ("innerHTML", "outerHTML", "insertAdjacentHTML", "document.write", "eval(", "Function(")
@@ -115,6 +115,27 @@ class Page(World):
             ("none.mm",): "none.mm: there is no such file",
         }.items():
             self.refuses("page", *words, why=why)
+
+    def test_the_program_verifies(self) -> None:
+        self.write("b.mm", SMALL)
+        runs = self.room / "runs"
+        self.script("noting", f'echo "$@" >>{runs}\nexec {program()} "$@"')
+        words = ("page", "--open", "--against", "b.mm", "b.mm")
+        self.assertEqual(self.query(*words, MMDEPEND="./noting"), self.query(*words))
+        line = "--report=matrix,citations,statements --form=2 --open"
+        self.assertEqual(runs.read_text().splitlines().count(line), 2)
+
+    def test_the_program_fails(self) -> None:
+        self.write("b.mm", SMALL)
+        failing = self.script("failing", '[ "$1" = --version ] && exit\necho why >&2\nexit 3')
+        why = f"b.mm: {failing} ended with status 3: why"
+        self.refuses("page", "b.mm", why=why, MMDEPEND="./failing")
+
+    def script(self, name: str, lines: str) -> Path:
+        """A program of these lines of the shell."""
+        path = self.room / self.write(name, f"#!/bin/sh\n{lines}\n")
+        path.chmod(0o755)
+        return path
 
     def test_without_node(self) -> None:
         self.write("b.mm", SMALL)

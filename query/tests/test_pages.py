@@ -13,7 +13,7 @@ from query.cli import VERSION, parser_of
 from query.commands import command, names, summaries
 from query.completions import files
 from query.faults import FAULTS
-from query.tests.world import DATABASES, TOP, World, program
+from query.tests.world import DATABASES, TOP, World, built_program
 
 PAGE = TOP / "docs" / "COOKBOOK.md"
 
@@ -95,7 +95,7 @@ class Cookbook(Examples):
         text = PAGE.read_text()
         part = text[text.index("\n### Reports\n") : text.index("\n## Is it valid?\n")]
         (self.room / "set.mm").symlink_to(DATABASES / "set.mm")
-        (self.room / "mmdepend").symlink_to(program() or "")
+        (self.room / "mmdepend").symlink_to(built_program())
         commands = re.findall(r"```sh\n(.*?)```", part, re.S)[0]
         path = f"{self.room}:{self.surroundings()['PATH']}"
         self.assertEqual(self.ran("bash", "-e", "-c", commands, PATH=path), self.ran("true"))
@@ -177,7 +177,7 @@ class Faults(World):
             text = example[1:-1].replace("<LF>", "\n").replace("<07>", "\x07").replace("\\|", "|")
             self.write("example.mm", text)
             done = subprocess.run(
-                [program() or "", self.room / "example.mm"], capture_output=True, check=False
+                [built_program(), self.room / "example.mm"], capture_output=True, check=False
             )
             self.assertEqual(done.stdout.decode(), f"refused {place} {code}\n")
             came = self.query("verify", "example.mm")

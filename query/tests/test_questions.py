@@ -6,7 +6,7 @@ import random
 import unittest
 from unittest import mock
 
-from query.tests.world import HOSTILE, Invented, World, asked, invented, program
+from query.tests.world import HOSTILE, Invented, World, asked, built_program, invented
 
 
 def first(rows: list[list[str]]) -> list[str]:
@@ -24,7 +24,7 @@ class Questions(World):
 
     def setUp(self) -> None:
         super().setUp()
-        patch = mock.patch.dict(os.environ, {"MMDEPEND": program() or ""})
+        patch = mock.patch.dict(os.environ, {"MMDEPEND": built_program()})
         patch.start()
         self.addCleanup(patch.stop)
 

@@ -7,7 +7,7 @@ from query.commands.repeats import theorems_of
 from query.context import Context
 from query.options import Options
 from query.spare.conventions import conventions_of
-from query.spare.library import Library
+from query.spare.rules import Rules
 from query.spare.repeats import HOW, Finder
 from query.spare.search import Shelf
 from query.tests.test_spare_search import SETS, Everything, Maker, Term, filled, parsed, variables
@@ -128,12 +128,12 @@ class ByChance(World):
         for seed in range(15):
             path = str(self.room / self.write("chance.mm", Maker(seed).text(40)))
             database = Context(uses_cache=False).database(path, Options())
-            library = Library(database.text, "|-")
-            conventions = conventions_of(library, cites_discouraged=True, cites_old=True)
-            finder = Finder(library, Shelf(library, conventions))
+            rules = Rules(database.text, "|-")
+            conventions = conventions_of(rules, cites_discouraged=True, cites_old=True)
+            finder = Finder(rules, Shelf(rules, conventions))
             found = {
                 one.theorem: one
-                for one in finder.repeats(theorems_of(library, True, lambda label: True))
+                for one in finder.repeats(theorems_of(rules, True, lambda label: True))
             }
             tried = Tried(told_of(database.data()))
             logical = [one for one in tried.text.assertions if one.typecode == "|-"]

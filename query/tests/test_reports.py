@@ -5,7 +5,8 @@ import re
 import unittest
 
 from query.errors import NoAnswer
-from query.report import Prepared, checked
+from query.prepared import Prepared
+from query.report import checked
 from query.tests.world import SMALL, World, invented
 
 OTHER = SMALL.replace("wp wq wp wi h wp wq ax-1 ax-mp $.", "wp wq h ax-n $.").replace(

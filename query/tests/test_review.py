@@ -4,8 +4,8 @@ import os
 import random
 from unittest import mock
 
-from query.commands.review import MOST, out_of_order
-from query.tests.world import SMALL, World, asked, invented, program
+from query.commands.review import SHOWN_ROWS, out_of_order
+from query.tests.world import SMALL, World, asked, built_program, invented
 
 A2 = "a2 $p |- ( q -> ( q -> p ) ) $= wq wp wi wq wp wq g a1i a1i $. $}\n"
 
@@ -15,7 +15,7 @@ class Reviewed(World):
 
     def setUp(self) -> None:
         super().setUp()
-        patch = mock.patch.dict(os.environ, {"MMDEPEND": program() or ""})
+        patch = mock.patch.dict(os.environ, {"MMDEPEND": built_program()})
         patch.start()
         self.addCleanup(patch.stop)
         self.write("old.mm", SMALL)
@@ -66,13 +66,13 @@ class Reviewed(World):
 
     def test_comment(self) -> None:
         news = "".join(
-            f"n{number} $p wff ( p -> p ) $= wp wp wi $.\n" for number in range(MOST + 5)
+            f"n{number} $p wff ( p -> p ) $= wp wp wi $.\n" for number in range(SHOWN_ROWS + 5)
         )
         self.write("new.mm", SMALL.replace("a2 $p", "a3 $p") + news)
         lines = self.answers("review", "old.mm", "new.mm", "--format", "markdown")
-        self.assertEqual(lines[0], f"**Theorems**: {MOST + 5} new, 1 renamed.")
+        self.assertEqual(lines[0], f"**Theorems**: {SHOWN_ROWS + 5} new, 1 renamed.")
         self.assertEqual(lines[4], "| `a3` | renamed from `a2` |  |  |  | +0 |")
-        self.assertEqual(sum(line.startswith("| `") for line in lines), MOST)
+        self.assertEqual(sum(line.startswith("| `") for line in lines), SHOWN_ROWS)
         self.assertIn("6 more aren't shown", lines[-1])
         same = self.answers("review", "old.mm", "old.mm", "--format", "markdown")
         self.assertEqual(same, ["**Theorems**: no change."])

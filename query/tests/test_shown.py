@@ -9,7 +9,14 @@ import unittest
 from pathlib import Path
 
 from query.errors import shown
-from query.findings import LONGEST, MOST_BYTES, Verdict, as_annotations, as_markdown, as_summary
+from query.findings import (
+    SHOWN_TEXT,
+    MOST_SUMMARY_BYTES,
+    Verdict,
+    as_annotations,
+    as_markdown,
+    as_summary,
+)
 from query.output import Output, for_terminal
 from query.rules import Finding, shown_change
 from query.tests.world import MMQUERY, SMALL, World
@@ -175,11 +182,11 @@ class Summary(unittest.TestCase):
     def test_below_one_megabyte(self) -> None:
         for findings, size in ((1, 10), (900, 400), (2000, 100), (3000, 5000), (1, 3_000_000)):
             said = as_markdown(self.verdict(findings, size))
-            self.assertLess(len(said.encode()), MOST_BYTES)
+            self.assertLess(len(said.encode()), MOST_SUMMARY_BYTES)
             self.assertTrue(said.startswith("### mmquery gate: "))
             if findings > 1000:
                 self.assertRegex(said, r"\nand [0-9]+ more findings")
-        self.assertNotIn("*" * (LONGEST + 1), said.replace("\\", ""))
+        self.assertNotIn("*" * (SHOWN_TEXT + 1), said.replace("\\", ""))
 
     def test_with_what_the_file_has(self) -> None:
         path = Path(os.environ.get("TMPDIR", "/tmp")) / f"summary-{os.getpid()}"
@@ -187,7 +194,7 @@ class Summary(unittest.TestCase):
         for _ in range(4):
             with path.open("a") as file:
                 file.write(as_summary(self.verdict(900, 200), str(path)))
-        self.assertLess(path.stat().st_size, MOST_BYTES)
+        self.assertLess(path.stat().st_size, MOST_SUMMARY_BYTES)
         self.assertEqual(path.read_text().count("### mmquery gate"), 4)
 
     def test_annotations(self) -> None:

@@ -2,9 +2,7 @@
 where the search is broken by hand."""
 
 import os
-import re
 import shutil
-import subprocess
 import unittest
 from collections.abc import Callable
 from typing import Any
@@ -17,10 +15,11 @@ from query.errors import NoAnswer
 from query.options import Options
 from query.output import Output
 from query.commands.spare import GIVEN_UP, rows_of
-from query.spare import changes, judge, library, proofs, search, writing
+from query.spare import changes, judge, proofs, rules, search, writing
 from query.spare.changes import Changer, Wanted
 from query.spare.kept import Change, Replaced
 from query.tests import shapes
+from query.tests.metamath import asked
 from query.tests.world import DATABASES, World
 from query.text import Text
 
@@ -156,18 +155,18 @@ class Spare(World):
         self.assertEqual((self.room / "new.mm").read_bytes(), NEW.replace("\n", "\r\n").encode())
 
     def test_grammars(self) -> None:
-        for rules, why in (
+        for syntax, why in (
             ("wz $a wff $. wb $a wff p q $.", "it can be read in two ways"),  # in endless ways
             ("wb $a wff p q $. wc $a wff ( p -> q $.", None),
             ("wb $a wff p $.", "it can be read in two ways"),  # a rule that leads to itself
             ("wz $a wff $.", None),
             ("we $a wff ( p = p ) $. e $a |- ( p = p ) $. f $a |- ( p = q ) $.", "it isn't built"),
         ):
-            text = SPARE.replace("wi $a", f"{rules} wi $a").replace("$c", "$c =")
+            text = SPARE.replace("wi $a", f"{syntax} wi $a").replace("$c", "$c =")
             self.write("rules.mm", text)
             came = self.query("spare", "--format", "tsv", "rules.mm", "bad")
             found = [line.split("\t")[:3] for line in came.lines()[1:]]
-            self.assertEqual(found, [row[:3] for row in ROWS], rules)
+            self.assertEqual(found, [row[:3] for row in ROWS], syntax)
             if why is None:
                 self.assertEqual(came.err, "")
             else:
@@ -422,7 +421,7 @@ class Limits(World):
             ("MOST_VARIABLES", "variables"),
             ("MOST_MARKS", "pairs of an assertion and an axiom"),
         ):
-            with mock.patch.object(library, name, 2), self.assertRaises(NoAnswer) as why:
+            with mock.patch.object(rules, name, 2), self.assertRaises(NoAnswer) as why:
                 Changer(database, Wanted("|-", ("bad",)))
             self.assertIn(f"has more than 2 {what}, too many to search", str(why.exception))
 
@@ -482,24 +481,18 @@ class Kept(World):
 class BesideMetamath(World):
     """What is written is verified by metamath.exe, which traces the theorems back to the axioms."""
 
-    def metamath(self, name: str, *commands: str) -> str:
-        """What it prints of a database."""
-        words = [f"read '{name}'", "set scroll continuous", "set width 9999", *commands, "exit"]
-        done = subprocess.run(["metamath", *words], capture_output=True, check=True, cwd=self.room)
-        return done.stdout.decode("latin-1")
-
     def checked(self, name: str, *axioms: str) -> None:
         """A database is changed, and judged."""
         path = str(DATABASES / name)
         words = ("spare", path, *axioms, "--write", "new.mm", "--format", "tsv")
         rows = [line.split("\t") for line in self.answers(*words)[1:]]
         self.assertTrue(rows, name)
-        told = self.metamath("new.mm", "verify proof *")
+        some = rows[:5]
+        traces = [f"show trace_back {row[1]} /axioms /match *" for row in some]
+        told, *traced = asked(self.room / "new.mm", ["verify proof *", *traces])
         self.assertIn("All proofs in the database were verified", told)
-        for row in rows[:5]:
-            told = self.metamath("new.mm", f"show trace_back {row[1]} /axioms /match *")
-            cited = set(re.findall(r"\S+", told.partition("/match *")[2]))
-            self.assertTrue(cited.isdisjoint(row[2].split()), row)
+        for row, trace in zip(some, traced, strict=True):
+            self.assertTrue(set(trace.split()).isdisjoint(row[2].split()), row)
         (self.room / "new.mm").unlink()
 
     def test_databases(self) -> None:

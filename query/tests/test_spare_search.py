@@ -11,7 +11,7 @@ from query.spare.changes import Changer, Wanted
 from query.spare.kept import Change
 from query.spare.judge import judge, rewritten
 from query.spare.proofs import run
-from query.spare.search import Options as Steps
+from query.spare.search import AllSteps
 from query.tests.world import World
 from query.text import Text
 
@@ -360,11 +360,11 @@ class ByChance(World):
             for one in changer.text.assertions:
                 if one.kind == "a":
                     continue
-                rule = changer.library.rules[one.number]
-                proof = run(changer.library, changer.numbers, rule, changer.text.proof(one))
+                rule = changer.rules[one.number]
+                proof = run(changer.rules, changer.numbers, rule, changer.text.proof(one))
                 rests = changer.world.rests[one.number]
-                options = Steps(changer.shelf, changer.world, rule, proof, rests)
-                found = options.losable()
+                all_steps = AllSteps(changer.shelf, changer.world, rule, proof, rests)
+                found = all_steps.losable()
                 for axiom in before[one.label]:
                     is_lost = bool(found & changer.bit_of[axiom])
                     wanted = everything.is_freed(one, axiom)

@@ -92,10 +92,10 @@ class Processes(World):
         with mock.patch.object(sharing, "begun", side_effect=OSError):
             self.assertEqual(found(path, wanted, 3), alone)
         before = os.listdir("/proc/self/fd")
-        with mock.patch.object(system, "copy", side_effect=OSError):
+        with mock.patch.object(system, "fork", side_effect=OSError):
             self.assertEqual(found(path, wanted, 3), alone)
         self.assertEqual(os.listdir("/proc/self/fd"), before, "pipes were left open")
-        with mock.patch.object(system, "has_copies", lambda: False):
+        with mock.patch.object(system, "can_fork", lambda: False):
             with mock.patch.object(sharing, "begun", side_effect=AssertionError):
                 self.assertEqual(found(path, wanted, 3), alone)
 

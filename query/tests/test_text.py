@@ -5,7 +5,7 @@ import re
 import unittest
 
 from query.assertions import Damaged, assertions_of
-from query.bare import bare, declared_at, floating, proof_of
+from query.bare import declared_at, floating, proof_of, without_comments
 from query.tests.world import DATABASES, World, invented, told_of
 from query.text import Text
 
@@ -147,7 +147,7 @@ class Reader(World):
         self.assertEqual(found["wi"], [])
 
     def test_without_comments(self) -> None:
-        text = bare(SMALL)
+        text = without_comments(SMALL)
         self.assertEqual(len(text), len(SMALL))
         self.assertEqual(re.findall(rb"\$[()]|stray|inner", text), [])
         start, end = proof_of(text, "first") or (0, 0)
@@ -161,7 +161,7 @@ class Reader(World):
             self.assertIsNone(declared_at(text, label), label)
         self.assertIsNone(proof_of(text, "wi"))
         self.assertRaises(KeyError, floating, text, "first.e")
-        self.assertEqual(bare(b"a $( $( b"), b"a " + b" " * 7)
+        self.assertEqual(without_comments(b"a $( $( b"), b"a " + b" " * 7)
 
 
 class Lines(World):
@@ -181,7 +181,7 @@ class Lines(World):
     def agree(self, text: Text) -> None:
         """What the lines tell stands in the text, where they say that it does."""
         for one in text.assertions:
-            words = bare(text.data[one.place : one.end]).decode("latin-1").split()
+            words = without_comments(text.data[one.place : one.end]).decode("latin-1").split()
             formula = words[2 : words.index("$=")] if "$=" in words else words[2:-1]
             self.assertEqual([one.label, f"${one.kind}", "$."], words[:2] + words[-1:])
             self.assertEqual(one.formula, " ".join(formula))

@@ -4,13 +4,15 @@ import random
 import unittest
 from unittest import mock
 
+from query import parallel
 from query import program as programs
 from query.assertions import Damaged
 from query.database import Database
 from query.errors import NoAnswer
 from query.options import Options
-from query.report import Prepared, checked
-from query.tests.world import SMALL, World, invented, program
+from query.prepared import Prepared
+from query.report import checked
+from query.tests.world import SMALL, World, built_program, invented
 from query.told import SECTIONS, counted, statements_of, told
 
 OPEN = SMALL + "last $p wff p $= ? $.\n"
@@ -53,6 +55,13 @@ class Told(World):
             self.assertEqual(found.statements, statements_of(said))
             heads = (len(found.columns), len(found.theorems))
             self.assertEqual(counted(said), heads)
+
+    def test_what_other_processes_read(self) -> None:
+        found = to_bytes(told(self.data))
+        with mock.patch.object(parallel, "LARGE", 0):
+            self.assertEqual(to_bytes(told(self.data)), found)
+            self.damaged(self.data.replace(b"a1i:3:wi", b"a1i:3:wa"))
+            self.damaged(self.data.replace(b"a1i:3:wi", b"a1i:2:wi"))
 
     def test_typecodes(self) -> None:
         self.assertEqual(told(self.data).typecodes, ["wff", "|-", "|-"])
@@ -108,10 +117,10 @@ class Told(World):
 
     def test_too_much(self) -> None:
         database = Database.opened(str(self.room / "small.mm"), Options(), False)
-        with mock.patch.dict("os.environ", {"MMDEPEND": program() or ""}):
-            with mock.patch.object(programs, "MOST", len(self.data) - 1):
+        with mock.patch.dict("os.environ", {"MMDEPEND": built_program()}):
+            with mock.patch.object(programs, "MOST_OUTPUT_BYTES", len(self.data) - 1):
                 self.assertRaisesRegex(NoAnswer, "takes more than 2 GB", database.graph)
-            with mock.patch.object(programs, "MOST", len(self.data)):
+            with mock.patch.object(programs, "MOST_OUTPUT_BYTES", len(self.data)):
                 self.assertEqual(len(database.graph().labels), 7)
 
 

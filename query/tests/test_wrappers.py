@@ -8,7 +8,7 @@ from unittest import mock
 from query.database import Database
 from query.options import Options
 from query.tests.repositories import BASE
-from query.tests.world import DATABASES, World, asked, invented, program
+from query.tests.world import DATABASES, World, asked, built_program, invented
 from query.wrappers import wrappers
 
 
@@ -17,7 +17,7 @@ class Wrappers(World):
 
     def setUp(self) -> None:
         super().setUp()
-        patch = mock.patch.dict(os.environ, {"MMDEPEND": program() or ""})
+        patch = mock.patch.dict(os.environ, {"MMDEPEND": built_program()})
         patch.start()
         self.addCleanup(patch.stop)
 

@@ -15,13 +15,14 @@ from query.cli import parser_of
 from query.commands import command
 from query.context import Context
 from query.output import Output
+from query.tests.samples import DEBIAN_DATABASES
 from query.text import Text
 from query.told import statements_of
 
 TOP = Path(__file__).resolve().parent.parent.parent
 MMQUERY = TOP / "mmquery"
 PROGRAM_FOR_NODE = TOP / "out" / "web" / "mmdepend.mjs"
-DATABASES = Path(os.environ.get("MMQUERY_DATABASES", "/usr/share/metamath/databases"))
+DATABASES = Path(os.environ.get("MMQUERY_DATABASES", DEBIAN_DATABASES))
 
 
 def program() -> str | None:
@@ -31,6 +32,14 @@ def program() -> str | None:
         return shutil.which(named)
     built = TOP / "crates/mmdepend/out/mmdepend"
     return str(built) if built.exists() else None
+
+
+def built_program() -> str:
+    """The path of the program. A test that asks for it is skipped where there is none."""
+    found = program()
+    if found is None:
+        raise unittest.SkipTest("the program isn't built")
+    return found
 
 
 @dataclass
@@ -81,7 +90,7 @@ class World(unittest.TestCase):
             "XDG_CACHE_HOME": str(self.cache),
             "XDG_CONFIG_HOME": str(self.config),
             "TMPDIR": str(self.temporary),
-            "MMDEPEND": program() or "",
+            "MMDEPEND": built_program(),
             "LANG": "C.UTF-8",
         }
         return {**found, **more}
@@ -132,14 +141,14 @@ class World(unittest.TestCase):
     def report(self, name: str, *words: str) -> str:
         """The report that the program writes of a database."""
         done = subprocess.run(
-            [program() or "", *words, self.room / name], capture_output=True, check=False
+            [built_program(), *words, self.room / name], capture_output=True, check=False
         )
         return done.stdout.decode()
 
 
 def told_of(data: bytes) -> Text:
     """The text of a database, as the program tells it; theorems may be left open."""
-    words = [program() or "", "--open", "--report=statements"]
+    words = [built_program(), "--open", "--report=statements"]
     done = subprocess.run(words, input=data, capture_output=True, check=True)
     return Text(data, statements_of(done.stdout))
 

@@ -1,9 +1,9 @@
 // What the page shows of an older release: what is new, gone, renamed and changed, and which theorems came to rest on an
 // axiom or no longer do, each with its reason.
 
+import { columnsIn } from "./bits.js";
 import { Row } from "./bytes.js";
 import { inJson } from "./pack.js";
-import { columnsOf } from "./reports.js";
 import { Pairer } from "./statements.js";
 import { visible } from "./visible.js";
 
@@ -149,7 +149,7 @@ export class Comparison {
             const before = theorem < 0 ? -1 : old.rowOf[theorem];
             if (before < 0) continue;
             const moved = new Uint32Array(now.words);
-            for (const column of columnsOf(old.row(before))) {
+            for (const column of columnsIn(old.row(before))) {
                 const there = columnOf[column];
                 if (there < 0) this.lost[column].push(before);
                 else moved[there >>> 5] |= 1 << (there & 31);
@@ -157,8 +157,8 @@ export class Comparison {
             const marks = now.row(row);
             const came = marks.map((bits, word) => bits & ~moved[word]);
             const went = moved.map((bits, word) => bits & ~marks[word]);
-            for (const column of columnsOf(came)) this.gained[column].push(row);
-            for (const column of columnsOf(went)) this.lost[was[column]].push(before);
+            for (const column of columnsIn(came)) this.gained[column].push(row);
+            for (const column of columnsIn(went)) this.lost[was[column]].push(before);
         }
     }
 }

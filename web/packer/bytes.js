@@ -21,6 +21,8 @@ export const Byte = {
 };
 
 const FIRST_ROOM = 1 << 10;
+/** A stretch of more bytes is copied by a call of the system; of fewer, that takes longer than to copy them one by one. */
+const LONG = 256;
 
 /** A row of numbers from 0 to 2^32 - 1. */
 export class Row {
@@ -156,8 +158,9 @@ export class Writer {
         this.reserve(end - start);
         const { bytes } = this;
         let { size } = this;
-        for (let place = start; place < end; place++) bytes[size++] = data[place];
-        this.size = size;
+        if (end - start > LONG) bytes.set(data.subarray(start, end), size);
+        else for (let place = start; place < end; place++) bytes[size++] = data[place];
+        this.size += end - start;
     }
 
     /**

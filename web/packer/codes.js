@@ -18,8 +18,75 @@ export const KINDS = 4;
 /** How many repeated steps of a kind have a code, and how many labels. */
 export const RECENT = 24;
 export const FREQUENT = 100;
-/** The codes; the first three have a number in a stream of their own. */
+/** The codes; those before `recent` have a number each, in a stream for each code. */
 export const Code = { label: 0, own: 1, far: 2, recent: 3, frequent: 3 + RECENT };
+
+/**
+ * Whether a step has a number beside its code.
+ * @param {number} code
+ */
+export function hasNumber(code) {
+    return code < Code.recent;
+}
+
+// A frame names `$f` and `$e`, and a proof `$f` and assertions, each by numbers of its own. One list has both as *items*:
+// the lowest bit of an item says which of the two it names, and the bits above it the number.
+
+/**
+ * The item of a `$f`.
+ * @param {number} number
+ */
+export function floatingItem(number) {
+    return 2 * number;
+}
+
+/**
+ * The item of a `$e` in a frame, or of an assertion in a proof.
+ * @param {number} number
+ */
+export function otherItem(number) {
+    return 2 * number + 1;
+}
+
+/**
+ * Whether an item is that of a `$f`.
+ * @param {number} item
+ */
+export function isFloating(item) {
+    return (item & 1) === 0;
+}
+
+/**
+ * The number of what an item names.
+ * @param {number} item
+ */
+export function numberOf(item) {
+    return item >>> 1;
+}
+
+/**
+ * The code of a step by its byte.
+ * @param {number} byte
+ */
+export function codeOf(byte) {
+    return byte >>> 1;
+}
+
+/**
+ * Whether a step is repeated later, by its byte.
+ * @param {number} byte
+ */
+export function isMarked(byte) {
+    return (byte & 1) === 1;
+}
+
+/**
+ * Whether a code says that a step is repeated.
+ * @param {number} code
+ */
+export function isRepeated(code) {
+    return code >= Code.far && code < Code.frequent;
+}
 
 /**
  * The kind of a typecode by its number among those of `$f`, or -1.

@@ -1,35 +1,33 @@
-// Comments as lines to be packed, and the marks that are read of them. What markup a comment has is left as it is:
+// Comments as lines to be packed, and the flags that are read of them. What markup a comment has is left as it is:
 // markup.js of the view reads it.
 //
 // White space becomes single spaces, but a page break stands where a paragraph ends, and a vertical tab where a line
 // ends within `<PRE>`.
 
+import { Flag } from "./assertions.js";
 import { Byte, encoded, isSame, textAt } from "./bytes.js";
 import { visible } from "./visible.js";
 
 /** @typedef {import("./bytes.js").Writer} Writer */
 
-/** The marks of a comment, as bits. */
-export const Mark = { usage: 1, modification: 2, comment: 4 };
-
 /**
- * The four words of each sentence that is a mark: the first may follow other signs, and the last have more after it.
+ * The four words of each sentence that has a flag: the first may follow other signs, and the last have more after it.
  */
 const SENTENCES = [
-    { words: ["(New", "usage", "is", "discouraged.)"], mark: Mark.usage },
-    { words: ["(Proof", "modification", "is", "discouraged.)"], mark: Mark.modification },
-].map(({ words, mark }) => ({ words: words.map(encoded), mark }));
+    { words: ["(New", "usage", "is", "discouraged.)"], flag: Flag.usage },
+    { words: ["(Proof", "modification", "is", "discouraged.)"], flag: Flag.modification },
+].map(({ words, flag }) => ({ words: words.map(encoded), flag }));
 const LAST = SENTENCES[0].words[3];
 const OPENING = encoded("<pre");
 const CLOSING = encoded("</pre>");
 
 /**
- * The bits of the marks that a comment has.
+ * The flags of a comment.
  * @param {Uint8Array} data
  * @param {number} start
  * @param {number} end
  */
-export function marksOf(data, start, end) {
+export function flagsOf(data, start, end) {
     let found = 0;
     let place = start;
     while (place < end) {
@@ -37,23 +35,23 @@ export function marksOf(data, start, end) {
             place++;
             continue;
         }
-        found |= Mark.comment;
+        found |= Flag.comment;
         const first = place;
         while (place < end && data[place] > Byte.space) place++;
         const size = Math.min(place - first, LAST.length);
-        if (isSame(data, first, first + size, LAST, 0, LAST.length)) found |= markAt(data, start, first);
+        if (isSame(data, first, first + size, LAST, 0, LAST.length)) found |= flagAt(data, start, first);
     }
     return found;
 }
 
 /**
- * The mark whose sentence the words before a place begin, or 0.
+ * The flag whose sentence the words before a place begin, or 0.
  * @param {Uint8Array} data
  * @param {number} start of the comment
  * @param {number} place of the last word
  */
-function markAt(data, start, place) {
-    const mark = SENTENCES.find(({ words }) => {
+function flagAt(data, start, place) {
+    const sentence = SENTENCES.find(({ words }) => {
         let last = place;
         return [2, 1, 0].every((at) => {
             while (last > start && data[last - 1] <= Byte.space) last--;
@@ -65,7 +63,7 @@ function markAt(data, start, place) {
             return isThis;
         });
     });
-    return mark?.mark ?? 0;
+    return sentence?.flag ?? 0;
 }
 
 /**
@@ -152,11 +150,13 @@ function preformattedAfter(data, place, end) {
  * @param {Uint8Array} tag in small letters
  */
 function tagAfter(data, place, end, tag) {
-    for (let start = place; start + tag.length <= end; start++) {
-        if (data[start] !== tag[0]) continue;
+    const last = end - tag.length;
+    let start = data.indexOf(tag[0], place);
+    while (start >= 0 && start <= last) {
         let size = 1;
         while (size < tag.length && smallLetter(data[start + size]) === tag[size]) size++;
         if (size === tag.length) return start;
+        start = data.indexOf(tag[0], start + 1);
     }
     return -1;
 }

@@ -4,13 +4,15 @@
 // dummy variables of the proof, and for each of these itself and those from which it must be distinct; `*` instead if
 // that are all other variables. Groups are separated by `$`, variables by spaces.
 
-import { Byte, Cutter, Writer } from "./bytes.js";
+import { Byte, Row, Writer } from "./bytes.js";
+import { Groups } from "./groups.js";
 import { Stamps } from "./symbols.js";
 
 /** @typedef {import("./bytes.js").Rows} Rows */
 /** @typedef {import("./symbols.js").Vocabulary} Vocabulary */
 /** @typedef {import("./text.js").Text} Text */
 
+/** Variables are their numbers as symbols. */
 export class Conditions {
     /**
      * @param {Vocabulary} vocabulary
@@ -22,37 +24,42 @@ export class Conditions {
         this.text = vocabulary.text;
         this.ofAssertions = ofAssertions;
         this.ofHypotheses = ofHypotheses;
-        this.cutter = new Cutter();
         this.seen = new Stamps();
-        /** The place of each variable in `variables`, where `seen` has it. */
-        this.places = new Uint32Array(vocabulary.size);
-        /** @type {number[]} The variables of an assertion: `mandatory` of formula and hypotheses, then those of the proof. */
-        this.variables = [];
-        this.mandatory = 0;
-        /** @type {Set<number>[]} Of each of them, by their places, those from which it must be distinct. */
-        this.others = [];
-        this.pairs = 0;
-        this.proofPairs = 0;
+        /** The variables of an assertion: those of formula and hypotheses, and those that only the proof has. */
+        this.mandatory = new Row();
+        this.dummies = new Row();
+        /** The variables of each pair, one behind the other: mandatory ones, and those of which one is a dummy. */
+        this.pairs = new Row();
+        this.dummyPairs = new Row();
+        /** All variables in the order in which they are told, and of each its place there. */
+        this.ordered = new Uint32Array(0);
         this.ranks = new Uint32Array(0);
+        /** The mandatory variables of an assertion in that order, and of each variable its place among its kind. */
+        this.turns = new Row();
+        this.turnOf = new Uint32Array(0);
+        this.groups = new Groups();
     }
 
     /** The lines of all assertions. */
     lines() {
-        const { text } = this;
-        for (let number = 0; number < text.size; number++) this.words(...text.dummies.of(number));
-        this.ranks = ranksOf(this.vocabulary);
-        this.places = new Uint32Array(this.vocabulary.size);
+        const { text, vocabulary, pairs, dummyPairs, dummies } = this;
+        for (let number = 0; number < text.size; number++) this.readDummies(number);
+        this.ordered = orderOf(vocabulary);
+        // A variable that is none of any assertion has no `$f` here, and is told last.
+        this.ranks = new Uint32Array(vocabulary.size).fill(this.ordered.length);
+        this.ordered.forEach((variable, at) => (this.ranks[variable] = at));
+        this.turnOf = new Uint32Array(vocabulary.size);
         const writer = new Writer();
         for (let number = 0; number < text.size; number++) {
             if (number > 0) writer.push(Byte.newline);
             if (!this.hasAny(number)) continue;
             this.readVariables(number);
-            this.pairs = this.readPairs(...text.pairs.of(number));
-            this.proofPairs = this.readPairs(...text.dummyPairs.of(number));
-            if (this.pairs > 0) this.putGroups(writer);
-            if (this.variables.length === this.mandatory) continue;
+            this.readPairs(text.pairs.of(number), pairs);
+            this.readPairs(text.dummyPairs.of(number), dummyPairs);
+            if (pairs.size > 0) this.putGroups(writer);
+            if (dummies.size === 0) continue;
             writer.push(Byte.tab);
-            this.putList(writer, [...this.variables.keys()].slice(this.mandatory));
+            this.putList(writer, dummies.taken());
             writer.push(Byte.tab);
             if (this.areAll()) writer.push(Byte.star);
             else this.putStars(writer);
@@ -70,75 +77,78 @@ export class Conditions {
     }
 
     /**
-     * The symbols of a stretch, by their numbers.
-     * @param {number} start
-     * @param {number} end
-     */
-    words(start, end) {
-        const { cutter, vocabulary } = this;
-        const size = cutter.cut(this.text.data, start, end);
-        return Array.from({ length: size }, (_, at) => vocabulary.words.add(cutter.starts[at], cutter.ends[at]));
-    }
-
-    /**
      * Finds the variables of an assertion and of its proof.
      * @param {number} number
      */
     readVariables(number) {
-        this.seen.begin(this.vocabulary.size);
-        this.variables = [];
-        for (const hypothesis of this.text.essential.of(number)) this.addAll(this.ofHypotheses.of(hypothesis));
-        this.addAll(this.ofAssertions.of(number));
-        this.mandatory = this.variables.length;
-        this.addAll(this.words(...this.text.dummies.of(number)));
-        this.others = this.variables.map(() => new Set());
+        const { seen, mandatory, vocabulary, text } = this;
+        seen.begin(vocabulary.size);
+        mandatory.size = 0;
+        for (const hypothesis of text.essential.of(number)) this.addMandatory(this.ofHypotheses.of(hypothesis));
+        this.addMandatory(this.ofAssertions.of(number));
+        this.readDummies(number);
     }
 
-    /** @param {Iterable<number>} variables */
-    addAll(variables) {
-        for (const variable of variables) {
-            if (!this.seen.isNew(variable)) continue;
-            this.places[variable] = this.variables.length;
-            this.variables.push(variable);
+    /** @param {Uint32Array} variables */
+    addMandatory(variables) {
+        for (let at = 0; at < variables.length; at++) {
+            if (this.seen.isNew(variables[at])) this.mandatory.push(variables[at]);
         }
     }
 
     /**
-     * Finds the pairs of a stretch, in which each stands behind a `$d`. Returns how many there are.
-     * @param {number} start
+     * Finds the dummy variables of an assertion.
+     * @param {number} number
+     */
+    readDummies(number) {
+        const { dummies } = this;
+        const [start, end] = this.text.dummies.of(number);
+        dummies.size = 0;
+        for (let place = start; place < end; ) place = this.readVariable(place, end, dummies);
+    }
+
+    /**
+     * Finds the pairs of a stretch, in which each stands behind a `$d`.
+     * @param {[number, number]} stretch
+     * @param {Row} pairs
+     */
+    readPairs([start, end], pairs) {
+        pairs.size = 0;
+        for (let place = start; place < end; ) {
+            const first = this.afterWord(place, end) + 1;
+            const second = this.readVariable(first, end, pairs);
+            place = this.readVariable(second, end, pairs);
+        }
+    }
+
+    /**
+     * Adds the variable that begins at a place to a row. Returns where the next word begins.
+     * @param {number} place
+     * @param {number} end
+     * @param {Row} row
+     */
+    readVariable(place, end, row) {
+        const last = this.afterWord(place, end);
+        row.push(this.vocabulary.words.add(place, last));
+        return last + 1;
+    }
+
+    /**
+     * Where the word ends that begins at a place.
+     * @param {number} place
      * @param {number} end
      */
-    readPairs(start, end) {
+    afterWord(place, end) {
         const { data } = this.text;
-        const { words } = this.vocabulary;
-        let count = 0;
-        for (let place = start; place < end; count++) {
-            const first = data.indexOf(Byte.space, place) + 1;
-            const gap = data.indexOf(Byte.space, first);
-            const behind = data.indexOf(Byte.space, gap + 1);
-            const last = behind < 0 ? end : Math.min(behind, end);
-            const one = this.places[words.add(first, gap)];
-            const other = this.places[words.add(gap + 1, last)];
-            this.others[one].add(other);
-            this.others[other].add(one);
-            place = last + 1;
-        }
-        return count;
+        while (place < end && data[place] > Byte.space) place++;
+        return place;
     }
 
     /** Whether each dummy variable must be distinct from all other variables. */
     areAll() {
-        const dummies = this.variables.length - this.mandatory;
-        return this.proofPairs === dummies * this.mandatory + (dummies * (dummies - 1)) / 2;
-    }
-
-    /**
-     * Places of variables in order of their typecodes, and then of their `$f`.
-     * @param {number[]} places
-     */
-    sorted(places) {
-        const { ranks, variables } = this;
-        return places.sort((one, other) => ranks[variables[one]] - ranks[variables[other]]);
+        const mandatory = this.mandatory.size;
+        const dummies = this.dummies.size;
+        return this.dummyPairs.size / 2 === dummies * mandatory + (dummies * (dummies - 1)) / 2;
     }
 
     /**
@@ -146,43 +156,28 @@ export class Conditions {
      * @param {Writer} writer
      */
     putGroups(writer) {
-        const { mandatory } = this;
-        const own = this.others.slice(0, mandatory).map((others) => [...others].filter((place) => place < mandatory));
-        const order = this.sorted([...own.keys()].filter((place) => own[place].length > 0));
-        const ranked = own.map((others) => this.sorted(others));
-        const turns = new Uint32Array(mandatory);
-        order.forEach((place, at) => (turns[place] = at));
-        /** @type {Set<number>[]} Of each variable those of a later turn with which it is in a group. */
-        const grouped = own.map(() => new Set());
+        const { pairs, turns, turnOf } = this;
+        this.takeTurns();
+        for (let at = 0; at < pairs.size; at++) pairs.items[at] = turnOf[pairs.items[at]];
         let isFirst = true;
-        for (const [at, one] of order.entries()) {
-            for (const other of ranked[one]) {
-                if (turns[other] < at || grouped[one].has(other)) continue;
-                if (!isFirst) writer.push(Byte.dollar);
-                isFirst = false;
-                const group = this.groupOf(ranked[one], one, other);
-                for (const place of group) {
-                    for (const later of group) if (turns[place] < turns[later]) grouped[place].add(later);
-                }
-                this.putList(writer, group);
-            }
-            grouped[one].clear();
-        }
+        this.groups.cover(turns.size, pairs, (group) => {
+            if (!isFirst) writer.push(Byte.dollar);
+            isFirst = false;
+            this.putList(writer, group.map((turn) => turns.items[turn]));
+        });
     }
 
-    /**
-     * The group that a pair begins: with each variable, in order, that must be distinct from all that are in it.
-     * @param {number[]} candidates those that must be distinct from the first, in order
-     * @param {number} first
-     * @param {number} second
-     */
-    groupOf(candidates, first, second) {
-        const { others } = this;
-        const group = [first, second];
-        for (const place of candidates) {
-            if (group.every((member) => others[member].has(place))) group.push(place);
+    /** Puts the mandatory variables in order. */
+    takeTurns() {
+        const { mandatory, turns, turnOf, ranks, ordered } = this;
+        turns.size = 0;
+        for (let at = 0; at < mandatory.size; at++) turns.push(ranks[mandatory.items[at]]);
+        const items = turns.items.subarray(0, turns.size).sort();
+        for (let turn = 0; turn < items.length; turn++) {
+            const variable = ordered[items[turn]];
+            items[turn] = variable;
+            turnOf[variable] = turn;
         }
-        return this.sorted(group);
     }
 
     /**
@@ -190,40 +185,50 @@ export class Conditions {
      * @param {Writer} writer
      */
     putStars(writer) {
-        for (let dummy = this.mandatory; dummy < this.variables.length; dummy++) {
-            if (dummy > this.mandatory) writer.push(Byte.dollar);
-            const others = [...this.others[dummy]].sort((one, other) => one - other);
-            this.putList(writer, [dummy, ...this.sorted(others)]);
+        const { dummies, dummyPairs, ranks, turnOf } = this;
+        /** @type {Map<number, number[]>} */
+        const others = new Map(Array.from(dummies.taken(), (dummy) => [dummy, []]));
+        // Dummy variables that are told last stand in their own order.
+        for (let at = 0; at < dummies.size; at++) turnOf[dummies.items[at]] = at;
+        const compare = (/** @type {number} */ one, /** @type {number} */ other) =>
+            ranks[one] - ranks[other] || turnOf[one] - turnOf[other];
+        for (let at = 0; at < dummyPairs.size; at += 2) {
+            const one = dummyPairs.items[at];
+            const other = dummyPairs.items[at + 1];
+            others.get(one)?.push(other);
+            others.get(other)?.push(one);
+        }
+        let isFirst = true;
+        for (const [dummy, distinct] of others) {
+            if (!isFirst) writer.push(Byte.dollar);
+            isFirst = false;
+            this.putList(writer, [dummy, ...distinct.sort(compare)]);
         }
     }
 
     /**
-     * Adds variables, by their places.
+     * Adds variables.
      * @param {Writer} writer
-     * @param {number[]} places
+     * @param {ArrayLike<number>} variables
      */
-    putList(writer, places) {
+    putList(writer, variables) {
         const { data } = this.text;
         const { starts, ends } = this.vocabulary.words;
-        places.forEach((place, at) => {
+        for (let at = 0; at < variables.length; at++) {
             if (at > 0) writer.push(Byte.space);
-            const symbol = this.variables[place];
-            writer.stretch(data, starts.items[symbol], ends.items[symbol]);
-        });
+            writer.stretch(data, starts.items[variables[at]], ends.items[variables[at]]);
+        }
     }
 }
 
 /**
- * The place of each variable in the order of typecodes, as they appear, and then of `$f` statements.
+ * The variables in the order of typecodes, as they appear, and then of `$f` statements.
  * @param {Vocabulary} vocabulary
  */
-function ranksOf(vocabulary) {
-    const variables = Array.from(vocabulary.variables.taken());
-    const codes = [...new Set(variables.map((variable) => vocabulary.typecodes[variable]))];
+function orderOf({ variables, typecodes }) {
+    const ordered = Array.from(variables.taken());
+    const codes = [...new Set(ordered.map((variable) => typecodes[variable]))];
     const codeRanks = new Map(codes.map((code, at) => [code, at]));
-    // A variable that is none of any assertion has no `$f` here, and stands last.
-    const ranks = new Uint32Array(vocabulary.size).fill(variables.length);
-    const rankOf = (/** @type {number} */ variable) => codeRanks.get(vocabulary.typecodes[variable]) ?? 0;
-    variables.sort((one, other) => rankOf(one) - rankOf(other)).forEach((variable, at) => (ranks[variable] = at));
-    return ranks;
+    const rankOf = (/** @type {number} */ variable) => codeRanks.get(typecodes[variable]) ?? 0;
+    return Uint32Array.from(ordered.sort((one, other) => rankOf(one) - rankOf(other)));
 }

@@ -1,16 +1,14 @@
-// Makes the blocks of a page of a text and of the reports of it.
+// What a page needs beside its blocks: what it says of its making, the sides of a comparison, and why there is no page.
 
 import { packDifference } from "./against.js";
-import { packReports, packText } from "./pack.js";
 import { readReport } from "./reports.js";
 import { Side } from "./statements.js";
-import { sumOf } from "./sum.js";
-import { readText } from "./text.js";
 import { visible } from "./visible.js";
 
+/** @typedef {import("./pack.js").About} About */
 /** @typedef {import("./pack.js").Blocks} Blocks */
 /** @typedef {import("./reports.js").Request} Request */
-/** @typedef {import("./typesetting.js").Entities} Entities */
+/** @typedef {import("./text.js").Text} Text */
 
 /** Something that the page of a database needs and the database lacks; the message is a sentence for the reader. */
 export class NoAnswer extends Error {
@@ -25,75 +23,66 @@ export class NoAnswer extends Error {
 }
 
 /**
- * What a page is made with beside its database.
+ * A database as the page calls it, with what its report says.
+ * @typedef {{ name: string, side: Side }} Named
+ */
+
+/**
+ * What is wished of a page beside its database.
  * @typedef {object} Wishes
  * @property {string} maker which program makes it
- * @property {Entities} entities
  * @property {string} [title] else it is the name of the file
  * @property {string[]} [watched] labels of axioms that each chapter speaks of first
  */
 
-/** A database while it is packed. */
-export class Making {
-    /**
-     * @param {string} name how the page calls the file
-     * @param {Uint8Array} data
-     * @param {Request} request
-     * @param {Uint8Array} report that of the program with matrix, citations and statements, in form 2 and of all
-     *     typecodes
-     */
-    constructor(name, data, request, report) {
-        this.name = name;
-        this.request = request;
-        this.report = report;
-        this.sum = sumOf(data);
-        this.text = readText(data, report);
-    }
+/**
+ * What the page says of its making, without signs that no screen shows.
+ * @param {string} name how the page calls the file
+ * @param {number} bytes how many the file has
+ * @param {string | null} sha256
+ * @param {Request} request
+ * @param {Wishes} wishes
+ * @returns {About}
+ */
+export function aboutPage(name, bytes, sha256, { only, essential, open }, { maker, title = name, watched = [] }) {
+    return {
+        title: visible(title),
+        file: visible(name),
+        bytes,
+        sha256,
+        maker: visible(maker),
+        only: only && visible(only),
+        essential,
+        open,
+        watched,
+    };
+}
 
-    /**
-     * Packs what stands in the database.
-     * @param {Wishes} wishes
-     * @param {Blocks} blocks
-     */
-    async packText({ maker, entities, title = this.name, watched = [] }, blocks) {
-        const { source } = this.text;
-        const { only, essential, open } = this.request;
-        const about = {
-            title: visible(title),
-            file: visible(this.name),
-            bytes: source.length,
-            sha256: await this.sum,
-            maker: visible(maker),
-            only: only && visible(only),
-            essential,
-            open,
-            watched,
-        };
-        packText(this.text, about, entities, blocks);
+/**
+ * A text beside what its report says of marks and citations. NoAnswer where a page would have nothing to show.
+ * @param {string} name how the page calls the file
+ * @param {Text} text
+ * @param {Request} request
+ * @param {Uint8Array} report that of the program with matrix, citations and statements, in form 2 and of all typecodes
+ */
+export function sideOf(name, text, request, report) {
+    const dependence = readReport(text, request, report);
+    if (dependence.axioms.length === 0 && request.only !== null) {
+        throw new NoAnswer(name, `has no axiom of typecode '${visible(request.only)}'`);
     }
+    if (text.size === 0) throw new NoAnswer(name, "has neither axioms nor theorems");
+    return new Side(text, dependence);
+}
 
-    /** The text beside what the report says of marks and citations. */
-    side() {
-        const dependence = readReport(this.text, this.request, this.report);
-        if (dependence.axioms.length === 0 && this.request.only !== null) {
-            throw new NoAnswer(this.name, `has no axiom of typecode '${visible(this.request.only)}'`);
-        }
-        if (this.text.size === 0) throw new NoAnswer(this.name, "has neither axioms nor theorems");
-        return new Side(this.text, dependence);
+/**
+ * Packs what became of an older release.
+ * @param {Named} older
+ * @param {Named} now
+ * @param {Blocks} blocks
+ */
+export function packComparison(older, now, blocks) {
+    for (const { name, side } of [older, now]) {
+        if (side.dependence.axioms.length === 0) throw new NoAnswer(name, "has no axiom to compare");
     }
-
-    /**
-     * Packs marks, citations and proofs, and with an older release the comparison.
-     * @param {Side} side
-     * @param {{ name: string, side: Side } | null} older
-     * @param {Blocks} blocks
-     */
-    packReports(side, older, blocks) {
-        packReports(side.dependence, blocks);
-        if (!older) return;
-        for (const { name, side: each } of [older, { name: this.name, side }]) {
-            if (each.dependence.axioms.length === 0) throw new NoAnswer(name, "has no axiom to compare");
-        }
-        blocks.set("against", packDifference(older.side, side, older.name));
-    }
+    blocks.set("against", packDifference(older.side, now.side, older.name));
 }

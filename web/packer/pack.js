@@ -4,11 +4,11 @@
 // one line for each entry. The blocks `comments-0` and so on have the comments of `CHUNK` assertions each, and are read
 // when they are needed.
 
+import { lowestOf } from "./bits.js";
 import { Byte, Writer, encoded } from "./bytes.js";
-import { marksOf, putLine } from "./comments.js";
+import { flagsOf, putLine } from "./comments.js";
 import { Conditions } from "./conditions.js";
-import { packProofs } from "./proofs.js";
-import { lowestOf } from "./reports.js";
+import { ProofPacker } from "./proofs.js";
 import { Vocabulary } from "./symbols.js";
 import { readTypesetting } from "./typesetting.js";
 import { visible } from "./visible.js";
@@ -134,7 +134,7 @@ class MatrixPacker {
  * @param {Dependence} dependence
  * @param {Blocks} blocks
  */
-function packMarks(dependence, blocks) {
+export function packMarks(dependence, blocks) {
     const packer = new MatrixPacker(dependence);
     packer.pack();
     const users = new Writer();
@@ -196,8 +196,7 @@ function packPlaces(text) {
  */
 function newlinesIn(data, start, end) {
     let count = 0;
-    let place = data.indexOf(Byte.newline, start);
-    for (; place >= 0 && place < end; place = data.indexOf(Byte.newline, place + 1)) count++;
+    for (let place = start; place < end; place++) if (data[place] === Byte.newline) count++;
     return count;
 }
 
@@ -305,7 +304,7 @@ function packStatements(text, about, entities, blocks) {
 }
 
 /**
- * The comments in chunks, the marks of each, and the texts below the titles of chapters.
+ * The comments in chunks, the flags of each, and the texts below the titles of chapters.
  * @param {Text} text
  * @param {Blocks} blocks
  */
@@ -317,7 +316,7 @@ function packComments(text, blocks) {
         if (number % CHUNK > 0) writer.push(Byte.newline);
         const start = comments.items[number];
         const end = commentEnds.items[number];
-        flags[number] = marksOf(data, start, end);
+        flags[number] = flagsOf(data, start, end);
         putLine(writer, data, start, end);
         const isLast = number % CHUNK === CHUNK - 1 || number === text.size - 1;
         if (isLast) blocks.set(`comments-${Math.floor(number / CHUNK)}`, writer.taken());
@@ -353,5 +352,7 @@ export function packText(text, about, entities, blocks) {
  */
 export function packReports(dependence, blocks) {
     packMarks(dependence, blocks);
-    packProofs(dependence, blocks);
+    const proofs = new ProofPacker(dependence);
+    proofs.packFrames(blocks);
+    proofs.packSteps(0, Infinity, blocks);
 }

@@ -1,7 +1,21 @@
 // Packs the steps of proofs, so that a page has them in few bytes. codes.js says how.
 
 import { Byte, Cutter, Row, Words, Writer, afterComment, closeOf, wordFrom } from "./bytes.js";
-import { CHUNK, Code, FREQUENT, KINDS, Recent, kindOf } from "./codes.js";
+import {
+    CHUNK,
+    Code,
+    FREQUENT,
+    KINDS,
+    Recent,
+    codeOf,
+    floatingItem,
+    hasNumber,
+    isFloating,
+    isMarked,
+    kindOf,
+    numberOf,
+    otherItem,
+} from "./codes.js";
 import { UnreadableText } from "./text.js";
 
 /** @typedef {import("./reports.js").Dependence} Dependence */
@@ -9,6 +23,29 @@ import { UnreadableText } from "./text.js";
 /** @typedef {import("./pack.js").Blocks} Blocks */
 
 const Letter = { A: 0x41, T: 0x54, U: 0x55, Y: 0x59, Z: 0x5a };
+
+// While a proof is packed, a step is one number: its byte, and below that, in as many bits as there are for `KINDS`, the
+// kind of its typecode.
+const KIND_BITS = 2;
+const KIND_MASK = KINDS - 1;
+const MARK = 1 << KIND_BITS;
+
+/**
+ * A step that isn't marked.
+ * @param {number} kind
+ * @param {number} code
+ */
+function stepOf(kind, code) {
+    return (code << (KIND_BITS + 1)) | kind;
+}
+
+/**
+ * The byte of a step.
+ * @param {number} step
+ */
+function byteOf(step) {
+    return step >>> KIND_BITS;
+}
 
 /** Which kind each typecode is of. */
 class Kinds {
@@ -55,8 +92,10 @@ class Frames {
             if (number < 0) throw new UnreadableText(named.labels.items[at]);
             numbers[at] = number;
         }
-        /** Of one assertion after the other: 2 * n for the `$f` n, 2 * n + 1 for the `$e` n. */
-        this.items = frames.row.taken().map((item) => (item % 2 === 0 ? 2 * numbers[item / 2] : item));
+        /** The items of one assertion after the other. */
+        this.items = frames.row
+            .taken()
+            .map((item) => (isFloating(item) ? floatingItem(numbers[numberOf(item)]) : item));
     }
 
     /** How many assertions there are. */
@@ -74,7 +113,7 @@ class Frames {
     }
 }
 
-/** The labels that are often used, each with its code: 2 * n for the `$f` n, 2 * n + 1 for the assertion n. */
+/** The labels that are often used, as items, each with its code. */
 class Frequent {
     /**
      * @param {Dependence} dependence
@@ -84,18 +123,22 @@ class Frequent {
     constructor({ text, cited }, frames, kinds) {
         const floating = new Uint32Array(text.given.size);
         const assertions = new Uint32Array(text.size);
-        for (const number of cited) assertions[number]++;
-        for (const item of frames.items) if (item % 2 === 0) floating[item / 2]++;
+        for (let at = 0; at < cited.length; at++) assertions[cited[at]]++;
+        for (let at = 0; at < frames.items.length; at++) {
+            const item = frames.items[at];
+            if (isFloating(item)) floating[numberOf(item)]++;
+        }
         /** Of each kind the labels, the most used first. What is of no `$f`'s typecode is mostly cited once. */
         this.labels = [1, 2, 3].map((kind) => {
             const found = [
-                ...labelsOf(floating, kinds.floating, kind, 0),
-                ...labelsOf(assertions, kinds.assertions, kind, 1),
+                ...labelsOf(floating, kinds.floating, kind, floatingItem),
+                ...labelsOf(assertions, kinds.assertions, kind, otherItem),
             ];
             found.sort(([one, often], [other, less]) => less - often || one - other);
             return found.slice(0, FREQUENT).map(([label]) => label);
         });
-        this.codes = new Uint8Array(2 * Math.max(text.size, text.given.size) + 2);
+        /** Of each item its code, or 0. */
+        this.codes = new Uint8Array(otherItem(Math.max(text.size, text.given.size)) + 1);
         for (const labels of this.labels) labels.forEach((label, at) => (this.codes[label] = Code.frequent + at));
     }
 
@@ -111,24 +154,26 @@ class Frequent {
 }
 
 /**
- * The labels of a kind that are used, each with how often.
+ * The labels of a kind that are used, as items, each with how often.
  * @param {Uint32Array} counts
  * @param {Uint8Array} kinds
  * @param {number} kind
- * @param {0 | 1} odd
+ * @param {(number: number) => number} itemOf
  * @returns {[number, number][]}
  */
-function labelsOf(counts, kinds, kind, odd) {
+function labelsOf(counts, kinds, kind, itemOf) {
     /** @type {[number, number][]} */
     const found = [];
     for (let number = 0; number < counts.length; number++) {
-        if (counts[number] > 0 && kinds[number] === kind) found.push([2 * number + odd, counts[number]]);
+        if (counts[number] > 0 && kinds[number] === kind) found.push([itemOf(number), counts[number]]);
     }
     return found;
 }
 
-/** Packs proof after proof. */
-class Packer {
+const NO_ASSERTION = 0xffffffff;
+
+/** Packs the proofs of a database, block by block. */
+export class ProofPacker {
     /** @param {Dependence} dependence */
     constructor(dependence) {
         this.dependence = dependence;
@@ -138,22 +183,59 @@ class Packer {
         this.frequent = new Frequent(dependence, this.frames, this.kinds);
         this.streams = Array.from({ length: KINDS + Code.recent }, () => new Writer());
         /**
-         * What has a number of its own in a proof: 2 * n for the `$e` n of the database, 2 * n + 1 for the assertion n.
-         * And of each the number.
+         * What has a number of its own in a proof: first its `$e`, as `NO_ASSERTION`, and then assertions. Of each `$e`
+         * and assertion its number, where it has one.
          */
         this.own = new Row();
         this.places = new Uint32Array(this.text.size);
         this.hypothesisPlaces = new Uint32Array(this.text.hypotheses.size);
-        /** What each number of a compressed proof stands for: 8 times the code and the kind, and a number. */
+        /** The steps for which the numbers of a compressed proof stand, and what each has beside its code. */
         this.labels = new Row();
         this.labelNumbers = new Row();
-        /** The steps of a proof: 8 times the code, 4 if it is marked, and the kind; and numbers of some. */
+        /** The steps of a proof; and the numbers of those that have one. */
         this.steps = new Row();
         this.numbers = new Row();
         /** For each number of a repeated step the marked one, and of each marked one its kind. */
         this.marked = new Row();
         this.markedKinds = new Row();
         this.recent = Array.from({ length: KINDS }, () => new Recent());
+    }
+
+    /**
+     * Packs what is needed to read proofs.
+     * @param {Blocks} blocks
+     */
+    packFrames(blocks) {
+        blocks.set("proof-floating", packFloating(this.text));
+        blocks.set("proof-frames", packFrames(this.text, this.frames));
+        blocks.set("proof-labels", this.frequent.block());
+    }
+
+    /**
+     * The first block of which all proofs stand behind a part of the text.
+     * @param {number} part from 0 to 1
+     */
+    chunkBehind(part) {
+        const { theorems } = this.dependence;
+        const { places } = this.text;
+        const place = part * this.text.source.length;
+        let chunk = 0;
+        while (chunk * CHUNK < theorems.length && places.items[theorems[chunk * CHUNK]] < place) chunk++;
+        return chunk;
+    }
+
+    /**
+     * Packs the steps of proofs, from one block on to before another one.
+     * @param {number} first
+     * @param {number} end
+     * @param {Blocks} blocks
+     */
+    packSteps(first, end, blocks) {
+        const { length } = this.dependence.theorems;
+        for (let chunk = first; chunk < end && chunk * CHUNK < length; chunk++) {
+            for (let row = chunk * CHUNK; row < Math.min(length, (chunk + 1) * CHUNK); row++) this.pack(row);
+            blocks.set(`proof-steps-${chunk}`, this.taken());
+        }
     }
 
     /**
@@ -186,12 +268,12 @@ class Packer {
         const { own, places, frequent, text, dependence } = this;
         for (const hypothesis of text.essential.of(theorem)) {
             this.hypothesisPlaces[hypothesis] = own.size;
-            own.push(2 * hypothesis);
+            own.push(NO_ASSERTION);
         }
         for (const cited of dependence.citedBy(row)) {
-            if (frequent.codes[2 * cited + 1] > 0) continue;
+            if (frequent.codes[otherItem(cited)] > 0) continue;
             places[cited] = own.size;
-            own.push(2 * cited + 1);
+            own.push(cited);
         }
     }
 
@@ -250,20 +332,20 @@ class Packer {
      */
     put(step, number) {
         this.steps.items[this.steps.size++] = step;
-        if (step < 8 * Code.recent) this.numbers.push(number);
+        if (hasNumber(codeOf(byteOf(step)))) this.numbers.push(number);
     }
 
     /** Marks the step before, which may be marked already or be a repeated one. */
     mark() {
         const last = this.steps.size - 1;
         const step = this.steps.items[last];
-        const code = step >>> 3;
-        const kind = step & 3;
+        const code = codeOf(byteOf(step));
+        const kind = step & KIND_MASK;
         if (code === Code.far) this.marked.push(this.markedKinds.size - 1 - this.numbers.items[this.numbers.size - 1]);
         else if (code >= Code.recent && code < Code.frequent) this.marked.push(this.recent[kind].items[0]);
-        else if (step & 4) this.marked.push(this.markedKinds.size - 1);
+        else if (isMarked(byteOf(step))) this.marked.push(this.markedKinds.size - 1);
         else {
-            this.steps.items[last] |= 4;
+            this.steps.items[last] |= MARK;
             this.recent[kind].use(this.markedKinds.size);
             this.marked.push(this.markedKinds.size);
             this.markedKinds.push(kind);
@@ -277,29 +359,27 @@ class Packer {
     repeat(marked) {
         const kind = this.markedKinds.items[marked];
         const at = this.recent[kind].use(marked);
-        if (at >= 0) this.put(8 * (Code.recent + at) + kind, 0);
-        else this.put(8 * Code.far + kind, this.markedKinds.size - 1 - marked);
+        if (at >= 0) this.put(stepOf(kind, Code.recent + at), 0);
+        else this.put(stepOf(kind, Code.far), this.markedKinds.size - 1 - marked);
     }
 
     /**
      * Adds a mandatory hypothesis of the theorem to the labels.
-     * @param {number} item as in `frames`
+     * @param {number} item
      */
     addHypothesis(item) {
-        if (item % 2 === 0) this.addLabel(this.kinds.floating[item / 2], item);
-        else {
-            const hypothesis = (item - 1) / 2;
-            this.add(this.kinds.hypotheses[hypothesis], Code.own, this.hypothesisPlaces[hypothesis]);
-        }
+        const number = numberOf(item);
+        if (isFloating(item)) this.addLabel(this.kinds.floating[number], item);
+        else this.add(this.kinds.hypotheses[number], Code.own, this.hypothesisPlaces[number]);
     }
 
     /**
      * @param {number} kind
-     * @param {number} label
+     * @param {number} item
      */
-    addLabel(kind, label) {
-        const code = this.frequent.codes[label];
-        this.add(kind, code, label);
+    addLabel(kind, item) {
+        const code = this.frequent.codes[item];
+        this.add(kind, code, item);
     }
 
     /**
@@ -308,7 +388,7 @@ class Packer {
      * @param {number} number
      */
     add(kind, code, number) {
-        this.labels.push(8 * code + kind);
+        this.labels.push(stepOf(kind, code));
         this.labelNumbers.push(number);
     }
 
@@ -325,8 +405,8 @@ class Packer {
         if (assertion >= 0) this.addAssertion(assertion);
         else {
             const floating = text.givenByLabel.find(source, start, end);
-            if (floating >= 0) this.addLabel(kinds.floating[floating], 2 * floating);
-            else this.addHypothesis(2 * text.hypothesesByLabel.find(source, start, end) + 1);
+            if (floating >= 0) this.addLabel(kinds.floating[floating], floatingItem(floating));
+            else this.addHypothesis(otherItem(text.hypothesesByLabel.find(source, start, end)));
         }
         return end;
     }
@@ -336,9 +416,9 @@ class Packer {
         const { own, places } = this;
         const kind = this.kinds.assertions[assertion];
         const place = places[assertion];
-        const isOwn = place < own.size && own.items[place] === 2 * assertion + 1;
+        const isOwn = place < own.size && own.items[place] === assertion;
         if (isOwn) this.add(kind, Code.own, place);
-        else this.addLabel(kind, 2 * assertion + 1);
+        else this.addLabel(kind, otherItem(assertion));
     }
 
     /** Adds the steps of a proof to the streams, the last one first. */
@@ -348,9 +428,10 @@ class Packer {
         for (let kind = 0; kind < KINDS; kind++) streams[kind].reserve(size);
         for (let at = size - 1; at >= 0; at--) {
             const step = items[at];
-            const stream = streams[step & 3];
-            stream.bytes[stream.size++] = step >>> 2;
-            if (step < 8 * Code.recent) streams[KINDS + (step >>> 3)].number(numbers.items[--numbers.size]);
+            const byte = byteOf(step);
+            const stream = streams[step & KIND_MASK];
+            stream.bytes[stream.size++] = byte;
+            if (hasNumber(codeOf(byte))) streams[KINDS + codeOf(byte)].number(numbers.items[--numbers.size]);
         }
     }
 
@@ -403,38 +484,20 @@ function packFrames(text, frames) {
         const frame = frames.of(number);
         const essential = text.essential.of(number).length;
         const floating = frame.length - essential;
-        const isMixed = frame.subarray(floating).some((item) => item % 2 === 0);
+        const isMixed = frame.subarray(floating).some(isFloating);
         writer.number(2 * floating + (isMixed ? 1 : 0));
         let expected = 0;
         for (const item of frame) {
-            if (item % 2 === 1) continue;
-            writer.number(item / 2 - expected);
-            expected = item / 2 + 1;
+            if (!isFloating(item)) continue;
+            writer.number(numberOf(item) - expected);
+            expected = numberOf(item) + 1;
         }
         if (!isMixed) continue;
         let before = 0;
         for (const item of frame) {
-            if (item % 2 === 1) before++;
-            else writer.number(before);
+            if (isFloating(item)) writer.number(before);
+            else before++;
         }
     }
     return writer.taken();
-}
-
-/**
- * The proofs of all theorems, and what is needed to read them.
- * @param {Dependence} dependence
- * @param {Blocks} blocks
- */
-export function packProofs(dependence, blocks) {
-    const packer = new Packer(dependence);
-    blocks.set("proof-floating", packFloating(dependence.text));
-    blocks.set("proof-frames", packFrames(dependence.text, packer.frames));
-    blocks.set("proof-labels", packer.frequent.block());
-    const size = dependence.theorems.length;
-    for (let row = 0; row < size; row++) {
-        packer.pack(row);
-        const isLast = row % CHUNK === CHUNK - 1 || row === size - 1;
-        if (isLast) blocks.set(`proof-steps-${Math.floor(row / CHUNK)}`, packer.taken());
-    }
 }

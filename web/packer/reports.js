@@ -2,15 +2,14 @@
 // of. Nothing of it is believed alone: it says the same in two ways, which have to agree, and each label has to be
 // found in the text where it belongs.
 
+import { Kind } from "./assertions.js";
+import { columnsIn, lowestOf } from "./bits.js";
 import { Byte, Cutter, Row, isSame, textAt } from "./bytes.js";
 
 /** @typedef {import("./text.js").Text} Text */
 
 const ZERO = 0x30;
 const COLON = 0x3a;
-
-/** What an assertion is, by its number in the block `kinds`. */
-export const Kind = { theorem: 0, column: 1, otherAxiom: 2, openColumn: 3, otherOpen: 4 };
 
 /** A report that isn't as it has to be. */
 export class OddReport extends Error {}
@@ -230,6 +229,20 @@ class Reader {
     }
 
     /**
+     * Passes the matrix: each row has label, colon, digits and a line feed.
+     * @param {Lines} lines
+     */
+    passMatrix(lines) {
+        const { labels, labelEnds } = this.text.assertions;
+        const { theorems, axioms } = this.found;
+        lines.pass("matrix");
+        const digits = Math.ceil(axioms.length / 4);
+        for (let row = 0; row < theorems.length; row++) {
+            lines.place += labelEnds.items[theorems[row]] - labels.items[theorems[row]] + digits + 2;
+        }
+    }
+
+    /**
      * Reads the citations.
      * @param {Lines} lines
      */
@@ -245,22 +258,21 @@ class Reader {
             starts.push(cited.size);
             this.passLabel(lines, row);
             const count = lines.count();
-            const { end } = lines;
             let { place } = lines;
             let before = -1;
-            while (place < end) {
+            while (report[place] !== Byte.newline) {
                 const first = place;
-                while (place < end && report[place] > Byte.space) place++;
+                while (report[place] > Byte.space) place++;
                 const number = labels.find(report, first, place);
                 if (number <= before || number >= found.theorems[row]) {
                     throw new OddReport("a report names what isn't before a theorem, or isn't in order");
                 }
                 cited.push(number);
                 before = number;
-                place++;
+                if (report[place] === Byte.space) place++;
             }
             if (cited.size - starts.items[row] !== count) throw new OddReport("a report counts citations otherwise");
-            lines.place = end + 1;
+            lines.place = place + 1;
         }
         starts.push(cited.size);
         found.starts = starts.taken();
@@ -301,32 +313,12 @@ function withColumns(found, isKept) {
     made.bits = new Uint32Array(found.theorems.length * made.words);
     const there = Array.from(found.axioms, (axiom) => made.columnOf[axiom]);
     for (let row = 0; row < found.theorems.length; row++) {
-        for (const column of columnsOf(found.row(row))) {
+        for (const column of columnsIn(found.row(row))) {
             const kept = there[column];
             if (kept >= 0) made.bits[row * made.words + (kept >>> 5)] |= 1 << (kept & 31);
         }
     }
     return made;
-}
-
-/**
- * The place of the lowest bit that a number has.
- * @param {number} bits
- */
-export function lowestOf(bits) {
-    return 31 - Math.clz32(bits & -bits);
-}
-
-/**
- * The columns whose bits a row has, rising.
- * @param {Uint32Array} row
- */
-export function columnsOf(row) {
-    const columns = [];
-    for (let word = 0; word < row.length; word++) {
-        for (let bits = row[word]; bits !== 0; bits &= bits - 1) columns.push(word * 32 + lowestOf(bits));
-    }
-    return columns;
 }
 
 /**
@@ -384,6 +376,22 @@ function readDigits(report, place, digits, bits, start) {
         bits[start + word] = marks;
     }
     if (all > 15) throw new OddReport("a row of a report has a sign that is no digit");
+}
+
+/**
+ * What each theorem of a text cites. The marks are left out, and so nothing says that they agree.
+ * @param {Text} text
+ * @param {Request} request
+ * @param {Uint8Array} report
+ * @returns {Dependence}
+ */
+export function readCitations(text, request, report) {
+    const reader = new Reader(text, request);
+    const lines = new Lines(report);
+    reader.passHead(lines);
+    reader.passMatrix(lines);
+    reader.readCitations(lines);
+    return reader.found;
 }
 
 /**

@@ -67,10 +67,10 @@ export class Side {
      * @param {number} number
      */
     pairs(number) {
-        const words = this.words(...this.text.pairs.of(number));
+        const symbols = this.words(...this.text.pairs.of(number)).filter((word) => word !== "$d");
         const pairs = [];
-        for (let at = 0; at < words.length; at += 3) {
-            const [, one, other] = words.slice(at, at + 3);
+        for (let at = 0; at < symbols.length; at += 2) {
+            const [one, other] = [symbols[at], symbols[at + 1]];
             pairs.push(one < other ? `${one} ${other}` : `${other} ${one}`);
         }
         return pairs.sort();

@@ -2,6 +2,7 @@
 // comments and headings of the text, where they stand between the assertions.
 
 import { Byte, Row, Rows, Words, afterComment, closeOf, isComment, isSame, textAt } from "./bytes.js";
+import { floatingItem, otherItem } from "./codes.js";
 
 /** The lines that enclose the title of a part, a chapter, a section and a subsection. */
 const DECORATIONS = ["####", "#*#*", "=-=-", "-.-."];
@@ -104,7 +105,7 @@ export class Text {
         this.hypothesesByLabel = new Words(data);
         /** The `$f` in the order of the lines that name them. */
         this.named = new Statements();
-        /** The mandatory hypotheses of each assertion in order: 2 * n for the `$f` n of `named`, 2 * n + 1 for the `$e` n. */
+        /** The mandatory hypotheses of each assertion in order, as items of `$f` of `named` and of `$e`. */
         this.frames = new Rows();
         /** All `$f` of the database, by their places there, and their numbers by their labels. */
         this.given = new Statements();
@@ -225,6 +226,7 @@ class Order {
 
 /** The order of the parts of a line. */
 const Part = { given: 0, pairs: 1, dummies: 2, dummyPairs: 3 };
+const PARTS = 4;
 
 /** Reads the lines of the section. */
 class Section {
@@ -235,6 +237,9 @@ class Section {
         this.place = sectionIn(text.data);
         this.floating = new Words(text.data);
         this.order = new Order();
+        /** Where each part of a line but the given ones begins and ends; 0 and 0 where there is none. */
+        this.starts = new Uint32Array(PARTS);
+        this.ends = new Uint32Array(PARTS);
     }
 
     /** Reads all lines, up to the one that ends the report. */
@@ -313,8 +318,9 @@ class Section {
     readParts(end, last) {
         const { text, bytes } = this;
         let stage = Part.given;
-        /** @type {[number, number][]} */
-        const found = Array.from({ length: 4 }, () => [0, 0]);
+        const { starts, ends } = this;
+        starts.fill(0);
+        ends.fill(0);
         for (;;) {
             const keyword = this.place + 1;
             const isKeyword = bytes[this.place] === Byte.space && bytes[keyword] === Byte.dollar;
@@ -328,15 +334,18 @@ class Section {
                 text.essential.end();
                 text.frames.end();
                 this.order.end();
-                text.pairs.push(...found[Part.pairs]);
-                text.dummies.push(...found[Part.dummies]);
-                text.dummyPairs.push(...found[Part.dummyPairs]);
+                text.pairs.push(starts[Part.pairs], ends[Part.pairs]);
+                text.dummies.push(starts[Part.dummies], ends[Part.dummies]);
+                text.dummyPairs.push(starts[Part.dummyPairs], ends[Part.dummyPairs]);
                 return first;
             }
             stage = part;
             if (part === Part.given) this.addGiven(letter, first, next);
-            else if (part === Part.dummies) found[part] = [first, next];
-            else found[part] = [found[part][1] === 0 ? keyword : found[part][0], next];
+            else {
+                if (part === Part.dummies) starts[part] = first;
+                else if (ends[part] === 0) starts[part] = keyword;
+                ends[part] = next;
+            }
             this.place = next;
         }
     }
@@ -366,7 +375,7 @@ class Section {
         const statements = isEssential ? text.hypotheses : text.named;
         const number = (isEssential ? text.hypothesesByLabel : this.floating).add(first, labelEnd);
         if (number === statements.size) statements.push(first, labelEnd, labelEnd + 1, end);
-        text.frames.push(2 * number + (isEssential ? 1 : 0));
+        text.frames.push(isEssential ? otherItem(number) : floatingItem(number));
         if (isEssential) text.essential.push(number);
         else this.order.add(number);
     }

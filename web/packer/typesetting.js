@@ -56,9 +56,9 @@ const CIRCLE = [
 ];
 /** The address of a page: on the web, or beside the page of the database. */
 const PAGE = /^(?:https?:\/\/[\w.-]+(?::[0-9]+)?(?:\/[\w.~-]+)*\/)?[\w][\w.-]*\.html?$/;
-/** Signs of a definition; a longer one isn't used. */
-const LONGEST = 200;
-const LARGEST = 0x10ffff;
+/** Signs that a definition shows, or those of the address of a page; a longer one isn't used. */
+const LONGEST_DEFINITION = 200;
+const LARGEST_CODE_POINT = 0x10ffff;
 
 /**
  * The statements of a `$t` comment as lists of words, quotes included; remarks are left out.
@@ -247,7 +247,7 @@ class Definitions {
     ofNumber(number) {
         const other = this.numbers.get(number);
         if (other !== undefined) return other;
-        if ((number >= 0xd800 && number <= 0xdfff) || number > LARGEST) return "\ufffd";
+        if ((number >= 0xd800 && number <= 0xdfff) || number > LARGEST_CODE_POINT) return "\ufffd";
         return this.none.has(number) ? "" : String.fromCodePoint(number);
     }
 
@@ -348,7 +348,7 @@ function change(counts, name, by) {
  */
 function isShown(pieces) {
     const signs = pieces.reduce((sum, [text]) => sum + [...text].length, 0);
-    return signs <= LONGEST && pieces.some(([text]) => text.trim() !== "");
+    return signs <= LONGEST_DEFINITION && pieces.some(([text]) => text.trim() !== "");
 }
 
 /**
@@ -361,7 +361,7 @@ function isShown(pieces) {
  * @param {string} text
  */
 function pageAt(text) {
-    return text.length <= LONGEST && PAGE.test(text) ? text : null;
+    return text.length <= LONGEST_DEFINITION && PAGE.test(text) ? text : null;
 }
 
 /**

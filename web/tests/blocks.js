@@ -6,16 +6,26 @@ import { readReport } from "../packer/reports.js";
 import { readText } from "../packer/text.js";
 import { Model } from "../view/model.js";
 
-const NOTHING = { named: {}, numbers: {}, none: [] };
-const PLAIN = { only: null, essential: false, open: false };
+/** In place of the signs that HTML names: none. */
+export const NO_ENTITIES = { named: {}, numbers: {}, none: [] };
+export const PLAIN = { only: null, essential: false, open: false };
+
+/**
+ * What theorems cite that cite nothing: those of which `said` has a `$p`.
+ * @param {Record<string, string>} said
+ * @returns {Record<string, string[]>}
+ */
+function citesNothing(said) {
+    const theorems = Object.keys(said).filter((label) => said[label].includes("$p"));
+    return Object.fromEntries(theorems.map((label) => [label, []]));
+}
 
 /**
  * The report of a text, in which each label has `said` behind its places, and cites what `cites` has.
  * @param {string} text
  * @param {Record<string, string>} said
- * @param {Record<string, string[]>} cites
  */
-function reportOf(text, said, cites) {
+export function reportOf(text, said, cites = citesNothing(said)) {
     const labels = Object.keys(said);
     const axioms = labels.filter((label) => !cites[label]);
     const theorems = labels.filter((label) => cites[label]);
@@ -56,7 +66,7 @@ export function blocksOf(text, said, cites) {
     const about = { title: "t", file: "x.mm", bytes: 1, sha256: null, maker: "x", watched: [], ...PLAIN };
     /** @type {Map<string, Uint8Array>} */
     const blocks = new Map();
-    packText(read, about, NOTHING, blocks);
+    packText(read, about, NO_ENTITIES, blocks);
     packReports(readReport(read, PLAIN, report), blocks);
     return blocks;
 }

@@ -28,11 +28,6 @@ declare module "node:assert/strict" {
     export default assert;
 }
 
-declare module "node:child_process" {
-    type Run = { status: number | null; stdout: Buffer };
-    export function spawnSync(path: string, words: string[], given: { input: Uint8Array; maxBuffer: number }): Run;
-}
-
 declare module "node:fs" {
     export function readFileSync(path: string | URL): Buffer;
     export function writeFileSync(path: string, bytes: Uint8Array): void;

@@ -3,15 +3,16 @@
 import assert from "node:assert/strict";
 import { test } from "node:test";
 import { deflateSync } from "node:zlib";
+import { Flag } from "../packer/assertions.js";
 import { Writer, encoded } from "../packer/bytes.js";
-import { Mark, marksOf, putLine } from "../packer/comments.js";
+import { flagsOf, putLine } from "../packer/comments.js";
 import { faultOf, refusalOf, explained } from "../packer/faults.js";
 import { pageFile } from "../packer/file.js";
 import { packText } from "../packer/pack.js";
 import { UnreadableText, readText } from "../packer/text.js";
 import { Blocks, Damaged } from "../view/decode.js";
+import { NO_ENTITIES, reportOf } from "./blocks.js";
 
-const NOTHING = { named: {}, numbers: {}, none: [] };
 const TEXT = `$c |- set wff = $. $v x y z p q $.
 vx $f set x $. vy $f set y $. vz $f set z $. wp $f wff p $. wq $f wff q $.
 \${ $d x y z $. $d p x $. $d q x $. $d q y $. $d q z $.
@@ -32,19 +33,6 @@ function about(title) {
 }
 
 /**
- * The report of a text, in which each label has said behind its places.
- * @param {string} text
- * @param {Record<string, string>} said
- */
-function reportOf(text, said) {
-    const lines = Object.entries(said).map(([label, rest]) => {
-        const place = text.search(new RegExp(`(?<=^|\\s)${label} \\$[ap]`));
-        return `${label}:${rest.includes("$p") ? "p" : "a"}:${place}:${text.indexOf("$.", place) + 2}:${rest}\n`;
-    });
-    return `mmdepend 2\naxioms 0\ntheorems 0\nstatements\n${lines.join("")}end\n`;
-}
-
-/**
  * What a text says.
  * @param {string} text
  * @param {Record<string, string>} said
@@ -61,7 +49,7 @@ function read(text, said) {
  */
 function lines(text, said, name) {
     const blocks = new Map();
-    packText(read(text, said), about("t"), NOTHING, blocks);
+    packText(read(text, said), about("t"), NO_ENTITIES, blocks);
     return new TextDecoder().decode(blocks.get(name)).split("\n");
 }
 
@@ -90,13 +78,13 @@ test("many tags that aren't closed are passed once", { timeout: 20_000 }, () => 
     assert.ok(oneLine(`<pre>${"<pre> ".repeat(many)}`).startsWith("<pre>"));
 });
 
-test("marks of comments", () => {
+test("flags of comments", () => {
     /** @param {string} comment */
-    const marks = (comment) => marksOf(encoded(comment), 0, comment.length);
+    const flags = (comment) => flagsOf(encoded(comment), 0, comment.length);
     const both = "(New usage\n is discouraged.) (Proof modification is  discouraged.)";
-    assert.equal(marks(both), Mark.comment | Mark.usage | Mark.modification);
-    assert.equal(marks("It is discouraged."), Mark.comment);
-    assert.equal(marks(" \n "), 0);
+    assert.equal(flags(both), Flag.comment | Flag.usage | Flag.modification);
+    assert.equal(flags("It is discouraged."), Flag.comment);
+    assert.equal(flags(" \n "), 0);
 });
 
 test("conditions become lines", () => {

@@ -3,11 +3,14 @@
 import assert from "node:assert/strict";
 import { test } from "node:test";
 import { Writer, encoded } from "../packer/bytes.js";
+import { ProofPacker } from "../packer/proofs.js";
+import { readCitations, readReport } from "../packer/reports.js";
+import { readText } from "../packer/text.js";
 import { Damaged } from "../view/decode.js";
 import { Derivation, OtherFormula, TooManySigns } from "../view/derivation.js";
 import { MOST_STEPS, Proofs, TooManySteps } from "../view/proofs.js";
 import { Abandoned, Turns } from "../view/turns.js";
-import { blocksOf, modelOf } from "./blocks.js";
+import { PLAIN, blocksOf, modelOf, reportOf } from "./blocks.js";
 
 const HEAD = `$c wff |- ( -> ) $. $v p q r $.
 wp $f wff p $. wq $f wff q $. wr $f wff r $.
@@ -65,14 +68,39 @@ function linesOf(derivation, areAll = false) {
     });
 }
 
-test("more theorems than a call may have arguments", { timeout: 60_000 }, async () => {
-    const many = 150_000;
+/**
+ * A text of many theorems, `t0` and so on, each proved by the one before, and what its report says.
+ * @param {number} many
+ * @returns {[string, Record<string, string>, Record<string, string[]>]}
+ */
+function chainOf(many) {
     const labels = Array.from({ length: many }, (_, at) => `t${at}`);
     const cites = Object.fromEntries(labels.map((label, at) => [label, [at === 0 ? "ax" : labels[at - 1]]]));
     const text = `$c |- a $. $v p $. fp $f |- p $. ax $a |- a $.\n${labels.map((label) => `${label} $p |- a $= ${cites[label]} $.\n`).join("")}`;
     const said = Object.fromEntries([["ax", " $a |- a"], ...labels.map((label) => [label, " $p |- a"])]);
-    const derivation = await derivationOf(proofsOf(blocksOf(text, said, cites)), "t2500");
+    return [text, said, cites];
+}
+
+test("more theorems than a call may have arguments", { timeout: 60_000 }, async () => {
+    const derivation = await derivationOf(proofsOf(blocksOf(...chainOf(150_000))), "t2500");
     assert.deepEqual(linesOf(derivation), ["t2499 : |- a"]);
+});
+
+test("proofs that two threads pack are those that one packs", () => {
+    const chain = chainOf(5_000);
+    const source = encoded(chain[0]);
+    const report = encoded(reportOf(...chain));
+    const here = new ProofPacker(readReport(readText(source, report), PLAIN, report));
+    const there = new ProofPacker(readCitations(readText(source, report), PLAIN, report));
+    const middle = here.chunkBehind(0.35);
+    assert.equal(middle, 1); // of three
+    /** @type {Map<string, Uint8Array>} */
+    const blocks = new Map();
+    here.packFrames(blocks);
+    here.packSteps(0, middle, blocks);
+    there.packSteps(there.chunkBehind(0.35), Infinity, blocks);
+    const ofProofs = [...blocksOf(...chain)].filter(([name]) => name.startsWith("proof-"));
+    assert.deepEqual([...blocks], ofProofs);
 });
 
 /**
@@ -129,7 +157,8 @@ test("brackets of very many labels, and a step that is marked again and again", 
 });
 
 test("many marked steps, of which some are far back", async () => {
-    // Forty marked steps, each `( p -> q )`, are joined; then marked ones are repeated.
+    // Forty marked steps, each `( p -> q )`, are joined; then marked ones are repeated. The letters A, B and C are `wp`,
+    // `wq` and `wi`, so that the first marked step is the fourth.
     const size = 40;
     const repeated = [1, 2, 1, size, 3].map((mark) => `${spelled(3 + mark)}C`);
     const letters = "ABCZ".repeat(size) + "C".repeat(size - 1) + repeated.join("");

@@ -6,7 +6,7 @@ import { visible } from "../packer/visible.js";
 /** @typedef {import("./types.js").Contents} Contents */
 
 /** The program refuses longer texts, so no more than one byte more is unpacked. */
-const MOST_BYTES = 2_147_483_647;
+const MOST_DATABASE_BYTES = 2_147_483_647;
 const GZIP = [0x1f, 0x8b];
 /** What else files may be compressed by, and how these begin. */
 const OTHERS = [
@@ -68,7 +68,7 @@ export async function chosen(file, isShared, tell) {
     if (NO_TEXT.test(first) || DOCUMENT.test(first)) {
         throw new Unfit(`${name} is no text: it begins with bytes that no database has. A database is a file .mm.`);
     }
-    if (file.size > MOST_BYTES) throw new TooLong();
+    if (file.size > MOST_DATABASE_BYTES) throw new TooLong();
     return { name, file: await forWorkers(file, name, isShared) };
 }
 
@@ -150,14 +150,14 @@ async function inflated(member, before) {
     const counter = new TransformStream({
         transform(part, controller) {
             size += part.length;
-            if (size > MOST_BYTES) controller.error(new TooLong());
+            if (size > MOST_DATABASE_BYTES) controller.error(new TooLong());
             else controller.enqueue(part);
         },
     });
     try {
         return await new Response(member.stream().pipeThrough(new Inflater("gzip")).pipeThrough(counter)).blob();
     } catch (error) {
-        if (size > MOST_BYTES) throw new TooLong();
+        if (size > MOST_DATABASE_BYTES) throw new TooLong();
         return null;
     }
 }

@@ -4,7 +4,10 @@
 import { compile, report } from "../library.js";
 import { sizeOf } from "./contents.js";
 import { faultOf, refusalOf } from "../packer/faults.js";
-import { Making, NoAnswer } from "../packer/making.js";
+import { NoAnswer, aboutPage, packComparison, sideOf } from "../packer/making.js";
+import { packReports, packText } from "../packer/pack.js";
+import { sumOf } from "../packer/sum.js";
+import { readText } from "../packer/text.js";
 
 /** @typedef {import("../packer/reports.js").Request} Request */
 /** @typedef {import("./types.js").Ask} Ask */
@@ -70,7 +73,7 @@ async function fill(file, bytes) {
  * @param {Contents} file
  * @param {Wanted} request
  */
-async function reportOf(module, file, request) {
+async function answerOf(module, file, request) {
     const compiled = await compile(module);
     const answer = await report(compiled, sizeOf(file), (bytes) => fill(file, bytes), request);
     if (answer.status === Status.memory) throw new NoMemory();
@@ -89,7 +92,7 @@ async function reportOf(module, file, request) {
 async function verify({ file, module, request }) {
     /** @type {Wanted} */
     const wanted = { ...request, only: null, report: "matrix,citations,statements", form: 2 };
-    const answer = await reportOf(module, file, wanted);
+    const answer = await answerOf(module, file, wanted);
     if (!answer) return;
     const written = answer.report.slice();
     here.postMessage({ stage: "verified", report: written, memory: answer.memory }, [written.buffer]);
@@ -100,7 +103,7 @@ async function verify({ file, module, request }) {
  * @param {Extract<Ask, { task: "save" }>} asked
  */
 async function save({ file, module, request, report: name, form }) {
-    const answer = await reportOf(module, file, { ...request, report: name, form });
+    const answer = await answerOf(module, file, { ...request, report: name, form });
     if (!answer) return;
     if (file instanceof Blob) {
         here.postMessage({ stage: "saved", report: new Blob([answer.report], { type: "text/plain" }) });
@@ -115,15 +118,22 @@ async function save({ file, module, request, report: name, form }) {
  * @param {Extract<Ask, { task: "pack" }>} asked
  */
 async function pack({ files, reports, request, maker, entities }) {
-    const makings = [];
+    const databases = [];
+    /** @type {ReturnType<typeof sumOf> | undefined} */
+    let sum;
     for (const [at, { name, file }] of files.entries()) {
-        makings.push(new Making(name, await bytesOf(file), request, reports[at]));
+        const data = await bytesOf(file);
+        sum ??= sumOf(data); // of the first one: it is made while the texts are read
+        databases.push({ name, side: sideOf(name, readText(data, reports[at]), request, reports[at]) });
     }
-    const [side, old] = makings.map((making) => making.side());
+    const [now, older] = databases;
+    const { text, dependence } = now.side;
+    const about = aboutPage(now.name, text.source.length, (await sum) ?? null, request, { maker });
     /** @type {Map<string, Uint8Array>} */
     const blocks = new Map();
-    await makings[0].packText({ maker, entities }, blocks);
-    makings[0].packReports(side, old ? { name: makings[1].name, side: old } : null, blocks);
+    packText(text, about, entities, blocks);
+    packReports(dependence, blocks);
+    if (older) packComparison(older, now, blocks);
     here.postMessage({ stage: "packed", blocks }, [...blocks.values()].map((block) => block.buffer));
 }
 

@@ -1,7 +1,7 @@
 // The view of one axiom: what rests on it, and what falls if it is dropped together with others.
 
+import { Kind } from "../packer/assertions.js";
 import { count, counted, element, percent, put } from "./elements.js";
-import { Kind } from "./model.js";
 
 /** @typedef {import("./elements.js").Child} Child */
 /** @typedef {import("./elements.js").Elements} Elements */

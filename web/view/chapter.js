@@ -87,24 +87,12 @@ export class ChapterView {
             this.elements.tile(others, "axioms and definitions", "that are stated here, syntax included"),
         ];
         if (theorems > 0) {
-            const heaviest = this.heaviest(firstRow, endRow);
+            const heaviest = this.overview.counts.heaviest(firstRow, endRow);
             const most = this.overview.counts.totals[heaviest];
             const link = this.elements.link(this.model.theorems[heaviest]);
             tiles.push(this.elements.tile(most, "axioms at most", "on which a theorem of it rests:", "", link));
         }
         return element("ul", { class: "glance", id: "glance", "aria-label": "In numbers" }, ...tiles);
-    }
-
-    /**
-     * The row of the theorem that rests on most axioms.
-     * @param {number} firstRow
-     * @param {number} endRow
-     */
-    heaviest(firstRow, endRow) {
-        const { totals } = this.overview.counts;
-        let best = firstRow;
-        for (let row = firstRow; row < endRow; row++) if (totals[row] > totals[best]) best = row;
-        return best;
     }
 
     /** @param {Chapter} chapter */

@@ -3,6 +3,7 @@
 //
 // A formula is a text in which a space stands before each symbol, so that what replaces a variable may be empty.
 
+import { isFloating, numberOf } from "../packer/codes.js";
 import { Step } from "./proofs.js";
 
 /** @typedef {import("./proofs.js").Proofs} Proofs */
@@ -141,14 +142,14 @@ export class Derivation {
         const frame = proofs.frameOf(assertion);
         const places = new Map();
         frame.forEach((item, at) => {
-            if (item % 2 === 0) places.set(proofs.givenBy(item / 2).variable, at);
+            if (isFloating(item)) places.set(proofs.givenBy(numberOf(item)).variable, at);
         });
         const given = frame.map((item) => {
-            const isFloating = item % 2 === 0;
-            const said = isFloating ? proofs.formulaGivenBy(item / 2) : model.hypothesisFormulas.at((item - 1) / 2);
+            const number = numberOf(item);
+            const said = isFloating(item) ? proofs.formulaGivenBy(number) : model.hypothesisFormulas.at(number);
             return templateOf(said, places);
         });
-        const areEssential = frame.map((item) => item % 2 === 1);
+        const areEssential = frame.map((item) => !isFloating(item));
         const rule = { given, areEssential, formula: templateOf(model.formulas.at(assertion), places) };
         this.rules.set(assertion, rule);
         return rule;

@@ -1,6 +1,7 @@
 // Makes the elements of the page. Text becomes text nodes and never markup.
 
-import { GROUPS, Kind } from "./model.js";
+import { Kind } from "../packer/assertions.js";
+import { GROUPS } from "./model.js";
 
 /** @typedef {import("./markup.js").Comment} Comment */
 /** @typedef {import("./markup.js").Part} Part */

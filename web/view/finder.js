@@ -204,7 +204,10 @@ export class Finder {
         this.input.removeAttribute("aria-activedescendant");
     }
 
-    /** @param {number} index */
+    /**
+     * Goes to a result, or, with the index behind the last one, to the view of all that is found.
+     * @param {number} index
+     */
     choose(index) {
         const item = this.best[index];
         if (!item && this.total === 0) return;

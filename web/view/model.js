@@ -1,6 +1,8 @@
 // What the page knows: assertions, marks, citations, chapters. The marks are those that the program wrote; nothing here
 // computes on what a theorem rests.
 
+import { Flag, Kind } from "../packer/assertions.js";
+import { columnsIn, lowestOf } from "../packer/bits.js";
 import { Chapters } from "./chapters.js";
 import { Lists, Numbers, Texts, numbersOf, startsOf, textOf } from "./decode.js";
 
@@ -11,17 +13,11 @@ import { Lists, Numbers, Texts, numbersOf, startsOf, textOf } from "./decode.js"
 
 /**
  * What gives the blocks of data: `load` those that are read when they are needed, `get` the others.
- * @typedef {object} Given
+ * @typedef {object} BlockSource
  * @property {(name: string) => boolean} has
  * @property {(name: string) => Uint8Array} get
  * @property {(name: string) => Promise<Uint8Array>} load
  */
-
-/** What an assertion is, as in reports.js of the packer. */
-export const Kind = { theorem: 0, column: 1, otherAxiom: 2, openColumn: 3, otherOpen: 4 };
-
-/** The marks of a comment, as in comments.js of the packer. */
-export const Flag = { usage: 1, modification: 2, comment: 4 };
 
 /** The groups of axioms, in the order in which they are shown. */
 export const GROUPS = [
@@ -43,7 +39,7 @@ export function isLater(name) {
 
 /** The database. Assertions are numbers from 0, in file order; theorems have a row, axioms a column. */
 export class Model {
-    /** @param {Given} blocks */
+    /** @param {BlockSource} blocks */
     constructor(blocks) {
         this.blocks = blocks;
         /** @type {Facts} */
@@ -109,8 +105,9 @@ export class Model {
     }
 
     /**
-     * The rows of the matrix, `words` numbers of 32 bits each; column c is bit c % 32 of number c / 32.
-     * @param {Given} blocks
+     * The rows of the matrix, `words` numbers of 32 bits each; column c is bit c % 32 of number c / 32. Each is written as
+     * what differs from the row that is so many rows `above` it, as MatrixPacker of packer/pack.js writes it; 0 is none.
+     * @param {BlockSource} blocks
      */
     readRows(blocks) {
         const words = this.words;
@@ -120,8 +117,8 @@ export class Model {
         const gaps = new Numbers(blocks.get("row-gaps"));
         for (let row = 0; row < this.theorems.length; row++) {
             const start = row * words;
-            const named = above.next();
-            if (named > 0) bits.copyWithin(start, start - named * words, start - (named - 1) * words);
+            const distance = above.next();
+            if (distance > 0) bits.copyWithin(start, start - distance * words, start - (distance - 1) * words);
             let column = -1;
             for (let left = lengths.next(); left > 0; left--) {
                 column += 1 + gaps.next();
@@ -239,16 +236,7 @@ export class Model {
      * @param {number} row
      */
     columnsOf(row) {
-        const columns = [];
-        const start = row * this.words;
-        for (let word = 0; word < this.words; word++) {
-            let bits = this.bits[start + word];
-            while (bits !== 0) {
-                columns.push(word * 32 + 31 - Math.clz32(bits & -bits));
-                bits &= bits - 1;
-            }
-        }
-        return columns;
+        return columnsIn(this.bits.subarray(row * this.words, (row + 1) * this.words));
     }
 
     /**
@@ -293,7 +281,7 @@ export class Model {
                     let fresh = this.bits[row * this.words + word] & ~seen[word];
                     seen[word] |= fresh;
                     while (fresh !== 0) {
-                        first[word * 32 + 31 - Math.clz32(fresh & -fresh)] = row;
+                        first[word * 32 + lowestOf(fresh)] = row;
                         fresh &= fresh - 1;
                         left--;
                     }
@@ -463,7 +451,7 @@ export class Model {
 /**
  * The hypotheses of each assertion. Those of open blocks come again, so the first gap is from the first hypothesis of
  * the assertion before.
- * @param {Given} blocks
+ * @param {BlockSource} blocks
  */
 function readHypotheses(blocks) {
     const starts = startsOf(numbersOf(blocks.get("hypothesis-lengths")));

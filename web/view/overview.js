@@ -35,7 +35,10 @@ export class Overview {
         this.plot = undefined;
     }
 
-    /** The counts, made when they are asked for first. */
+    /**
+     * How many axioms of each group each theorem rests on, and how many theorems rest on each axiom. They are made when they
+     * are asked for first.
+     */
     get counts() {
         this.madeCounts ??= new Counts(this.model);
         return this.madeCounts;
@@ -97,14 +100,14 @@ export class Overview {
      * The columns of a group, or all of them.
      * @param {string} group
      */
-    columnsOf(group) {
+    columnsOfGroup(group) {
         const { model } = this;
         return Array.from(model.axioms.keys()).filter((column) => group === "all" || model.groupKey(column) === group);
     }
 
     /** The columns of the picture, in the order that is chosen. */
     chosenColumns() {
-        const columns = this.columnsOf(this.group);
+        const columns = this.columnsOfGroup(this.group);
         return this.sorting === "users" ? this.byUsers(columns) : columns;
     }
 
@@ -251,7 +254,7 @@ export class Overview {
         const more = element("div");
         const atFirst = window.matchMedia(NARROW).matches ? FIRST_AXIOMS_NARROW : FIRST_AXIOMS;
         const fill = (/** @type {string} */ group, /** @type {boolean} */ all) => {
-            const columns = this.byUsers(this.columnsOf(group));
+            const columns = this.byUsers(this.columnsOfGroup(group));
             const shown = all ? columns : columns.slice(0, atFirst);
             body.replaceChildren();
             put(body, shown.map((column) => this.axiomRow(column)));

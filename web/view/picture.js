@@ -1,6 +1,7 @@
 // The matrix as a picture: theorems down, axioms across, chapters as bands at the left. It can be zoomed, and pointed
 // at.
 
+import { lowestOf } from "../packer/bits.js";
 import { Drawing } from "./drawing.js";
 import { GROUPS } from "./model.js";
 
@@ -45,13 +46,24 @@ export class Counts {
         for (let word = 0; word < words; word++) {
             let left = bits[row * words + word];
             while (left !== 0) {
-                const column = word * 32 + 31 - Math.clz32(left & -left);
+                const column = word * 32 + lowestOf(left);
                 left &= left - 1;
                 this.above[here + column]++;
                 this.byGroup[groupOf[column]][row]++;
                 this.totals[row]++;
             }
         }
+    }
+
+    /**
+     * The row of the theorem that rests on most axioms, the first one of several.
+     * @param {number} firstRow
+     * @param {number} endRow
+     */
+    heaviest(firstRow, endRow) {
+        let best = firstRow;
+        for (let row = firstRow; row < endRow; row++) if (this.totals[row] > this.totals[best]) best = row;
+        return best;
     }
 }
 
@@ -104,7 +116,6 @@ export class Picture extends Drawing {
         this.fittedTitles = new Map();
         /** @type {number[]} */
         this.order = [];
-        this.places = new Int32Array(0);
         this.view = { top: 0, bottom: 0, left: 0, right: 0 };
         this.gutter = 0;
         this.high = 1;
@@ -121,8 +132,6 @@ export class Picture extends Drawing {
      */
     setColumns(columns) {
         this.order = columns;
-        this.places = new Int32Array(this.model.axioms.length).fill(-1);
-        columns.forEach((column, place) => (this.places[column] = place));
         this.pointed = null;
         this.showAll();
     }
@@ -189,31 +198,34 @@ export class Picture extends Drawing {
     }
 
     /**
+     * Counts the marks of each bin by blocks of BLOCK rows, from what each column has above them; `tall` gets the rows
+     * of each bin downwards.
      * @param {Bins} down
      * @param {Bins} across
-     * @param {Uint32Array} marks
+     * @param {Uint32Array} marks of each bin downwards those of the bins across
      * @param {Uint32Array} tall
      */
     countBlocks(down, across, marks, tall) {
         const { above, columns, blocks } = this.counts;
         const bins = new Int32Array(across.high - across.low);
         for (let place = across.low; place < across.high; place++) bins[place - across.low] = across.of(place);
-        for (let bin = 0; bin < down.number; bin++) {
-            const first = Math.min(blocks, Math.round((down.from + bin / down.scale) / BLOCK));
-            const end = Math.min(blocks, Math.round((down.from + (bin + 1) / down.scale) / BLOCK));
-            tall[bin] = Math.min(this.rows, end * BLOCK) - first * BLOCK;
+        for (let downBin = 0; downBin < down.number; downBin++) {
+            const first = Math.min(blocks, Math.round((down.from + downBin / down.scale) / BLOCK));
+            const end = Math.min(blocks, Math.round((down.from + (downBin + 1) / down.scale) / BLOCK));
+            tall[downBin] = Math.min(this.rows, end * BLOCK) - first * BLOCK;
             for (let index = 0; index < bins.length; index++) {
                 const column = this.order[across.low + index];
                 const number = above[end * columns + column] - above[first * columns + column];
-                marks[bin * across.number + bins[index]] += number;
+                marks[downBin * across.number + bins[index]] += number;
             }
         }
     }
 
     /**
+     * Counts the marks of each bin row by row; `tall` gets the rows of each bin downwards.
      * @param {Bins} down
      * @param {Bins} across
-     * @param {Uint32Array} marks
+     * @param {Uint32Array} marks of each bin downwards those of the bins across
      * @param {Uint32Array} tall
      */
     countRows(down, across, marks, tall) {
@@ -221,14 +233,14 @@ export class Picture extends Drawing {
         const bins = new Int32Array(this.model.axioms.length).fill(-1);
         for (let place = across.low; place < across.high; place++) bins[this.order[place]] = across.of(place);
         for (let row = down.low; row < down.high; row++) {
-            const bin = down.of(row);
-            tall[bin]++;
+            const downBin = down.of(row);
+            tall[downBin]++;
             for (let word = 0; word < words; word++) {
                 let left = bits[row * words + word];
                 while (left !== 0) {
-                    const place = bins[word * 32 + 31 - Math.clz32(left & -left)];
+                    const bin = bins[word * 32 + lowestOf(left)];
                     left &= left - 1;
-                    if (place >= 0) marks[bin * across.number + place]++;
+                    if (bin >= 0) marks[downBin * across.number + bin]++;
                 }
             }
         }

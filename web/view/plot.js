@@ -36,8 +36,8 @@ export class Plot extends Drawing {
      * @returns {[number, number]}
      */
     rowsAt(x) {
-        const first = Math.floor((x * this.rows) / this.wide);
-        return [first, Math.max(first + 1, Math.floor(((x + 1) * this.rows) / this.wide))];
+        const firstRow = Math.floor((x * this.rows) / this.wide);
+        return [firstRow, Math.max(firstRow + 1, Math.floor(((x + 1) * this.rows) / this.wide))];
     }
 
     draw() {
@@ -86,20 +86,20 @@ export class Plot extends Drawing {
 
     /** @param {number} x */
     drawDot(x) {
-        const [first, end] = this.rowsAt(x);
+        const [firstRow, endRow] = this.rowsAt(x);
         let below = 0;
         for (const group of [Group.axiom, Group.logic, Group.definition, Group.open, Group.syntax]) {
             let sum = 0;
-            for (let row = first; row < end; row++) sum += this.counts.byGroup[group][row];
+            for (let row = firstRow; row < endRow; row++) sum += this.counts.byGroup[group][row];
             if (sum === 0) continue;
-            const mean = sum / (end - first);
+            const mean = sum / (endRow - firstRow);
             const from = this.yOf(below + mean);
             this.pen.fillStyle = this.colours.ofGroup(group);
             this.pen.fillRect(this.left + x, from, 1, Math.max(1, this.yOf(below) - from));
             below += mean;
         }
         this.pen.fillStyle = this.colours.of("--muted");
-        const most = this.counts.totals[this.heaviest(first, end)];
+        const most = this.counts.totals[this.counts.heaviest(firstRow, endRow)];
         this.pen.fillRect(this.left + x, this.yOf(most), 1, Math.ceil(this.ratio));
     }
 
@@ -110,20 +110,9 @@ export class Plot extends Drawing {
         this.pen.fillRect(x, 0, this.ratio, this.canvas.height);
     }
 
-    /**
-     * The theorem of a stretch that rests on most axioms.
-     * @param {number} first
-     * @param {number} end
-     */
-    heaviest(first, end) {
-        let best = first;
-        for (let row = first; row < end; row++) if (this.counts.totals[row] > this.counts.totals[best]) best = row;
-        return best;
-    }
-
     /** @param {number} x */
     point(x) {
-        this.pointed = this.heaviest(...this.rowsAt(Math.min(this.wide - 1, Math.max(0, Math.floor(x)))));
+        this.pointed = this.counts.heaviest(...this.rowsAt(Math.min(this.wide - 1, Math.max(0, Math.floor(x)))));
         this.onPoint(this.pointed);
         this.refresh();
     }

@@ -1,6 +1,21 @@
-// Reads the steps of proofs from the blocks of the page, as codes.js of the packer says.
+// Reads the steps of proofs from the blocks of the page, as codes.js and proofs.js of the packer say.
 
-import { CHUNK, Code, FREQUENT, KINDS, Recent, kindOf } from "../packer/codes.js";
+import {
+    CHUNK,
+    Code,
+    FREQUENT,
+    KINDS,
+    Recent,
+    codeOf,
+    floatingItem,
+    hasNumber,
+    isFloating,
+    isMarked,
+    isRepeated,
+    kindOf,
+    numberOf,
+    otherItem,
+} from "../packer/codes.js";
 import { Damaged, Lists, Numbers, Texts, startsOf, textOf } from "./decode.js";
 import { firstWord } from "./model.js";
 
@@ -22,20 +37,20 @@ export const Step = { floating: 0, hypothesis: 1, assertion: 2, repeated: 3 };
 /** A proof has more than `MOST_STEPS`. */
 export class TooManySteps extends Error {}
 
-/** The mandatory `$f` of each assertion. */
-class Frames {
+/** The mandatory `$f` of each assertion, read as packFrames of packer/proofs.js writes them. */
+class FloatingFrames {
     /**
      * @param {Uint8Array} block
      * @param {number} size how many assertions there are
-     * @param {number} given how many `$f` there are
+     * @param {number} floatingCount how many `$f` there are
      */
-    constructor(block, size, given) {
+    constructor(block, size, floatingCount) {
         const numbers = new Numbers(block);
         const sizes = new Uint32Array(size);
         /** @type {number[]} */
         const items = [];
         /**
-         * Of assertions in which one stands behind a `$e` how many `$e` each is behind.
+         * For an assertion in which a `$f` stands behind a `$e`: before each of its `$f` how many `$e`.
          * @type {Map<number, number[]>}
          */
         this.behind = new Map();
@@ -45,7 +60,7 @@ class Frames {
             let expected = 0;
             for (let left = sizes[assertion]; left > 0; left--) {
                 const number = expected + numbers.next();
-                if (number >= given) throw new Damaged("a frame names what isn't there");
+                if (number >= floatingCount) throw new Damaged("a frame names what isn't there");
                 items.push(number);
                 expected = number + 1;
             }
@@ -92,7 +107,7 @@ class Cursor {
 
     /** @param {number} code */
     number(code) {
-        return code < Code.recent ? this.streams[KINDS + code].next() : 0;
+        return hasNumber(code) ? this.streams[KINDS + code].next() : 0;
     }
 }
 
@@ -104,11 +119,11 @@ export class Proofs {
         /** @type {Promise<void> | undefined} */
         this.loading = undefined;
         this.floating = new Texts("", 0);
-        this.frames = new Frames(new Uint8Array(0), 0, 0);
+        this.frames = new FloatingFrames(new Uint8Array(0), 0, 0);
         /** The typecodes that `$f` have, each with its number. */
         this.codes = new Map();
         /**
-         * Of each kind the labels that are often used: 2 * n for the `$f` n, 2 * n + 1 for the assertion n.
+         * Of each kind the labels that are often used, as items.
          * @type {number[][]}
          */
         this.frequent = [];
@@ -140,7 +155,7 @@ export class Proofs {
             const code = this.givenBy(number).code;
             if (!this.codes.has(code)) this.codes.set(code, this.codes.size);
         }
-        this.frames = new Frames(frames, this.model.size, this.floating.size);
+        this.frames = new FloatingFrames(frames, this.model.size, this.floating.size);
         const numbers = new Numbers(labels);
         this.frequent = Array.from({ length: KINDS }, (_, kind) => {
             const length = kind === 0 ? 0 : numbers.next();
@@ -170,12 +185,12 @@ export class Proofs {
     }
 
     /**
-     * The mandatory hypotheses of an assertion in order: 2 * n for the `$f` n, 2 * n + 1 for the `$e` n.
+     * The mandatory hypotheses of an assertion in order, as items.
      * @param {number} assertion
      */
     frameOf(assertion) {
-        const floating = Array.from(this.frames.floating.of(assertion), (number) => 2 * number);
-        const essential = Array.from(this.model.hypotheses.of(assertion), (number) => 2 * number + 1);
+        const floating = Array.from(this.frames.floating.of(assertion), floatingItem);
+        const essential = Array.from(this.model.hypotheses.of(assertion), otherItem);
         const behind = this.frames.behind.get(assertion);
         if (!behind) return [...floating, ...essential];
         /** @type {number[]} */
@@ -205,8 +220,8 @@ export class Proofs {
         if (!kinds) {
             const { hypothesisFormulas } = this.model;
             kinds = this.frameOf(assertion).map((item) => {
-                if (item % 2 === 1) return this.kindOf(hypothesisFormulas.at((item - 1) / 2));
-                return this.kindOf(this.givenBy(item / 2).code);
+                if (isFloating(item)) return this.kindOf(this.givenBy(numberOf(item)).code);
+                return this.kindOf(hypothesisFormulas.at(numberOf(item)));
             });
             this.kinds.set(assertion, kinds);
         }
@@ -220,7 +235,7 @@ export class Proofs {
     ownOf(theorem) {
         const own = Array.from(this.model.hypotheses.of(theorem), (number) => ({ what: Step.hypothesis, number }));
         for (const number of this.model.cited.of(this.model.rowOf[theorem])) {
-            if (!this.isFrequent.has(2 * number + 1)) own.push({ what: Step.assertion, number });
+            if (!this.isFrequent.has(otherItem(number))) own.push({ what: Step.assertion, number });
         }
         return own;
     }
@@ -292,10 +307,9 @@ class Backward {
         let kind;
         for (let steps = 0; (kind = expected.pop()) !== undefined; steps++) {
             const byte = cursor.byte(kind);
-            const code = byte >>> 1;
+            const code = codeOf(byte);
             const number = cursor.number(code);
-            const isRepeated = code >= Code.far && code < Code.frequent;
-            const { what, number: label } = isRepeated ? NOTHING : this.labelled(kind, code, number);
+            const { what, number: label } = isRepeated(code) ? NO_LABEL : this.labelled(kind, code, number);
             if (what === Step.assertion) for (const each of this.proofs.kindsOf(label)) expected.push(each);
             if (this.isKept) {
                 this.kinds.push(kind);
@@ -316,10 +330,11 @@ class Backward {
     labelled(kind, code, number) {
         const { own, proofs } = this;
         if (code === Code.own && number < own.length) return own[number];
-        const label = code === Code.label ? number : proofs.frequent[kind][code - Code.frequent];
-        const isFloating = label % 2 === 0;
-        if (label < 2 * (isFloating ? proofs.floating : proofs.model).size) {
-            return { what: isFloating ? Step.floating : Step.assertion, number: label >>> 1 };
+        const item = code === Code.label ? number : proofs.frequent[kind][code - Code.frequent];
+        const { size } = isFloating(item) ? proofs.floating : proofs.model;
+        // The item itself is compared: one that isn't there, or has more than 32 bits, isn't less.
+        if (item < floatingItem(size)) {
+            return { what: isFloating(item) ? Step.floating : Step.assertion, number: numberOf(item) };
         }
         throw new Damaged("a proof names what isn't there");
     }
@@ -336,8 +351,8 @@ class Backward {
         for (let step = 0; step < size; step++) {
             const at = size - 1 - step;
             const kind = this.kinds[at];
-            const code = this.bytes[at] >>> 1;
-            if (code >= Code.far && code < Code.frequent) {
+            const code = codeOf(this.bytes[at]);
+            if (isRepeated(code)) {
                 what[step] = Step.repeated;
                 numbers[step] = marked.repeated(kind, code, this.numbers[at]);
             } else {
@@ -345,13 +360,14 @@ class Backward {
                 what[step] = found.what;
                 numbers[step] = found.number;
             }
-            if (this.bytes[at] & 1) marked.add(kind, step);
+            if (isMarked(this.bytes[at])) marked.add(kind, step);
         }
         return { what, numbers };
     }
 }
 
-const NOTHING = { what: Step.repeated, number: 0 };
+/** What a step has in place of a label that repeats another one. */
+const NO_LABEL = { what: Step.repeated, number: 0 };
 
 /** The steps that are repeated later. */
 class Marked {

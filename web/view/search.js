@@ -12,15 +12,22 @@ import { plain } from "./symbols.js";
 const In = { label: 1, formula: 2, comment: 4 };
 
 /**
- * What a word adds to the rank of an assertion, by where it was found; and what is added if a formula has all words
- * side by side, and if it is just what was typed. A label that has a word of a single one comes before such a formula, but
- * not one that has all of several words.
+ * What each word adds to the rank of an assertion, by the best place where it was found. A word in a label is worth more
+ * than two in formulas.
  */
-const Rank = { same: 40, beginning: 24, label: 16, formula: 6, phrase: 8, exact: 9, more: 18, comment: 0 };
+const WordRank = { wholeLabel: 40, beginsLabel: 24, inLabel: 16, inFormula: 6, inComment: 0 };
+/**
+ * What a formula adds in which several words stand side by side, and one that is just what was typed: once, and again for
+ * each word after the first. Where one word was typed, a label that has it comes before the formula that it is, since 16
+ * is more than 6 + 9. Where there were several, the formula comes before a label that has them all, since for each of
+ * the others it adds 6 + 18 and a label 16.
+ */
+const FormulaRank = { sideBySide: 8, isTyped: 9, isTypedMore: 18 };
 /** A phrase in quotes, or a word. Quotes that stand alone are symbols. */
 const WORD = /(?<!\S)"(\S|\S[^"]*\S)"(?!\S)|\S+/g;
 const MOST_KNOWN = 24;
-const LONGEST_ORDER = 4095;
+/** Of assertions of the same rank the shorter comes first, up to this length; then in file order. */
+const LONGEST_COMPARED = 4095;
 const SLICE = 8; // milliseconds of work at a time
 
 /** Lines that are searched; the first one is that of assertion `first`. */
@@ -292,8 +299,10 @@ export class Search {
             if (!left[number]) continue;
             let rank = this.rankOf(number, different, masks);
             if (phrase[number] & In.formula) {
-                if (words.length > 1) rank += Rank.phrase;
-                if (this.isExact(number, written, shown)) rank += Rank.exact + Rank.more * (different.length - 1);
+                if (words.length > 1) rank += FormulaRank.sideBySide;
+                if (this.isExact(number, written, shown)) {
+                    rank += FormulaRank.isTyped + FormulaRank.isTypedMore * (different.length - 1);
+                }
             }
             keys[total++] = this.keyOf(number, rank, masks);
         }
@@ -311,7 +320,7 @@ export class Search {
         for (let index = 0; index < masks.length; index++) {
             const mask = masks[index][number];
             if (mask & In.label) rank += this.rankOfLabel(number, words[index]);
-            else if (mask & In.formula) rank += Rank.formula;
+            else rank += mask & In.formula ? WordRank.inFormula : WordRank.inComment;
         }
         return rank;
     }
@@ -333,9 +342,10 @@ export class Search {
                 size += hypothesisFormulas.starts[index + 1] - hypothesisFormulas.starts[index];
             }
         }
-        const length = Math.min(LONGEST_ORDER, size);
-        const most = (Rank.same + Rank.more) * masks.length + Rank.phrase + Rank.exact;
-        return ((most - rank) * (LONGEST_ORDER + 1) + length) * this.size + number;
+        const length = Math.min(LONGEST_COMPARED, size);
+        const mostOfWord = WordRank.wholeLabel + FormulaRank.isTypedMore;
+        const most = mostOfWord * masks.length + FormulaRank.sideBySide + FormulaRank.isTyped;
+        return ((most - rank) * (LONGEST_COMPARED + 1) + length) * this.size + number;
     }
 
     /**
@@ -344,8 +354,9 @@ export class Search {
      */
     rankOfLabel(number, word) {
         const { text, starts } = this.labels.texts;
-        if (!text.startsWith(word, starts[number])) return Rank.label;
-        return starts[number + 1] - starts[number] - 1 === word.length ? Rank.same : Rank.beginning;
+        if (!text.startsWith(word, starts[number])) return WordRank.inLabel;
+        const length = starts[number + 1] - starts[number] - 1; // behind it is a line feed
+        return length === word.length ? WordRank.wholeLabel : WordRank.beginsLabel;
     }
 
     /**

@@ -1,8 +1,8 @@
 // What the views of theorems and axioms have in common: the head with comment, hypotheses, formula and conditions.
 
+import { Flag } from "../packer/assertions.js";
 import { count, element, put } from "./elements.js";
 import { readComment } from "./markup.js";
-import { Flag } from "./model.js";
 
 /** @typedef {import("./elements.js").Child} Child */
 /** @typedef {import("./elements.js").Elements} Elements */

@@ -45,7 +45,7 @@
  * @typedef {object} Stretch
  * @property {string} title
  * @property {string[]} path the titles down to it
- * @property {number} chapter its index, or -1
+ * @property {number} chapter its index, or -1 before the first heading
  * @property {number} first
  * @property {number} end
  * @property {number} firstRow

@@ -13,10 +13,16 @@ use mm_run::{RunEnd, run};
 use mm_spec::Sections;
 use mm_stmt::Database;
 use mm_work::{Judged, Open, check_all};
-use std::alloc::{AllocError, Allocator};
+use std::alloc::{AllocError, Allocator, Global};
 use std::io::{Read, Write};
 use std::sync::Wait;
 use std::thread::Threads;
+
+/// How many pieces a text is cut into.
+pub(crate) const PIECES: u32 = 3;
+
+/// How many workers a run has.
+pub(crate) const WORKERS: u32 = 2;
 
 /// A theorem cites by all nodes of its proof.
 const BY_ALL_NODES: bool = false;
@@ -42,6 +48,19 @@ pub(crate) fn ended<R: Threads + Wait + Sync, A: Allocator + Copy + Send + Sync,
     } else {
         None
     }
+}
+
+/// How a run on the text ends, and what it writes.
+pub(crate) fn run_on<R: Threads + Wait + Sync>(
+    rt: &R,
+    alloc: Global,
+    cuts: Cutting<Global>,
+    mut text: &[u8],
+) -> (Option<RunEnd>, Vec<u8>) {
+    let plan = plan_of(cuts, WORKERS, Sections::by_default());
+    let mut written = Vec::new(alloc);
+    let end = ended(rt, alloc, &plan, &mut text, &mut written);
+    (end, written)
 }
 
 /// What a theorem cites, or why its proof wasn't found valid.

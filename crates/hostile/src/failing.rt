@@ -1,7 +1,7 @@
 //! Runs whose reader fails or returns few bytes, and runs whose writer fails or takes few bytes.
 
-use crate::calls::{ended, plan_of};
-use crate::ends::{FailingReader, Stop, StoppingWriter};
+use crate::calls::{PIECES, WORKERS, ended, plan_of};
+use crate::readers_and_writers::{FailingReader, Stop, StoppingWriter};
 use crate::texts::{FIRST_REPORT, FIRST_TEXT};
 use mm_plan::Cutting;
 use mm_run::RunEnd;
@@ -17,13 +17,8 @@ const UNENDED: &[u8] = b"$c a";
 /// The refusal of that text.
 const UNENDED_REFUSAL: &[u8] = b"refused 1:5 E08\n";
 
-/// How many pieces the text is cut into.
-const PIECES: u32 = 3;
-
-/// How many workers a run has.
-const WORKERS: u32 = 2;
-
-/// How many calls it takes to read the first text to its end.
+/// How many calls it takes to read the first text to its end, by ten bytes each, and to learn that
+/// there are no more.
 const READS: usize = 18;
 
 /// What a run comes to: its end, its output, and how often it called the reader or the writer that

@@ -7,8 +7,6 @@
 #[cfg(test)]
 mod calls;
 #[cfg(test)]
-mod ends;
-#[cfg(test)]
 mod failing;
 #[cfg(test)]
 mod growth;
@@ -18,4 +16,8 @@ mod malicious;
 #[cfg(test)]
 mod random;
 #[cfg(test)]
+mod readers_and_writers;
+#[cfg(test)]
 mod texts;
+#[cfg(test)]
+mod truncated;

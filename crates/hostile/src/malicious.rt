@@ -1,78 +1,14 @@
-//! Truncated texts, and malicious ones.
+//! Malicious texts.
 
-use crate::calls::{ended, plan_of};
-use crate::texts::{BEGINNING, FIRST_REPORT, FIRST_TEXT};
+use crate::calls::{PIECES, run_on};
+use crate::texts::BEGINNING;
 use mm_plan::Cutting;
 use mm_run::RunEnd;
-use mm_spec::{Code, Fault, Sections};
+use mm_spec::{Code, Fault};
 use std::alloc::{AllocError, Global};
 use std::fmt::Write;
 use std::sync::Wait;
 use std::thread::Threads;
-
-/// The lengths of the prefixes of the first text that are accepted: 0, and the end of each
-/// statement, before and after its line feed.
-const ACCEPTED: [usize; 15] = [
-    0, 19, 20, 29, 30, 44, 45, 59, 60, 83, 84, 117, 118, 169, 170,
-];
-
-/// How a run on the text ends, and what it writes.
-fn run_on<R: Threads + Wait + Sync>(
-    rt: &R,
-    alloc: Global,
-    cuts: Cutting<Global>,
-    mut text: &[u8],
-) -> (Option<RunEnd>, Vec<u8>) {
-    let plan = plan_of(cuts, 2, Sections::by_default());
-    let mut written = Vec::new(alloc);
-    let end = ended(rt, alloc, &plan, &mut text, &mut written);
-    (end, written)
-}
-
-/// The end of a run on a text with this fault at this place.
-fn refused_at(at: usize, code: Code) -> RunEnd {
-    RunEnd::Refused(Fault {
-        at: at.min(1000) as u32,
-        code,
-    })
-}
-
-/// How a run on a prefix of the first text has to end.
-fn end_of(beginning: &[u8]) -> RunEnd {
-    let len = beginning.len();
-    if ACCEPTED.contains(&len) {
-        return RunEnd::Accepted;
-    }
-    match beginning.last() {
-        Some(b'$') => refused_at(len.saturating_sub(1), Code::StrayDollar),
-        _ => refused_at(len, Code::OpenStatement),
-    }
-}
-
-#[test]
-fn a_text_that_is_cut_short(rt: HostRuntime) {
-    for len in 0..FIRST_TEXT.len() + 1 {
-        let text = &FIRST_TEXT[..len];
-        let (end, _) = run_on(&rt, rt.alloc(), Cutting::Count(3), text);
-        assert!(&rt; end == Some(end_of(text)));
-    }
-}
-
-#[test]
-fn refusals_of_texts_that_are_cut_short(rt: HostRuntime) {
-    let rows: [(usize, &[u8]); 6] = [
-        (1, b"refused 1:1 E04\n"),
-        (2, b"refused 1:3 E08\n"),
-        (17, b"refused 1:18 E08\n"),
-        (18, b"refused 1:18 E04\n"),
-        (168, b"refused 7:50 E04\n"),
-        (170, FIRST_REPORT),
-    ];
-    for (len, output) in rows {
-        let (_, written) = run_on(&rt, rt.alloc(), Cutting::Count(3), &FIRST_TEXT[..len]);
-        assert_eq!(rt; written.as_slice(), output);
-    }
-}
 
 /// These bytes, the given number of spaces, and a byte that no text may have.
 fn with_bad_byte(alloc: Global, front: &[u8], spaces: u32) -> Result<Vec<u8>, AllocError> {
@@ -136,18 +72,19 @@ fn a_number_of_a_thousand_letters(rt: HostRuntime) -> Result<(), AllocError> {
     ];
     for (end, output) in rows {
         let text = thousand_letters(rt.alloc(), end)?;
-        let (_, written) = run_on(&rt, rt.alloc(), Cutting::Count(3), &text);
+        let (_, written) = run_on(&rt, rt.alloc(), Cutting::Count(PIECES), &text);
         assert_eq!(rt; written.as_slice(), output);
     }
     Ok(())
 }
 
-/// A proof in which each formula is twice as long as the one before it.
+/// A proof in which each formula is twice as long as the one before it. The next one would be too
+/// long.
 const DOUBLING: &[u8] =
     b"big $p wff p $= ( wi ) AABZCBZDBZEBZFBZGBZHBZIBZJBZKBZLBZMBZNBZOBZPBZQBZRBZSBZ";
 
 #[test]
-fn formulas_that_would_double_a_hundred_times(rt: HostRuntime) -> Result<(), AllocError> {
+fn the_nineteenth_doubling_is_too_long(rt: HostRuntime) -> Result<(), AllocError> {
     let alloc = rt.alloc();
     let mut text = BEGINNING.to_vec(alloc)?;
     text.extend_from_slice(DOUBLING)?;
@@ -155,7 +92,7 @@ fn formulas_that_would_double_a_hundred_times(rt: HostRuntime) -> Result<(), All
         text.extend_from_slice(b"TBZ")?;
     }
     text.extend_from_slice(b" $.\n")?;
-    let (_, written) = run_on(&rt, alloc, Cutting::Count(3), &text);
+    let (_, written) = run_on(&rt, alloc, Cutting::Count(PIECES), &text);
     assert_eq!(rt; written.as_slice(), b"refused 7:80 E39\n".as_slice());
     Ok(())
 }

@@ -1,14 +1,15 @@
 -- A split and a join keep the rule: the words stay, and so do the totals over all seats.
-use Rattle.std.proofs.Common.{◌≡◌, ℕ, ◌+◌, ◌-◌, ◌<◌, ◌≤◌, ◌⊎◌, ◌||◌, inl, inr, min, Bool, true}
-use Rattle.std.proofs.Common.{false, cond, Option, None, List, [], ◌∷◌, ◌++◌, length, length-append}
-use Rattle.std.proofs.Common.{get_or, set, sym, refl, ap, ◌∙◌, subst, arith, append_assoc}
+use Rattle.std.proofs.Common.{length-append, append_assoc, get_or, length, arith, false, [], rules}
+use Rattle.std.proofs.Common.{subst, Bool, List, None, refl, true, ◌++◌, ◌||◌, inl, ap, inr, min}
+use Rattle.std.proofs.Common.{set, sym, ◌+◌, ◌-◌, ◌<◌, ◌∙◌, ◌∷◌, ◌≡◌, ◌≤◌, ℕ}
+use Rattle.std.proofs.lemmas.Grind.{common_steps}
 use Rattle.std.proofs.lemmas.Bool.{cases_lt}
 use mathlib.Core.Option.{some}
 use lib.ListN.{get_elem?}
 use Rattle.atomic_table.specs.Table.{State, Splits, Joins}
 use Rattle.atomic_table.proofs.Lists.{at_set, at_snoc}
 use Rattle.mm_board.specs.declared.views.View.{View}
-use Rattle.mm_board.specs.Records.{times_in, times_open, times_recorded, open_count, record_length}
+use Rattle.mm_board.specs.Records.{times_in, times_recorded, record_length, HasEmptyRecord}
 use Rattle.mm_board.specs.Rule.{total, times_reported, times_skipped, settled_count, over_share}
 use Rattle.mm_board.specs.Rule.{IsCountOrReported, SeatRule, BoardRule}
 use Rattle.mm_board.specs.Events.{after_split, new_seat_view, SplitKeepsRule, after_join}
@@ -35,7 +36,7 @@ module _ (n claim floor settled : ℕ) (views after : List View) (rule : BoardRu
   stays_count_or_reported : (x : ℕ) → IsCountOrReported n views x → IsCountOrReported n after x
   stays_count_or_reported x (inl x_is_n) = inl x_is_n
   stays_count_or_reported x (inr is_reported) =
-      inr (let reports_equal = regroups.times_reported_kept x in omega arith)
+      inr (rw (regroups.times_reported_kept x) is_reported)
 
   rule_regrouped : BoardRule n claim floor settled after
   rule_regrouped = record {
@@ -44,78 +45,61 @@ module _ (n claim floor settled : ℕ) (views after : List View) (rule : BoardRu
     floor_is_least_reported =
         record {
           le_count = rule.floor_is_least_reported.le_count;
-          le_each_reported =
-              λ y is_reported. rule.floor_is_least_reported.le_each_reported y
-              (let totals_equal = regroups.times_reported_kept y in
-              omega arith);
+          le_each_reported = λ y is_reported. rule.floor_is_least_reported.le_each_reported y
+              (omega (arith, regroups.times_reported_kept y));
           is_count_or_reported =
               stays_count_or_reported floor rule.floor_is_least_reported.is_count_or_reported;
         };
     settled_word_is_count = rule.settled_word_is_count ∙ sym regroups.settled_count_kept;
     skipped_gt_floor =
-        λ x is_skipped. rule.skipped_gt_floor x (let totals_equal = regroups.times_skipped_kept x in
-        omega arith);
+        λ x is_skipped. rule.skipped_gt_floor x (omega (arith, regroups.times_skipped_kept x));
     seats_obey_rule =
         λ seat v has_view. let seat_rule = regroups.seats_obey_rule seat v has_view in
         record {
           count_is_n = seat_rule.count_is_n;
           floor_le_seen = seat_rule.floor_le_seen;
-          seen_is_count_or_reported =
-              λ share_is_positive. stays_count_or_reported v.seen
-              (seat_rule.seen_is_count_or_reported share_is_positive);
+          seen_is_count_or_reported = λ has_share. stays_count_or_reported v.seen
+              (seat_rule.seen_is_count_or_reported has_share);
           over_only_past_count = seat_rule.over_only_past_count;
           spent_has_empty_record = seat_rule.spent_has_empty_record;
         };
     shares_are_most_seats = regroups.shares_kept ∙ rule.shares_are_most_seats;
     claim_word_is_bounded =
-        let over_shares_do_not_fall = regroups.over_shares_do_not_fall in
-        let claim_word_bound = rule.claim_word_is_bounded in omega arith;
+        omega (arith, regroups.over_shares_do_not_fall, rule.claim_word_is_bounded);
   }
 
 -- a total after a split
 total_after_split : (g : View → ℕ) (views : List View) (id : ℕ) (v : View)
-    → get_elem? views id ≡ some v
-    → g (after_split v) + g (new_seat_view v) ≡ g v
+    → get_elem? views id ≡ some v → g (after_split v) + g (new_seat_view v) ≡ g v
     → total g (set views id (after_split v) ++ new_seat_view v ∷ []) ≡ total g views
 total_after_split g views id v has_view parts_add_up =
-    let total_moves = total_after_set g views id v (after_split v) has_view in
-    let total_after_append = total_of_appended g (set views id (after_split v)) (new_seat_view v) in
-    omega arith
+    grind (arith, common_steps, total_after_set, total_of_appended, set)
 
 pub split_allowed : (n id : ℕ) (v : View) → 1 < v.share
     → Splits (MeetsRule n) id v (after_split v) (new_seat_view v)
 split_allowed n id v shares_to_give s meets_rule has_view = (
   meets_rule.0,
   rule_regrouped n _ _ _ s.views _ meets_rule.1 record {
-    times_recorded_kept =
-        λ x. total_after_split (times_recorded x) s.views id v has_view (record_split x);
-    record_lengths_kept =
-        total_after_split record_length s.views id v has_view
-        (let record_is_kept : record_length (after_split v) ≡ record_length v = refl in
-        let new_record_is_zero : record_length (new_seat_view v) ≡ 0 = refl in omega arith);
-    times_reported_kept =
-        λ x. total_after_split (λ u. times_in x u.reported) s.views id v has_view (omega arith);
-    settled_count_kept =
-        total_after_split (λ u. length u.settled) s.views id v has_view (omega arith);
-    times_skipped_kept =
-        λ x. total_after_split (λ u. times_in x u.skipped) s.views id v has_view (omega arith);
-    shares_kept = total_after_split (λ u. u.share) s.views id v has_view (omega arith);
-    over_shares_do_not_fall =
-        let over_shares_add_up =
-        total_after_split over_share s.views id v has_view (over_share_split v.over) in
-        omega arith;
+    times_recorded_kept = λ x. split (times_recorded x) (grind (arith, common_steps));
+    record_lengths_kept = split record_length (grind (arith, common_steps));
+    times_reported_kept = λ x. split (λ u. times_in x u.reported) (omega arith);
+    settled_count_kept = split (λ u. length u.settled) (omega arith);
+    times_skipped_kept = λ x. split (λ u. times_in x u.skipped) (omega arith);
+    shares_kept = split (λ u. u.share) (omega arith);
+    over_shares_do_not_fall = omega (arith, split over_share (grind (arith, common_steps)));
     seats_obey_rule =
         λ seat u has_view_after.
         elim (at_snoc (set s.views id (after_split v)) (new_seat_view v) u seat has_view_after) [
           | inl was_there ↦ elim (at_set s.views id seat (after_split v) u was_there) [
             | inl is_split_seat ↦
                 subst (SeatRule n s.views (get_or s.words 0 0) (get_or s.words 1 0))
-                is_split_seat.1 rule_of_old_seat
+                is_split_seat.1 (rule_of_half (after_split v) (λ z. absurd (omega arith)) refl refl
+                refl)
             | inr is_other_seat ↦ meets_rule.1.seats_obey_rule seat u is_other_seat.1
           ]
           | inr is_new_view ↦
               subst (SeatRule n s.views (get_or s.words 0 0) (get_or s.words 1 0)) is_new_view
-              rule_of_new_seat
+              (rule_of_half (new_seat_view v) (λ z. absurd (omega arith)) refl refl refl)
         ];
   },
 )
@@ -123,41 +107,24 @@ split_allowed n id v shares_to_give s meets_rule has_view = (
     old_seat_rule : SeatRule n s.views (get_or s.words 0 0) (get_or s.words 1 0) v
     old_seat_rule = meets_rule.1.seats_obey_rule id v has_view
 
-    record_split : (x : ℕ)
-        → times_recorded x (after_split v) + times_recorded x (new_seat_view v) ≡ times_recorded x v
-    record_split x =
-        let old_seat_keeps_record : times_recorded x (after_split v) ≡ times_recorded x v = refl in
-        let new_seat_has_none : times_recorded x (new_seat_view v) ≡ 0 = refl in omega arith
-
-    over_share_split : (over : Bool)
-        → cond over (v.share - 1) 0 + cond over 1 0 ≡ cond over v.share 0
-    over_share_split true = omega arith
-    over_share_split false = refl
-
-    rule_of_old_seat : SeatRule n s.views (get_or s.words 0 0) (get_or s.words 1 0) (after_split v)
-    rule_of_old_seat =
-        let share_is_positive : 0 < v.share = omega arith in
+    rule_of_half : (u : View) → (u.share ≡ 0 → HasEmptyRecord u) → u.count ≡ v.count
+        → u.seen ≡ v.seen → u.over ≡ v.over
+        → SeatRule n s.views (get_or s.words 0 0) (get_or s.words 1 0) u
+    rule_of_half u if_spent count_is seen_is over_is =
+        let has_share : 0 < v.share = omega arith in
         record {
-          count_is_n = λ share_is_positive_after. old_seat_rule.count_is_n share_is_positive;
-          floor_le_seen = λ share_is_positive_after. old_seat_rule.floor_le_seen share_is_positive;
+          count_is_n = λ _. count_is ∙ old_seat_rule.count_is_n has_share;
+          floor_le_seen = λ _. omega (arith, old_seat_rule.floor_le_seen has_share, seen_is);
           seen_is_count_or_reported =
-              λ share_is_positive_after. old_seat_rule.seen_is_count_or_reported share_is_positive;
-          over_only_past_count = old_seat_rule.over_only_past_count;
-          spent_has_empty_record = λ share_is_zero. absurd (omega arith);
+              λ _. rw seen_is (old_seat_rule.seen_is_count_or_reported has_share);
+          over_only_past_count = λ is_over. old_seat_rule.over_only_past_count
+              (sym over_is ∙ is_over);
+          spent_has_empty_record = if_spent;
         }
 
-    rule_of_new_seat : SeatRule n s.views (get_or s.words 0 0) (get_or s.words 1 0)
-        (new_seat_view v)
-    rule_of_new_seat =
-        let share_is_positive : 0 < v.share = omega arith in
-        record {
-          count_is_n = λ share_is_positive_after. old_seat_rule.count_is_n share_is_positive;
-          floor_le_seen = λ share_is_positive_after. old_seat_rule.floor_le_seen share_is_positive;
-          seen_is_count_or_reported =
-              λ share_is_positive_after. old_seat_rule.seen_is_count_or_reported share_is_positive;
-          over_only_past_count = old_seat_rule.over_only_past_count;
-          spent_has_empty_record = λ share_is_zero. absurd (omega arith);
-        }
+    split : (g : View → ℕ) → g (after_split v) + g (new_seat_view v) ≡ g v
+        → total g (set s.views id (after_split v) ++ new_seat_view v ∷ []) ≡ total g s.views
+    split g parts_add_up = total_after_split g s.views id v has_view parts_add_up
 
 -- a total after a join
 total_after_join : (g : View → ℕ) (views : List View) (id : ℕ) (v : View) (other_id : ℕ) (w : View)
@@ -165,10 +132,7 @@ total_after_join : (g : View → ℕ) (views : List View) (id : ℕ) (v : View) 
     → total g (set (set views id (after_join v w)) other_id spent_view) + g v + g w
     ≡ total g views + g (after_join v w) + g spent_view
 total_after_join g views id v other_id w has_view other_has_view =
-    let total_after_first_set = total_after_set g views id v (after_join v w) has_view in
-    let total_after_second_set =
-    total_after_set g (set views id (after_join v w)) other_id w spent_view other_has_view in
-    omega arith
+    grind (arith, common_steps, total_after_set, set)
 
 get_at_middle : (before after : List View) (v : View)
     → get_elem? (before ++ v ∷ after) (length before) ≡ some v
@@ -189,83 +153,37 @@ split_keeps n v shares_to_give claim floor settled before after rule_before =
     let views_equal =
     ap (λ l. l ++ new_seat_view v ∷ []) (set_at_middle before after v (after_split v))
     ∙ append_assoc before (after_split v ∷ after) (new_seat_view v ∷ []) in
-    subst (BoardRule n claim floor settled) views_equal
-    (split_allowed n (length before) v shares_to_give s (refl, rule_before)
-    (get_at_middle before after v)).1
+    subst (BoardRule n claim floor settled) views_equal (split_allowed n (length before) v
+    shares_to_give s (refl, rule_before) (get_at_middle before after v)).1
 
 pub join_allowed : (n id : ℕ) (v : View) (other_id : ℕ) (w : View) → w.open_number ≡ None
-    → 0 < v.share
-    → 0 < w.share → Joins (MeetsRule n) id v other_id w (after_join v w) spent_view
+    → 0 < v.share → 0 < w.share → Joins (MeetsRule n) id v other_id w (after_join v w) spent_view
 join_allowed n id v other_id w nothing_open first_share_positive second_share_positive s meets_rule
     has_view
     ids_differ other_has_view = (
       meets_rule.0,
       rule_regrouped n _ _ _ s.views _ meets_rule.1 record {
         times_recorded_kept =
-            λ x. let totals_add_up =
-            total_after_join (times_recorded x) s.views id v other_id w has_view other_has_view in
-            let first_lists_add_up = times_in_append x v.settled w.settled in
-            let second_lists_add_up = times_in_append x v.reported w.reported in
-            let third_lists_add_up = times_in_append x v.skipped w.skipped in
-            let none_open_in_w : times_open x w.open_number
-            ≡ 0 = ap (λ (number : Option ℕ). times_open x number) nothing_open in
-            let joined_is : times_recorded x (after_join v w)
-            ≡ times_open x v.open_number + times_in x (v.settled ++ w.settled)
-            + times_in x (v.reported ++ w.reported) + times_in x (v.skipped ++ w.skipped) = refl in
-            let first_is : times_recorded x v
-            ≡ times_open x v.open_number + times_in x v.settled + times_in x v.reported
-            + times_in x v.skipped = refl in
-            let second_is : times_recorded x w
-            ≡ times_open x w.open_number + times_in x w.settled + times_in x w.reported
-            + times_in x w.skipped = refl in
-            let spent_is_zero : times_recorded x spent_view ≡ 0 = refl in omega arith;
-        record_lengths_kept =
-            let totals_add_up =
-            total_after_join record_length s.views id v other_id w has_view other_has_view in
-            let first_lists_add_up = length-append v.settled w.settled in
-            let second_lists_add_up = length-append v.reported w.reported in
-            let third_lists_add_up = length-append v.skipped w.skipped in
-            let none_open_in_w : open_count w.open_number
-            ≡ 0 = ap (λ (number : Option ℕ). open_count number) nothing_open in
-            let joined_is : record_length (after_join v w)
-            ≡ open_count v.open_number + length (v.settled ++ w.settled)
-            + length (v.reported ++ w.reported) + length (v.skipped ++ w.skipped) = refl in
-            let first_is : record_length v
-            ≡ open_count v.open_number + length v.settled + length v.reported
-            + length v.skipped = refl in
-            let second_is : record_length w
-            ≡ open_count w.open_number + length w.settled + length w.reported
-            + length w.skipped = refl in
-            let spent_is_zero : record_length spent_view ≡ 0 = refl in omega arith;
-        times_reported_kept =
-            λ x. let totals_add_up =
-            total_after_join (λ u. times_in x u.reported) s.views id v other_id w has_view
-            other_has_view in
-            let first_lists_add_up = times_in_append x v.reported w.reported in omega arith;
+            λ x. grind (arith, common_steps, times_in_append, joined (times_recorded x));
+        record_lengths_kept = grind (arith, common_steps, length-append, joined record_length);
+        times_reported_kept = λ x.
+            omega (
+              arith,
+              joined (λ u. times_in x u.reported),
+              times_in_append x v.reported
+                  w.reported,
+            );
         settled_count_kept =
-            let totals_add_up =
-            total_after_join (λ u. length u.settled) s.views id v other_id w has_view
-            other_has_view in
-            let first_lists_add_up = length-append v.settled w.settled in omega arith;
-        times_skipped_kept =
-            λ x. let totals_add_up =
-            total_after_join (λ u. times_in x u.skipped) s.views id v other_id w has_view
-            other_has_view in
-            let first_lists_add_up = times_in_append x v.skipped w.skipped in omega arith;
-        shares_kept =
-            let totals_add_up =
-            total_after_join (λ u. u.share) s.views id v other_id w has_view other_has_view in
-            omega arith;
-        over_shares_do_not_fall =
-            let totals_add_up =
-            total_after_join over_share s.views id v other_id w has_view other_has_view in
-            let over_shares_add_up = over_share_joined v.over w.over in
-            let spent_is_zero : over_share spent_view ≡ 0 =
-            refl in
-            let joined_is : over_share (after_join v w)
-            ≡ cond (v.over || w.over) (v.share + w.share) 0 = refl in
-            let first_is : over_share v ≡ cond v.over v.share 0 = refl in
-            let second_is : over_share w ≡ cond w.over w.share 0 = refl in omega arith;
+            omega (arith, joined (λ u. length u.settled), length-append v.settled w.settled);
+        times_skipped_kept = λ x.
+            omega (
+              arith,
+              joined (λ u. times_in x u.skipped),
+              times_in_append x v.skipped
+                  w.skipped,
+            );
+        shares_kept = omega (arith, joined (λ u. u.share));
+        over_shares_do_not_fall = grind (arith, common_steps, joined over_share);
         seats_obey_rule =
             λ seat u has_view_after.
             elim (at_set (set s.views id (after_join v w)) other_id seat spent_view u
@@ -284,55 +202,32 @@ join_allowed n id v other_id w nothing_open first_share_positive second_share_po
       },
     )
   where
-    over_share_joined : (first_over second_over : Bool)
-        → cond first_over v.share 0 + cond second_over w.share 0
-        ≤ cond (first_over || second_over) (v.share + w.share) 0
-    over_share_joined true true = omega arith
-    over_share_joined true false = omega arith
-    over_share_joined false true = omega arith
-    over_share_joined false false = omega arith
+    joined : (g : View → ℕ)
+        → total g (set (set s.views id (after_join v w)) other_id spent_view) + g v + g w
+        ≡ total g s.views + g (after_join v w) + g spent_view
+    joined g = total_after_join g s.views id v other_id w has_view other_has_view
 
     first_seat_rule : SeatRule n s.views (get_or s.words 0 0) (get_or s.words 1 0) v
     first_seat_rule = meets_rule.1.seats_obey_rule id v has_view
 
-    second_seat_view : get_elem? s.views other_id ≡ some w
-    second_seat_view =
-        elim (at_set s.views id other_id (after_join v w) w other_has_view) [
-          | inl is_that_seat ↦ absurd (ids_differ is_that_seat.0)
-          | inr is_that_seat ↦
-              is_that_seat.1
-        ]
-
     second_seat_rule : SeatRule n s.views (get_or s.words 0 0) (get_or s.words 1 0) w
-    second_seat_rule = meets_rule.1.seats_obey_rule other_id w second_seat_view
+    second_seat_rule = meets_rule.1.seats_obey_rule other_id w
+        (elim (at_set s.views id other_id (after_join v w) w other_has_view) [
+          | inl is_that_seat ↦ absurd (ids_differ is_that_seat.0)
+          | inr is_that_seat ↦ is_that_seat.1
+        ])
 
     rule_of_spent_seat : SeatRule n s.views (get_or s.words 0 0) (get_or s.words 1 0) spent_view
-    rule_of_spent_seat =
-        record {
-          count_is_n = λ share_is_positive. absurd (omega arith);
-          floor_le_seen = λ share_is_positive. absurd (omega arith);
-          seen_is_count_or_reported = λ share_is_positive. absurd (omega arith);
-          over_only_past_count = λ is_over_after. absurd (cc);
-          spent_has_empty_record = λ share_is_zero. record {
-            nothing_open = refl;
-            none_settled = refl;
-            none_reported = refl;
-            none_skipped = refl;
-          };
-        }
-
-    seen_of_joined : (v.seen < w.seen) ⊎ (w.seen ≤ v.seen) → IsCountOrReported n s.views
-        (min v.seen w.seen)
-    seen_of_joined (inl first_saw_less) =
-        let lesser_is : min v.seen w.seen ≡ v.seen = omega arith in
-        rw lesser_is (first_seat_rule.seen_is_count_or_reported first_share_positive)
-    seen_of_joined (inr second_saw_less) =
-        let lesser_is : min v.seen w.seen ≡ w.seen = omega arith in
-        rw lesser_is (second_seat_rule.seen_is_count_or_reported second_share_positive)
+    rule_of_spent_seat = record {
+      count_is_n = λ has_share. absurd (omega arith);
+      floor_le_seen = λ has_share. absurd (omega arith);
+      seen_is_count_or_reported = λ has_share. absurd (omega arith);
+      over_only_past_count = λ is_over. absurd (cc);
+      spent_has_empty_record = λ share_is_zero. search rules;
+    }
 
     either_over : (first_flag second_flag : Bool) → v.over ≡ first_flag
-        → w.over ≡ second_flag → (first_flag || second_flag)
-        ≡ true → n < get_or s.words 0 0
+        → w.over ≡ second_flag → (first_flag || second_flag) ≡ true → n < get_or s.words 0 0
     either_over true second_flag first_over second_over either_is_over =
         first_seat_rule.over_only_past_count first_over
     either_over false true first_over second_over either_is_over =
@@ -342,13 +237,20 @@ join_allowed n id v other_id w nothing_open first_share_positive second_share_po
     rule_of_joined_seat : SeatRule n s.views (get_or s.words 0 0) (get_or s.words 1 0)
         (after_join v w)
     rule_of_joined_seat = record {
-      count_is_n = λ share_is_positive. first_seat_rule.count_is_n first_share_positive;
-      floor_le_seen =
-          λ share_is_positive. let floor_le_first_seen =
-          first_seat_rule.floor_le_seen first_share_positive in
-          let floor_le_second_seen = second_seat_rule.floor_le_seen second_share_positive in
-          omega arith;
-      seen_is_count_or_reported = λ share_is_positive. seen_of_joined (cases_lt v.seen w.seen);
-      over_only_past_count = λ is_over_after. either_over v.over w.over refl refl is_over_after;
+      count_is_n = λ _. first_seat_rule.count_is_n first_share_positive;
+      floor_le_seen = λ _. omega (
+        arith,
+        first_seat_rule.floor_le_seen first_share_positive,
+        second_seat_rule.floor_le_seen second_share_positive,
+      );
+      seen_is_count_or_reported = λ _. elim (cases_lt v.seen w.seen) [
+        | inl first_saw_less ↦
+            let lesser_is : min v.seen w.seen ≡ v.seen = omega arith in
+            rw lesser_is (first_seat_rule.seen_is_count_or_reported first_share_positive)
+        | inr second_saw_less ↦
+            let lesser_is : min v.seen w.seen ≡ w.seen = omega arith in
+            rw lesser_is (second_seat_rule.seen_is_count_or_reported second_share_positive)
+      ];
+      over_only_past_count = either_over v.over w.over refl refl;
       spent_has_empty_record = λ share_is_zero. absurd (omega arith);
     }

@@ -42,8 +42,7 @@ module _ (n claim floor settled claim' floor' settled' : ℕ) (v w : View) (view
   abbrev after : List View
   after = set views id w
 
-  reports_after_set : (x : ℕ)
-      → times_reported after x + times_in x v.reported
+  reports_after_set : (x : ℕ) → times_reported after x + times_in x v.reported
       ≡ times_reported views x + times_in x w.reported
   reports_after_set x = total_after_set (λ u. times_in x u.reported) views id v w has_view
 
@@ -55,143 +54,113 @@ module _ (n claim floor settled claim' floor' settled' : ℕ) (v w : View) (view
   reported_at_most_total x = one_at_most_total (λ u. times_in x u.reported) views id v has_view
 
   reports_do_not_fall : (x : ℕ) → times_reported views x ≤ times_reported after x
-  reports_do_not_fall x =
-      let total_moves = reports_after_set x in let reports_kept = moves.reports_are_kept x in
-      omega arith
+  reports_do_not_fall x = omega (arith, reports_after_set x, moves.reports_are_kept x)
 
   stays_count_or_reported : (x : ℕ) → IsCountOrReported n views x → IsCountOrReported n after x
   stays_count_or_reported x (inl x_is_n) = inl x_is_n
-  stays_count_or_reported x (inr is_reported) =
-      inr (let total_rises = reports_do_not_fall x in omega arith)
-
-  reported_by_moved_seat : (x : ℕ) → 0 < times_in x w.reported → 0 < times_reported after x
-  reported_by_moved_seat x is_reported =
-      let total_moves = reports_after_set x in let times_le_total =
-      reported_at_most_total x in omega arith
+  stays_count_or_reported x (inr is_reported) = inr (omega (arith, reports_do_not_fall x))
 
   new_floor_is_count_or_reported : IsCountOrReported n after floor'
-  new_floor_is_count_or_reported = count_or_reported moves.floor_kept_or_reported
-    where
-      count_or_reported : (floor' ≡ floor) ⊎ (0 < times_in floor' w.reported) → IsCountOrReported n
-          after floor'
-      count_or_reported (inl floor_is_kept) =
-          subst (IsCountOrReported n after) (sym floor_is_kept)
-          (stays_count_or_reported floor rule.floor_is_least_reported.is_count_or_reported)
-      count_or_reported (inr is_reported) = inr (reported_by_moved_seat floor' is_reported)
+  new_floor_is_count_or_reported = elim moves.floor_kept_or_reported [
+    | inl floor_is_kept ↦
+        rw floor_is_kept (stays_count_or_reported floor
+        rule.floor_is_least_reported.is_count_or_reported)
+    | inr is_reported ↦ inr (omega (arith, reports_after_set floor', reported_at_most_total floor'))
+  ]
 
   floor_is_least_reported : IsLeastReported n after floor'
   floor_is_least_reported = record {
-    le_count =
-        let floor_falls = moves.floor_word_falls in
-        let old_floor_le_n = rule.floor_is_least_reported.le_count in
-        omega arith;
+    le_count = omega (arith, moves.floor_word_falls, rule.floor_is_least_reported.le_count);
     le_each_reported =
-        λ y is_reported. floor_le_if_reported y is_reported
-        (cases_lt (times_in y v.reported) (times_in y w.reported));
+        λ y is_reported. elim (cases_lt (times_in y v.reported) (times_in y w.reported)) [
+          | inl reported_more ↦ moves.new_reports_ge_floor y reported_more
+          | inr not_reported_more ↦
+              let total_moves = reports_after_set y in
+              let old_floor_le_y = rule.floor_is_least_reported.le_each_reported y (omega arith) in
+              omega (arith, moves.floor_word_falls)
+        ];
     is_count_or_reported = new_floor_is_count_or_reported;
   }
-    where
-      floor_le_if_reported : (y : ℕ) → 0 < times_reported after y
-          → (times_in y v.reported < times_in y w.reported)
-          ⊎ (times_in y w.reported ≤ times_in y v.reported) → floor' ≤ y
-      floor_le_if_reported y is_reported (inl reported_more) =
-          moves.new_reports_ge_floor y reported_more
-      floor_le_if_reported y is_reported (inr not_reported_more) =
-          let total_moves = reports_after_set y in
-          let old_floor_le_y = rule.floor_is_least_reported.le_each_reported y (omega arith) in
-          let floor_falls = moves.floor_word_falls in
-          omega arith
 
   skipped_gt_floor : (x : ℕ) → 0 < times_skipped after x → floor' < x
   skipped_gt_floor x is_skipped =
-      floor_lt_if_skipped (cases_lt (times_in x v.skipped) (times_in x w.skipped))
-    where
-      floor_lt_if_skipped : (times_in x v.skipped < times_in x w.skipped)
-          ⊎ (times_in x w.skipped ≤ times_in x v.skipped) → floor' < x
-      floor_lt_if_skipped (inl skipped_more) = moves.new_skips_gt_floor x skipped_more
-      floor_lt_if_skipped (inr not_skipped_more) =
-          let total_moves = skips_after_set x in
-          let old_floor_lt_x = rule.skipped_gt_floor x (omega arith) in
-          let floor_falls = moves.floor_word_falls in omega arith
+      elim (cases_lt (times_in x v.skipped) (times_in x w.skipped)) [
+        | inl skipped_more ↦ moves.new_skips_gt_floor x skipped_more
+        | inr not_skipped_more ↦
+            let total_moves = skips_after_set x in
+            omega (arith, rule.skipped_gt_floor x (omega arith), moves.floor_word_falls)
+      ]
 
   rule_of_moved_seat : SeatRule n after claim' floor' w
-  rule_of_moved_seat = record {
-    count_is_n =
-        λ _. moves.count_kept ∙ (rule.seats_obey_rule id v has_view).count_is_n share_is_positive;
-    floor_le_seen = λ _. moves.floor_le_seen;
-    seen_is_count_or_reported = λ _. seen_is_valid moves.seen_kept_or_floor;
-    over_only_past_count =
-        λ is_over_after. count_lt_claim_word (moves.over_kept_or_past_count is_over_after);
-    spent_has_empty_record =
-        λ share_is_zero. let shares_equal = moves.share_kept in absurd (omega arith);
-  }
-    where
-      seen_is_valid : (w.seen ≡ v.seen) ⊎ (w.seen ≡ floor') → IsCountOrReported n after w.seen
-      seen_is_valid (inl seen_is) =
-          subst (IsCountOrReported n after) (sym seen_is)
-          (stays_count_or_reported v.seen
-          ((rule.seats_obey_rule id v has_view).seen_is_count_or_reported share_is_positive))
-      seen_is_valid (inr seen_is) =
-          subst (IsCountOrReported n after) (sym seen_is) new_floor_is_count_or_reported
-
-      count_lt_claim_word : (v.over ≡ true) ⊎ (n < claim') → n < claim'
-      count_lt_claim_word (inl was_over) =
-          let old_word_gt_n =
-          (rule.seats_obey_rule id v has_view).over_only_past_count was_over in let word_rises =
-          moves.claim_word_rises in omega arith
-      count_lt_claim_word (inr n_lt_claim_word) = n_lt_claim_word
+  rule_of_moved_seat =
+      let seat_rule = rule.seats_obey_rule id v has_view in
+      record {
+        count_is_n = λ _. moves.count_kept ∙ seat_rule.count_is_n share_is_positive;
+        floor_le_seen = λ _. moves.floor_le_seen;
+        seen_is_count_or_reported = λ _. elim moves.seen_kept_or_floor [
+          | inl seen_is ↦
+              subst (IsCountOrReported n after) (sym seen_is) (stays_count_or_reported v.seen
+              (seat_rule.seen_is_count_or_reported share_is_positive))
+          | inr seen_is ↦
+              subst (IsCountOrReported n after) (sym seen_is) new_floor_is_count_or_reported
+        ];
+        over_only_past_count = λ is_over. elim (moves.over_kept_or_past_count is_over) [
+          | inl was_over ↦
+              omega (arith, seat_rule.over_only_past_count was_over, moves.claim_word_rises)
+          | inr n_lt_claim_word ↦ n_lt_claim_word
+        ];
+        spent_has_empty_record = λ share_is_zero. absurd (omega (arith, moves.share_kept));
+      }
 
   rule_of_other_seat : (u : View) → SeatRule n views claim floor u → SeatRule n after claim' floor'
       u
   rule_of_other_seat u seat_rule = record {
     count_is_n = seat_rule.count_is_n;
     floor_le_seen =
-        λ share_is_positive_there. let seat_bound =
-        seat_rule.floor_le_seen share_is_positive_there in
-        let word_moves = moves.floor_word_falls in omega arith;
-    seen_is_count_or_reported =
-        λ share_is_positive_there. stays_count_or_reported u.seen
-        (seat_rule.seen_is_count_or_reported share_is_positive_there);
-    over_only_past_count =
-        λ seat_is_over. let seat_bound =
-        seat_rule.over_only_past_count seat_is_over in let word_moves = moves.claim_word_rises in
-        omega arith;
+        λ has_share. omega (arith, seat_rule.floor_le_seen has_share, moves.floor_word_falls);
+    seen_is_count_or_reported = λ has_share. stays_count_or_reported u.seen
+        (seat_rule.seen_is_count_or_reported has_share);
+    over_only_past_count = λ is_over.
+        omega (arith, seat_rule.over_only_past_count is_over, moves.claim_word_rises);
     spent_has_empty_record = seat_rule.spent_has_empty_record;
   }
 
+  total_moves : (f : View → ℕ) → total f after + f v ≡ total f views + f w
+  total_moves f = total_after_set f views id v w has_view
+
   pub moves_keep_rule : BoardRule n claim' floor' settled' (set views id w)
   moves_keep_rule = record {
-    each_recorded_once =
-        λ x. let total_moves =
-        total_after_set (times_recorded x) views id v w has_view in let rule_before =
-        rule.each_recorded_once x in
-        let moved_part = moves.record_follows_claim_word x in omega arith;
-    record_lengths_are_claimed =
-        let total_moves = total_after_set record_length views id v w has_view in
-        let rule_before = rule.record_lengths_are_claimed in
-        let moved_part = moves.record_length_follows_claim_word in
-        omega arith;
+    each_recorded_once = λ x. omega (
+      arith,
+      total_moves (times_recorded x),
+      rule.each_recorded_once x,
+      moves.record_follows_claim_word x,
+    );
+    record_lengths_are_claimed = omega (
+      arith,
+      total_moves record_length,
+      rule.record_lengths_are_claimed,
+      moves.record_length_follows_claim_word,
+    );
     floor_is_least_reported = floor_is_least_reported;
-    settled_word_is_count =
-        let total_moves = total_after_set (λ u. length u.settled) views id v w has_view in
-        let rule_before = rule.settled_word_is_count in
-        let moved_part = moves.settled_word_follows_view in omega arith;
+    settled_word_is_count = omega (
+      arith,
+      total_moves (λ u. length u.settled),
+      rule.settled_word_is_count,
+      moves.settled_word_follows_view,
+    );
     skipped_gt_floor = skipped_gt_floor;
     seats_obey_rule =
         λ seat u has_view_after. elim (at_set views id seat w u has_view_after) [
           | inl is_moved_seat ↦
               subst (SeatRule n after claim' floor') is_moved_seat.1 rule_of_moved_seat
-          | inr is_other_seat ↦
-              rule_of_other_seat u (rule.seats_obey_rule seat u is_other_seat.1)
+          | inr is_other_seat ↦ rule_of_other_seat u (rule.seats_obey_rule seat u is_other_seat.1)
         ];
     shares_are_most_seats =
-        let total_moves = total_after_set (λ u. u.share) views id v w has_view in
-        let rule_before = rule.shares_are_most_seats in
-        let moved_part = moves.share_kept in
-        omega arith;
-    claim_word_is_bounded =
-        let total_moves = total_after_set over_share views id v w has_view in
-        let moved_part =
-        moves.claim_word_stays_bounded (total over_share views) rule.claim_word_is_bounded in
-        omega arith;
+        omega (arith, total_moves (λ u. u.share), rule.shares_are_most_seats, moves.share_kept);
+    claim_word_is_bounded = omega (
+      arith,
+      total_moves over_share,
+      moves.claim_word_stays_bounded (total over_share views) rule.claim_word_is_bounded,
+    );
   }

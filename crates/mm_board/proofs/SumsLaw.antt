@@ -1,18 +1,18 @@
 -- Totals over the views of all seats.
-use Rattle.std.proofs.Common.{◌≡◌, ℕ, zero, suc, ◌+◌, ◌<◌, ◌≤◌, ◌==◌, min, nat_lt, true, false}
-use Rattle.std.proofs.Common.{cond, List, [], ◌∷◌, ◌++◌, length, set, sym, refl, ap, arith}
+use Rattle.std.proofs.lemmas.Grind.{common_steps}
+use Rattle.std.proofs.Common.{◌≡◌, ℕ, zero, suc, ◌+◌, ◌<◌, ◌≤◌, ◌==◌, min, nat_lt, cond, List, []}
+use Rattle.std.proofs.Common.{◌∷◌, ◌++◌, set, sym, refl, ap, arith}
 use Rattle.std.proofs.lemmas.Bool.Decides.{nat_tests}
 use mathlib.Core.Option.{some, some-injective, some-ne-none}
 use lib.ListN.{get_elem?}
 use Rattle.mm_board.specs.declared.views.View.{View}
-use Rattle.mm_board.specs.Records.{times_in, open_count, record_length}
+use Rattle.mm_board.specs.Records.{times_in, record_length}
 use Rattle.mm_board.specs.Rule.{total, settled_count, once_below, over_share}
 
 pub total_after_set : (f : View → ℕ) (l : List View) (i : ℕ) (v w : View) → get_elem? l i ≡ some v
     → total f (set l i w) + f v ≡ total f l + f w
 total_after_set f [] i v w has_view = absurd (some-ne-none v (sym has_view))
-total_after_set f (x ∷ xs) zero v w has_view =
-    let values_equal : f x ≡ f v = ap f (some-injective x v has_view) in omega arith
+total_after_set f (x ∷ xs) zero v w has_view = grind (arith, common_steps)
 total_after_set f (x ∷ xs) (suc i) v w has_view =
     let later_total = total_after_set f xs i v w has_view in omega arith
 
@@ -24,21 +24,17 @@ total_of_appended f (x ∷ xs) v = let later_total = total_of_appended f xs v in
 pub one_at_most_total : (f : View → ℕ) (l : List View) (i : ℕ) (v : View) → get_elem? l i ≡ some v
     → f v ≤ total f l
 one_at_most_total f [] i v has_view = absurd (some-ne-none v (sym has_view))
-one_at_most_total f (x ∷ xs) zero v has_view =
-    let values_equal : f x ≡ f v = ap f (some-injective x v has_view) in
-    omega arith
+one_at_most_total f (x ∷ xs) zero v has_view = grind (arith, common_steps)
 one_at_most_total f (x ∷ xs) (suc i) v has_view =
     let later_bound = one_at_most_total f xs i v has_view in omega arith
 
 over_share_at_most_share : (v : View) → over_share v ≤ v.share
-over_share_at_most_share v =
-    elim v.over as (λ b. cond b v.share 0 ≤ v.share) [ true ↦ omega arith | false ↦ omega arith ]
+over_share_at_most_share v = grind (arith, common_steps)
 
 pub over_shares_at_most_shares : (l : List View) → total over_share l ≤ total (λ v. v.share) l
 over_shares_at_most_shares [] = omega arith
 over_shares_at_most_shares (x ∷ xs) =
-    let later_bound = over_shares_at_most_shares xs in let first_bound =
-    over_share_at_most_share x in omega arith
+    grind (arith, common_steps, over_share_at_most_share, (over_shares_at_most_shares xs))
 
 pub times_in_append : (y : ℕ) (l m : List ℕ) → times_in y (l ++ m) ≡ times_in y l + times_in y m
 times_in_append y [] m = omega arith
@@ -50,17 +46,13 @@ below_moves_by_one y x = grind (arith, nat_tests)
 
 pub once_below_moves_by_one : (y x n : ℕ) → x < n
     → once_below y (min x n) + cond (x == y) 1 0 ≡ once_below y (min (x + 1) n)
-once_below_moves_by_one y x n x_lt_n =
-    let least_is_x : min x n ≡ x = omega arith in let next_least_is : min (x + 1) n ≡ x + 1 =
-    omega arith in
-    rw (least_is_x, next_least_is) (below_moves_by_one y x)
+once_below_moves_by_one y x n x_lt_n = grind (arith, common_steps, below_moves_by_one)
 
 pub below_by_once : (x n : ℕ) → 0 < once_below x n → x < n
 below_by_once x n = grind (arith, nat_tests)
 
 pub once_below_at_most_one : (x n : ℕ) → once_below x n ≤ 1
-once_below_at_most_one x n =
-    elim (nat_lt x n) as (λ b. cond b 1 0 ≤ 1) [ true ↦ omega arith | false ↦ omega arith ]
+once_below_at_most_one x n = grind (arith, common_steps)
 
 pub once_below_is_one : (x n : ℕ) → x < n → once_below x n ≡ 1
 once_below_is_one x n = grind (arith, nat_tests)
@@ -84,8 +76,7 @@ total_of_spent f (x ∷ xs) no_shares spent_gives_zero =
 pub total_of_only_seat : (f : View → ℕ) (l : List View) (i : ℕ) (v : View) → get_elem? l i ≡ some v
     → total (λ u. u.share) l ≡ v.share
     → ((j : ℕ) (u : View) → get_elem? l j ≡ some u → u.share ≡ 0 → f u ≡ 0) → total f l ≡ f v
-total_of_only_seat f [] i v has_view shares_are_its_own spent_gives_zero =
-    absurd (some-ne-none v (sym has_view))
+total_of_only_seat f [] i v has_view shares_are_its_own spent_gives_zero = grind (arith, nat_tests)
 total_of_only_seat f (x ∷ xs) zero v has_view shares_are_its_own spent_gives_zero =
     let values_equal : f x ≡ f v = ap f (some-injective x v has_view) in
     let shares_equal : x.share ≡ v.share =
@@ -103,9 +94,4 @@ total_of_only_seat f (x ∷ xs) (suc i) v has_view shares_are_its_own spent_give
 
 pub settled_at_most_recorded : (l : List View) → settled_count l ≤ total record_length l
 settled_at_most_recorded [] = omega arith
-settled_at_most_recorded (x ∷ xs) =
-    let later_bound : settled_count xs ≤ total record_length xs = settled_at_most_recorded xs in
-    let count_is : settled_count (x ∷ xs) ≡ length x.settled + settled_count xs = refl in
-    let record_length_is : record_length x
-    ≡ open_count x.open_number + length x.settled + length x.reported
-    + length x.skipped = refl in omega arith
+settled_at_most_recorded (x ∷ xs) = grind (arith, common_steps, (settled_at_most_recorded xs))

@@ -1,8 +1,8 @@
 -- A mask that is computed lane by lane is held to a predicate at each of the 256 bytes.
-use Rattle.std.proofs.Common.{◌≡◌, ℕ, zero, suc, ◌+◌, ◌*◌, ◌%◌, ◌^◌, ◌<◌, ◌≤◌, ltb, Bool}
-use Rattle.std.proofs.Common.{true, false, cond, eqb, ◌&&◌, T, List, [], ◌∷◌, ◌++◌, map}
-use Rattle.std.proofs.Common.{replicate, length, refl, sym, ap, ap₂, ◌∙◌, arith, subst, ◌⊎◌, inl}
-use Rattle.std.proofs.Common.{inr, not-suc-le-zero, w8, Fits}
+use Rattle.std.proofs.Common.{◌≡◌, ℕ, zero, suc, ◌+◌, ◌*◌, ◌%◌, ◌^◌, ◌<◌, ◌≤◌, ltb, Bool, true}
+use Rattle.std.proofs.Common.{false, cond, eqb, ◌&&◌, T, List, [], ◌∷◌, ◌++◌, map, replicate}
+use Rattle.std.proofs.Common.{length, refl, sym, ap, ap₂, ◌∙◌, arith, subst, ◌⊎◌, inl, inr}
+use Rattle.std.proofs.Common.{not-suc-le-zero, w8, Fits}
 use Rattle.std.proofs.lemmas.Simd.{mask_l-mod, zip2_of_maps}
 use Rattle.std.proofs.lemmas.List.{length-map}
 use Rattle.std.proofs.lemmas.Bool.{cases_order}

@@ -17,7 +17,8 @@ pub labels_are_cited : (db : List Statement) (t : ℕ) (d : Trees) (cites : List
     → Decides (is_member cites a) (Cites db false t a)
 labels_are_cited db t d cites complete is_proof members_are a = (
   λ is_cited. let is_label_and_assertion =
-      and_parts (is_member (postfix d) a) (is_assertion_at db a) (sym (members_are a) ∙ is_cited) in (
+      and_parts (is_member (postfix d) a) (is_assertion_at db a) (sym (members_are a) ∙ is_cited)
+      in (
         is_label_and_assertion.1,
         d,
         is_proof,
@@ -25,8 +26,7 @@ labels_are_cited db t d cites complete is_proof members_are a = (
             is_label_and_assertion.0,
       ),
   λ cites_a. members_are a
-      ∙ and_from (is_member (postfix d) a) (is_assertion_at db a)
-      (subst (λ d'. is_member (postfix d') a ≡ true) (two_proofs_are_equal db complete t cites_a.1 d
-      cites_a.2 is_proof)
+      ∙ and_from (is_member (postfix d) a) (is_assertion_at db a) (subst (λ d'. is_member
+      (postfix d') a ≡ true) (two_proofs_are_equal db complete t cites_a.1 d cites_a.2 is_proof)
       ((node_label_iff_member db cites_a.1 a).0 cites_a.3)) cites_a.0,
 )

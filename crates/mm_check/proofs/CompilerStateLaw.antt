@@ -1,7 +1,6 @@
 -- What a good label stands for, by whether it is that of an assertion.
-use Rattle.std.proofs.Common.{◌≡◌, ℕ, ◌<◌, Bool, true, false, List, [], ◌∷◌, length}
-use Rattle.std.proofs.Common.{Option, None, Some, slice_get, refl, sym, ap, ◌∙◌}
-use Rattle.std.proofs.Common.{subst, true≢false}
+use Rattle.std.proofs.Common.{◌≡◌, ℕ, ◌<◌, Bool, true, false, List, [], ◌∷◌, length, Option, None}
+use Rattle.std.proofs.Common.{Some, slice_get, refl, sym, ap, ◌∙◌, subst, true≢false}
 use Rattle.std.specs.List.{list_any}
 use Rattle.mm_spec.specs.Statement.{Statement, floating, essential, axiomatic, provable}
 use Rattle.mm_spec.specs.Scope.{active_at}
@@ -48,8 +47,7 @@ module _ (db : List Statement) (t j : ℕ) where
       got_lt_length db j labelled.statement labelled.statement_is
 
   assertion_flag_is : (s : Statement) (b : Bool) → slice_get db j ≡ Some s → is_assertion_at db j
-      ≡ b
-      → list_any is_assertion (s ∷ []) ≡ b
+      ≡ b → list_any is_assertion (s ∷ []) ≡ b
   assertion_flag_is s b statement_is flag_is =
       sym (ap (λ o. list_any is_assertion (elim o [ None ↦ [] | Some s ↦ s ∷ [] ])) statement_is)
       ∙ flag_is
@@ -59,8 +57,7 @@ module _ (db : List Statement) (t j : ℕ) where
       → referent_at db t j ≡ Some (assertion (frame_at db j))
   assertion_rule labels_assertion is_complete =
       let labelled = good_label_has_statement is_complete in labelled.rule_is
-      ∙ rule_is labelled.statement (assertion_flag_is labelled.statement true
-      labelled.statement_is
+      ∙ rule_is labelled.statement (assertion_flag_is labelled.statement true labelled.statement_is
       labels_assertion)
     where
       rule_is : (s : Statement) → list_any is_assertion (s ∷ []) ≡ true
@@ -91,7 +88,6 @@ module _ (db : List Statement) (t j : ℕ) where
 
 -- the label of a good step is that of a statement
 pub good_step_label_is_below : (db : List Statement) (t n : ℕ) (s : Step)
-    → IsGoodStep (context_at db t) n s
-    → IsLabelBelow s (length db)
+    → IsGoodStep (context_at db t) n s → IsLabelBelow s (length db)
 good_step_label_is_below db t n (label l) is_good = good_label_is_below db t l is_good
 good_step_label_is_below db t n (marked j) is_good = tt

@@ -1,13 +1,12 @@
 -- The beginning and the end of a proof.
+use Rattle.std.proofs.lemmas.Grind.{common_steps}
 use Rattle.std.proofs.Common.{◌≡◌, ℕ, ◌<◌, ◌∷◌, [], List, length, slice_get, Some, None, Option}
-use Rattle.std.proofs.Common.{Bool}
-use Rattle.std.proofs.Common.{sym, subst, inr, true, false, refl, true≢false, arith, ◌==◌, ap}
+use Rattle.std.proofs.Common.{Bool, sym, subst, inr, true, false, refl, true≢false, arith, ◌==◌}
 use Rattle.std.specs.Prelude.{Decides}
 use Rattle.std.specs.List.{list_any}
 use Rattle.std.specs.Option.{option_map}
 use Rattle.std.specs.List.Sorted.{IsStrictlyIncreasing}
 use Rattle.std.proofs.lemmas.List.{take_all}
-use Rattle.std.proofs.lemmas.Bool.Decides.{nat_tests}
 use Rattle.mm_spec.specs.Text.{fault}
 use Rattle.mm_spec.specs.Statement.{Statement}
 use Rattle.mm_spec.specs.Steps.{PlacedStep}
@@ -35,12 +34,10 @@ use Rattle.mm_check.proofs.ReachLaw.{end_derives, end_code_is_fault, proof_end_i
 module _ (db : List Statement) (t : ℕ) (steps : List PlacedStep) where
   -- no step is performed yet
   pub no_step_performed : (m : MachineState) (rules : RuleLists) (noted : List ℕ)
-      (cache : KnownPairs)
-      → (variables : List Bool)
-      → AreOfDatabase db variables rules → AreStepsOf db t steps → m
-      ≡ machine_state [] [] [] variables → noted ≡ []
+      (cache : KnownPairs) → (variable_flags : List Bool) → AreOfDatabase db variable_flags rules
+      → AreStepsOf db t steps → m ≡ machine_state [] [] [] variable_flags → noted ≡ []
       → AreDisjointAt db t cache → HasPerformed db t steps 0 (checker_state m rules noted cache)
-  no_step_performed m rules noted cache variables of_database steps_are machine_is noted_is_nil
+  no_step_performed m rules noted cache variable_flags of_database steps_are machine_is noted_is_nil
       are_disjoint_at =
       record {
         is_at_theorem = record {
@@ -49,7 +46,7 @@ module _ (db : List Statement) (t : ℕ) (steps : List PlacedStep) where
           pairs_are_disjoint = are_disjoint_at;
         };
         are_steps = steps_are;
-        has_run = no_step_has_run db t steps m noted variables machine_is noted_is_nil;
+        has_run = no_step_has_run db t steps m noted variable_flags machine_is noted_is_nil;
       }
     where
       t_lt_length : (o : Option Statement) → slice_get db t ≡ o
@@ -65,8 +62,7 @@ module _ (db : List Statement) (t : ℕ) (steps : List PlacedStep) where
 
     abbrev all_reached : IsReached db t (steps_of steps) c.machine.stack ends c.noted
     all_reached =
-        rw view
-        (subst (λ z. IsReached db t (steps_of z) d.machine.stack ends d.noted)
+        rw view (subst (λ z. IsReached db t (steps_of z) d.machine.stack ends d.noted)
         (take_all (length steps) steps (omega arith)) has_performed.has_run.is_reached)
 
     module _ (formula_is_only_entry : c.machine.stack ≡ formula_at db t ∷ []) where
@@ -105,12 +101,11 @@ module _ (db : List Statement) (t : ℕ) (steps : List PlacedStep) where
         inr (
           has_performed.are_steps.no_reading_faults,
           inr (subst
-              (λ ps.
-              ProofEndFault (context_at db t) ps f (proof_end (slice_get db t)) (fault end code))
-              has_performed.are_steps.steps_are
-              (subst (λ n. ProofEndFault (context_at db t) steps f n (fault end code))
-              (sym (proof_end_is_end_at db t end has_performed.are_steps.is_theorem end_is))
-              (end_code_is_fault db t steps c.machine.stack ends c.noted all_reached end code f
+              (λ ps. ProofEndFault (context_at db t) ps f (proof_end (slice_get db t))
+              (fault end code)) has_performed.are_steps.steps_are (subst (λ n. ProofEndFault
+              (context_at db t) steps f n (fault end code)) (sym (proof_end_is_end_at db t end
+              has_performed.are_steps.is_theorem end_is)) (end_code_is_fault db t steps
+              c.machine.stack ends c.noted all_reached end code f
               is_end_code))),
         )
 
@@ -123,13 +118,8 @@ module _ (db : List Statement) (t : ℕ) (steps : List PlacedStep) where
 -- the code of the end, by the tests that the code makes
 pub many_entries_code : (stack : List Formula) (f : Formula) → (length stack == 1) ≡ false
     → IsEndCode stack f NotOneEntry
-many_entries_code [] f not_one = refl
-many_entries_code (g ∷ []) f not_one = absurd (true≢false not_one)
-many_entries_code (g ∷ h ∷ stack) f not_one = refl
+many_entries_code stack f h1 = grind (arith, common_steps, true≢false)
 
 pub other_formula_code : (stack : List Formula) (f : Formula) → (length stack == 1) ≡ true
     → (stack ≡ f ∷ [] → ⊥) → IsEndCode stack f OtherFormula
-other_formula_code [] f one differs = absurd (true≢false (sym one))
-other_formula_code (g ∷ []) f one differs = (λ g_is. differs (ap (λ z. z ∷ []) g_is), refl)
-other_formula_code (g ∷ h ∷ stack) f one differs =
-    let count : length (g ∷ h ∷ stack) ≡ 1 = grind (arith, nat_tests) in absurd (omega (arith, count))
+other_formula_code stack f h1 h2 = grind (arith, common_steps, true≢false)

@@ -1,4 +1,5 @@
 -- The forests of trees after the steps of a proof.
+use Rattle.std.proofs.lemmas.Grind.{common_steps}
 use Rattle.std.proofs.Common.{◌≡◌, ℕ, zero, suc, ◌+◌, ◌<◌, ◌≤◌, ◌⊎◌, inl, inr, List, [], ◌∷◌, ◌++◌}
 use Rattle.std.proofs.Common.{length, get_or, Some, slice_get, refl, sym, ap, ◌∙◌, subst}
 use Rattle.std.proofs.Common.{append_assoc, append-nil, length-append, arith}
@@ -30,38 +31,25 @@ cut_two_ways [] ys us vs lists_equal = inr (us, refl, lists_equal)
 cut_two_ways (x ∷ xs) ys [] vs lists_equal = inl (x ∷ xs, refl)
 cut_two_ways (x ∷ xs) ys (u ∷ us) vs lists_equal =
     let heads_equal : x ≡ u = cc in
-    let tails_equal : xs ++ ys ≡ us ++ vs = cc in
-    is_cut heads_equal (cut_two_ways xs ys us vs tails_equal)
-  where
-    is_cut : x ≡ u → ((k : List ℕ) × (xs ≡ us ++ k))
-        ⊎ ((k : List ℕ) × (us ≡ xs ++ k) × (ys ≡ k ++ vs))
-        → ((k : List ℕ) × (x ∷ xs ≡ (u ∷ us) ++ k))
-        ⊎ ((k : List ℕ) × (u ∷ us ≡ (x ∷ xs) ++ k) × (ys ≡ k ++ vs))
-    is_cut heads_equal (inl cut) = let front_is = cut.1 in inl (cut.0, cc (heads_equal, front_is))
-    is_cut heads_equal (inr cut) = let front_is = cut.1 in inr (
-      cut.0,
-      cc (heads_equal, front_is),
-      cut.2,
-    )
+    elim (cut_two_ways xs ys us vs cc) [
+      | inl cut ↦ inl (cut.0, cc (heads_equal, cut.1))
+      | inr cut ↦ inr (cut.0, cc (heads_equal, cut.1), cut.2)
+    ]
 
 -- ---- forests
 
 postfix_join : (ts us : Trees) → postfix (ts ⧺ us) ≡ postfix ts ++ postfix us
 postfix_join ts none = sym (append-nil (postfix ts))
-postfix_join ts (more us l f cs) =
-    ap (λ x. x ++ (postfix cs ++ l ∷ [])) (postfix_join ts us)
-    ∙ append_assoc (postfix ts) (postfix us) (postfix cs ++ l ∷ [])
+postfix_join ts (more us l f cs) = grind (arith, common_steps, append_assoc, (postfix_join ts us))
 
 -- forests that come later change no earlier one
 forest_front : (forests later : List Trees) (n : ℕ) → n ≤ length forests
     → forest_at (forests ++ later) n ≡ forest_at forests n
-forest_front forests later zero n_le_length = refl
-forest_front forests later (suc n) n_le_length = get_or_append_left forests later none n n_le_length
+forest_front forests later n h1 = grind (arith, common_steps, get_or_append_left)
 
 forest_next : (forests later : List Trees) (next_forest : Trees)
     → forest_at (forests ++ next_forest ∷ later) (suc (length forests)) ≡ next_forest
-forest_next [] later next_forest = refl
-forest_next (r ∷ forests) later next_forest = forest_next forests later next_forest
+forest_next forests later next_forest = grind (arith, common_steps)
 
 module _ (c : Context) where
   -- Step n makes a tree of the last ones of the forest before it, or adds a copy of the tree that
@@ -71,9 +59,8 @@ module _ (c : Context) where
       (ts : Trees) × (f : Formula) × (cs : Trees) × (forest_at forests (suc n) ≡ more ts l f cs)
       × (forest_at forests n ≡ ts ⧺ cs) × Follows c (c.referent l) (formulas cs) f
   IsMove forests n (marked j) =
-      (j < n) × (l : ℕ) × (f : Formula) × (cs : Trees)
-      × (forest_at forests (suc n) ≡ more (forest_at forests n) l f cs)
-      × (last_tree (forest_at forests (suc j)) ≡ tree l f cs)
+      (j < n) × (l : ℕ) × (f : Formula) × (cs : Trees) × (forest_at forests (suc n) ≡ more
+      (forest_at forests n) l f cs) × (last_tree (forest_at forests (suc j)) ≡ tree l f cs)
 
   -- each of the steps, from step n on
   abbrev pub AreMoves : List Trees → ℕ → List Step → Type 0
@@ -83,21 +70,15 @@ module _ (c : Context) where
   joined_forest_derives : (ts us : Trees) → AreDerivations c ts → AreDerivations c us
       → AreDerivations c (ts ⧺ us)
   joined_forest_derives ts none ts_derive us_derive = ts_derive
-  joined_forest_derives ts (more us l f cs) ts_derive us_derive = (
-    joined_forest_derives ts us
-        ts_derive us_derive.0,
-    us_derive.1,
-    us_derive.2,
-  )
+  joined_forest_derives ts (more us l f cs) ts_derive us_derive =
+      (joined_forest_derives ts us ts_derive us_derive.0, us_derive.1, us_derive.2)
 
   abbrev RowOf : List ℕ → Type 0
   RowOf labels = (r : Trees) × AreDerivations c r × (postfix r ≡ labels)
 
   -- the first labels of a forest are those of a forest
   row_of_front : (forest : Trees) (labels rest_labels : List ℕ) → AreDerivations c forest
-      → postfix forest ≡ labels
-      ++ rest_labels
-      → RowOf labels
+      → postfix forest ≡ labels ++ rest_labels → RowOf labels
   row_of_front none [] rest_labels derives postfix_is = (none, tt, refl)
   row_of_front none (x ∷ labels) rest_labels are_derivations postfix_is = absurd (cc)
   row_of_front (more ts l f cs) labels rest_labels derives postfix_is =
@@ -106,8 +87,7 @@ module _ (c : Context) where
       (λ labels' k front_is. row_of_front cs labels' k derives.1 front_is)
     where
       row_of_whole_tree : (k m : List ℕ) → labels ≡ postfix ts ++ k → k ≡ postfix cs ++ m → l ∷ []
-          ≡ m ++ rest_labels
-          → RowOf labels
+          ≡ m ++ rest_labels → RowOf labels
       row_of_whole_tree k [] labels_are rest_is label_is = (
         ts ⧺ cs,
         joined_forest_derives ts cs derives.0 derives.1,
@@ -122,11 +102,8 @@ module _ (c : Context) where
             ap (λ y. postfix ts ++ (postfix cs ++ y ∷ [])) l_is_x
                 ∙ ap (λ y. postfix ts ++ y) (sym rest_is) ∙ sym labels_are,
           )
-      row_of_whole_tree k (x ∷ y ∷ m) labels_are rest_is label_is = absurd (omega (
-        arith,
-        ap length
-            label_is,
-      ))
+      row_of_whole_tree k (x ∷ y ∷ m) labels_are rest_is label_is = absurd
+          (omega (arith, ap length label_is))
 
       row_in_children : (k : List ℕ) → labels ≡ postfix ts ++ k
           → ((m : List ℕ) × (postfix cs ≡ k ++ m))
@@ -161,15 +138,11 @@ module _ (c : Context) where
   lists_push [] [] x t are_lists derives postfix_is = ((derives, postfix_is), tt)
   lists_push [] (u ∷ us) x t are_lists derives postfix_is = absurd are_lists
   lists_push (y ∷ ys) [] x t are_lists derives postfix_is = absurd are_lists
-  lists_push (y ∷ ys) (u ∷ us) x t are_lists derives postfix_is = (
-    are_lists.0,
-    lists_push ys us x t
-        are_lists.1 derives postfix_is,
-  )
+  lists_push (y ∷ ys) (u ∷ us) x t are_lists derives postfix_is =
+      (are_lists.0, lists_push ys us x t are_lists.1 derives postfix_is)
 
   list_is_postfix : (lists : List (List ℕ)) (forests : List Trees) (j : ℕ) (list : List ℕ)
-      → AreListsOf lists forests
-      → slice_get lists j ≡ Some list
+      → AreListsOf lists forests → slice_get lists j ≡ Some list
       → (j < length forests) × AreDerivations c (get_or forests j none)
       × (postfix (get_or forests j none) ≡ list)
   list_is_postfix [] forests zero list are_lists list_is = absurd (cc)
@@ -178,16 +151,14 @@ module _ (c : Context) where
   list_is_postfix (x ∷ xs) (t ∷ ts) zero list are_lists list_is =
       let x_is_list : x ≡ list = cc in (omega arith, are_lists.0.0, are_lists.0.1 ∙ x_is_list)
   list_is_postfix (x ∷ xs) (t ∷ ts) (suc j) list are_lists list_is =
-      let tail_case = list_is_postfix xs ts j list are_lists.1 list_is in let j_lt_length =
-      tail_case.0 in (omega (arith, j_lt_length), tail_case.1, tail_case.2)
+      let tail_case = list_is_postfix xs ts j list are_lists.1 list_is in
+      (omega (arith, tail_case.0), tail_case.1, tail_case.2)
 
   module _ (are_complete : (l : ℕ) → HasCompleteFrame c (c.referent l)) where
     -- one step
     move_label : (forests : List Trees) (n : ℕ) (forest next_forest : Trees) (l : ℕ)
-        → AreDerivations c forest
-        → AreDerivations c next_forest → postfix next_forest ≡ postfix forest ++ l ∷ []
-        → forest_at forests n
-        ≡ forest
+        → AreDerivations c forest → AreDerivations c next_forest
+        → postfix next_forest ≡ postfix forest ++ l ∷ [] → forest_at forests n ≡ forest
         → forest_at forests (suc n) ≡ next_forest → IsMove forests n (label l)
     move_label forests n forest none l derives next_derives postfix_is forest_is next_is =
         absurd (omega (arith, ap length postfix_is, length-append (postfix forest) (l ∷ [])))
@@ -195,23 +166,20 @@ module _ (c : Context) where
         =
         let postfixes_equal =
         same_from_push (postfix ts ++ postfix cs) (postfix forest) k l
-        (append_assoc (postfix ts) (postfix cs) (k ∷ []) ∙ postfix_is) in
-        let forest_splits =
-        same_labels_same_forest c are_complete forest (ts ⧺ cs) derives (joined_forest_derives ts cs
-        next_derives.0 next_derives.1)
-        (sym postfixes_equal.0 ∙ sym (postfix_join ts cs)) in (
+        (append_assoc (postfix ts) (postfix cs) (k ∷ []) ∙ postfix_is) in (
           ts,
           f,
           cs,
           next_is ∙ ap (λ x. more ts x f cs) postfixes_equal.1,
           forest_is
-              ∙ forest_splits,
+              ∙ (same_labels_same_forest c are_complete forest (ts ⧺ cs) derives
+              (joined_forest_derives ts cs next_derives.0 next_derives.1) (sym postfixes_equal.0
+              ∙ sym (postfix_join ts cs))),
           subst (λ x. Follows c (c.referent x) (formulas cs) f) postfixes_equal.1 next_derives.2,
         )
 
     move_marked : (lists : List (List ℕ)) (forests later : List Trees) (forest next_forest : Trees)
-        (j : ℕ)
-        → AreListsOf lists forests → AreDerivations c forest → AreDerivations c next_forest
+        (j : ℕ) → AreListsOf lists forests → AreDerivations c forest → AreDerivations c next_forest
         → Adds c lists (postfix forest) (marked j) (postfix next_forest)
         → forest_at forests (length forests) ≡ forest
         → IsMove (forests ++ next_forest ∷ later) (length forests) (marked j)
@@ -220,49 +188,38 @@ module _ (c : Context) where
         let at_j = list_is_postfix lists forests j adds.0 are_lists adds.2 in
         let repeated = adds.3 in
         let forests_equal = same_labels_same_forest c are_complete
-        (get_or forests j none) repeated.0 at_j.1 repeated.1 (at_j.2 ∙ sym repeated.2)
-        in
+        (get_or forests j none) repeated.0 at_j.1 repeated.1 (at_j.2 ∙ sym repeated.2) in
         copy repeated.0 repeated.1 repeated.3 forests_equal at_j.0
       where
         copy : (r : Trees) → AreDerivations c r → IsLastTree r adds.1 → get_or forests j none ≡ r
             → j < length forests → IsMove (forests ++ next_forest ∷ later) (length forests) (marked
             j)
         copy none derives_r is_last forests_equal j_lt_length_forests = absurd is_last
-        copy (more ts l f cs) derives_r list_is_last_tree forests_equal j_lt_length_forests =
-            let next_is : next_forest ≡ more forest l f cs =
-            same_labels_same_forest c are_complete next_forest (more forest l f cs) next_derives (
-              derives,
-              derives_r.1,
-              derives_r.2,
-            )
-            (adds.4 ∙ ap (λ z. postfix forest ++ z) list_is_last_tree) in
-            let forest_before_is : forest_at (forests ++ next_forest ∷ later) (length forests)
-            ≡ forest =
-            forest_front forests (next_forest ∷ later) (length forests) (omega arith)
-            ∙ forest_is in (
-              j_lt_length_forests,
-              l,
-              f,
-              cs,
-              forest_next forests later next_forest ∙ next_is
-                  ∙ ap (λ z. more z l f cs) (sym forest_before_is),
-              ap last_tree
-                  (forest_front forests (next_forest ∷ later) (suc j) j_lt_length_forests
-                  ∙ forests_equal),
-            )
+        copy (more ts l f cs) derives_r list_is_last_tree forests_equal j_lt_length_forests = (
+          j_lt_length_forests,
+          l,
+          f,
+          cs,
+          forest_next forests later next_forest ∙ (same_labels_same_forest c are_complete
+              next_forest (more forest l f cs) next_derives (derives, derives_r.1, derives_r.2)
+              (adds.4 ∙ ap (λ z. postfix forest ++ z) list_is_last_tree))
+              ∙ ap (λ z. more z l f cs) (sym (forest_front forests (next_forest ∷ later)
+              (length forests) (omega arith) ∙ forest_is)),
+          ap last_tree
+              (forest_front forests (next_forest ∷ later) (suc j) j_lt_length_forests
+              ∙ forests_equal),
+        )
 
     move_at_end : (lists : List (List ℕ)) (forests later : List Trees) (forest next_forest : Trees)
         (s : Step)
         → AreListsOf lists forests → AreDerivations c forest → AreDerivations c next_forest
         → Adds c lists (postfix forest) s (postfix next_forest) → forest_at forests (length forests)
-        ≡ forest
-        → IsMove (forests ++ next_forest ∷ later) (length forests) s
+        ≡ forest → IsMove (forests ++ next_forest ∷ later) (length forests) s
     move_at_end lists forests later forest next_forest (label l) are_lists derives next_derives adds
         forest_is =
         move_label (forests ++ next_forest ∷ later) (length forests) forest next_forest l derives
-        next_derives adds
-        (forest_front forests (next_forest ∷ later) (length forests) (omega arith) ∙ forest_is)
-        (forest_next forests later next_forest)
+        next_derives adds (forest_front forests (next_forest ∷ later) (length forests) (omega arith)
+        ∙ forest_is) (forest_next forests later next_forest)
     move_at_end lists forests later forest next_forest (marked j) are_lists derives next_derives
         adds forest_is =
         move_marked lists forests later forest next_forest j are_lists derives next_derives adds
@@ -276,16 +233,12 @@ module _ (c : Context) where
 
     -- one forest more
     rest_after_step : (lists : List (List ℕ)) (forests : List Trees) (forest d : Trees) (s : Step)
-        → (steps : List Step)
-        → AreListsOf lists forests → AreDerivations c forest → forest_at forests (length forests)
-        ≡ forest
-        → (new_labels : List ℕ)
+        → (steps : List Step) → AreListsOf lists forests → AreDerivations c forest
+        → forest_at forests (length forests) ≡ forest → (new_labels : List ℕ)
         → Adds c lists (postfix forest) s new_labels → (next_forest : Trees)
-        → AreDerivations c next_forest
-        → postfix next_forest ≡ new_labels
+        → AreDerivations c next_forest → postfix next_forest ≡ new_labels
         → (forest_at (forests ++ next_forest ∷ []) (length (forests ++ next_forest ∷ []))
-        ≡ next_forest
-        → HasRest (forests ++ next_forest ∷ []) steps d)
+        ≡ next_forest → HasRest (forests ++ next_forest ∷ []) steps d)
         → HasRest forests (s ∷ steps) d
     rest_after_step lists forests forest d s steps are_lists derives forest_is new_labels adds
         next_forest next_derives postfix_is has_rest_after = record {
@@ -300,8 +253,7 @@ module _ (c : Context) where
           ends_in_d =
               ap (forest_at (forests ++ next_forest ∷ later)) length_splits
               ∙ ap (λ z. forest_at z (length (forests ++ next_forest ∷ []) + length steps)) (sym
-              lists_regroup)
-              ∙ has_rest.ends_in_d;
+              lists_regroup) ∙ has_rest.ends_in_d;
         }
       where
         length_is_suc : length (forests ++ next_forest ∷ []) ≡ suc (length forests)
@@ -322,11 +274,9 @@ module _ (c : Context) where
         length_splits = omega (arith, length_is_suc)
 
     has_rest_from : (steps : List Step) (lists : List (List ℕ)) (forests : List Trees)
-        (forest d : Trees)
-        → AreListsOf lists forests → AreDerivations c forest → forest_at forests (length forests)
-        ≡ forest
-        → AreDerivations c d → Expands c lists (postfix forest) steps (postfix d)
-        → HasRest forests steps d
+        (forest d : Trees) → AreListsOf lists forests → AreDerivations c forest
+        → forest_at forests (length forests) ≡ forest → AreDerivations c d
+        → Expands c lists (postfix forest) steps (postfix d) → HasRest forests steps d
     has_rest_from [] lists forests forest d are_lists derives forest_is d_derives expands =
         let length_is : length forests + 0 ≡ length forests = omega arith in
         record {
@@ -342,12 +292,10 @@ module _ (c : Context) where
         expansion_grows c steps (lists ++ expands.0 ∷ []) expands.0 (postfix d) expands.2 in
         let row = row_of_front d expands.0 extension.0 d_derives extension.1 in
         rest_after_step lists forests forest d s steps are_lists derives forest_is expands.0
-        expands.1
-        row.0 row.1 row.2
-        (λ next_is. has_rest_from steps (lists ++ expands.0 ∷ []) (forests ++ row.0 ∷ []) row.0 d
-        (lists_push lists forests expands.0 row.0 are_lists row.1 row.2) row.1 next_is d_derives
-        (subst (λ z. Expands c (lists ++ expands.0 ∷ []) z steps (postfix d)) (sym row.2)
-        expands.2))
+        expands.1 row.0 row.1 row.2 (λ next_is. has_rest_from steps (lists ++ expands.0 ∷ [])
+        (forests ++ row.0 ∷ []) row.0 d (lists_push lists forests expands.0 row.0 are_lists row.1
+        row.2) row.1 next_is d_derives (subst (λ z. Expands c (lists ++ expands.0 ∷ []) z steps
+        (postfix d)) (sym row.2) expands.2))
 
     -- a proof's forests
     pub proof_has_forests : (steps : List Step) (f : Formula) (d : Trees) → Derives c steps f d

@@ -1,19 +1,19 @@
 -- The state after one step more.
-use Rattle.std.proofs.Common.{◌≡◌, ℕ, zero, suc, ◌+◌, ◌<◌, ◌≤◌, ◌⊎◌, inl, inr, Bool, true, false}
-use Rattle.std.proofs.Common.{List, [], ◌∷◌, ◌++◌, length, take, get_or, Some, Err, refl}
-use Rattle.std.proofs.Common.{sym, ap, ◌∙◌, subst, arith, All, slice_get, length-append, true≢false}
-use Rattle.std.proofs.Common.{eq-eqb}
+use Rattle.std.proofs.lemmas.Grind.{common_steps}
+use Rattle.std.proofs.Common.{◌≡◌, ℕ, zero, suc, ◌+◌, ◌<◌, inl, inr, Bool, true, false, List, []}
+use Rattle.std.proofs.Common.{◌∷◌, ◌++◌, length, take, get_or, Some, Err, refl, sym, ap, ◌∙◌, subst}
+use Rattle.std.proofs.Common.{arith, All, slice_get, length-append, true≢false, eq-eqb}
 use Rattle.std.specs.List.{Contains}
 use Rattle.std.proofs.lemmas.List.Elements.{All-push, All-weaker, All-nil, Contains-push}
 use Rattle.std.proofs.lemmas.List.Elements.{Contains-append_left}
 use Rattle.std.proofs.lemmas.List.Folds.{list_any_at}
 use Rattle.std.proofs.lemmas.Bool.{cases_lt}
 use Rattle.mm_spec.specs.Derivation.{Formula}
-use Rattle.mm_spec.specs.Steps.{Step, label, marked, PlacedStep, placed}
+use Rattle.mm_spec.specs.Steps.{Step, label, marked, PlacedStep}
 use Rattle.mm_spec.specs.Statement.{Statement}
 use Rattle.mm_spec.specs.Citation.{context_at}
 use Rattle.mm_spec.specs.Laws.Stack.{IsGoodStep, step_entries, top}
-use Rattle.mm_steps.specs.TheoremSteps.{step_at, is_marked, repeats}
+use Rattle.mm_steps.specs.TheoremSteps.{step_at, is_marked}
 use Rattle.mm_machine.specs.State.{MachineState, machine_state, with_mark, reason_of}
 use Rattle.mm_machine.specs.declared.reason.StepRefused.{StepRefused}
 use Rattle.mm_machine.specs.declared.reason.StepRefused.TheVariants.{Fault, Memory}
@@ -22,8 +22,7 @@ use Rattle.mm_check.specs.Checker.{CheckerState, checker_state, IsAtTheorem, Has
 use Rattle.mm_check.specs.Checker.{IsStepRefusal}
 use Rattle.mm_check.specs.Reached.{IsReached, HasRun, AreEndFormulas, steps_of}
 use Rattle.mm_check.proofs.ReachLaw.{no_step_reached, reached_after_step, take_step}
-use Rattle.mm_check.proofs.ReachLaw.{step_at_is_good}
-use Rattle.mm_check.proofs.ReachLaw.{failing_step_refuses}
+use Rattle.mm_check.proofs.ReachLaw.{step_at_is_good, failing_step_refuses}
 
 get_of_front : (ends later : List Formula) (j : ℕ) (f : Formula) → slice_get ends j ≡ Some f
     → slice_get (ends ++ later) j ≡ Some f
@@ -42,8 +41,7 @@ pub marked_formula_is : (ends : List Formula) (marks : List ℕ) (formulas : Lis
     → slice_get ends (get_or marks n 0) ≡ Some (get_or formulas n [])
 marked_formula_is ends [] formulas n are_end_formulas n_lt_length = absurd (omega arith)
 marked_formula_is ends (j ∷ marks) [] n are_end_formulas n_lt_length = absurd are_end_formulas
-marked_formula_is ends (j ∷ marks) (f ∷ formulas) zero are_end_formulas n_lt_length =
-    are_end_formulas.0
+marked_formula_is ends (j ∷ marks) (f ∷ formulas) zero are_end_formulas n_lt_length = cc
 marked_formula_is ends (j ∷ marks) (f ∷ formulas) (suc n) are_end_formulas n_lt_length =
     marked_formula_is ends marks formulas n are_end_formulas.1 (omega arith)
 
@@ -52,15 +50,16 @@ end_formulas_append : (ends later : List Formula) (marks : List ℕ) (formulas :
 end_formulas_append ends later [] [] are_end_formulas = tt
 end_formulas_append ends later [] (f ∷ formulas) are_end_formulas = absurd are_end_formulas
 end_formulas_append ends later (j ∷ marks) [] are_end_formulas = absurd are_end_formulas
-end_formulas_append ends later (j ∷ marks) (f ∷ formulas) are_end_formulas = (
-  get_of_front ends later j f are_end_formulas.0,
-  end_formulas_append ends later marks formulas
-      are_end_formulas.1,
-)
+end_formulas_append ends later (j ∷ marks) (f ∷ formulas) are_end_formulas =
+    grind (
+      arith,
+      common_steps,
+      get_of_front,
+      (end_formulas_append ends later marks formulas are_end_formulas.1),
+    )
 
 end_formulas_push : (ends : List Formula) (marks : List ℕ) (formulas : List Formula) (i : ℕ) (f :
-    Formula)
-    → AreEndFormulas ends marks formulas → slice_get ends i ≡ Some f
+    Formula) → AreEndFormulas ends marks formulas → slice_get ends i ≡ Some f
     → AreEndFormulas ends (marks ++ i ∷ []) (formulas ++ f ∷ [])
 end_formulas_push ends [] [] i f are_end_formulas ends_at_i = (ends_at_i, tt)
 end_formulas_push ends [] (g ∷ formulas) i f are_end_formulas ends_at_i = absurd are_end_formulas
@@ -72,8 +71,7 @@ end_formulas_push ends (j ∷ marks) (g ∷ formulas) i f are_end_formulas ends_
 repeated_step_is_marked : (steps : List PlacedStep) (i j : ℕ) → i < length steps
     → (step_at steps i).step ≡ marked j → is_marked steps j ≡ true
 repeated_step_is_marked steps i j i_lt_length is_marked_j =
-    list_any_at (λ s. repeats j s.step) steps i (placed 0 (label 0)) i_lt_length
-    (ap (repeats j) is_marked_j ∙ eq-eqb j j refl)
+    grind (arith, common_steps, list_any_at, eq-eqb)
 
 module _ (db : List Statement) (t : ℕ) (steps : List PlacedStep) (i : ℕ) (c : CheckerState)
     (has_performed : HasPerformed db t steps i c) (i_lt_length : i < length steps) (a : Step)
@@ -92,22 +90,20 @@ module _ (db : List Statement) (t : ℕ) (steps : List PlacedStep) (i : ℕ) (c 
           → IsReady (context_at db t) c.machine.marks s
       is_ready (label l) a_is is_good = is_good
       is_ready (marked j) a_is is_good =
-          has_performed.has_run.marked_are_kept j (let count_is = has_performed.has_run.end_count_is
-          in omega (arith, is_good, count_is))
+          has_performed.has_run.marked_are_kept j
+          (omega (arith, is_good, has_performed.has_run.end_count_is))
           (repeated_step_is_marked steps i j i_lt_length (sym a_is))
 
   -- the fault of a step that was refused
   pub refused_step_refuses : (at : ℕ) (refusal : StepRefused) → at ≡ (step_at steps i).at
-      → IsStepRefusal db t a c refusal
-      → IsRefusalOfSomeStep db t steps (refusal_at at refusal)
+      → IsStepRefusal db t a c refusal → IsRefusalOfSomeStep db t steps (refusal_at at refusal)
   refused_step_refuses at Memory place_is is_step_refusal = tt
   refused_step_refuses at (Fault reason) place_is is_step_refusal =
-      rw place_is
-      (failing_step_refuses db t steps i c.machine.stack has_performed.has_run.ends c.noted
-      (reason_of reason) i_lt_length has_performed.has_run.is_reached
+      rw place_is (failing_step_refuses db t steps i c.machine.stack has_performed.has_run.ends
+      c.noted (reason_of reason) i_lt_length has_performed.has_run.is_reached
       (subst (IsGoodStep (context_at db t) (length has_performed.has_run.ends)) a_is good_step)
-      (subst (λ z. step_entries (context_at db t) z has_performed.has_run.ends c.machine.stack
-      ≡ Err (reason_of reason)) a_is (is_step_refusal has_performed.has_run.ends
+      (subst (λ z. step_entries (context_at db t) z has_performed.has_run.ends c.machine.stack ≡ Err
+      (reason_of reason)) a_is (is_step_refusal has_performed.has_run.ends
       has_performed.has_run.marks_agree)))
 
   -- what is kept after the step
@@ -121,35 +117,30 @@ module _ (db : List Statement) (t : ℕ) (steps : List PlacedStep) (i : ℕ) (c 
 
       end_count_is : length ends ≡ i + 1
       end_count_is =
-          let count_before_is = has_performed.has_run.end_count_is in omega (
+          omega (
             arith,
-            count_before_is,
+            has_performed.has_run.end_count_is,
             length-append has_performed.has_run.ends
                 (top d.machine.stack ∷ []),
           )
 
       is_reached : IsReached db t (steps_of (take (i + 1) steps)) d.machine.stack ends d.noted
       is_reached =
-          rw (take_step steps i i_lt_length, ← a_is)
-          (reached_after_step db t (steps_of (take i steps)) c.machine.stack
-          has_performed.has_run.ends c.noted a d.machine.stack
-          d.noted has_performed.has_run.is_reached good_step (performs.entries_are
-          has_performed.has_run.ends has_performed.has_run.marks_agree)
-          performs.noted_are)
+          rw (take_step steps i i_lt_length, ← a_is) (reached_after_step db t
+          (steps_of (take i steps)) c.machine.stack has_performed.has_run.ends c.noted a
+          d.machine.stack d.noted has_performed.has_run.is_reached good_step (performs.entries_are
+          has_performed.has_run.ends has_performed.has_run.marks_agree) performs.noted_are)
 
       marks_agree : AreEndFormulas ends d.machine.marks d.machine.formulas
       marks_agree =
-          rw (performs.marks_stay, performs.formulas_stay)
-          (end_formulas_append has_performed.has_run.ends (top d.machine.stack ∷ []) c.machine.marks
-          c.machine.formulas
+          rw (performs.marks_stay, performs.formulas_stay) (end_formulas_append
+          has_performed.has_run.ends (top d.machine.stack ∷ []) c.machine.marks c.machine.formulas
           has_performed.has_run.marks_agree)
 
       marks_lt_i : All (λ j. j < i + 1) d.machine.marks
       marks_lt_i =
-          rw performs.marks_stay
-          (All-weaker (λ j. j < i) (λ j. j < i + 1) (λ j j_lt_i. omega (arith, j_lt_i))
-          c.machine.marks
-          has_performed.has_run.marks_lt_i)
+          rw performs.marks_stay (All-weaker (λ j. j < i) (λ j. j < i + 1) (λ j j_lt_i. omega
+          (arith, j_lt_i)) c.machine.marks has_performed.has_run.marks_lt_i)
 
       ends_at_i : slice_get ends i ≡ Some (top d.machine.stack)
       ends_at_i =
@@ -169,17 +160,14 @@ module _ (db : List Statement) (t : ℕ) (steps : List PlacedStep) (i : ℕ) (c 
         is_reached = is_reached;
         marks_agree = marks_agree;
         marks_lt_i = marks_lt_i;
-        marked_are_kept = λ j j_lt_suc_i is_marked_j. is_present j is_marked_j j_lt_suc_i (cases_lt
-            j i);
+        marked_are_kept = λ j j_lt_suc_i is_marked_j. elim (cases_lt
+            j i) [
+              | inl j_lt_i ↦ earlier_is_kept j j_lt_i is_marked_j
+              | inr i_le_j ↦ absurd (true≢false
+                  (sym is_marked_j ∙ ap (is_marked steps) ((omega (arith, i_le_j, j_lt_suc_i)))
+                  ∙ not_marked))
+            ];
       }
-        where
-          is_present : (j : ℕ) → is_marked steps j ≡ true → j < i + 1 → (j < i) ⊎ (i ≤ j)
-              → Contains d.machine.marks j
-          is_present j is_marked_j j_lt_suc_i (inl j_lt_i) = earlier_is_kept j j_lt_i is_marked_j
-          is_present j is_marked_j j_lt_suc_i (inr i_le_j) =
-              absurd (true≢false
-              (sym is_marked_j ∙ ap (is_marked steps) (let j_is_i : j
-              ≡ i = omega (arith, i_le_j, j_lt_suc_i) in j_is_i) ∙ not_marked))
       has_run_with true is_marked_i = record {
         ends = ends;
         end_count_is = end_count_is;
@@ -188,22 +176,19 @@ module _ (db : List Statement) (t : ℕ) (steps : List PlacedStep) (i : ℕ) (c 
             d.machine.stack) marks_agree
             ends_at_i;
         marks_lt_i = All-push (λ j. j < i + 1) d.machine.marks i marks_lt_i (omega arith);
-        marked_are_kept = λ j j_lt_suc_i is_marked_j. has_mark j is_marked_j j_lt_suc_i (cases_lt j
-            i);
+        marked_are_kept = λ j j_lt_suc_i is_marked_j. elim (cases_lt j
+            i) [
+              | inl j_lt_i ↦ Contains-append_left d.machine.marks (i ∷
+                  []) j (earlier_is_kept j j_lt_i is_marked_j)
+              | inr i_le_j ↦ let i_is_j : i ≡ j = omega (arith, i_le_j, j_lt_suc_i) in
+                  subst (Contains (d.machine.marks ++ i ∷ [])) i_is_j (Contains-push d.machine.marks
+                  i)
+            ];
       }
-        where
-          has_mark : (j : ℕ) → is_marked steps j ≡ true → j < i + 1 → (j < i) ⊎ (i ≤ j)
-              → Contains (d.machine.marks ++ i ∷ []) j
-          has_mark j is_marked_j j_lt_suc_i (inl j_lt_i) = Contains-append_left d.machine.marks (i ∷
-              []) j (earlier_is_kept j j_lt_i is_marked_j)
-          has_mark j is_marked_j j_lt_suc_i (inr i_le_j) =
-              let i_is_j : i ≡ j = omega (arith, i_le_j, j_lt_suc_i) in
-              subst (Contains (d.machine.marks ++ i ∷ [])) i_is_j (Contains-push d.machine.marks i)
 
   pub has_performed_after_step : (d : CheckerState) (m : MachineState) (b : Bool)
-      → is_marked steps i ≡ b
-      → Performs db t a c d → IsAtTheorem db t d → m ≡ with_mark b i d.machine → m.variables
-      ≡ d.machine.variables
+      → is_marked steps i ≡ b → Performs db t a c d → IsAtTheorem db t d
+      → m ≡ with_mark b i d.machine → m.variable_flags ≡ d.machine.variable_flags
       → HasPerformed db t steps (i + 1) (checker_state m d.rules d.noted d.cache)
   has_performed_after_step d m b is_b performs is_at_theorem m_is variables_stay = record {
     is_at_theorem = rw variables_stay is_at_theorem;
@@ -213,14 +198,7 @@ module _ (db : List Statement) (t : ℕ) (steps : List PlacedStep) (i : ℕ) (c 
 
 -- no step so far
 pub no_step_has_run : (db : List Statement) (t : ℕ) (steps : List PlacedStep) (s : MachineState)
-    → (noted : List ℕ)
-    → (w : List Bool)
+    → (noted : List ℕ) → (w : List Bool)
     → s ≡ machine_state [] [] [] w → noted ≡ [] → HasRun db t steps 0 s noted
-no_step_has_run db t steps s noted w s_is noted_is_nil = rw s_is (record {
-  ends = [];
-  end_count_is = refl;
-  is_reached = no_step_reached db t [] [] noted refl refl noted_is_nil;
-  marks_agree = tt;
-  marks_lt_i = All-nil (λ j. j < 0);
-  marked_are_kept = λ j j_lt_0 is_marked_j. absurd (omega arith);
-})
+no_step_has_run db t steps s noted w s_is noted_is_nil =
+    grind (arith, common_steps, no_step_reached, All-nil)

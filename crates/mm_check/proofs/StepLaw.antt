@@ -1,7 +1,7 @@
 -- One step of the checker.
-use Rattle.std.proofs.Common.{◌≡◌, ℕ, ◌<◌, ◌++◌, ◌∷◌, [], List, Bool, true, false, ◌&&◌}
-use Rattle.std.proofs.Common.{◌||◌, ◌==◌, length, length-append, get_or, slice_get, Some, None, Ok}
-use Rattle.std.proofs.Common.{Option, Result, refl, sym, ap, ◌∙◌, subst, arith}
+use Rattle.std.proofs.Common.{◌≡◌, ℕ, ◌<◌, ◌++◌, ◌∷◌, [], List, Bool, true, false, ◌&&◌, ◌||◌, ◌==◌}
+use Rattle.std.proofs.Common.{length, length-append, get_or, slice_get, Some, None, Ok, Option}
+use Rattle.std.proofs.Common.{Result, refl, sym, ap, ◌∙◌, subst, arith}
 use Rattle.std.proofs.Math.Bool.{or-false}
 use Rattle.std.proofs.lemmas.Bool.{eqb-true}
 use Rattle.mm_spec.specs.Statement.{Statement}
@@ -15,8 +15,7 @@ use Rattle.mm_machine.specs.DisjointCache.{KnownPairs}
 use Rattle.mm_machine.specs.State.{MachineState, machine_state, applied}
 use Rattle.mm_machine.specs.Applied.{IsRefusalOf}
 use Rattle.mm_machine.specs.declared.reason.StepRefused.{StepRefused}
-use Rattle.mm_check.specs.Checker.{CheckerState, checker_state}
-use Rattle.mm_check.specs.Checker.{Performs, IsStepRefusal}
+use Rattle.mm_check.specs.Checker.{CheckerState, checker_state, Performs, IsStepRefusal}
 use Rattle.mm_check.proofs.CompilerStateLaw.{assertion_rule}
 use Rattle.mm_check.proofs.RanLaw.{marked_formula_is}
 
@@ -25,11 +24,9 @@ module _ (db : List Statement) (t : ℕ) where
   length_push_is_positive es f = omega (arith, length-append es (f ∷ []))
 
   pub repeated_step_performs : (c : CheckerState) (j n : ℕ) (m : MachineState) → n
-      < length c.machine.marks
-      → get_or c.machine.marks n 0 ≡ j
-      → m
+      < length c.machine.marks → get_or c.machine.marks n 0 ≡ j → m
       ≡ machine_state (c.machine.stack ++ get_or c.machine.formulas n [] ∷ []) c.machine.marks
-      c.machine.formulas c.machine.variables
+      c.machine.formulas c.machine.variable_flags
       → Performs db t (marked j) c (checker_state m c.rules c.noted c.cache)
   repeated_step_performs c j n m n_lt_length mark_is entries_are =
       let out : Option Formula → Result (List Formula) Reason =
@@ -58,8 +55,7 @@ module _ (db : List Statement) (t : ℕ) where
         record {
           entries_are =
               λ ends agree. ap (λ r. label_entries (context_at db t) r c.machine.stack)
-              (assertion_rule db t a is_assertion rule_is_complete)
-              ∙ entries_are;
+              (assertion_rule db t a is_assertion rule_is_complete) ∙ entries_are;
           marks_stay = marks_stay;
           formulas_stay = formulas_stay;
           has_entry = has_entry;
@@ -75,8 +71,5 @@ module _ (db : List Statement) (t : ℕ) where
     pub refusal_is_of_step : (e : StepRefused) → IsRefusalOf e (applied db t a c.machine.stack)
         → IsStepRefusal db t (label a) c e
     refusal_is_of_step e is_refusal =
-        λ ends agree. subst (IsRefusalOf e)
-        (sym (ap (λ r. label_entries (context_at db t) r c.machine.stack)
-        (assertion_rule db t a is_assertion
-        rule_is_complete)))
-        is_refusal
+        λ ends agree. subst (IsRefusalOf e) (sym (ap (λ r. label_entries (context_at db t) r
+        c.machine.stack) (assertion_rule db t a is_assertion rule_is_complete))) is_refusal

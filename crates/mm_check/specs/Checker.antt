@@ -29,27 +29,28 @@ checker_state machine rules noted cache =
     record { machine = machine; rules = rules; noted = noted; cache = cache }
 
 -- the variables and the rules are those of the database, whose frames are complete
-pub record AreOfDatabase (db : List Statement) (variables : List Bool) (rules : RuleLists)
+pub record AreOfDatabase (db : List Statement) (variable_flags : List Bool) (rules : RuleLists)
     : Type 0 where
-  pub are_variables : AreVariablesOf db variables
+  pub are_variables : AreVariablesOf db variable_flags
   pub rules_are : AreRules db rules
   pub frames_are_complete : AreComplete db
 
 -- the checker is made for the theorems of the database
 abbrev pub IsMadeFor : List Statement → CheckerState → Type 0
-IsMadeFor db c = AreOfDatabase db c.machine.variables c.rules
+IsMadeFor db c = AreOfDatabase db c.machine.variable_flags c.rules
 
 -- the variables and the rules are those of the database, and the pairs are disjoint at the theorem
-pub record AreAtTheorem (db : List Statement) (t : ℕ) (variables : List Bool) (rules : RuleLists)
+pub record AreAtTheorem (db : List Statement) (t : ℕ) (variable_flags : List Bool)
+    (rules : RuleLists)
     (cache : KnownPairs) :
     Type 0 where
-  pub made_for : AreOfDatabase db variables rules
+  pub made_for : AreOfDatabase db variable_flags rules
   pub theorem_lt_length : t < length db
   pub pairs_are_disjoint : AreDisjointAt db t cache
 
 -- the checker is made for the database, and its pairs of symbols are disjoint at the theorem
 abbrev pub IsAtTheorem : List Statement → ℕ → CheckerState → Type 0
-IsAtTheorem db t c = AreAtTheorem db t c.machine.variables c.rules c.cache
+IsAtTheorem db t c = AreAtTheorem db t c.machine.variable_flags c.rules c.cache
 
 -- the checker has performed the first `i` steps of the theorem's proof
 pub record HasPerformed (db : List Statement) (t : ℕ) (steps : List PlacedStep) (i : ℕ)

@@ -47,8 +47,8 @@ abbrev pub IsRefusalOfSomeStep : List Statement → ℕ → List PlacedStep → 
 IsRefusalOfSomeStep db t steps (Faulty f) = StepFault (context_at db t) steps f
 IsRefusalOfSomeStep db t steps Memory = Unit {0}
 
--- if the refusal is a fault, it is that of the end of the theorem's proof, after which there are these
--- entries
+-- if the refusal is a fault, it is that of the end of the theorem's proof, after which there are
+-- these entries
 abbrev pub IsEndRefusal : List Statement → ℕ → List Formula → CheckRefused → Type 0
 IsEndRefusal db t stack (Faulty f) =
     (option_map end_at (slice_get db t) ≡ Some f.at) × IsEndCode stack (formula_at db t) f.code

@@ -1,24 +1,22 @@
 -- What the contents of a database say of the statements that were read.
-use Rattle.std.proofs.Common.{◌≡◌, ℕ, zero, suc, ◌<◌, ◌≤◌, Bool, false, List, [], ◌∷◌, length}
-use Rattle.std.proofs.Common.{Option, Some, None, refl, sym, ap, ◌∙◌, arith, IfSome}
-use Rattle.std.proofs.Common.{IfNone, IsTrue, true}
+use Rattle.std.proofs.lemmas.Option.{slice_get_past, same_Some}
+use Rattle.std.proofs.Common.{◌≡◌, ℕ, ◌<◌, ◌≤◌, Bool, false, List, [], ◌∷◌, length, Option, Some}
+use Rattle.std.proofs.Common.{None, refl, sym, ap, IfSome, IfNone, IsTrue, true}
 use Rattle.std.specs.Option.{option_map}
 use Rattle.std.specs.List.{list_any}
 use Rattle.std.proofs.lemmas.List.{length-map}
-use Rattle.mm_spec.specs.Statement.{Statement, constants, variables, disjoint, floating, essential}
-use Rattle.mm_spec.specs.Statement.{axiomatic, provable, opening, closing, proof_of}
+use Rattle.mm_spec.specs.Statement.{Statement, provable, proof_of}
 use Rattle.mm_spec.specs.NormalProof.{is_labelled}
 use Rattle.mm_spec.specs.Scope.{statement_at}
 use Rattle.mm_spec.specs.declared.Fault.{Fault}
 use Rattle.mm_spec.specs.declared.Word.{Word}
-use Rattle.mm_spec.specs.Opened.{counted}
+use Rattle.mm_spec.specs.Opened.{open_as_axioms}
 use Rattle.mm_spec.specs.Laws.Complete.{AreComplete}
 use Rattle.mm_spec.specs.Lexed.{lexed_of}
 use Rattle.mm_spec.specs.Output.{IsRead}
 use Rattle.mm_spec.proofs.CompleteLaw.{reads_complete}
 use Rattle.mm_spec.proofs.OpenedLaw.{counted_length, counted_complete}
 use Rattle.mm_outline.specs.Blocks.{BlockLists}
-use Rattle.mm_outline.specs.Parts.{statement_of}
 use Rattle.mm_outline.specs.Statements.{statements}
 use Rattle.mm_outline.specs.declared.parts.Kind.{Kind}
 use Rattle.mm_outline.specs.declared.parts.Kind.TheVariants as kind
@@ -33,37 +31,26 @@ pub has_outline : (text : List ℕ) (ws : List Word) (os : List Outline) (b : Bl
     < length p.list
     → k < length os
 has_outline text ws os b p p_is_parsed k k_lt_length =
-    let lengths_equal = ap (λ (q : ParsedStatements). length q.list) p_is_parsed in
-    omega (arith, k_lt_length, lengths_equal, length-map os (statement_of text ws))
+    rw (← p_is_parsed, length-map) at k_lt_length
 
 -- there are as many statements as were read
 pub as_many_statements : (text : List ℕ) (db : List Statement) (w : Bool) (fault : Option Fault)
     → (n : Contents) → contents text db w fault ≡ n → length n.statements ≡ length db
-as_many_statements text db w fault n n_is_contents =
-    ap (λ (m : Contents). length m.statements) (sym n_is_contents) ∙ counted_length w db
+as_many_statements text db w fault n n_is_contents = rw (← n_is_contents) (counted_length w db)
 
 -- what is no theorem has no proof
 pub no_proof : (s : Option Statement) (x : Kind) → option_map kind_of s ≡ Some x
     → ¬ (x ≡ kind.Theorem) → option_map proof_of s ≡ Some []
-no_proof None x kind_is_x x_is_no_theorem = absurd (cc)
-no_proof (Some (constants k xs d)) x kind_is_x x_is_no_theorem = refl
-no_proof (Some (variables k xs d)) x kind_is_x x_is_no_theorem = refl
-no_proof (Some (disjoint k xs d)) x kind_is_x x_is_no_theorem = refl
-no_proof (Some (floating l k xs d)) x kind_is_x x_is_no_theorem = refl
-no_proof (Some (essential l k xs d)) x kind_is_x x_is_no_theorem = refl
-no_proof (Some (axiomatic l k xs d)) x kind_is_x x_is_no_theorem = refl
+no_proof None x kind_is_x x_is_no_theorem = absurd cc
 no_proof (Some (provable l k xs e ps d)) x kind_is_x x_is_no_theorem =
-    let theorem_is_x : kind.Theorem ≡ x = cc in absurd (x_is_no_theorem (sym theorem_is_x))
-no_proof (Some (opening k)) x kind_is_x x_is_no_theorem = refl
-no_proof (Some (closing k)) x kind_is_x x_is_no_theorem = refl
+    absurd (x_is_no_theorem (sym (same_Some _ _ kind_is_x)))
+no_proof (Some _) x kind_is_x x_is_no_theorem = refl
 
 -- after the last statement is none
 pub none_past_the_end : (p : Statement → Bool) (db : List Statement) (k : ℕ) → length db ≤ k
     → list_any p (statement_at db k) ≡ false
-none_past_the_end p [] zero length_le_k = refl
-none_past_the_end p [] (suc k) length_le_k = refl
-none_past_the_end p (s ∷ db) zero length_le_k = absurd (omega arith)
-none_past_the_end p (s ∷ db) (suc k) length_le_k = none_past_the_end p db k (omega arith)
+none_past_the_end p db k length_le_k =
+    ap (λ o. list_any p (elim o [ None ↦ [] | Some s ↦ s ∷ [] ])) (slice_get_past db k length_le_k)
 
 -- ---- what a lookup of a label answers
 
@@ -91,6 +78,6 @@ module _ (db : List Statement) (find : List ℕ → Option ℕ) (are_labels : Ar
 -- the frames of what was read of a text are complete
 pub read_statements_are_complete : (text : List ℕ) (db : List Statement) (w : Bool)
     (fault : Option Fault)
-    → IsRead (length text) (lexed_of text) db fault → AreComplete (counted w db)
+    → IsRead (length text) (lexed_of text) db fault → AreComplete (open_as_axioms w db)
 read_statements_are_complete text db w fault is_read =
     counted_complete w db (reads_complete (length text) (lexed_of text) db fault is_read)

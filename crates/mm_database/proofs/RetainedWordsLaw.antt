@@ -1,17 +1,17 @@
 -- The kept words of statements: that they are the tokens of these, and what they answer.
 use Rattle.std.proofs.Common.{◌≡◌, ℕ, zero, suc, ◌+◌, ◌-◌, ◌<◌, ◌≤◌, Bool, true, false, List, []}
 use Rattle.std.proofs.Common.{◌∷◌, ◌++◌, length, map, take, drop, get_or, slice_get, slice_range}
-use Rattle.std.proofs.Common.{All, Option, Some, None, refl, sym, ap, ap₂, ◌∙◌, subst, arith}
-use Rattle.std.proofs.Common.{append_assoc, length-append, if◌then◌else◌}
+use Rattle.std.proofs.Common.{All, Option, Some, None, refl, sym, ap, ap₂, ◌∙◌, arith}
+use Rattle.std.proofs.Common.{append_assoc, length-append, if◌then◌else◌, true≢false}
 use Rattle.std.specs.Option.{option_map, option_and_then}
 use Rattle.std.proofs.lemmas.List.{length-map}
 use Rattle.std.proofs.lemmas.List.Elements.{All-append, All-take, All-drop}
-use Rattle.std.proofs.lemmas.Option.{slice_get-get_or, slice_get_within}
+use Rattle.std.proofs.lemmas.Option.{slice_get-get_or, slice_get_within, same_Some}
 use Rattle.std.proofs.Math.Seq.{take-append_seam, get_or-append_seam}
 use Rattle.mm_spec.specs.Text.{Token}
 use Rattle.mm_spec.specs.Statement.{Statement, constants, variables, disjoint, floating, essential}
 use Rattle.mm_spec.specs.Statement.{axiomatic, provable, opening, closing, label_of, proof_of}
-use Rattle.mm_spec.specs.Opened.{counted}
+use Rattle.mm_spec.specs.Opened.{open_as_axioms}
 use Rattle.mm_spec.specs.declared.Fault.{Fault}
 use Rattle.mm_spec.specs.declared.Word.{Word}
 use Rattle.mm_spec.proofs.OpenedLaw.{counted_got, counted_then, counted_length}
@@ -36,14 +36,7 @@ module _ (text : List ℕ) (ws : List Word) where
       → as_tokens text (label_word ws (record { kind = o; keyword = k; middle = m; end = e }))
       ≡ label_tokens (statement_between text ws o k m e)
   label_word_is_label kind.Theorem k m e = refl
-  label_word_is_label kind.Open k m e = refl
-  label_word_is_label kind.Close k m e = refl
-  label_word_is_label kind.Constants k m e = refl
-  label_word_is_label kind.Variables k m e = refl
-  label_word_is_label kind.Disjoint k m e = refl
-  label_word_is_label kind.Floating k m e = refl
-  label_word_is_label kind.Essential k m e = refl
-  label_word_is_label kind.Axiom k m e = refl
+  label_word_is_label _ k m e = refl
 
   -- no tokens are between two indices that are equal
   nothing_between : (m e : ℕ) → m ≡ e → between text ws (m + 1) e ≡ []
@@ -57,49 +50,31 @@ module _ (text : List ℕ) (ws : List Word) where
   between_is_proof kind.Theorem k m e has_end = refl
   between_is_proof kind.Open k m e has_end = nothing_between m e has_end.1
   between_is_proof kind.Close k m e has_end = nothing_between m e has_end.1
-  between_is_proof kind.Constants k m e has_end = nothing_between m e has_end
-  between_is_proof kind.Variables k m e has_end = nothing_between m e has_end
-  between_is_proof kind.Disjoint k m e has_end = nothing_between m e has_end
-  between_is_proof kind.Floating k m e has_end = nothing_between m e has_end
-  between_is_proof kind.Essential k m e has_end = nothing_between m e has_end
-  between_is_proof kind.Axiom k m e has_end = nothing_between m e has_end
+  between_is_proof _ k m e has_end = nothing_between m e has_end
 
   -- the word at the end is the statement's last token
   last_word_is_end : (o : Kind) (k m e : ℕ) → HasEnd o k m e
       → (nth_word ws e).start ≡ end_at (statement_between text ws o k m e)
   last_word_is_end kind.Theorem k m e has_end = refl
-  last_word_is_end kind.Open k m e has_end =
-      ap (λ i. (nth_word ws i).start) (sym (has_end.0 ∙ has_end.1))
-  last_word_is_end kind.Close k m e has_end =
-      ap (λ i. (nth_word ws i).start) (sym (has_end.0 ∙ has_end.1))
-  last_word_is_end kind.Constants k m e has_end = ap (λ i. (nth_word ws i).start) (sym has_end)
-  last_word_is_end kind.Variables k m e has_end = ap (λ i. (nth_word ws i).start) (sym has_end)
-  last_word_is_end kind.Disjoint k m e has_end = ap (λ i. (nth_word ws i).start) (sym has_end)
-  last_word_is_end kind.Floating k m e has_end = ap (λ i. (nth_word ws i).start) (sym has_end)
-  last_word_is_end kind.Essential k m e has_end = ap (λ i. (nth_word ws i).start) (sym has_end)
-  last_word_is_end kind.Axiom k m e has_end = ap (λ i. (nth_word ws i).start) (sym has_end)
+  last_word_is_end kind.Open k m e has_end = rw (← has_end.1, ← has_end.0) refl
+  last_word_is_end kind.Close k m e has_end = rw (← has_end.1, ← has_end.0) refl
+  last_word_is_end _ k m e has_end = ap (λ i. (nth_word ws i).start) (sym has_end)
 
   module _ (words_are_within : AreWithin text ws) where
     abbrev IsInside : Word → Type 0
     IsInside w = (w.start ≤ w.end) × (w.end ≤ length text)
 
     one_word_is_within : (i : ℕ) → i < length ws → AreWithin text (nth_word ws i ∷ [])
-    one_word_is_within i i_lt_length zero d zero_lt_1 =
-        words_are_within i (record { start = 0; end = 0 }) i_lt_length
-    one_word_is_within i i_lt_length (suc n) d suc_n_lt_1 = absurd (omega arith)
+    one_word_is_within i i_lt_length zero d n_lt_1 = words_are_within i _ i_lt_length
+    one_word_is_within i i_lt_length (suc n) d n_lt_1 = absurd (omega arith)
 
     label_is_within : (o : Outline) → IsOutline o × (o.end < length ws)
         → AreWithin text (label_word ws o)
-    label_is_within o is_outline = is_within (is_labelled_kind o.kind)
-      where
-        is_within : (with_label : Bool)
-            → AreWithin text (if with_label then nth_word ws (o.keyword - 1) ∷ [] else [])
-        is_within true =
-            let keyword_gt_0 = is_outline.0.2 in let keyword_le_middle = is_outline.0.3 in
-            let end_lt_length = is_outline.1 in
-            one_word_is_within (o.keyword - 1)
-            (omega (arith, keyword_gt_0, keyword_le_middle, end_lt_length))
-        is_within false = λ k d k_lt_0. absurd (omega arith)
+    label_is_within o is_outline = elim (is_labelled_kind o.kind) as (λ with_label. AreWithin text
+        (if with_label then nth_word ws (o.keyword - 1) ∷ [] else [])) [
+          | true ↦ one_word_is_within (o.keyword - 1) (grind (arith, is_outline))
+          | false ↦ λ k d k_lt_0. absurd (omega arith)
+        ]
 
     retained_words_are_of_statement : (o : Outline) → IsOutline o × (o.end < length ws)
         → IsRetained text (statement_of text ws o) (retained_words ws o)
@@ -133,18 +108,13 @@ module _ (text : List ℕ) (ws : List Word) where
             → IsRetained text s (get_or (map (retained_words ws) os) k [])
         words_are_retained k s s_is_statement_k =
             let d : Outline = record { kind = kind.Open; keyword = 0; middle = 0; end = 0 } in
-            let statements_length = length-map os (statement_of text ws) in
-            let k_lt_length_os : k < length os =
-            let k_lt_statements_length =
-            slice_get_within (statements text ws os) k s s_is_statement_k in
-            omega (arith, k_lt_statements_length, statements_length) in
-            let some_statement_is_s : Some (statement_of text ws (get_or os k d)) ≡ Some s =
-            sym (statement_of_outline_is text ws os k d k_lt_length_os) ∙ s_is_statement_k in
-            let statement_is_s : statement_of text ws (get_or os k d) ≡ s = cc in
-            subst (λ t. IsRetained text t (get_or (map (retained_words ws) os) k [])) statement_is_s
-            (subst (IsRetained text (statement_of text ws (get_or os k d)))
-            (sym (element_of_mapped (retained_words ws) os k d [] k_lt_length_os))
-            (retained_words_are_of_statement (get_or os k d) (are_outlines k d k_lt_length_os)))
+            let k_lt : k < length os = rw length-map at (slice_get_within _ k s s_is_statement_k) in
+            rw (
+              ← same_Some _ _ (sym (statement_of_outline_is text ws os k d k_lt)
+                  ∙ s_is_statement_k),
+              element_of_mapped (retained_words ws) os k d [] k_lt,
+            )
+            (retained_words_are_of_statement (get_or os k d) (are_outlines k d k_lt))
 
 -- ---- what the kept words of a statement answer
 
@@ -154,49 +124,28 @@ has_label (floating l k xs d) kind_has_label = (l, refl)
 has_label (essential l k xs d) kind_has_label = (l, refl)
 has_label (axiomatic l k xs d) kind_has_label = (l, refl)
 has_label (provable l k xs e ps d) kind_has_label = (l, refl)
-has_label (constants k xs d) kind_has_label =
-    absurd (let false_is_true : false ≡ true = kind_has_label in cc)
-has_label (variables k xs d) kind_has_label =
-    absurd (let false_is_true : false ≡ true = kind_has_label in cc)
-has_label (disjoint k xs d) kind_has_label =
-    absurd (let false_is_true : false ≡ true = kind_has_label in cc)
-has_label (opening k) kind_has_label = absurd (let false_is_true : false ≡ true = kind_has_label in
-    cc)
-has_label (closing k) kind_has_label = absurd (let false_is_true : false ≡ true = kind_has_label in
-    cc)
+has_label _ kind_has_label = absurd (true≢false (sym kind_has_label))
 
 unlabelled_has_no_label : (s : Statement) → is_labelled_kind (kind_of s) ≡ false → label_of s ≡ None
-unlabelled_has_no_label (floating l k xs d) kind_has_no_label =
-    absurd (let true_is_false : true ≡ false = kind_has_no_label in cc)
-unlabelled_has_no_label (essential l k xs d) kind_has_no_label =
-    absurd (let true_is_false : true ≡ false = kind_has_no_label in cc)
-unlabelled_has_no_label (axiomatic l k xs d) kind_has_no_label =
-    absurd (let true_is_false : true ≡ false = kind_has_no_label in cc)
-unlabelled_has_no_label (provable l k xs e ps d) kind_has_no_label =
-    absurd (let true_is_false : true ≡ false = kind_has_no_label in cc)
 unlabelled_has_no_label (constants k xs d) kind_has_no_label = refl
 unlabelled_has_no_label (variables k xs d) kind_has_no_label = refl
 unlabelled_has_no_label (disjoint k xs d) kind_has_no_label = refl
 unlabelled_has_no_label (opening k) kind_has_no_label = refl
 unlabelled_has_no_label (closing k) kind_has_no_label = refl
+unlabelled_has_no_label _ kind_has_no_label = absurd (true≢false kind_has_no_label)
 
 -- the only word of a label
 only_word : (text : List ℕ) (label : List Word) (l : Token) → as_tokens text label ≡ l ∷ []
     → (w : Word) × (label ≡ w ∷ []) × (token_of text w ≡ l)
-only_word text [] l label_is_l = absurd (let lengths_equal = ap length label_is_l in
-    omega (arith, lengths_equal))
+only_word text [] l label_is_l = absurd (grind (arith, ap length label_is_l))
 only_word text (w ∷ []) l label_is_l = (w, refl, ap (λ ts. get_or ts 0 l) label_is_l)
-only_word text (w ∷ v ∷ ws) l label_is_l = absurd (let lengths_equal = ap length label_is_l in
-    omega (arith, lengths_equal))
+only_word text (w ∷ v ∷ ws) l label_is_l = absurd (grind (arith, ap length label_is_l))
 
 module _ (text : List ℕ) (db : List Statement) (w : Bool) (fault : Option Fault) (n : Contents)
     (contents_are_n : contents text db w fault ≡ n) (k : ℕ) (k_lt_counted : k < length n.statements)
   where
     k_lt_length : k < length db
-    k_lt_length =
-        let lengths_equal = ap (λ (m : Contents). length m.statements) contents_are_n in
-        let counted_length_is_length = counted_length w db in
-        omega (arith, lengths_equal, counted_length_is_length, k_lt_counted)
+    k_lt_length = rw (← contents_are_n, counted_length) at k_lt_counted
 
     abbrev s : Statement
     s = get_or db k (opening 0)
@@ -206,16 +155,13 @@ module _ (text : List ℕ) (db : List Statement) (w : Bool) (fault : Option Faul
 
     kind_of_s_is_kind_k : (x : Kind) → option_map kind_of (slice_get db k) ≡ Some x → kind_of s ≡ x
     kind_of_s_is_kind_k x kind_k_is_x =
-        let some_kind_is_x : Some (kind_of s) ≡ Some x =
-        sym (ap (option_map kind_of) s_is_statement_k) ∙ kind_k_is_x in cc
+        same_Some _ _ (sym (ap (option_map kind_of) s_is_statement_k) ∙ kind_k_is_x)
 
     counted_label_is_label : {X : Type 0} (f : Token → X)
         → option_map f (option_and_then label_of (slice_get n.statements k))
         ≡ option_map f (label_of s)
     counted_label_is_label f =
-        subst (λ (n : Contents). option_map f (option_and_then label_of (slice_get n.statements k))
-        ≡ option_map f (label_of s)) contents_are_n
-        (ap (option_map f)
+        rw (← contents_are_n) (ap (option_map f)
         (counted_then w db label_of (λ l k xs e ps d. refl) k
         ∙ ap (option_and_then label_of) s_is_statement_k))
 
@@ -224,30 +170,23 @@ module _ (text : List ℕ) (db : List Statement) (w : Bool) (fault : Option Faul
         → option_map kind_of (slice_get db k) ≡ Some x → is_labelled_kind x ≡ false
         → None ≡ option_map f (option_and_then label_of (slice_get n.statements k))
     label_missing f x kind_k_is_x is_not_labelled =
-        sym (counted_label_is_label f
-        ∙ ap (option_map f)
-        (unlabelled_has_no_label s (ap is_labelled_kind (kind_of_s_is_kind_k x kind_k_is_x)
-        ∙ is_not_labelled)))
+        sym (counted_label_is_label f ∙ ap (option_map f) (unlabelled_has_no_label s
+        (rw (kind_of_s_is_kind_k x kind_k_is_x) is_not_labelled)))
 
     module _ (retained : List (List Word)) (are_retained : AreRetained text db retained) where
       pub k_lt_retained_count : k < length retained
-      k_lt_retained_count = let retained_count = are_retained.count in let k_lt_db = k_lt_length in
-          omega (arith, retained_count, k_lt_db)
+      k_lt_retained_count = rw are_retained.count k_lt_length
 
       module _ (words : List Word) (words_are_words_k : words ≡ get_or retained k []) where
         retained_k : IsRetained text s words
-        retained_k = subst (IsRetained text s) (sym words_are_words_k)
-            (are_retained.words_are_retained k s s_is_statement_k)
+        retained_k = rw words_are_words_k (are_retained.words_are_retained k s s_is_statement_k)
 
         words_end_in_last : words ≡ (retained_k.label ++ retained_k.proof) ++ retained_k.last ∷ []
-        words_end_in_last =
-            retained_k.words_are ∙ sym (append_assoc retained_k.label retained_k.proof
-            (retained_k.last ∷ []))
+        words_end_in_last = rw append_assoc retained_k.words_are
 
         word_count : length words ≡ length (retained_k.label ++ retained_k.proof) + 1
-        word_count =
-            ap length words_end_in_last ∙ length-append (retained_k.label ++ retained_k.proof)
-            (retained_k.last ∷ [])
+        word_count = ap length words_end_in_last ∙ length-append (retained_k.label
+            ++ retained_k.proof) (retained_k.last ∷ [])
 
         pub some_are_retained : 0 < length words
         some_are_retained = omega (arith, word_count)
@@ -260,17 +199,12 @@ module _ (text : List ℕ) (db : List Statement) (w : Bool) (fault : Option Faul
             → option_map end_at (slice_get n.statements k)
             ≡ Some (get_or words (length words - 1) d).start
         last_is_retained d =
-            let last_index : length words - 1 ≡ length (retained_k.label ++ retained_k.proof) =
-            omega
-            (arith, word_count) in
-            let last_of_words =
-            ap₂ (λ ys i. get_or ys i d) words_end_in_last last_index
-            ∙ get_or-append_seam (retained_k.label ++ retained_k.proof) retained_k.last [] d in
-            subst (λ (n : Contents). option_map end_at (slice_get n.statements k)
-            ≡ Some (get_or words (length words - 1) d).start) contents_are_n
-            (counted_got w db end_at (λ l k xs e ps d. refl) k
-            ∙ ap (option_map end_at) s_is_statement_k
-            ∙ ap Some (sym retained_k.last_is) ∙ ap (λ x. Some x.start) (sym last_of_words))
+            let start = retained_k.label ++ retained_k.proof in
+            let last_index : length words - 1 ≡ length start = omega (arith, word_count) in
+            rw (← contents_are_n) (counted_got w db end_at (λ l k xs e ps d. refl) k
+            ∙ ap (option_map end_at) s_is_statement_k ∙ ap Some (sym retained_k.last_is)
+            ∙ ap (λ x. Some x.start) (sym (ap₂ (λ ys i. get_or ys i d) words_end_in_last last_index
+            ∙ get_or-append_seam start retained_k.last [] d)))
 
         module _ (x : Kind) (kind_is_x : kind_of s ≡ x)
             (x_is_labelled : is_labelled_kind x ≡ true) where
@@ -280,10 +214,8 @@ module _ (text : List ℕ) (db : List Statement) (w : Bool) (fault : Option Faul
           first_is_label : (v : Word) × (retained_k.label ≡ v ∷ [])
               × (token_of text v ≡ (has_label s s_is_labelled).0)
           first_is_label =
-              let label_of_s = has_label s s_is_labelled in
-              only_word text retained_k.label label_of_s.0
-              (retained_k.label_is
-              ∙ ap (λ o. elim o [ None ↦ [] | Some l ↦ l ∷ [] ]) label_of_s.1)
+              only_word text retained_k.label (has_label s s_is_labelled).0 (retained_k.label_is
+              ∙ ap (λ o. elim o [ None ↦ [] | Some l ↦ l ∷ [] ]) (has_label s s_is_labelled).1)
 
           words_begin_with_label : words
               ≡ first_is_label.0 ∷ (retained_k.proof ++ retained_k.last ∷ [])
@@ -311,10 +243,11 @@ module _ (text : List ℕ) (db : List Statement) (w : Bool) (fault : Option Faul
           -- the words of the proof
           middle_words_are_proof : slice_range words 1 (length words - 1) ≡ retained_k.proof
           middle_words_are_proof =
-              let proof_length : (length words - 1) - 1 ≡ length retained_k.proof =
-              omega (arith, word_count_with_label) in
-              ap₂ (λ m ys. take m (drop 1 ys)) proof_length
-              words_begin_with_label
+              let width : (length words - 1) - 1 ≡ length retained_k.proof = omega (
+                arith,
+                word_count_with_label,
+              ) in
+              ap₂ (λ m ys. take m (drop 1 ys)) width words_begin_with_label
               ∙ take-append_seam retained_k.proof (retained_k.last ∷ [])
 
         -- the first of the retained words of a labelled statement is its label
@@ -326,11 +259,9 @@ module _ (text : List ℕ) (db : List Statement) (w : Bool) (fault : Option Faul
             first_word_is_label x (kind_of_s_is_kind_k x kind_k_is_x) is_labelled f d
 
         module _ (counts : option_map kind_of (slice_get n.statements k) ≡ Some kind.Theorem) where
-          theorem : (kind_of s ≡ kind.Theorem) × (slice_get (counted w db) k ≡ Some s)
+          theorem : (kind_of s ≡ kind.Theorem) × (slice_get (open_as_axioms w db) k ≡ Some s)
           theorem =
-              counted_theorem_is_theorem w db k s s_is_statement_k
-              (subst (λ (n : Contents). option_map kind_of (slice_get n.statements k)
-              ≡ Some kind.Theorem) (sym contents_are_n) counts)
+              counted_theorem_is_theorem w db k s s_is_statement_k (rw (← contents_are_n) at counts)
 
           pub theorem_has_two_words : 2 ≤ length words
           theorem_has_two_words = two_are_retained kind.Theorem theorem.0 refl
@@ -338,17 +269,14 @@ module _ (text : List ℕ) (db : List Statement) (w : Bool) (fault : Option Faul
           pub proof_is_retained : option_map proof_of (slice_get n.statements k)
               ≡ Some (as_tokens n.text (slice_range words 1 (length words - 1)))
           proof_is_retained =
-              subst (λ (n : Contents). option_map proof_of (slice_get n.statements k)
-              ≡ Some (as_tokens n.text (slice_range words 1 (length words - 1)))) contents_are_n
-              (ap (option_map proof_of) theorem.1 ∙ ap Some (sym retained_k.proof_is)
-              ∙ ap (λ xs. Some (as_tokens text xs))
-              (sym (middle_words_are_proof kind.Theorem theorem.0 refl)))
+              rw (
+                ← contents_are_n,
+                middle_words_are_proof kind.Theorem theorem.0 refl,
+                retained_k.proof_is,
+              ) (ap (option_map proof_of) theorem.1)
 
           pub proof_within : AreWithin n.text (slice_range words 1 (length words - 1))
           proof_within =
-              subst (λ (n : Contents). AreWithin n.text (slice_range words 1 (length words - 1)))
-              contents_are_n
-              (All-take (λ w. (w.start ≤ w.end) × (w.end ≤ length text)) (length words - 1 - 1)
-              (drop 1 words)
-              (All-drop (λ w. (w.start ≤ w.end)
+              rw (← contents_are_n) (All-take (λ w. (w.start ≤ w.end) × (w.end ≤ length text))
+              (length words - 1 - 1) (drop 1 words) (All-drop (λ w. (w.start ≤ w.end)
               × (w.end ≤ length text)) 1 words retained_k.words_within_text))

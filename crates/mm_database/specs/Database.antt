@@ -4,7 +4,7 @@ use Rattle.std.specs.Prelude.{if◌then◌else◌, Option, None}
 use Rattle.std.specs.List.{list_any}
 use Rattle.mm_spec.specs.declared.Fault.{Fault}
 use Rattle.mm_spec.specs.Statement.{Statement}
-use Rattle.mm_spec.specs.Opened.{counted}
+use Rattle.mm_spec.specs.Opened.{open_as_axioms}
 use Rattle.mm_spec.specs.Scope.{statement_at}
 use Rattle.mm_spec.specs.Frame.{symbol_names, formula_at}
 use Rattle.mm_spec.specs.Lexed.{lexed_of}
@@ -36,7 +36,7 @@ contents text db with_open fault =
       text = text;
       read = db;
       with_open = with_open;
-      statements = counted with_open db;
+      statements = open_as_axioms with_open db;
       fault = fault;
     }
 
@@ -65,10 +65,11 @@ module _ {A : Type 0} where
   pub record IsDatabase (with_open : Bool) (r : Reading A) (tables : StatementTables A)
       : Type 0 where
     pub few_statements : length r.statements.list < 2 ^ 31
-    pub read : IsRead (length r.statements.text) (lexed_of r.statements.text)
+    pub is_read : IsRead (length r.statements.text) (lexed_of r.statements.text)
         r.statements.list r.fault
-    pub labels : AreLabels r.statements.list (find r.names.labels)
+    pub labels_are : AreLabels r.statements.list (find r.names.labels)
     pub names_are : names_of r.names.symbols ≡ symbol_names r.statements.list
     pub frame_tables_are : AreFrameTables r.statements.list r.statements.blocks tables.frame_tables
-    pub lists_are : AreStatementLists (counted with_open r.statements.list) tables.statement_lists
+    pub lists_are : AreStatementLists (open_as_axioms with_open r.statements.list)
+        tables.statement_lists
     pub retained_are : AreRetained r.statements.text r.statements.list tables.retained_words

@@ -72,10 +72,10 @@ pub record IsCoveredIn (blocks : BlockLists) (row : List (ℕ × ℕ)) (y j : �
   pub ends_no_earlier : end_of blocks j ≤ end_of blocks covering
 
 -- each pair of the row passes the test, and each pair that passes is covered by one of the row
-pub record IsRowOf (blocks : BlockLists) (passes : ℕ → ℕ → Bool) (row : List (ℕ × ℕ)) : Type 0
-  where
-    pub pairs_pass : (y j : ℕ) → has_pair row y j ≡ true → passes y j ≡ true
-    pub passing_are_covered : (y j : ℕ) → passes y j ≡ true → IsCoveredIn blocks row y j
+pub record IsRowOfPairs (blocks : BlockLists) (passes : ℕ → ℕ → Bool) (row : List (ℕ × ℕ))
+    : Type 0 where
+  pub pairs_pass : (y j : ℕ) → has_pair row y j ≡ true → passes y j ≡ true
+  pub passing_are_covered : (y j : ℕ) → passes y j ≡ true → IsCoveredIn blocks row y j
 
 -- whether the row has symbol y with a `$d` that is active at k
 abbrev pub is_active_in_row : BlockLists → List (ℕ × ℕ) → ℕ → ℕ → Bool
@@ -113,5 +113,5 @@ pub record IsOrdered (blocks : BlockLists) (index : PairLists) : Type 0 where
 pub record IsDisjointIndex (db : List Statement) (blocks : BlockLists) (index : PairLists) : Type 0
   where
     pub members_are : (x j : ℕ) → has_pair index.by_symbol x j ≡ has_symbol_by_width db false x j
-    pub rows_are : (x : ℕ) → IsRowOf blocks (has_narrow_pair db x) (row_of index.rows x)
+    pub rows_are : (x : ℕ) → IsRowOfPairs blocks (has_narrow_pair db x) (row_of index.rows x)
     pub ordered : IsOrdered blocks index

@@ -6,7 +6,7 @@ ghost use Rattle.std.specs.Prelude.{slice_range, true, false};
 ghost use Rattle.std.specs.Option.{option_map, option_copied, option_and_then};
 ghost use Rattle.std.specs.List.{list_any};
 ghost use Rattle.mm_spec.specs.Statement.{label_of, proof_of};
-ghost use Rattle.mm_spec.specs.Opened.{counted, is_open_theorem};
+ghost use Rattle.mm_spec.specs.Opened.{open_as_axioms, is_open_theorem};
 ghost use Rattle.mm_spec.specs.Scope.{active_at, statement_at};
 ghost use Rattle.mm_spec.specs.Derivation.{pair};
 ghost use Rattle.mm_spec.specs.Frame.{symbol_names, is_variable_number, formula_at};
@@ -101,7 +101,8 @@ impl<'a, A: Allocator> Database<'a, A> {
         ensures len_lt_2_31 { result < 2 ^ 31 }
         ensures is_read { IsRead (length self.now.text)
             (lexed_of self.now.text) self.now.read self.now.fault }
-        ensures are_counted { self.now.statements ≡ counted self.now.with_open self.now.read }
+        ensures are_counted { self.now.statements
+            ≡ open_as_axioms self.now.with_open self.now.read }
         ensures are_complete { AreComplete self.now.statements }
     {
         self.reading.statements.len()

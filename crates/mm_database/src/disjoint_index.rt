@@ -17,8 +17,8 @@ use mm_outline::symbol::Sym;
 use std::alloc::{AllocError, Allocator};
 use std::marker::Model;
 
-/// The maximum number of symbols of a narrow `$d`: all pairs of its symbols are listed, which are at
-/// most 8 for each symbol.
+/// The maximum number of symbols of a narrow `$d`: all pairs of its symbols are listed, which are
+/// at most 8 for each symbol.
 const MAX_NARROW: usize = 16;
 
 /// Whether a `$d` of these symbols is narrow.
@@ -30,7 +30,8 @@ pub fn is_narrow(symbols: &[Sym]) -> bool
 
 /// The `$d` statements by their variables.
 pub struct DisjointIndex<A: Allocator> {
-    /// For each variable and each wide `$d` that has it the two, the variable first, in ascending order.
+    /// For each variable and each wide `$d` that has it the two, the variable first, in ascending
+    /// order.
     by_symbol: Vec<(u32, u32), A>,
     /// For each pair the index of an earlier one, or its own. All pairs from there up to it have
     /// its variable, and their blocks end no later than its own. So if its block is closed, all of
@@ -129,7 +130,7 @@ pub fn is_active_in_row<A: Allocator>(
     ensures { result ≡ is_active_in_row blocks.now row.now symbol at }
 {
     let count = count_in_row(row, symbol, at);
-    ends_with(row, count, symbol) && blocks.is_open_at(row[count - 1].1, at)
+    last_has_symbol(row, count, symbol) && blocks.is_block_open(row[count - 1].1, at)
 }
 
 /// Whether a narrow `$d` that is active at the statement `at` has both symbols.
@@ -182,14 +183,14 @@ fn count_before(by_symbol: &[(u32, u32)], starts: &[usize], symbol: u32, at: u32
 }
 
 /// Whether the last of the first `end` pairs, if there is one, has the symbol.
-fn ends_with(by_symbol: &[(u32, u32)], end: usize, symbol: u32) -> bool
-    requires { end ≤ length by_symbol.now }
-    ensures ends_if_true { result ≡ true
-        → (0 < end) × ((get_or by_symbol.now (end - 1) (0, 0)).0 ≡ symbol) }
+fn last_has_symbol(pairs: &[(u32, u32)], end: usize, symbol: u32) -> bool
+    requires { end ≤ length pairs.now }
+    ensures has_if_true { result ≡ true
+        → (0 < end) × ((get_or pairs.now (end - 1) (0, 0)).0 ≡ symbol) }
     ensures differs_if_false { result ≡ false → 0 < end
-        → (get_or by_symbol.now (end - 1) (0, 0)).0 ≢ symbol }
+        → (get_or pairs.now (end - 1) (0, 0)).0 ≢ symbol }
 {
-    end > 0 && by_symbol[end - 1].0 == symbol
+    end > 0 && pairs[end - 1].0 == symbol
 }
 
 /// Returns how many of the first `end` pairs are still to be looked at once the last of them has
@@ -208,16 +209,16 @@ fn skip_last<A: Allocator>(
     ensures skipped_are_closed { (p : ℕ) → result ≤ p → p + 1 < end
         → nat_le at (end_of blocks.now (get_or disjoint_index.now.by_symbol p (0, 0)).1) ≡ false }
 {
-    if blocks.is_open_at(disjoint_index.by_symbol[end - 1].1, at) {
+    if blocks.is_block_open(disjoint_index.by_symbol[end - 1].1, at) {
         end - 1
     } else {
         disjoint_index.skips[end - 1]
     }
 }
 
-/// Appends each `$d` that is active at the statement `at` and has the symbol, paired with the
+/// Appends each wide `$d` that is active at the statement `at` and has the symbol, paired with the
 /// symbol: the `$d` first.
-pub fn add_active<A: Allocator>(
+pub fn append_active_wide<A: Allocator>(
     blocks: &Blocks<A>,
     disjoint_index: &DisjointIndex<A>,
     symbol: Sym,
@@ -235,9 +236,9 @@ pub fn add_active<A: Allocator>(
     let by_symbol = disjoint_index.by_symbol.as_slice();
     let starts = disjoint_index.starts.as_slice();
     let mut end = count_before(by_symbol, starts, symbol.number(), at);
-    while ends_with(by_symbol, end, symbol.number()) {
+    while last_has_symbol(by_symbol, end, symbol.number()) {
         let statement = by_symbol[end - 1].1;
-        if blocks.is_open_at(statement, at) {
+        if blocks.is_block_open(statement, at) {
             by_statement.push((statement, symbol.number()))?;
         }
         end = skip_last(blocks, disjoint_index, end, at);
@@ -245,7 +246,7 @@ pub fn add_active<A: Allocator>(
     Ok(())
 }
 
-/// Whether a `$d` that is active at the statement `at` has both symbols.
+/// Whether a wide `$d` that is active at the statement `at` has both symbols.
 #[inline(never)]
 fn are_together<A: Allocator>(
     blocks: &Blocks<A>,
@@ -268,10 +269,12 @@ fn are_together<A: Allocator>(
     let starts = disjoint_index.starts.as_slice();
     let mut x_end = count_before(by_symbol, starts, x.number(), at);
     let mut y_end = count_before(by_symbol, starts, y.number(), at);
-    while ends_with(by_symbol, x_end, x.number()) && ends_with(by_symbol, y_end, y.number()) {
+    while last_has_symbol(by_symbol, x_end, x.number())
+        && last_has_symbol(by_symbol, y_end, y.number())
+    {
         let x_statement = by_symbol[x_end - 1].1;
         let y_statement = by_symbol[y_end - 1].1;
-        if x_statement == y_statement && blocks.is_open_at(x_statement, at) {
+        if x_statement == y_statement && blocks.is_block_open(x_statement, at) {
             return true;
         }
         if x_statement < y_statement {
@@ -283,7 +286,8 @@ fn are_together<A: Allocator>(
     false
 }
 
-/// Whether a `$d` that is active at the statement `at` has both symbols, which are different.
+/// Whether a `$d` that is active at the statement `at`, narrow or wide, has both symbols, which are
+/// different.
 pub(crate) fn are_in_one<A: Allocator>(
     blocks: &Blocks<A>,
     disjoint_index: &DisjointIndex<A>,

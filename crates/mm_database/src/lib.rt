@@ -4,6 +4,7 @@
 //! statements (`Rattle.mm_database.specs.Database.IsDatabase`).
 #![tactic(auto)]
 
+mod chosen_typecode;
 pub mod database;
 pub mod disjoint_index;
 pub mod frames;
@@ -18,6 +19,7 @@ pub mod statement_lists;
 pub mod statements;
 pub mod tables;
 
+pub use chosen_typecode::has_chosen_typecode;
 pub use database::Database;
 pub use frames::Frame;
 pub use mm_outline::{Kind, Sym};

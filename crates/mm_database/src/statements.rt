@@ -202,12 +202,12 @@ impl<'a, A: Allocator> Statements<'a, A> {
 
     /// Whether the block of a statement is still open before a later one.
     #[inline(always)]
-    pub fn is_open_at(&self, statement: u32, at: u32) -> bool
+    pub fn is_block_open(&self, statement: u32, at: u32) -> bool
         requires statement_lt_at { statement < at }
         requires at_le_length { at ≤ length self.now.list }
         ensures { result ≡ is_block_open self.now.list statement at }
     {
-        self.blocks.is_open_at(statement, at)
+        self.blocks.is_block_open(statement, at)
     }
 
     /// Whether a statement is active at the statement `at`, or at the end, which is `len()`.
@@ -218,7 +218,7 @@ impl<'a, A: Allocator> Statements<'a, A> {
         ensures { result ≡ active_at self.now.list statement at }
     {
         let kind = self.outlines[statement as usize].kind;
-        statement < at && is_active_kind(kind, self.blocks.is_open_at(statement, at))
+        statement < at && is_active_kind(kind, self.blocks.is_block_open(statement, at))
     }
 }
 
@@ -258,13 +258,13 @@ fn is_assertion_kind(kind: Kind) -> bool
     }
 }
 
-/// Whether a statement of this kind is active. `is_open` says whether its block is open.
-fn is_active_kind(kind: Kind, is_open: bool) -> bool
-    ensures { result ≡ is_active_kind kind is_open }
+/// Whether a statement of this kind is active. `is_block_open` says whether its block is.
+fn is_active_kind(kind: Kind, is_block_open: bool) -> bool
+    ensures { result ≡ is_active_kind kind is_block_open }
 {
     match kind {
         Kind::Constants | Kind::Axiom | Kind::Theorem => true,
         Kind::Open | Kind::Close => false,
-        _ => is_open,
+        _ => is_block_open,
     }
 }

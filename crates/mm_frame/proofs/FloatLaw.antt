@@ -1,9 +1,9 @@
 -- What a lawful `$f` says of its two symbols.
-use Rattle.std.proofs.Common.{◌≡◌, ℕ, suc, ◌<◌, Bool, true, false, ◌&&◌, ◌||◌, List, [], ◌∷◌, ◌++◌}
-use Rattle.std.proofs.Common.{length, take, drop, bytes_eq, flat_map, slice_get, get_or, Option}
-use Rattle.std.proofs.Common.{None, Some, refl, sym, ap, ap₂, ◌∙◌, subst, arith, true≢false}
-use Rattle.std.proofs.Common.{if◌then◌else◌}
-use Rattle.std.proofs.lemmas.Bool.{lt-ltb}
+use Rattle.std.proofs.Common.{rules, ◌≡◌, ℕ, ◌<◌, Bool, true, false, ◌&&◌, ◌||◌, List, [], ◌∷◌}
+use Rattle.std.proofs.Common.{◌++◌, length, take, drop, bytes_eq, flat_map, slice_get, get_or}
+use Rattle.std.proofs.Common.{Option, None, Some, refl, sym, ap, ap₂, ◌∙◌, subst, arith, true≢false}
+use Rattle.std.proofs.Common.{if◌then◌else◌, inl, inr}
+use Rattle.std.proofs.lemmas.Bool.{lt-ltb, cases_Bool}
 use Rattle.std.proofs.lemmas.List.{take-append-drop}
 use Rattle.std.proofs.lemmas.List.Folds.{list_any-append}
 use Rattle.std.proofs.lemmas.Grind.{flat_map-append}
@@ -11,14 +11,12 @@ use Rattle.std.proofs.lemmas.Option.{same_Some}
 use Rattle.std.proofs.lemmas.Slice.Eq.{bytes_eq-Decides}
 use Rattle.std.specs.List.{list_any}
 use Rattle.mm_spec.specs.Text.{Bytes, Token, is_in, fault}
-use Rattle.mm_spec.specs.Statement.{Statement, constants, variables, disjoint, floating, essential}
-use Rattle.mm_spec.specs.Statement.{axiomatic, provable, opening, closing}
+use Rattle.mm_spec.specs.Statement.{Statement, floating}
 use Rattle.mm_spec.specs.Scope.{Names, names_before, active_statements, active_at}
-use Rattle.mm_spec.specs.Scope.{is_some_still_active}
-use Rattle.mm_spec.specs.Scope.{depth, constants_of, variables_of, is_block_open}
+use Rattle.mm_spec.specs.Scope.{is_some_still_active, depth, constants_of, variables_of}
+use Rattle.mm_spec.specs.Scope.{is_block_open}
 use Rattle.mm_spec.specs.Lawful.{scope_faults, least, is_typed, floating_faults, label_faults}
-use Rattle.mm_spec.specs.Lawful.{faults_at}
-use Rattle.mm_spec.specs.Lawful.{when, is_typed_otherwise}
+use Rattle.mm_spec.specs.Lawful.{faults_at, when, is_typed_otherwise}
 use Rattle.mm_spec.specs.declared.Fault.{Fault}
 use Rattle.mm_spec.specs.declared.Code.TheVariants.{BadFloating, TypedBefore, OtherTypecode}
 use Rattle.mm_spec.specs.Frame.{symbol_names, index_of, is_variable_number, is_floating, formula_at}
@@ -34,16 +32,11 @@ use Rattle.mm_outline.proofs.AmongLaw.{typed_word_is_typing, word_of_active_is_a
 pub word_at_index_of : (w : Bytes) (ws : List Bytes) → index_of w ws < length ws
     → slice_get ws (index_of w ws) ≡ Some w
 word_at_index_of w [] index_lt_length = absurd (omega arith)
-word_at_index_of w (v ∷ vs) index_lt_length =
-    word_at_index (bytes_eq w v) refl index_lt_length (word_at_index_of w vs)
-  where
-    word_at_index : (b : Bool) → bytes_eq w v ≡ b
-        → (elim b [ true ↦ 0 | false ↦ suc (index_of w vs) ]) < length (v ∷ vs)
-        → (index_of w vs < length vs → slice_get vs (index_of w vs) ≡ Some w)
-        → slice_get (v ∷ vs) (elim b [ true ↦ 0 | false ↦ suc (index_of w vs) ]) ≡ Some w
-    word_at_index true w_eq_v index_lt_length in_rest =
-        ap Some (sym ((bytes_eq-Decides w v).0 w_eq_v))
-    word_at_index false w_eq_v index_lt_length in_rest = in_rest (omega arith)
+word_at_index_of w (v ∷ vs) index_lt_length = elim (cases_Bool (bytes_eq w v)) [
+  | inl is_first ↦ rw (is_first, slice_get) (ap Some (sym ((bytes_eq-Decides w v).0 is_first)))
+  | inr is_other ↦
+      rw (is_other, slice_get) (word_at_index_of w vs (search (rules, arith)))
+]
 
 -- the statement as a list, which is empty if there is none
 abbrev pub as_list : Option Statement → List Statement
@@ -104,30 +97,6 @@ module _ (db : List Statement) (is_sound : IsSound db) where
       → list_any is_floating (elim o [ None ↦ [] | Some s ↦ s ∷ [] ]) ≡ true
       → (slice_get (flat_map (formula_of db) (elim o [ None ↦ [] | Some s ↦ s ∷ [] ])) 1 ≡ Some v)
       → IsFloat db k v
-  is_float_of_statement k v k_lt_length_db None statement_k_is_o o_is_floating second_symbol_is_v =
-      absurd (true≢false (sym o_is_floating))
-  is_float_of_statement k v k_lt_length_db (Some (constants a xs d)) statement_k_is_o o_is_floating
-      second_symbol_is_v =
-      absurd (true≢false (sym o_is_floating))
-  is_float_of_statement k v k_lt_length_db (Some (variables a xs d)) statement_k_is_o o_is_floating
-      second_symbol_is_v =
-      absurd (true≢false (sym o_is_floating))
-  is_float_of_statement k v k_lt_length_db (Some (disjoint a xs d)) statement_k_is_o o_is_floating
-      second_symbol_is_v =
-      absurd (true≢false (sym o_is_floating))
-  is_float_of_statement k v k_lt_length_db (Some (essential l a xs d)) statement_k_is_o
-      o_is_floating second_symbol_is_v =
-      absurd (true≢false (sym o_is_floating))
-  is_float_of_statement k v k_lt_length_db (Some (axiomatic l a xs d)) statement_k_is_o
-      o_is_floating second_symbol_is_v =
-      absurd (true≢false (sym o_is_floating))
-  is_float_of_statement k v k_lt_length_db (Some (provable l a xs q ps d)) statement_k_is_o
-      o_is_floating second_symbol_is_v =
-      absurd (true≢false (sym o_is_floating))
-  is_float_of_statement k v k_lt_length_db (Some (opening a)) statement_k_is_o o_is_floating
-      second_symbol_is_v = absurd (true≢false (sym o_is_floating))
-  is_float_of_statement k v k_lt_length_db (Some (closing a)) statement_k_is_o o_is_floating
-      second_symbol_is_v = absurd (true≢false (sym o_is_floating))
   is_float_of_statement k v k_lt_length_db (Some (floating l a [] d)) statement_k_is_o o_is_floating
       second_symbol_is_v = absurd (cc)
   is_float_of_statement k v k_lt_length_db (Some (floating l a (c ∷ []) d)) statement_k_is_o
@@ -157,6 +126,8 @@ module _ (db : List Statement) (is_sound : IsSound db) where
             (names_before db k) a c x no_typing_fault).1;
         typecode_is_declared = typecode_is_constant (names_before db k) a c x no_typing_fault;
       }
+  is_float_of_statement k v k_lt_length_db _ statement_k_is_o o_is_floating second_symbol_is_v =
+      absurd (true≢false (sym o_is_floating))
 
   -- a statement that gives a variable a type is its `$f`
   pub typed_is_float : (k v : ℕ) → k < length db → typed_variable_at db k ≡ Some v → IsFloat db k v
@@ -165,23 +136,11 @@ module _ (db : List Statement) (is_sound : IsSound db) where
     where
       is_float : (o : Option Statement) → slice_get db k ≡ o → typed_variable_of db o ≡ Some v
           → IsFloat db k v
-      is_float o statement_k_is_o typed_variable_is_v = is_float_if (list_any is_floating
-          (elim o [ None ↦ [] | Some statement_k_is_o ↦ statement_k_is_o ∷ [] ])) refl
-          typed_variable_is_v
-        where
-          is_float_if : (b : Bool)
-              → list_any is_floating
-              (elim o [ None ↦ [] | Some statement_k_is_o ↦ statement_k_is_o ∷ [] ])
-              ≡ b
-              → (if b then slice_get
-              (flat_map (formula_of db)
-              (elim o [ None ↦ [] | Some statement_k_is_o ↦ statement_k_is_o ∷ [] ])) 1 else None)
-              ≡ Some v
-              → IsFloat db k v
-          is_float_if true o_is_floating second_symbol_is_v =
-              is_float_of_statement k v k_lt_length_db o statement_k_is_o o_is_floating
-              second_symbol_is_v
-          is_float_if false o_is_floating second_symbol_is_v = absurd (cc)
+      is_float o statement_k_is_o o_types_v = elim (cases_Bool (list_any is_floating (as_list o))) [
+        | inl is_one ↦ is_float_of_statement k v k_lt_length_db o statement_k_is_o is_one
+            (rw is_one at o_types_v)
+        | inr is_none ↦ absurd (let none_is_some = rw is_none at o_types_v in cc)
+      ]
 
   -- a `$f` has a variable
   pub floating_is_typed : (k : ℕ) → k < length db
@@ -193,23 +152,6 @@ module _ (db : List Statement) (is_sound : IsSound db) where
       has_variable : (o : Option Statement) → slice_get db k ≡ o → list_any is_floating (as_list o)
           ≡ true
           → (v : ℕ) × (typed_variable_at db k ≡ Some v) × IsFloat db k v
-      has_variable None statement_k_is_o k_is_floating = absurd (true≢false (sym k_is_floating))
-      has_variable (Some (constants a xs d)) statement_k_is_o k_is_floating =
-          absurd (true≢false (sym k_is_floating))
-      has_variable (Some (variables a xs d)) statement_k_is_o k_is_floating =
-          absurd (true≢false (sym k_is_floating))
-      has_variable (Some (disjoint a xs d)) statement_k_is_o k_is_floating =
-          absurd (true≢false (sym k_is_floating))
-      has_variable (Some (essential l a xs d)) statement_k_is_o k_is_floating =
-          absurd (true≢false (sym k_is_floating))
-      has_variable (Some (axiomatic l a xs d)) statement_k_is_o k_is_floating =
-          absurd (true≢false (sym k_is_floating))
-      has_variable (Some (provable l a xs q ps d)) statement_k_is_o k_is_floating =
-          absurd (true≢false (sym k_is_floating))
-      has_variable (Some (opening a)) statement_k_is_o k_is_floating =
-          absurd (true≢false (sym k_is_floating))
-      has_variable (Some (closing a)) statement_k_is_o k_is_floating =
-          absurd (true≢false (sym k_is_floating))
       has_variable (Some (floating l a [] d)) statement_k_is_o k_is_floating =
           absurd (let no_typing_fault = (both_are_empty (label_faults (names_before db k) l)
           (floating_faults (names_before db k) a [])
@@ -224,6 +166,7 @@ module _ (db : List Statement) (is_sound : IsSound db) where
           let v = index_of x.word (symbol_names db) in
           let typed_variable_is_v = ap (typed_variable_of db) statement_k_is_o in
           (v, typed_variable_is_v, typed_is_float k v k_lt_length_db typed_variable_is_v)
+      has_variable _ statement_k_is_o k_is_floating = absurd (true≢false (sym k_is_floating))
 
   module _ (k v : ℕ) (k_lt_length : k < length db) (float : IsFloat db k v) where
     -- the formula of a `$f` is its typecode and its variable

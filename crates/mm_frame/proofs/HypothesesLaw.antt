@@ -1,10 +1,12 @@
 -- The mandatory variables and hypotheses are those that the walk finds.
-use Rattle.std.proofs.Common.{cond, ◌≡◌, ℕ, suc, ◌+◌, ◌<◌, ◌≤◌, Bool, true, false, ◌&&◌}
-use Rattle.std.proofs.Common.{◌||◌, not, All, List, [], ◌∷◌, ◌++◌, length, get_or, flat_map, nat_eq}
-use Rattle.std.proofs.Common.{nat_lt, None, Some, refl, sym, ap, ap₂, ◌∙◌, subst, arith, eqb-true}
-use Rattle.std.proofs.Common.{eq-eqb, true≢false, ◌⊎◌, inl, inr}
-use Rattle.std.proofs.lemmas.Bool.{cases_lt, lt-ltb, ltb-true, ne_eqb, and_parts}
+use Rattle.std.proofs.Common.{rules, ◌≡◌, ℕ, ◌+◌, ◌<◌, ◌≤◌, Bool, true, false, ◌&&◌, ◌||◌, not, All}
+use Rattle.std.proofs.Common.{List, [], ◌∷◌, ◌++◌, length, get_or, flat_map, nat_eq, nat_lt, None}
+use Rattle.std.proofs.Common.{Some, refl, sym, ap, ap₂, ◌∙◌, subst, arith, eqb-true, eq-eqb}
+use Rattle.std.proofs.Common.{true≢false, inl, inr}
+use Rattle.std.proofs.lemmas.Grind.{common_steps}
+use Rattle.std.proofs.lemmas.Bool.{cases_lt, ltb-true, ne_eqb, and_parts, cases_Bool, or_cases}
 use Rattle.std.proofs.lemmas.Option.{slice_get_past}
+use Rattle.std.proofs.lemmas.Bool.Decides.{nat_tests}
 use Rattle.std.specs.List.{list_any, range_with_len, filter}
 use Rattle.std.specs.List.Sorted.{IsStrictlyIncreasing}
 use Rattle.std.proofs.lemmas.List.Folds.{list_any-append}
@@ -18,7 +20,8 @@ use Rattle.mm_spec.specs.Frame.{is_floating, active_of, formula_at, mandatory_va
 use Rattle.mm_spec.specs.Frame.{mandatory_hypotheses}
 use Rattle.mm_spec.proofs.BoolLaw.{same_tests}
 use Rattle.mm_spec.proofs.MemberLaw.{passing_has_witness, witness_makes_any, same_members_same_any}
-use Rattle.mm_spec.proofs.MemberLaw.{member_flat}
+use Rattle.mm_spec.proofs.MemberLaw.{member_flat, member_filter, member_range, active_member}
+use Rattle.mm_spec.proofs.MemberLaw.{essential_local}
 use Rattle.mm_spec.proofs.ListLaw.{element_is_member}
 use Rattle.mm_outline.specs.Blocks.{never}
 use Rattle.mm_frame.specs.Latest.{is_staying}
@@ -30,7 +33,6 @@ use Rattle.mm_frame.proofs.FloatLaw.{typed_is_float, floating_is_typed}
 use Rattle.mm_frame.proofs.FloatLaw.{formula_is_typecode_and_variable, float_is_floating}
 use Rattle.mm_frame.proofs.FloatLaw.{typecode_is_no_variable, variable_lt_symbol_count}
 use Rattle.mm_frame.proofs.FloatLaw.{float_active_is_block_open}
-use Rattle.mm_spec.proofs.MemberLaw.{member_filter, member_range, active_member, essential_local}
 
 -- a list that is strictly rising, by its neighbours
 pub rising_from_increasing : (xs : List ℕ) (a : ℕ) → IsStrictlyIncreasing xs
@@ -45,37 +47,18 @@ rising_from_increasing (y ∷ ys) a increasing a_le_first = (
   where
     second_is_greater : get_or (y ∷ ys) 0 0 < get_or (y ∷ ys) (0 + 1) 0 → y + 1 ≤ get_or ys 0 0
     second_is_greater second_is_greater_than_y =
-        let zero_plus_one_is_suc : 0 + 1 ≡ suc 0 = omega arith in
-        let y_lt_second =
-        subst (λ i. y < get_or (y ∷ ys) i 0) zero_plus_one_is_suc second_is_greater_than_y in
-        omega (arith, y_lt_second)
+        (search (rules, arith))
 
     tail_increases : (k : ℕ) → get_or (y ∷ ys) (k + 1) 0 < get_or (y ∷ ys) (k + 1 + 1) 0
         → get_or ys k 0 < get_or ys (k + 1) 0
     tail_increases k second_is_greater_than_y =
-        let one_more_than_k : k + 1 ≡ suc k = omega arith in
-        let one_more_than_next : k + 1 + 1 ≡ suc (k + 1) = omega arith in
-        subst (λ i. get_or ys k 0 < get_or (y ∷ ys) i 0) one_more_than_next
-        (subst (λ i. get_or (y ∷ ys) i 0 < get_or (y ∷ ys) (k + 1 + 1) 0) one_more_than_k
-        second_is_greater_than_y)
+        search (rules, arith)
 
 -- two filters are one with both tests
 filter_filter : (p q : ℕ → Bool) (xs : List ℕ)
     → filter p (filter q xs) ≡ filter (λ j. q j && p j) xs
 filter_filter p q [] = refl
-filter_filter p q (x ∷ xs) = filters_agree (q x) (filter_filter p q xs)
-  where
-    filters_agree : (b : Bool) → filter p (filter q xs) ≡ filter (λ j. q j && p j) xs
-        → filter p (cond b (x ∷ filter q xs) (filter q xs))
-        ≡ cond (b && p x) (x ∷ filter (λ j. q j && p j) xs) (filter (λ j. q j && p j) xs)
-    filters_agree true filters_equal = filters_agree_at_x (p x)
-      where
-        filters_agree_at_x : (c : Bool)
-            → ◌≡◌ {A = List ℕ} (cond c (x ∷ filter p (filter q xs)) (filter p (filter q xs)))
-            (cond c (x ∷ filter (λ j. q j && p j) xs) (filter (λ j. q j && p j) xs))
-        filters_agree_at_x true = ap (λ ys. x ∷ ys) filters_equal
-        filters_agree_at_x false = filters_equal
-    filters_agree false filters_equal = filters_equal
+filter_filter p q (x ∷ xs) = grind (arith, common_steps, cases_Bool, (filter_filter p q xs))
 
 module _ (db : List Statement) (k : ℕ) where
   -- ---- variables
@@ -108,13 +91,8 @@ module _ (db : List Statement) (k : ℕ) where
       n_is
       ∙ ap (λ z. (is_variable_number db x && is_member (formula_at db k) x)
       || (is_variable_number db x && z)) e_is
-      ∙ regroup (is_variable_number db x) (is_member (formula_at db k) x)
-      (list_any (λ j. is_member (formula_at db j) x) (active_of is_essential db k))
+      ∙ grind arith
       ∙ found_are_mandatory_variables (active_of is_essential db k) (λ i. refl) x
-    where
-      regroup : (v f e : Bool) → ((v && f) || (v && (v && e))) ≡ (v && (f || e))
-      regroup true f e = refl
-      regroup false f e = refl
 
   -- an active `$e` stands before the assertion
   pub essential_lt_k : (xs : List ℕ)
@@ -129,16 +107,12 @@ module _ (db : List Statement) (k : ℕ) where
 
   -- a variable is one of the symbols
   pub variable_has_name : (x : ℕ) → is_variable_number db x ≡ true → x < length (symbol_names db)
-  variable_has_name x x_is_variable = x_lt_count (cases_lt x (length (symbol_names db)))
-    where
-      x_lt_count : (x < length (symbol_names db)) ⊎ (length (symbol_names db) ≤ x)
-          → x < length (symbol_names db)
-      x_lt_count (inl x_order) = x_order
-      x_lt_count (inr x_order) =
-          absurd (true≢false
-          (sym x_is_variable ∙ ap (λ o. elim o
-          [ None ↦ false | Some w ↦ is_in w (flat_map variables_of db) ])
-          (slice_get_past (symbol_names db) x x_order)))
+  variable_has_name x x_is_variable = elim (cases_lt x (length (symbol_names db))) [
+    | inl x_lt_count ↦ x_lt_count
+    | inr count_le_x ↦ absurd (true≢false (sym x_is_variable
+        ∙ ap (λ o. elim o [ None ↦ false | Some w ↦ is_in w (flat_map variables_of db) ])
+        (slice_get_past (symbol_names db) x count_le_x)))
+  ]
 
   -- a mandatory variable is one of the symbols
   pub mandatory_has_name : (x : ℕ) → is_member (mandatory_variables db k) x ≡ true
@@ -285,64 +259,36 @@ module _ (db : List Statement) (k : ℕ) where
           right_to_left : (j : ℕ) → (is_member es j || list_any (is_float_of db k ts j) variables)
               ≡ true
               → ((active_at db j k && wanted j) ≡ true) × (j < k)
-          right_to_left j is_found = is_wanted (is_member es j) refl is_found
-            where
-              is_wanted : (b : Bool) → is_member es j ≡ b
-                  → (b || list_any (is_float_of db k ts j) variables) ≡ true
-                  → ((active_at db j k && wanted j) ≡ true) × (j < k)
-              is_wanted true j_is_member is_found =
-                  let j_is_active_essential = sym (member_is_active_essential j) ∙ j_is_member in
-                  let j_is_essential =
-                  (and_parts (list_any is_essential (statement_at db j))
-                  (active_at db j k && nat_lt j k) j_is_active_essential).0 in
-                  let j_is_active_before_k =
-                  (and_parts (list_any is_essential (statement_at db j))
-                  (active_at db j k && nat_lt j k) j_is_active_essential).1 in (
-                    ap₂ (λ a b. a
-                        && (b ||
-                        (list_any is_floating (statement_at db j)
-                        && list_any (is_member (mandatory_variables db k)) (formula_at db j))))
-                        (and_parts (active_at db j k) (nat_lt j k) j_is_active_before_k).0
-                        j_is_essential,
-                    ltb-true j k (and_parts (active_at db j k) (nat_lt j k) j_is_active_before_k).1,
-                  )
-              is_wanted false not_member is_found =
-                  let active_float = found_is_active_float j is_found in (
-                    ap₂ (λ a b. a && b) active_float.0
-                        (ap (λ b. list_any is_essential (statement_at db j) || b)
-                        (ap₂ (λ a b. a && b) active_float.1 active_float.2)
-                        ∙ or-true (list_any is_essential (statement_at db j))),
-                    active_float.3,
-                  )
+          right_to_left j is_found =
+              elim (or_cases (is_member es j) (list_any (is_float_of db k ts j) variables) is_found) [
+                | inl j_is_member ↦ (
+                  grind (arith, j_is_member, member_is_active_essential j),
+                  grind (arith, nat_tests, j_is_member, member_is_active_essential j),
+                )
+                | inr is_float ↦
+                    let (is_active, is_floating_j, has_mandatory, j_lt_k) = found_is_active_float j
+                    is_float in
+                    (grind (arith, is_active, is_floating_j, has_mandatory), j_lt_k)
+              ]
 
           left_to_right : (j : ℕ) → j < k → (active_at db j k && wanted j) ≡ true
               → (is_member es j || list_any (is_float_of db k ts j) variables) ≡ true
           left_to_right j j_lt_k active_and_wanted =
-              is_listed (list_any is_essential (statement_at db j)) refl
-              (and_parts (active_at db j k) (wanted j) active_and_wanted).1
-            where
-              j_is_active : active_at db j k ≡ true
-              j_is_active = (and_parts (active_at db j k) (wanted j) active_and_wanted).0
-
-              is_listed : (b : Bool) → list_any is_essential (statement_at db j) ≡ b
-                  → (b || (list_any is_floating (statement_at db j)
-                  && list_any (is_member (mandatory_variables db k)) (formula_at db j)))
-                  ≡ true
-                  → (is_member es j || list_any (is_float_of db k ts j) variables) ≡ true
-              is_listed true j_is_essential active_and_wanted =
-                  ap (λ b. b || list_any (is_float_of db k ts j) variables)
-                  (member_is_active_essential j ∙ ap₂ (λ p q. p && q) j_is_essential
-                  (ap₂ (λ p q. p && q) j_is_active (lt-ltb j k j_lt_k)))
-              is_listed false j_is_essential active_and_wanted =
-                  ap (λ b. is_member es j || b)
-                  (float_found j j_lt_k
-                  (and_parts (list_any is_floating (statement_at db j))
-                  (list_any (is_member (mandatory_variables db k)) (formula_at db j))
-                  active_and_wanted).0
-                  (and_parts (list_any is_floating (statement_at db j))
-                  (list_any (is_member (mandatory_variables db k)) (formula_at db j))
-                  active_and_wanted).1 j_is_active)
-                  ∙ or-true (is_member es j)
+              elim (cases_Bool (list_any is_essential (statement_at db j))) [
+                | inl is_one ↦ grind (
+                  arith,
+                  nat_tests,
+                  j_lt_k,
+                  is_one,
+                  active_and_wanted,
+                  member_is_active_essential j,
+                )
+                | inr is_none ↦
+                    let is_found = float_found j j_lt_k (grind (arith, is_none, active_and_wanted))
+                    (grind (arith, is_none, active_and_wanted)) (grind (arith, active_and_wanted))
+                    in
+                    grind (arith, is_found)
+              ]
 
           wanted_is_member : (j : ℕ) → j < k → (active_at db j k && wanted j) ≡ is_member xs j
           wanted_is_member j j_lt_k =

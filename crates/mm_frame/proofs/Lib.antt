@@ -1,12 +1,12 @@
 -- Lists are identified by their members: an ascending list with the right members is the right list
 -- (`filter_is` of `mm_spec`, `sorted_with_same_members_equal` in `PairsLaw.antt`).
--- `open_candidate_is_latest` and `walked_is_active` (`LatestLaw.antt`) find the active `$e`,
+-- `candidate_at_latest` and `walked_is_active` (`LatestLaw.antt`) find the active `$e`,
 -- `found_are_mandatory_variables` the variables, and `hypotheses_are_mandatory`
 -- (`HypothesesLaw.antt`) the hypotheses. `has_symbol_with_disjoint` and `pairs_with_symbol`
 -- (`ChainsLaw.antt`) give the `$d` by variables. `chained_are_higher` and `row_with_next`
 -- (`RowsLaw.antt`) make the rows of the narrow ones. With `have_blocks` of `mm_database` they give
 -- `IsDisjointIndex`. `pairs_are_mandatory_pairs` (`DisjointLaw.antt`) gives the pairs.
--- `same_frame` (`ScopeLaw.antt`) says when an assertion has the frame of the one before it.
+-- `same_frame` (`NeighboursLaw.antt`) says when an assertion has the frame of the one before it.
 -- (`SkipsLaw.antt`: the loops of `skips_of`; `LoopsLaw.antt`: one more element in the loops that
 -- collect.) The loop of `frames_between` adds to the frames by `frames_with_statement`
 -- (`FramesLaw.antt`). `next_is_joined` and `all_are_joined` (`StretchesLaw.antt`) put the frames of
@@ -23,5 +23,5 @@ pub mod SkipsLaw
 pub mod HypothesesLaw
 pub mod ChainsLaw
 pub mod RowsLaw
-pub mod ScopeLaw
+pub mod NeighboursLaw
 pub mod StretchesLaw

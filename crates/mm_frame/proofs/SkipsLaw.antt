@@ -1,11 +1,11 @@
 -- How the skips of the index are found, one after the other.
-use Rattle.std.proofs.Common.{◌≡◌, ℕ, ◌+◌, ◌-◌, ◌<◌, ◌≤◌, true, ◌&&◌, List, [], ◌∷◌, ◌++◌}
-use Rattle.std.proofs.Common.{length, get_or, nat_eq, nat_le, refl, sym, ap, ◌∙◌, subst, arith}
-use Rattle.std.proofs.Common.{◌⊎◌, inl, inr, length-append}
-use Rattle.std.proofs.lemmas.Bool.{and_parts, eqb-true, leb-true, cases_lt}
+use Rattle.std.proofs.Common.{◌≡◌, ℕ, ◌+◌, ◌-◌, ◌<◌, ◌≤◌, true, ◌&&◌, List, [], ◌∷◌, ◌++◌, length}
+use Rattle.std.proofs.Common.{get_or, nat_eq, nat_le, refl, sym, ap, ◌∙◌, subst, arith, inl, inr}
+use Rattle.std.proofs.Common.{length-append}
+use Rattle.std.proofs.lemmas.Bool.{cases_lt}
 use Rattle.std.proofs.lemmas.Grind.{get_or_default_zero}
-use Rattle.std.proofs.lemmas.List.{get_or_append_left}
-use Rattle.std.proofs.Math.Seq.{get_or-append_seam}
+use Rattle.std.proofs.lemmas.List.{get_or_append_left, get_or_push}
+use Rattle.std.proofs.lemmas.Bool.Decides.{nat_tests}
 use Rattle.mm_outline.specs.Blocks.{BlockLists, end_of}
 use Rattle.mm_database.specs.DisjointIndex.{IsCovered, Covers, AreSkips}
 
@@ -34,29 +34,15 @@ module _ (b : BlockLists) (ps : List (ℕ × ℕ)) where
   covers_before first index s first_positive first_le_index first_covers is_covered s_covers =
       let s_le_previous = s_covers.0 in (
         omega (arith, first_positive, first_le_index, s_le_previous),
-        λ p s_le_p p_le_index. is_covered_at p s_le_p p_le_index
-            (cases_lt p first),
+        λ p s_le_p p_le_index. elim (cases_lt p first) [
+          | inr first_le_p ↦ first_covers p first_le_p p_le_index
+          | inl p_lt_first ↦
+              let (symbols_equal, end_le) = s_covers.1 p s_le_p (omega (arith, p_lt_first)) in (
+                grind (arith, nat_tests, symbols_equal, is_covered),
+                grind (arith, nat_tests, end_le, is_covered),
+              )
+        ],
       )
-    where
-      parts : (nat_eq (pair_at (first - 1)).0 (pair_at index).0 ≡ true)
-          × (nat_le (end_of b (pair_at (first - 1)).1) (end_of b (pair_at index).1) ≡ true)
-      parts =
-          and_parts (nat_eq (pair_at (first - 1)).0 (pair_at index).0)
-          (nat_le (end_of b (pair_at (first - 1)).1) (end_of b (pair_at index).1)) is_covered
-
-      symbols_equal : (pair_at (first - 1)).0 ≡ (pair_at index).0
-      symbols_equal = eqb-true (pair_at (first - 1)).0 (pair_at index).0 parts.0
-
-      end_le_end : end_of b (pair_at (first - 1)).1 ≤ end_of b (pair_at index).1
-      end_le_end = leb-true (end_of b (pair_at (first - 1)).1) (end_of b (pair_at index).1) parts.1
-
-      is_covered_at : (p : ℕ) → s ≤ p → p ≤ index → (p < first) ⊎ (first ≤ p)
-          → IsCovered b (pair_at p) (pair_at index)
-      is_covered_at p s_le_p p_le_index (inr p_order) = first_covers p p_order p_le_index
-      is_covered_at p s_le_p p_le_index (inl p_order) =
-          let p_is_covered = s_covers.1 p s_le_p (omega (arith, p_order)) in
-          let p_end_le = p_is_covered.1 in
-          (p_is_covered.0 ∙ symbols_equal, omega (arith, p_end_le, end_le_end))
 
   -- a skip that was found is no later than its pair
   pub skip_covers : (index : ℕ) (skips : List ℕ) → AreSkipsSoFar index skips → (q r d : ℕ)
@@ -73,24 +59,23 @@ module _ (b : BlockLists) (ps : List (ℕ × ℕ)) where
       → (pushed : List ℕ) → pushed ≡ skips ++ s ∷ [] → AreSkipsSoFar (index + 1) pushed
   skips_with_next index s skips are_so_far s_covers pushed more_is_pushed = (
     ap length more_is_pushed ∙ length-append skips (s ∷ []) ∙ ap (λ n. n + 1) are_so_far.0,
-    λ q q_lt_next. is_skip q (cases_lt q index) q_lt_next,
-  )
-    where
-      is_skip : (q : ℕ) → (q < index) ⊎ (index ≤ q) → q < index + 1
-          → (get_or pushed q 0 ≤ q) × Covers b ps (get_or pushed q 0) q
-      is_skip q (inl q_order) q_lt_next_index =
+    λ q q_lt_next. elim (cases_lt q index) [
+      | inl q_lt_index ↦ rw (
+        more_is_pushed,
+        get_or_append_left skips (s ∷ []) 0 q
+            (let skips_length = are_so_far.0 in omega (arith, q_lt_index, skips_length)),
+      )
+          (are_so_far.1 q q_lt_index)
+      | inr index_le_q ↦
+          let q_is_index : q ≡ index = omega (arith, index_le_q, q_lt_next) in
           let skips_length = are_so_far.0 in
-          subst (λ x. (x ≤ q) × Covers b ps x q)
-          (sym (ap (λ xs. get_or xs q 0) more_is_pushed
-          ∙ get_or_append_left skips (s ∷ []) 0 q (omega (arith, q_order, skips_length))))
-          (are_so_far.1 q q_order)
-      is_skip q (inr q_order) q_lt_next_index =
-          let index_is_q : index ≡ q = omega (arith, q_order, q_lt_next_index) in
-          subst (λ j. (get_or pushed j 0 ≤ j) × Covers b ps (get_or pushed j 0) j) index_is_q
-          (subst (λ x. (x ≤ index) × Covers b ps x index)
-          (sym (ap (λ xs. get_or xs index 0) more_is_pushed
-          ∙ ap (λ j. get_or (skips ++ s ∷ []) j 0) (sym are_so_far.0)
-          ∙ get_or-append_seam skips s [] 0)) s_covers)
+          rw (
+            more_is_pushed,
+            get_or_push skips s 0 q (omega (arith, q_is_index, skips_length)),
+            q_is_index,
+          ) s_covers
+    ],
+  )
 
   -- at the end the skips so far are all of them
   pub so_far_are_skips : (index : ℕ) (skips : List ℕ) → AreSkipsSoFar index skips

@@ -13,14 +13,14 @@ module _ (test : Statement → Bool) (db : List Statement) where
 
   -- no statement of the kind after `last` is active at k; `last` may be `never`, for none
   pub record IsCandidate (k last : ℕ) : Type 0 where
-    pub last_is_found : last ≢ never → (last < k) × (list_any test (statement_at db last) ≡ true)
+    pub last_is_of_kind : last ≢ never → (last < k) × (list_any test (statement_at db last) ≡ true)
     pub later_are_not_staying : (i : ℕ) → i < k → (last < i) ⊎ (last ≡ never)
         → is_staying i k ≡ false
 
   -- no statement of the kind after `last` is active at k, and `last` is; it may be `never`, for
   -- none
   pub record IsLatest (k last : ℕ) : Type 0 where
-    pub last_is_found : last ≢ never → (last < k) × (is_staying last k ≡ true)
+    pub last_is_staying : last ≢ never → (last < k) × (is_staying last k ≡ true)
     pub later_are_not_staying : (i : ℕ) → i < k → (last < i) ⊎ (last ≡ never)
         → is_staying i k ≡ false
 

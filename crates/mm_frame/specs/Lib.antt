@@ -4,4 +4,4 @@ pub mod Chains
 pub mod Sources
 pub mod Together
 pub mod Stretches
-pub mod Scope
+pub mod Neighbours

@@ -1,11 +1,8 @@
 -- Statements cut into stretches of one size.
-use Rattle.std.specs.Prelude.{◌≡◌, ℕ, ◌+◌, ◌*◌, List, Option, length, min}
+use Rattle.std.specs.Prelude.{◌≡◌, ℕ, ◌+◌, List, Option, length}
 use Rattle.mm_spec.specs.Statement.{Statement}
 use Rattle.mm_database.specs.Frames.{Mandatory, frames_between}
-
--- the first statement of a stretch, or the number of all statements if they end before it
-abbrev pub stretch_start : ℕ → ℕ → ℕ → ℕ
-stretch_start size count index = min (size * index) count
+use Rattle.mm_stretches.specs.Stretches.{stretch_start}
 
 -- the frames are those of the assertions of a stretch
 pub record IsStretch (db : List Statement) (size index : ℕ) (frames : List (Option Mandatory))

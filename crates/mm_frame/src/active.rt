@@ -25,7 +25,7 @@ fn latest_essential<A: Allocator>(
     ensures { IsLatest is_essential statements.now.list at result }
 {
     let mut essential = candidate;
-    while essential != NEVER && !statements.is_open_at(essential, at) {
+    while essential != NEVER && !statements.is_block_open(essential, at) {
         essential = latest[essential as usize];
     }
     essential

@@ -1,7 +1,7 @@
 //! The `$d` statements of each symbol, found without a sort: a walk over the statements from the
 //! last to the first puts each `$d` in front of the chains of its symbols. So each chain is in
-//! ascending order. In the same way a walk over the pairs of a symbol and a `$d` finds those of each
-//! lower symbol of the `$d`.
+//! ascending order. In the same way a walk over the pairs of a symbol and a `$d` finds those of
+//! each lower symbol of the `$d`.
 
 ghost use Rattle.std.specs.Prelude.{◌≡◌, ◌≢◌, ◌<◌, ◌≤◌, ◌-◌, ◌++◌, ℕ, IfOk, OnOk};
 ghost use Rattle.std.specs.Prelude.{◌&&◌, All, List, length, map, get_or, nat_eq, nat_lt, true};
@@ -120,10 +120,12 @@ pub(crate) fn chains_of<A: Allocator + Copy>(
     ensures head_count_is { IfOk result
         (λ c. length c.heads.items ≡ length (symbol_names statements.now.list)) }
     ensures symbols_have_heads { IfOk result
-        (λ c. (x j : ℕ) → has_symbol_by_width statements.now.list narrow x j ≡ true → x < length c.heads.items) }
+        (λ c. (x j : ℕ) → has_symbol_by_width statements.now.list narrow x j ≡ true
+        → x < length c.heads.items) }
     ensures are_linked { IfOk result (λ c. AreLinked c.heads.items c.links.items) }
     ensures are_chains { IfOk result
-        (λ c. AreChains (has_symbol_by_width statements.now.list narrow) 0 c.heads.items c.links.items) }
+        (λ c. AreChains (has_symbol_by_width statements.now.list narrow) 0 c.heads.items
+        c.links.items) }
 {
     let heads = vec![in alloc; 0; statements.symbol_count() as usize]?;
     let mut chains = Chains {
@@ -142,8 +144,8 @@ pub(crate) fn chains_of<A: Allocator + Copy>(
 }
 
 /// Returns for each symbol the pairs of a higher symbol and a `$d` that has both, by their indices.
-/// `by_symbol` are all pairs of a symbol and a narrow `$d` that has it. Fails only if out of memory,
-/// or if there are 2^32 pairs or more.
+/// `by_symbol` are all pairs of a symbol and a narrow `$d` that has it. Fails only if out of
+/// memory, or if there are 2^32 pairs or more.
 pub(crate) fn lower_chains<A: Allocator + Copy>(
     alloc: A,
     statements: &Statements<A>,
@@ -155,7 +157,8 @@ pub(crate) fn lower_chains<A: Allocator + Copy>(
         (λ c. length c.heads.items ≡ length (symbol_names statements.now.list)) }
     ensures are_linked { IfOk result (λ c. AreLinked c.heads.items c.links.items) }
     ensures are_chains { IfOk result
-        (λ c. AreChains (has_lower statements.now.list by_symbol.now) 0 c.heads.items c.links.items) }
+        (λ c. AreChains (has_lower statements.now.list by_symbol.now) 0 c.heads.items
+        c.links.items) }
 {
     let heads = vec![in alloc; 0; statements.symbol_count() as usize]?;
     let mut chains = Chains {
@@ -195,7 +198,8 @@ pub(crate) fn add_chain<A: Allocator>(
     Ok(())
 }
 
-/// Returns for each symbol and each narrow, or wide, `$d` that has it the two, the symbol first, in ascending order.
+/// Returns for each symbol and each narrow, or wide, `$d` that has it the two, the symbol first, in
+/// ascending order.
 pub(crate) fn pairs_by_symbol<A: Allocator + Copy>(
     alloc: A,
     statements: &Statements<A>,

@@ -14,7 +14,7 @@ ghost use Rattle.mm_database.specs.Pairs.{has_pair, AreRising};
 
 use crate::disjoint_index::sort_and_dedup_pairs;
 use crate::sources::FrameSources;
-use mm_database::disjoint_index::{DisjointIndex, add_active, is_active_in_row};
+use mm_database::disjoint_index::{DisjointIndex, append_active_wide, is_active_in_row};
 use mm_outline::blocks::Blocks;
 use mm_outline::symbol::Sym;
 use std::alloc::{AllocError, Allocator};
@@ -60,9 +60,9 @@ fn add_together<A: Allocator>(
     Ok(())
 }
 
-/// Appends each `$d` that is active at the statement `at`, paired with each of the symbols that it
-/// has: the `$d` first.
-fn add_all_active<A: Allocator>(
+/// Appends each wide `$d` that is active at the statement `at`, paired with each of the symbols
+/// that it has: the `$d` first.
+fn append_all_active_wide<A: Allocator>(
     blocks: &Blocks<A>,
     disjoint_index: &DisjointIndex<A>,
     symbols: &[Sym],
@@ -78,7 +78,7 @@ fn add_all_active<A: Allocator>(
         && (has_pair disjoint_index.now.by_symbol y j && is_active_local blocks.now j at)))) }
 {
     for symbol in symbols {
-        add_active(blocks, disjoint_index, *symbol, at, by_statement)?;
+        append_active_wide(blocks, disjoint_index, *symbol, at, by_statement)?;
     }
     Ok(())
 }
@@ -170,7 +170,7 @@ fn is_active_pair<A: Allocator>(
 {
     low < pair.0
         && is_marked(marks, stamp, variables, pair.0)
-        && (pair.1 < at && blocks.is_open_at(pair.1, at))
+        && (pair.1 < at && blocks.is_block_open(pair.1, at))
 }
 
 /// The same as [`add_found`] by a walk over the row. The variables have the stamp.
@@ -260,7 +260,7 @@ pub(crate) fn list_pairs<A: Allocator>(
     let blocks = sources.statements.blocks();
     let disjoint_index = sources.disjoint_index;
     variables_by_statement.clear();
-    add_all_active(
+    append_all_active_wide(
         blocks,
         disjoint_index,
         variables,

@@ -6,9 +6,9 @@ ghost use Rattle.mm_spec.specs.Derivation.{is_member};
 ghost use Rattle.mm_spec.specs.Frame.{formula_at};
 ghost use Rattle.mm_outline.specs.Blocks.{end_of};
 ghost use Rattle.mm_database.specs.DisjointIndex.{HaveBlocks, AreSkips, IsDisjointIndex};
-ghost use Rattle.mm_database.specs.DisjointIndex.{IsRow, IsRowOf, row_of, has_narrow_pair};
+ghost use Rattle.mm_database.specs.DisjointIndex.{IsRow, IsRowOfPairs, row_of, has_narrow_pair};
 ghost use Rattle.mm_database.specs.DisjointIndex.{has_symbol_by_width};
-ghost use Rattle.mm_frame.specs.Chains.{AreLinked, IsChainOf};
+ghost use Rattle.mm_frame.specs.Chains.{AreChains, AreLinked, IsChainOf, has_lower};
 ghost use Rattle.mm_database.specs.Pairs.{has_pair, AreRising};
 ghost use Rattle.mm_database.specs.Starts.{AreStarts};
 
@@ -154,7 +154,7 @@ fn list_uncovered<A: Allocator>(
     requires rising { AreRising pairs.now }
     requires have_blocks { HaveBlocks blocks.now pairs.now }
     ensures is_row { OnOk result (IsRow blocks.now row.new.items) }
-    ensures is_row_of { OnOk result (IsRowOf blocks.now (has_pair pairs.now) row.new.items) }
+    ensures is_row_of { OnOk result (IsRowOfPairs blocks.now (has_pair pairs.now) row.new.items) }
 {
     row.clear();
     for pair in pairs {
@@ -165,6 +165,58 @@ fn list_uncovered<A: Allocator>(
     Ok(())
 }
 
+/// A row, in lists whose memory is used again for the next one.
+struct RowLists<A: Allocator> {
+    /// The pairs of the symbol, by their indices.
+    indices: Vec<(u32, u32), A>,
+    /// The pairs themselves.
+    pairs: Vec<(u32, u32), A>,
+    /// Those of them that are in the row.
+    row: Vec<(u32, u32), A>,
+}
+
+/// Dropped in one call: docs/PROOFS.md, "What a check costs".
+impl<A: Allocator> Drop for RowLists<A> {
+    fn drop(self) {
+        let Self {
+            indices: _,
+            pairs: _,
+            row: _,
+        } = self;
+    }
+}
+
+/// Lists the row of a symbol, by all pairs of a symbol and a narrow `$d`, and the chains of their
+/// indices. What the lists had before is removed.
+fn list_row<A: Allocator>(
+    statements: &Statements<A>,
+    by_symbol: &[(u32, u32)],
+    chains: &Chains<A>,
+    symbol: u32,
+    lists: &mut RowLists<A>,
+) -> Result<(), AllocError>
+    requires rising { AreRising by_symbol.now }
+    requires members_are { (x j : ℕ) → has_pair by_symbol.now x j
+        ≡ has_symbol_by_width statements.now.list true x j }
+    requires symbol_lt_count { symbol < length chains.now.heads.items }
+    requires are_linked { AreLinked chains.now.heads.items chains.now.links.items }
+    requires are_chains { AreChains (has_lower statements.now.list by_symbol.now) 0
+        chains.now.heads.items chains.now.links.items }
+    ensures is_row { OnOk result (IsRow statements.now.blocks lists.new.row.items) }
+    ensures is_row_of { OnOk result
+        (IsRowOfPairs statements.now.blocks (has_narrow_pair statements.now.list symbol)
+        lists.new.row.items) }
+{
+    list_chained(
+        chains,
+        symbol,
+        by_symbol,
+        &mut lists.indices,
+        &mut lists.pairs,
+    )?;
+    list_uncovered(statements.blocks(), &lists.pairs, &mut lists.row)
+}
+
 /// Returns the row of each symbol.
 fn rows_of<A: Allocator + Copy>(
     alloc: A,
@@ -172,19 +224,19 @@ fn rows_of<A: Allocator + Copy>(
 ) -> Result<Lists<(u32, u32), A>, AllocError>
     ensures { IfOk result
         (λ r. (x : ℕ) → IsRow statements.now.blocks (row_of r x)
-        × IsRowOf statements.now.blocks (has_narrow_pair statements.now.list x) (row_of r x)) }
+        × IsRowOfPairs statements.now.blocks (has_narrow_pair statements.now.list x) (row_of r x)) }
 {
     let by_symbol = pairs_by_symbol(alloc, statements, true)?;
-    let by_symbol = by_symbol.as_slice();
-    let chains = lower_chains(alloc, statements, by_symbol)?;
-    let mut indices = Vec::new(alloc);
-    let mut pairs = Vec::new(alloc);
-    let mut row = Vec::new(alloc);
+    let chains = lower_chains(alloc, statements, &by_symbol)?;
+    let mut lists = RowLists {
+        indices: Vec::new(alloc),
+        pairs: Vec::new(alloc),
+        row: Vec::new(alloc),
+    };
     let mut rows = Lists::new(alloc);
     for symbol in 0..statements.symbol_count() {
-        list_chained(&chains, symbol, by_symbol, &mut indices, &mut pairs)?;
-        list_uncovered(statements.blocks(), &pairs, &mut row)?;
-        rows.push(&row)?;
+        list_row(statements, &by_symbol, &chains, symbol, &mut lists)?;
+        rows.push(&lists.row)?;
     }
     Ok(rows)
 }

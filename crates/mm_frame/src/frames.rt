@@ -15,11 +15,11 @@ ghost use Rattle.mm_database.specs.Frames.{mandatory_at};
 ghost use Rattle.mm_database.specs.ParsedStatements.{IsSound};
 ghost use Rattle.mm_frame.specs.Sources.{AreSources};
 ghost use Rattle.mm_frame.specs.Hypotheses.{AreLastFloats, IsFresh};
-ghost use Rattle.mm_frame.specs.Scope.{AreEssentialLists, IsReady, is_further, index_from};
+ghost use Rattle.mm_frame.specs.Neighbours.{AreEssentialLists, IsReady, is_further, index_from};
 
 use crate::disjoint::{list_pairs, symbol_pairs};
 use crate::hypotheses::{list_further_variables, list_hypotheses, list_mandatory_variables};
-use crate::scope::{EssentialLists, filled, keeps_scope, list_scope};
+use crate::neighbours::{EssentialLists, filled, keeps_scope, list_scope};
 use crate::sources::FrameSources;
 use mm_database::frames::{Frame, Frames};
 use mm_database::statements::Statements;

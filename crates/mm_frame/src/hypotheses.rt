@@ -118,7 +118,7 @@ fn is_further<A: Allocator>(
     stamp: u32,
     stamps: &[u32],
 ) -> bool
-    requires count { length stamps.now ≡ length (symbol_names statements.now.list) }
+    requires as_many_stamps { length stamps.now ≡ length (symbol_names statements.now.list) }
     requires symbol_lt_count { symbol < length (symbol_names statements.now.list) }
     ensures { result
         ≡ (is_variable_number statements.now.list symbol
@@ -136,7 +136,7 @@ pub(crate) fn list_further_variables<A: Allocator>(
     stamps: &[u32],
     further: &mut Vec<u32, A>,
 ) -> Result<(), AllocError>
-    requires count { length stamps.now ≡ length (symbol_names statements.now.list) }
+    requires as_many_stamps { length stamps.now ≡ length (symbol_names statements.now.list) }
     requires symbols_lt_count { All
         (λ s. s < length (symbol_names statements.now.list)) symbols.now }
     ensures { OnOk result
@@ -215,7 +215,7 @@ fn add_floats<A: Allocator>(
     for symbol in variables {
         let floating = last_floats[symbol.number() as usize];
         if floating != NEVER {
-            if statements.is_open_at(floating, at) {
+            if statements.is_block_open(floating, at) {
                 hypotheses.push(floating)?;
             }
         }

@@ -10,6 +10,6 @@ pub mod disjoint;
 pub mod disjoint_index;
 pub mod frames;
 pub mod hypotheses;
-mod scope;
+mod neighbours;
 mod sources;
 pub mod stretches;

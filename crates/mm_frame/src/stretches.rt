@@ -1,13 +1,14 @@
-//! The frames of all assertions. The frame of an assertion needs the statements and what is found of
-//! all of them before the first frame is made, but no other frame. So the statements are cut into
-//! stretches, and the frames of several stretches are made side by side.
+//! The frames of all assertions. The frame of an assertion needs the statements and what is found
+//! of all of them before the first frame is made, but no other frame. So the statements are cut
+//! into stretches, and the frames of several stretches are made side by side.
 
-ghost use Rattle.std.specs.Prelude.{◌≡◌, ◌<◌, ◌≤◌, ◌+◌, ◌/◌, ◌^◌, IfOk, length};
+ghost use Rattle.std.specs.Prelude.{◌≡◌, ◌<◌, IfOk, length};
 ghost use Rattle.std.specs.List.{AllZip, range_with_len};
 ghost use Rattle.mm_database.specs.Frames.{frames_before};
 ghost use Rattle.mm_database.specs.FrameTables.{AreFrameTables};
 ghost use Rattle.mm_frame.specs.Sources.{AreSources};
-ghost use Rattle.mm_frame.specs.Stretches.{stretch_start, IsStretch};
+ghost use Rattle.mm_frame.specs.Stretches.{IsStretch};
+ghost use Rattle.mm_stretches.specs.Stretches.{stretch_count};
 
 use crate::active::latest_essentials;
 use crate::disjoint_index::disjoint_index_of;
@@ -15,70 +16,53 @@ use crate::frames::frames_between;
 use crate::sources::FrameSources;
 use mm_database::frames::{FrameTables, Frames};
 use mm_database::statements::Statements;
+use mm_stretches::Stretches;
 use rayon::prelude::*;
 use std::alloc::{AllocError, Allocator};
 use std::thread::Threads;
 
-/// Returns how many statements a stretch has if `count` statements are cut into one for each worker.
-/// It has no fewer than there are symbols, since its frames begin with lists of all symbols.
-fn stretch_size(count: u32, symbol_count: u32, workers: u32) -> u32
-    requires count_lt_2_31 { count < 2 ^ 31 }
-    requires some_workers { 0 < workers }
-    ensures { 0 < result }
-{
-    (count / workers + 1).max(symbol_count)
-}
-
-/// Returns the number of the first statement of a stretch, or that of all statements if they end
-/// before it.
-fn stretch_start(size: u32, count: u32, index: u32) -> u32
-    requires { count < 2 ^ 31 }
-    ensures { result ≡ stretch_start size count index }
-{
-    size.saturating_mul(index).min(count)
-}
-
-/// Returns the frames of one stretch of `size` statements.
+/// Returns the frames of one stretch of the statements.
 fn frames_of_stretch<A: Allocator + Copy>(
     alloc: A,
     sources: &FrameSources<A>,
-    size: u32,
+    stretches: &Stretches,
     index: u32,
 ) -> Result<Frames<A>, AllocError>
     requires are_sources { AreSources sources.now }
-    requires index_lt_2_31 { index < 2 ^ 31 }
-    ensures { IfOk result (IsStretch sources.now.statements.now.list size index) }
+    requires all_are_cut { stretches.now.count
+        ≡ length sources.now.statements.now.list }
+    ensures { IfOk result (IsStretch sources.now.statements.now.list stretches.now.size index) }
 {
-    let count = sources.statements.len();
-    let from = stretch_start(size, count, index);
-    let to = stretch_start(size, count, index + 1);
+    let (from, to) = stretches.range(index);
     frames_between(alloc, sources, from, to)
 }
 
-/// Returns the frames of each of so many stretches of `size` statements, in order. They are made in
-/// parallel.
+/// Returns the frames of each stretch of the statements, in order. They are made in parallel.
 fn frames_by_stretch<R: Threads + Sync, A: Allocator + Copy + Send + Sync>(
     rt: &R,
     alloc: A,
     sources: &FrameSources<A>,
-    size: u32,
-    stretch_count: u32,
+    stretches: &Stretches,
 ) -> Result<Vec<Result<Frames<A>, AllocError>, A>, AllocError>
     requires are_sources { AreSources sources.now }
-    requires few_stretches { stretch_count ≤ 2 ^ 31 }
+    requires all_are_cut { stretches.now.count
+        ≡ length sources.now.statements.now.list }
     ensures { IfOk result
-        (λ v. AllZip (λ i r. IfOk r (IsStretch sources.now.statements.now.list size i))
-        (range_with_len 0 stretch_count) v.items) }
+        (λ v. AllZip
+        (λ i r. IfOk r (IsStretch sources.now.statements.now.list stretches.now.size i))
+        (range_with_len 0 (stretch_count stretches.now.size stretches.now.count)) v.items) }
 {
-    (0..stretch_count)
+    (0..stretches.len())
         .into_par_iter()
         .map(
             |index: u32| -> Result<Frames<A>, AllocError>
-                requires index_lt_2_31 { index < 2 ^ 31 }
                 requires are_sources { AreSources sources.now }
+                requires all_are_cut { stretches.now.count
+                    ≡ length sources.now.statements.now.list }
                 ensures { IfOk result
-                    (IsStretch sources.entry.now.statements.now.list size index) }
-            { frames_of_stretch(alloc, sources, size, index) },
+                    (IsStretch sources.entry.now.statements.now.list stretches.entry.now.size
+                    index) }
+            { frames_of_stretch(alloc, sources, stretches, index) },
         )
         .with_min_len(1)
         .collect(rt, alloc)
@@ -88,18 +72,17 @@ fn frames_by_stretch<R: Threads + Sync, A: Allocator + Copy + Send + Sync>(
 fn joined_frames<A: Allocator + Copy>(
     alloc: A,
     statements: &Statements<A>,
-    size: u32,
-    stretches: Vec<Result<Frames<A>, AllocError>, A>,
+    stretches: &Stretches,
+    made: Vec<Result<Frames<A>, AllocError>, A>,
 ) -> Result<Frames<A>, AllocError>
-    requires few_statements { length statements.now.list < 2 ^ 31 }
-    requires size_gt_0 { 0 < size }
+    requires all_are_cut { stretches.now.count ≡ length statements.now.list }
     requires are_stretches { AllZip
-        (λ i r. IfOk r (IsStretch statements.now.list size i))
-        (range_with_len 0 (length statements.now.list / size + 1)) stretches.items }
+        (λ i r. IfOk r (IsStretch statements.now.list stretches.now.size i))
+        (range_with_len 0 (stretch_count stretches.now.size stretches.now.count)) made.items }
     ensures { IfOk result
         (λ f. f ≡ frames_before statements.now.list (length statements.now.list)) }
 {
-    let mut unjoined = stretches;
+    let mut unjoined = made;
     let mut frames = Frames::none(alloc, statements.len() as usize);
     'joining: while !unjoined.is_empty() {
         let next = unjoined.remove(0)?;
@@ -108,23 +91,23 @@ fn joined_frames<A: Allocator + Copy>(
     Ok(frames)
 }
 
-/// Returns the frames of all assertions, in stretches of `size` statements.
+/// Returns the frames of all assertions, made in these stretches of the statements.
 fn frames_in_stretches<R: Threads + Sync, A: Allocator + Copy + Send + Sync>(
     rt: &R,
     alloc: A,
     sources: &FrameSources<A>,
-    size: u32,
+    stretches: &Stretches,
 ) -> Result<Frames<A>, AllocError>
     requires are_sources { AreSources sources.now }
-    requires size_gt_0 { 0 < size }
+    requires all_are_cut { stretches.now.count
+        ≡ length sources.now.statements.now.list }
     ensures { IfOk result
         (λ f. f
         ≡ frames_before sources.now.statements.now.list
         (length sources.now.statements.now.list)) }
 {
-    let stretch_count = sources.statements.len() / size + 1;
-    let stretches = frames_by_stretch(rt, alloc, sources, size, stretch_count)?;
-    joined_frames(alloc, sources.statements, size, stretches)
+    let made = frames_by_stretch(rt, alloc, sources, stretches)?;
+    joined_frames(alloc, sources.statements, stretches, made)
 }
 
 /// Returns the frames of lawful statements, and the index of their `$d`. The frames are made in a
@@ -146,8 +129,9 @@ pub fn frame_tables_of<R: Threads + Sync, A: Allocator + Copy + Send + Sync>(
         essentials: &essentials,
         disjoint_index: &disjoint_index,
     };
-    let size = stretch_size(statements.len(), statements.symbol_count(), workers);
-    let frames = frames_in_stretches(rt, alloc, &sources, size)?;
+    // The frames of a stretch begin with lists of all symbols.
+    let stretches = Stretches::new(statements.len(), workers, statements.symbol_count());
+    let frames = frames_in_stretches(rt, alloc, &sources, &stretches)?;
     Ok(FrameTables {
         disjoint_index,
         frames,

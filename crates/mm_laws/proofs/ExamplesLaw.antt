@@ -184,8 +184,7 @@ of_sections sections form = record without_options { sections = sections; form =
 
 report_of_wi2 : report (of_sections default_sections One) None (codes "wi" ∷ codes "ax-1" ∷ [])
     (record { label = codes "wi2"; marks = true ∷ false ∷ [] } ∷ []) [] []
-    ≡ flat_map line
-    (codes "mmdepend 1" ∷ codes "axioms 2" ∷ codes "theorems 1" ∷ codes "matrix"
+    ≡ flat_map line (codes "mmdepend 1" ∷ codes "axioms 2" ∷ codes "theorems 1" ∷ codes "matrix"
     ∷ codes "wi2:10" ∷ codes "counts" ∷ codes "wi2:1" ∷ codes "usage" ∷ codes "wi:1:wi2"
     ∷ codes "ax-1:0:" ∷ codes "end" ∷ [])
 unfolding digits

@@ -1,11 +1,10 @@
 -- Steps of which one fails have no derivation.
-use Rattle.std.proofs.Common.{◌≡◌, ℕ, List, [], ◌∷◌, ◌++◌, refl, ap, ◌∙◌, subst}
-use Rattle.std.proofs.Common.{append_assoc}
+use Rattle.std.proofs.Common.{◌≡◌, ℕ, List, [], ◌∷◌, ◌++◌, refl, ap, ◌∙◌, subst, append_assoc}
 use Rattle.mm_spec.specs.Derivation.{Context, formulas, postfix}
 use Rattle.mm_spec.specs.Steps.{Step, label, marked}
 use Rattle.mm_spec.specs.Valid.{Reason, StepFails, Expands}
 use Rattle.mm_spec.specs.Laws.Complete.{HasCompleteFrame}
-use Rattle.mm_spec.proofs.MachineLaw.{AreGood}
+use Rattle.mm_spec.proofs.StackStepsLaw.{AreGood}
 use Rattle.mm_spec.proofs.StepsLaw.{forest_labels_are_good, StoppedSteps}
 use Rattle.mm_spec.proofs.CheckedLaw.{expansion_grows, expansions_are_equal}
 use Rattle.mm_laws.proofs.ExactLaw.{IsPostfixOfForest, stopped_no_forest}
@@ -27,17 +26,16 @@ module _ (c : Context) (all_complete : (l : ℕ) → HasCompleteFrame c (c.refer
       → StoppedSteps c [] [] steps reason → Expands c [] [] steps all_labels
       → ¬ IsPostfixOfForest c all_labels
   excludes steps reason all_labels stopped expands forest = excluded_by_step stopped.failing
-      stopped.fails
-      split.3
+      stopped.fails split.3
     where
-      split : (mid : List ℕ) × (later_lists : List (List ℕ)) × Expands c [] [] stopped.before
-          mid
+      split : (mid : List ℕ) × (later_lists : List (List ℕ)) × Expands c [] [] stopped.before mid
           × Expands c later_lists mid (stopped.failing ∷ stopped.after) all_labels
       split =
           expansion_splits stopped.before (stopped.failing ∷ stopped.after) [] [] all_labels
           (subst (λ x. Expands c [] [] x all_labels) stopped.splits expands)
 
-      excluded_by_step : (first_step : Step) → StepFails c first_step (formulas stopped.forest) reason
+      excluded_by_step : (first_step : Step) → StepFails c first_step (formulas stopped.forest)
+          reason
           → Expands c split.1 split.0 (first_step ∷ stopped.after) all_labels → ⊥
       excluded_by_step (marked j) fails rest_expansion = fails
       excluded_by_step (label l) fails rest_expansion =
@@ -49,8 +47,7 @@ module _ (c : Context) (all_complete : (l : ℕ) → HasCompleteFrame c (c.refer
           let labels_are : postfix stopped.forest ≡ split.0 =
           stopped.labels_are
           ∙ expansions_are_equal c all_complete stopped.before [] [] stopped.labels split.0
-          stopped.expansion
-          split.2 in
+          stopped.expansion split.2 in
           stopped_no_forest c all_labels reason
           (subst (AreGood c) forest.2 (forest_labels_are_good c all_complete forest.0 forest.1))
           (record {

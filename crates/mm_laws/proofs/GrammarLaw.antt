@@ -1,27 +1,24 @@
 -- What a reading of words stands for: the grammar of tokens and comments.
-use Rattle.std.proofs.Common.{◌≡◌, ℕ, ◌==◌, ◌&&◌, true, false, List, [], ◌∷◌, ◌++◌, length}
-use Rattle.std.proofs.Common.{get_or, Option, Some, None, is_some, refl, sym, ap, subst, ◌∙◌, arith}
-use Rattle.std.proofs.Common.{append_assoc, append-nil, eqb-true, true≢false}
+use Rattle.std.proofs.Common.{◌≡◌, ℕ, true, false, List, [], ◌∷◌, ◌++◌, length, get_or, Option}
+use Rattle.std.proofs.Common.{Some, None, is_some, refl, sym, ap, subst, ◌∙◌, arith, append_assoc}
+use Rattle.std.proofs.Common.{append-nil, eqb-true, rules}
 use Rattle.std.specs.List.{flat_map, AllByRecursion}
-use Rattle.std.proofs.Common.{inl, inr}
 use Rattle.std.proofs.lemmas.Bool.{and_parts, cases_Bool, false_from_ne_true}
 use Rattle.std.specs.Option.{option_map}
+use Rattle.std.proofs.lemmas.Grind.{common_steps}
 use Rattle.mm_spec.specs.declared.Word.{Word}
 use Rattle.mm_spec.specs.declared.Fault.{Fault}
 use Rattle.mm_spec.specs.declared.Role.{Role}
 use Rattle.mm_spec.specs.declared.Role.TheVariants as roles
 use Rattle.mm_spec.specs.Bytes.{is_printable}
 use Rattle.mm_spec.specs.Roles.{role_of, fault_of, is_clean, is_dollar_and, is_keyword}
-use Rattle.mm_spec.specs.Roles.{is_comment_mark}
-use Rattle.mm_spec.specs.Roles.{has_comment_mark, is_token, opens_comment, closes_comment}
-use Rattle.mm_spec.specs.Roles.{is_comment_word}
+use Rattle.mm_spec.specs.Roles.{is_comment_mark, has_comment_mark, is_token, opens_comment}
+use Rattle.mm_spec.specs.Roles.{closes_comment, is_comment_word}
 use Rattle.mm_spec.specs.Readings.{Reading, reading, with_tokens, bytes_of}
 use Rattle.mm_spec.specs.Laws.Readings.{append_reading}
 use Rattle.mm_laws.specs.Grammar.{Lexeme, Single, Comment, LastComment, IsLexeme, IsLastComment}
-use Rattle.mm_laws.specs.Grammar.{AreCommentWords}
-use Rattle.mm_laws.specs.Grammar.{words_in, words_in_last_comment, tokens_in, IsWellBegun}
-use Rattle.mm_laws.specs.Grammar.{IsFirstFaultyWord}
-use Rattle.mm_laws.specs.Grammar.{IsReading}
+use Rattle.mm_laws.specs.Grammar.{AreCommentWords, words_in, words_in_last_comment, tokens_in}
+use Rattle.mm_laws.specs.Grammar.{IsWellBegun, IsFirstFaultyWord, IsReading}
 use Rattle.mm_spec.proofs.ReadingsLaw.{reading_opening, reading_closing, reading_comment}
 use Rattle.mm_spec.proofs.ReadingsLaw.{reading_faulty, reading_end, reading_of_token}
 use Rattle.mm_spec.proofs.ReadingsLaw.{reading_append}
@@ -29,22 +26,12 @@ use Rattle.mm_spec.proofs.ReadingsLaw.{reading_append}
 -- ---- the classes of words exclude each other
 
 two_bytes_are : (word : List ℕ) (b : ℕ) → length word ≡ 2 → get_or word 0 0 ≡ 0x24
-    → get_or word 1 0 ≡ b
-    → word ≡ 0x24 ∷ b ∷ []
-two_bytes_are [] b length_is_2 first_is_dollar second_is_b = absurd (omega arith)
-two_bytes_are (a ∷ []) b length_is_2 first_is_dollar second_is_b = absurd (omega arith)
-two_bytes_are (a ∷ c ∷ []) b length_is_2 first_is_dollar second_is_b = cc
-two_bytes_are (a ∷ c ∷ d ∷ word) b length_is_2 first_is_dollar second_is_b = absurd (omega arith)
+    → get_or word 1 0 ≡ b → word ≡ 0x24 ∷ b ∷ []
+two_bytes_are word b h1 h2 h3 = grind (arith, common_steps)
 
 dollar_and_byte : (b : ℕ) (word : List ℕ) → is_dollar_and b word ≡ true → word ≡ 0x24 ∷ b ∷ []
 unfolding is_dollar_and
-dollar_and_byte b word is_dollar_and_b =
-    let parts = and_parts (length word == 2 && get_or word 0 0 == 0x24) (get_or word 1 0 == b)
-    is_dollar_and_b in
-    let front_parts = and_parts (length word == 2) (get_or word 0 0 == 0x24) parts.0 in
-    two_bytes_are word b (eqb-true (length word) 2 front_parts.0) (eqb-true (get_or word 0 0) 0x24
-    front_parts.1)
-    (eqb-true (get_or word 1 0) b parts.1)
+dollar_and_byte b word is_dollar_and_b = search (rules, arith, and_parts, two_bytes_are, eqb-true)
 
 opening_is_no_token : (word : List ℕ) → opens_comment word ≡ true → is_token word ≡ false
 unfolding is_token is_clean is_keyword is_printable is_dollar_and
@@ -58,8 +45,7 @@ closing_is_no_comment_word word closes = rw (dollar_and_byte 0x29 word closes) r
 comment_word_is_no_closing : (word : List ℕ) → is_comment_word word ≡ true
     → closes_comment word ≡ false
 comment_word_is_no_closing word is_comment =
-    false_from_ne_true (closes_comment word) (λ closes. true≢false (sym is_comment
-    ∙ closing_is_no_comment_word word closes))
+    search (rules, arith, false_from_ne_true, closing_is_no_comment_word)
 
 -- the role that a word of each class has
 role_is_token : (word : List ℕ) → is_token word ≡ true → role_of false word ≡ roles.Token
@@ -91,23 +77,11 @@ data RoleInside (word : List ℕ) : Type 0 where
 
 role_outside : (word : List ℕ) → RoleOutside word
 unfolding role_of
-role_outside word = elim (cases_Bool (is_token word)) [
-  | inl is_token_word ↦ token is_token_word (role_is_token word is_token_word)
-  | inr not_token ↦ elim (cases_Bool (opens_comment word)) [
-    | inl opens ↦ opening opens (role_is_opening word opens)
-    | inr no_opening ↦ RoleOutside.neither (rw (not_token, no_opening) refl)
-  ]
-]
+role_outside word = search (rules, arith, cases_Bool, role_is_token, role_is_opening)
 
 role_inside : (word : List ℕ) → RoleInside word
 unfolding role_of
-role_inside word = elim (cases_Bool (closes_comment word)) [
-  | inl closes ↦ closing closes (role_is_closing word closes)
-  | inr no_closing ↦ elim (cases_Bool (is_comment_word word)) [
-    | inl is_comment ↦ comment is_comment (role_is_comment word is_comment)
-    | inr not_comment ↦ RoleInside.neither (rw (no_closing, not_comment) refl)
-  ]
-]
+role_inside word = search (rules, arith, cases_Bool, role_is_closing, role_is_comment)
 
 -- ---- a well-begun row is read as its tokens and its open comment
 
@@ -133,8 +107,7 @@ reading_lexemes text (Comment o ws c ∷ lexemes) (is_lexeme, are_lexemes) =
     ∙ reading_lexemes text lexemes are_lexemes
 
 reading_last_comment : (text : List ℕ) (last_comment : LastComment)
-    → IsLastComment text last_comment
-    → reading text None (words_in_last_comment last_comment)
+    → IsLastComment text last_comment → reading text None (words_in_last_comment last_comment)
     ≡ record {
       tokens = [];
       fault = None;
@@ -151,22 +124,13 @@ pub IsWellBegun_reading : (text : List ℕ) (ws ts : List Word) (c : Option ℕ)
     → IsWellBegun text ws ts c
     → reading text None ws ≡ record { tokens = ts; fault = None; open_comment = c }
 IsWellBegun_reading text ws ts c is_well_begun =
-    ap (reading text None) is_well_begun.words_are
-    ∙ reading_append text None (flat_map words_in is_well_begun.lexemes)
-    (words_in_last_comment is_well_begun.last_comment)
-    ∙ ap (λ (r : Reading). append_reading text r (words_in_last_comment is_well_begun.last_comment))
-    (reading_lexemes text is_well_begun.lexemes is_well_begun.are_lexemes)
-    ∙ ap (with_tokens (flat_map tokens_in is_well_begun.lexemes))
-    (reading_last_comment text is_well_begun.last_comment is_well_begun.is_last_comment)
-    ∙ rw (append-nil, is_well_begun.tokens_are, is_well_begun.comment_start_is) refl
+    search (rules, arith, reading_append, reading_lexemes, reading_last_comment, append-nil)
 
 -- ---- a reading without a fault is of a well-begun row
 
 AreCommentWords_push : (text : List ℕ) (ws : List Word) (w : Word) → AreCommentWords text ws
     → is_comment_word (bytes_of text w) ≡ true → AreCommentWords text (ws ++ w ∷ [])
-AreCommentWords_push text [] w are_comment_words is_comment = (is_comment, tt)
-AreCommentWords_push text (v ∷ ws) w (first_is_comment, are_comment_words) is_comment =
-    (first_is_comment, AreCommentWords_push text ws w are_comment_words is_comment)
+AreCommentWords_push text ws w h1 h2 = grind (arith, common_steps)
 
 IsWellBegun_cons : (text : List ℕ) (lexeme : Lexeme) (ws ts : List Word) (c : Option ℕ)
     → IsLexeme text lexeme → IsWellBegun text ws ts c
@@ -238,8 +202,7 @@ both_are_begun text (w ∷ ws) = record {
         → AreCommentWords text us → RoleInside (bytes_of text w) → BothAreBegun text ws →
         IsBegunIfFaultless text (o ∷ (us ++ w ∷ ws)) (reading text (Some o.start) (w ∷ ws))
     begun_inside o us opens are_comment_words (closing closes role) later =
-        rw (reading_closing text (Some o.start) w ws role)
-        (λ no_fault. subst
+        rw (reading_closing text (Some o.start) w ws role) (λ no_fault. subst
         (λ (vs : List Word). IsWellBegun text (o ∷ vs) (reading text None ws).tokens
         (reading text None ws).open_comment) (append_assoc us (w ∷ []) ws)
         (IsWellBegun_cons text (Comment o us w) ws _ _ (opens, are_comment_words, closes)
@@ -247,8 +210,7 @@ both_are_begun text (w ∷ ws) = record {
     begun_inside o us opens are_comment_words (comment is_comment role) later =
         rw (reading_comment text (Some o.start) w ws role)
         (subst (λ (vs : List Word). IsBegunIfFaultless text (o ∷ vs)
-        (reading text (Some o.start) ws))
-        (append_assoc us (w ∷ []) ws)
+        (reading text (Some o.start) ws)) (append_assoc us (w ∷ []) ws)
         (later.inside_comment o (us ++ w ∷ []) opens (AreCommentWords_push text us w
         are_comment_words is_comment)))
     begun_inside o us opens are_comment_words (RoleInside.neither role) later =
@@ -277,15 +239,7 @@ split_cons : (text : List ℕ) (c d : Option ℕ) (x : Word) (xs ts : List Word)
     → reading text d us ≡ record { tokens = r.tokens; fault = None; open_comment = r.open_comment }
     → reading text c (x ∷ us) ≡ record { tokens = ts; fault = None; open_comment = r.open_comment })
     → IsSplit text d xs f r → IsSplit text c (x ∷ xs) f (record r { tokens = ts })
-split_cons text c d x xs ts f r step split = record {
-  words_before = x ∷ split.words_before;
-  w = split.w;
-  words_after = split.words_after;
-  words_split = ap (λ (us : List Word). x ∷ us) split.words_split;
-  front_is_read = step split.words_before split.front_is_read;
-  role_is_faulty = split.role_is_faulty;
-  fault_is = split.fault_is;
-}
+split_cons text c d x xs ts f r step split = grind (arith, common_steps)
 
 reading_is_split : (text : List ℕ) (c : Option ℕ) (ws : List Word) (f : Fault)
     → IsSplitIfFault text c ws f (reading text c ws)
@@ -346,8 +300,7 @@ faulty_word text ws f r split = (
         reading_append text None split.words_before (split.w ∷ [])
         ∙ ap (λ (q : Reading). append_reading text q (split.w ∷ [])) split.front_is_read in
         let fault_is_none =
-        ap (λ (q : Reading). q.fault)
-        (sym read_without_fault ∙ read_on
+        ap (λ (q : Reading). q.fault) (sym read_without_fault ∙ read_on
         ∙ ap (with_tokens r.tokens) (reading_faulty text r.open_comment split.w []
         split.role_is_faulty)) in
         cc fault_is_none;

@@ -1,11 +1,11 @@
 -- Steps without a reading fault have a derivation of the formula, a step fault or an end fault, and
 -- no two of these.
-use Rattle.std.proofs.Common.{◌≡◌, ℕ, List, [], ◌∷◌, ◌++◌, map, Result, Ok, Err}
-use Rattle.std.proofs.Common.{refl, sym, ap, ap₂, ◌∙◌, subst, bytes_eq, inl, inr}
+use Rattle.std.proofs.Common.{◌≡◌, ℕ, List, [], ◌∷◌, ◌++◌, map, Result, Ok, Err, refl, sym, ap, ap₂}
+use Rattle.std.proofs.Common.{subst, bytes_eq, inl, inr, rules, arith}
 use Rattle.std.proofs.lemmas.Slice.Eq.{bytes_eq-Decides}
-use Rattle.std.proofs.lemmas.List.{map-append}
 use Rattle.std.proofs.lemmas.Bool.{cases_Bool}
 use Rattle.std.proofs.lemmas.Bool.Decides.{not_from_Decides}
+use Rattle.std.proofs.lemmas.Grind.{common_steps}
 use Rattle.mm_spec.specs.Text.{fault}
 use Rattle.mm_spec.specs.declared.Fault.{Fault}
 use Rattle.mm_spec.specs.Derivation.{Formula, Context, Trees, none, more, tree, formulas, postfix}
@@ -13,8 +13,8 @@ use Rattle.mm_spec.specs.Derivation.{AreDerivations}
 use Rattle.mm_spec.specs.Steps.{Step, PlacedStep}
 use Rattle.mm_spec.specs.Valid.{code_of, Expands, ExpandTo, Derives, StepFault, ProofEndFault}
 use Rattle.mm_spec.specs.Valid.{IsEndCode}
-use Rattle.mm_spec.proofs.MachineLaw.{RunFailure}
-use Rattle.mm_spec.proofs.StepsLaw.{run_steps, StoppedSteps, StepsOutcome, steps_have_outcome}
+use Rattle.mm_spec.proofs.StackStepsLaw.{StepFailure}
+use Rattle.mm_spec.proofs.StepsLaw.{perform_steps, StoppedSteps, StepsOutcome, steps_have_outcome}
 use Rattle.mm_spec.specs.Laws.Stack.{AreGoodSteps}
 use Rattle.mm_spec.specs.Laws.Complete.{HasCompleteFrame}
 use Rattle.mm_spec.proofs.CheckedLaw.{same_labels_same_forest, expansions_are_equal}
@@ -63,13 +63,10 @@ pub forests_are_equal : (c : Context) → ((l : ℕ) → HasCompleteFrame c (c.r
     → (steps : List Step) (t u : Trees) → AreDerivations c t → AreDerivations c u
     → ExpandTo c steps (postfix t) → ExpandTo c steps (postfix u) → t ≡ u
 forests_are_equal c all_complete steps t u derives_t derives_u expansion_t expansion_u =
-    same_labels_same_forest c all_complete t u derives_t derives_u
-    (expansions_are_equal c all_complete steps [] [] (postfix t) (postfix u) expansion_t
-    expansion_u)
+    search (rules, arith, same_labels_same_forest, expansions_are_equal)
 
 module _ (c : Context) (all_complete : (l : ℕ) → HasCompleteFrame c (c.referent l))
-    (ps : List PlacedStep)
-    (formula : Formula) (end : ℕ) where
+    (ps : List PlacedStep) (formula : Formula) (end : ℕ) where
   -- a derivation of the formula, the fault of a step, or the fault of the end
   pub data Verdict : Type 0 where
     valid : (d : Trees) → Derives c (steps_of ps) formula d → Verdict
@@ -78,11 +75,9 @@ module _ (c : Context) (all_complete : (l : ℕ) → HasCompleteFrame c (c.refer
 
   -- if no step fails: the one entry is the formula, or the end has a fault
   verdict_at_end : (forest : Trees) → AreDerivations c forest
-      → ExpandTo c (steps_of ps) (postfix forest)
-      → Verdict
+      → ExpandTo c (steps_of ps) (postfix forest) → Verdict
   verdict_at_end none derives expansion =
-      end_fault (fault end NotOneEntry)
-      (record {
+      end_fault (fault end NotOneEntry) (record {
         forest = none;
         derivations = derives;
         expansion = expansion;
@@ -91,8 +86,7 @@ module _ (c : Context) (all_complete : (l : ℕ) → HasCompleteFrame c (c.refer
         fault_is = refl;
       })
   verdict_at_end (more (more ts k h bs) l g cs) derives expansion =
-      end_fault (fault end NotOneEntry)
-      (record {
+      end_fault (fault end NotOneEntry) (record {
         forest = more (more ts k h bs) l g cs;
         derivations = derives;
         expansion = expansion;
@@ -127,19 +121,17 @@ module _ (c : Context) (all_complete : (l : ℕ) → HasCompleteFrame c (c.refer
   -- steps that are good have one of the three
   pub verdict : AreGoodSteps c 0 (steps_of ps) → Verdict
   verdict are_good =
-      verdict_by_result (run_steps c [] (steps_of ps) [])
+      verdict_by_result (perform_steps c [] (steps_of ps) [])
       (steps_have_outcome c (steps_of ps) [] [] none tt tt are_good)
     where
-      verdict_by_result : (r : Result (List Formula) RunFailure)
-          → StepsOutcome c [] [] (steps_of ps) r
-          → Verdict
+      verdict_by_result : (r : Result (List Formula) StepFailure)
+          → StepsOutcome c [] [] (steps_of ps) r → Verdict
       verdict_by_result (Ok out) outcome =
           verdict_at_end outcome.2 outcome.3 (subst (λ x. Expands c [] [] (steps_of ps) x) (sym
           outcome.4) outcome.1)
       verdict_by_result (Err e) outcome =
           let split = placed_split outcome.before outcome.after outcome.failing ps outcome.splits in
-          step_fault (fault split.place (code_of e.reason))
-          (record {
+          step_fault (fault split.place (code_of e.reason)) (record {
             before = split.front;
             failing = record { at = split.place; step = outcome.failing };
             after = split.back;
@@ -157,28 +149,14 @@ module _ (c : Context) (all_complete : (l : ℕ) → HasCompleteFrame c (c.refer
 
   pub stopped_steps : (f : Fault) → (step_fault_of_ps : StepFault c ps f)
       → StoppedSteps c [] [] (steps_of ps) step_fault_of_ps.reason
-  stopped_steps f step_fault_of_ps = record {
-    before = steps_of step_fault_of_ps.before;
-    failing = step_fault_of_ps.failing.step;
-    after = steps_of step_fault_of_ps.after;
-    splits = ap steps_of step_fault_of_ps.splits
-        ∙ map-append (λ p. p.step) step_fault_of_ps.before
-        (step_fault_of_ps.failing ∷ step_fault_of_ps.after);
-    labels = postfix step_fault_of_ps.forest;
-    expansion = step_fault_of_ps.expansion;
-    forest = step_fault_of_ps.forest;
-    derivations = step_fault_of_ps.derivations;
-    labels_are = refl;
-    fails = step_fault_of_ps.fails;
-  }
+  stopped_steps f step_fault_of_ps = grind (arith, common_steps)
 
   -- steps from which a derivation of the formula follows have no step fault
   pub no_step_fault : (d : Trees) → Derives c (steps_of ps) formula d → (f : Fault)
       → ¬ StepFault c ps f
   no_step_fault d derives f step_fault_of_ps =
       excludes c all_complete (steps_of ps) step_fault_of_ps.reason (postfix d) (stopped_steps f
-      step_fault_of_ps) derives.4
-      (d, derives.3, refl)
+      step_fault_of_ps) derives.4 (d, derives.3, refl)
 
   pub no_both_faults : (f g : Fault) → StepFault c ps f → ¬ ProofEndFault c ps formula end g
   no_both_faults f g step_fault_of_ps end_fault_of_ps =
@@ -188,8 +166,4 @@ module _ (c : Context) (all_complete : (l : ℕ) → HasCompleteFrame c (c.refer
 
   pub no_end_fault : (d : Trees) → Derives c (steps_of ps) formula d → (f : Fault)
       → ¬ ProofEndFault c ps formula end f
-  no_end_fault d derives f end_fault_of_ps =
-      let forests_equal = forests_are_equal c all_complete (steps_of ps) end_fault_of_ps.forest d
-      end_fault_of_ps.derivations derives.3 end_fault_of_ps.expansion derives.4 in
-      (subst (λ x. IsEndCode x formula end_fault_of_ps.code) (ap formulas (forests_equal
-      ∙ derives.2)) end_fault_of_ps.fails).0 refl
+  no_end_fault d derives f end_fault_of_ps = search (rules, arith, forests_are_equal)

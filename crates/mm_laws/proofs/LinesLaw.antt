@@ -1,10 +1,10 @@
 -- The lines of the statements of a small text. It has two blocks, each with a `$f` of x; an axiom
--- whose formula is empty but for the typecode; a theorem with a dummy variable; and an open theorem.
--- Whether its proofs are valid doesn't matter here.
+-- whose formula is empty but for the typecode; a theorem with a dummy variable; and an open
+-- theorem. Whether its proofs are valid doesn't matter here.
 use Rattle.std.specs.Prelude.{◌≡◌, ℕ, true, false, List, [], ◌∷◌, ◌++◌, Some, codes, refl}
 use Rattle.std.specs.Fmt.{digits}
 use Rattle.mm_spec.specs.Statement.{Statement}
-use Rattle.mm_spec.specs.Opened.{counted}
+use Rattle.mm_spec.specs.Opened.{open_as_axioms}
 use Rattle.mm_spec.specs.Derivation.{pair}
 use Rattle.mm_spec.specs.Assertion.{dummies, dummy_pairs, assertion_line}
 use Rattle.mm_spec.specs.Report.{line}
@@ -19,7 +19,7 @@ told_text =
     ++ codes "${ gx $f t x $. b $p |- x $= ? $. $} "
 
 abbrev told_db : List Statement
-told_db = counted true (statements told_text)
+told_db = open_as_axioms true (statements told_text)
 
 -- y is a dummy variable of `a`
 dummies_of_a : dummies told_db 8 ≡ 3 ∷ []

@@ -1,7 +1,7 @@
 -- A text above the limit is refused at its first byte, whatever its bytes are.
-use Rattle.std.proofs.Common.{◌≡◌, ℕ, ◌<◌, Bool, true, false, inl, inr, List, []}
-use Rattle.std.proofs.Common.{map, length, take, Option, Some, codes, refl, sym, ap₂, ◌∙◌}
-use Rattle.std.proofs.Common.{subst, arith, length-take-le, take_all}
+use Rattle.std.proofs.lemmas.Grind.{common_steps}
+use Rattle.std.proofs.Common.{◌≡◌, ℕ, ◌<◌, Bool, inl, inr, List, [], map, length, take, Option}
+use Rattle.std.proofs.Common.{Some, codes, refl, sym, ◌∙◌, subst, arith, length-take-le, take_all}
 use Rattle.std.proofs.lemmas.Bool.{cases_lt}
 use Rattle.std.specs.Fmt.{digits}
 use Rattle.mm_spec.specs.Text.{token}
@@ -10,7 +10,7 @@ use Rattle.mm_spec.specs.declared.Fault.{Fault}
 use Rattle.mm_spec.specs.declared.Code.TheVariants.{TextTooLong}
 use Rattle.mm_spec.specs.Limits.{text_limit}
 use Rattle.mm_spec.specs.Readings.{bytes_of}
-use Rattle.mm_spec.specs.Opened.{counted}
+use Rattle.mm_spec.specs.Opened.{open_as_axioms}
 use Rattle.mm_spec.specs.Report.{line, refusal}
 use Rattle.mm_spec.specs.Request.{Request}
 use Rattle.mm_spec.specs.Lexed.{LexedText, lexed_of}
@@ -33,8 +33,7 @@ abbrev unread : LexedText
 unread = record { tokens = []; fault = Some too_long }
 
 long_text_is_unread : (text : List ℕ) → text_limit < length text → lexed_of text ≡ unread
-long_text_is_unread text is_long = ap₂ (lexed_as text) (tokens_of_long text is_long)
-    (lexical_fault_long text is_long)
+long_text_is_unread text is_long = grind (arith, common_steps, tokens_of_long, lexical_fault_long)
 
 nothing_is_read : (len : ℕ) → IsRead len unread [] (Some too_long)
 nothing_is_read len =
@@ -47,17 +46,15 @@ nothing_is_read len =
       stops = text_fault_is len unread too_long refl;
     }
 
-no_statement_is_invalid : (with_open : Bool) → AllAreValid (counted with_open [])
-no_statement_is_invalid true j j_lt_0 is_theorem_j = absurd (omega arith)
-no_statement_is_invalid false j j_lt_0 is_theorem_j = absurd (omega arith)
+no_statement_is_invalid : (with_open : Bool) → AllAreValid (open_as_axioms with_open [])
+no_statement_is_invalid with_open = grind (arith, common_steps)
 
 first_fault_is_too_long : (len : ℕ) (with_open : Bool) → FirstFault len unread with_open too_long
 first_fault_is_too_long len with_open = (
   [],
   Some too_long,
   nothing_is_read len,
-  inr
-      (no_statement_is_invalid with_open, refl),
+  inr (no_statement_is_invalid with_open, refl),
 )
 
 long_text_is_refused : (text : List ℕ) (request : Request) → text_limit < length text
@@ -66,8 +63,7 @@ long_text_is_refused text request is_long =
     inl (
       too_long,
       subst (λ x. FirstFault (length text) x request.with_open too_long) (sym (long_text_is_unread
-          text is_long))
-          (first_fault_is_too_long (length text) request.with_open),
+          text is_long)) (first_fault_is_too_long (length text) request.with_open),
       refl,
     )
 

@@ -1,14 +1,14 @@
 -- A theorem is valid if its words say steps that stand for a derivation of its formula, and else
 -- not.
-use Rattle.std.proofs.Common.{◌≡◌, ◌≢◌, ◌↔◌, ℕ, true, inl, inr, List, [], ◌∷◌, map}
-use Rattle.std.proofs.Common.{Option, Some, None, slice_get, bytes_eq, codes, sym, ap}
-use Rattle.std.proofs.Common.{◌∙◌, subst, true≢false}
+use Rattle.std.proofs.Common.{◌≡◌, ◌≢◌, ◌↔◌, ℕ, true, inl, inr, List, [], ◌∷◌, map, Option, Some}
+use Rattle.std.proofs.Common.{None, slice_get, bytes_eq, codes, sym, subst, true≢false, unwrap_or}
+use Rattle.std.proofs.Common.{arith}
+use Rattle.std.specs.Option.{option_map}
 use Rattle.std.specs.List.{AllZip, AllByRecursion, list_any}
 use Rattle.std.proofs.lemmas.Slice.Eq.{bytes_eq-Decides}
 use Rattle.mm_spec.specs.Text.{Token}
 use Rattle.mm_spec.specs.declared.Fault.{Fault}
-use Rattle.mm_spec.specs.Statement.{Statement, provable}
-use Rattle.mm_spec.specs.Opened.{counted}
+use Rattle.mm_spec.specs.Statement.{Statement, provable, proof_of}
 use Rattle.mm_spec.specs.Frame.{mandatory_hypotheses, formula_at}
 use Rattle.mm_spec.specs.Derivation.{Trees}
 use Rattle.mm_spec.specs.Steps.{Step, PlacedStep, label}
@@ -20,14 +20,14 @@ use Rattle.mm_laws.specs.Laws.Read.{WhereRead}
 use Rattle.mm_laws.specs.Laws.BareSteps.{bare_steps}
 use Rattle.mm_laws.specs.Laws.NamedSteps.{StepsAreNamed, StepsAreLabels}
 use Rattle.mm_laws.specs.Laws.WellFormed.{CompressedIsExact, NormalIsExact}
-use Rattle.mm_laws.specs.Laws.Meaning.{SaysCompressed, SaysNormal, Says}
-use Rattle.mm_laws.specs.Laws.Meaning.{IsProved, ValidIsProved}
+use Rattle.mm_laws.specs.Laws.Meaning.{SaysCompressed, SaysNormal, Says, IsProved, ValidIsProved}
 use Rattle.mm_spec.proofs.FindsLaw.{equal_bytes_equal_words}
 use Rattle.mm_laws.proofs.SpelledStepsLaw.{steps_are_named, steps_are_labels_where_read}
 use Rattle.mm_laws.proofs.UniqueStepsLaw.{named_steps_are_unique}
 use Rattle.mm_laws.proofs.OneOutputLaw.{zip_is_unique}
 use Rattle.std.proofs.lemmas.Bool.{cases_Bool}
 use Rattle.std.proofs.lemmas.Bool.Decides.{not_from_Decides}
+use Rattle.std.proofs.lemmas.Grind.{common_steps}
 use Rattle.mm_laws.proofs.WellSpelledLaw.{compressed_is_exact, normal_is_exact}
 
 module _ (db : List Statement) (k : ℕ) where
@@ -58,8 +58,7 @@ module _ (db : List Statement) (k : ℕ) where
   label_steps_are_unique : (t : Token) (r s : Step)
       → (t.word ≢ codes "?") × IsLabelStep t r → (t.word ≢ codes "?") × IsLabelStep t s → r ≡ s
   label_steps_are_unique t r s (_, (i, r_is, usable_i)) (_, (j, s_is, usable_j)) =
-      r_is ∙ ap label (usable_j.no_other_is_usable i usable_i.statement_is_active
-      usable_i.statement_has_label) ∙ sym s_is
+      grind (arith, common_steps)
 
   -- a derivation of the formula from steps
   abbrev HasDerivation : List Step → Type 0
@@ -88,8 +87,8 @@ module _ (db : List Statement) (k : ℕ) where
                 is_opening,
                 record {
                   is_well_spelled = well_spelled;
-                  js = named.0;
-                  labels_name_js = named.1;
+                  bracket_statements = named.0;
+                  labels_name_statements = named.1;
                   are_steps = named.2;
                 },
               ),
@@ -104,10 +103,10 @@ module _ (db : List Statement) (k : ℕ) where
             let named = are_named end (t ∷ ts) well_spelled.labels well_spelled.letters
             well_spelled.items no_faults well_spelled.is_compressed well_spelled.items_are_spelled
             in
-            let statements_equal : says_steps.js ≡ named.0 = zip_is_unique IsLabelOf
+            let statements_equal : says_steps.bracket_statements ≡ named.0 = zip_is_unique IsLabelOf
             (λ t i j usable_i usable_j. usable_j.no_other_is_usable i usable_i.statement_is_active
-            usable_i.statement_has_label)
-            well_spelled.labels says_steps.js named.0 says_steps.labels_name_js named.1 in
+            usable_i.statement_has_label) well_spelled.labels says_steps.bracket_statements named.0
+            says_steps.labels_name_statements named.1 in
             let hypotheses = mandatory_hypotheses db k in
             let are_steps : AreSteps hypotheses named.0 well_spelled.items ss =
             subst (λ is. AreSteps hypotheses is well_spelled.items ss) statements_equal
@@ -129,8 +128,7 @@ module _ (db : List Statement) (k : ℕ) where
         read_is_said is_read =
             let says_steps =
             says_label_steps (t ∷ ts) (bare_steps db k (t ∷ ts)) ((normal_exact end t ts
-            no_bracket).0 is_read.0)
-            (are_labels end t ts is_read.0 no_bracket) in
+            no_bracket).0 is_read.0) (are_labels end t ts is_read.0 no_bracket) in
             (bare_steps db k (t ∷ ts), inr (no_bracket, says_steps), is_read.1)
 
         steps_are_read : (ss : List Step) → SaysNormal db k (t ∷ ts) ss → HasDerivation ss
@@ -160,13 +158,12 @@ module _ (db : List Statement) (k : ℕ) where
     valid_if_proved_and_back : ValidIsProved db k
     valid_if_proved_and_back is_theorem_k =
         let read_iff_said = meaning_by_statement (slice_get db k) is_theorem_k in (
-          valid_is_proved
-              read_iff_said.0,
+          valid_is_proved read_iff_said.0,
           proved_is_valid read_iff_said.1,
         )
       where
         words : Option Statement → List Token
-        words o = elim o [ Some (provable l p xs e ps d) ↦ ps | _ ↦ [] ]
+        words o = unwrap_or (option_map proof_of o) []
 
         faults : Option Statement → List Fault
         faults o = elim o [ Some (provable l p xs e ps d) ↦ reading_faults db k d ps | _ ↦ [] ]
@@ -189,36 +186,31 @@ module _ (db : List Statement) (k : ℕ) where
         meaning_by_statement (Some _) is_theorem_o = absurd (true≢false (sym is_theorem_o))
 
         valid_is_proved : (IsValidProof (slice_get db k) → SaysDerivation (words (slice_get db k)))
-            → IsValid db k
-            → IsProved db k
+            → IsValid db k → IsProved db k
         valid_is_proved said_if_read is_valid =
             let said = said_if_read (is_valid.0, (is_valid.1, is_valid.2)) in
             record {
               steps = said.0;
               says_steps = said.1;
               derivation = said.2.0;
-              derives_formula =
-                  said.2.1;
+              derives_formula = said.2.1;
             }
 
         proved_is_valid : (SaysDerivation (words (slice_get db k)) → IsValidProof (slice_get db k))
-            → IsProved db k
-            → IsValid db k
+            → IsProved db k → IsValid db k
         proved_is_valid read_if_said is_proved =
             let is_read = read_if_said (
               is_proved.steps,
               is_proved.says_steps,
               (is_proved.derivation, is_proved.derives_formula),
-            ) in (
-              is_read.0,
-              is_read.1.0,
-              is_read.1.1,
-            )
+            ) in (is_read.0, is_read.1.0, is_read.1.1)
 
 pub valid_iff_proved : WhereRead ValidIsProved
 valid_iff_proved len x db fault is_read with_open k =
-    let are_named = steps_are_named len x db fault is_read with_open k in
-    let are_labels = steps_are_labels_where_read len x db fault is_read with_open k in
-    valid_if_proved_and_back (counted with_open db) k are_named are_labels (compressed_is_exact len
-    x db fault is_read with_open k)
-    (normal_is_exact len x db fault is_read with_open k)
+    search (
+      steps_are_named,
+      steps_are_labels_where_read,
+      valid_if_proved_and_back,
+      compressed_is_exact,
+      normal_is_exact,
+    )

@@ -1,8 +1,8 @@
 -- Each number from 1 on has one spelling.
 use Rattle.std.proofs.Common.{◌≡◌, ℕ, zero, suc, ◌+◌, ◌*◌, ◌/◌, ◌%◌, ◌^◌, ◌<◌, ◌≤◌, ◌⊎◌, inl, inr}
 use Rattle.std.proofs.Common.{List, [], ◌∷◌, ◌++◌, length, codes, refl, sym, ap, ap₂, ◌∙◌, subst}
-use Rattle.std.proofs.Common.{arith, length-append}
-use Rattle.std.proofs.Math.Nat.{pow-succ'}
+use Rattle.std.proofs.Common.{arith, rules}
+use Rattle.std.proofs.lemmas.Grind.{common_steps}
 use Rattle.mm_spec.specs.CompressedProof.{Group, letters_from}
 use Rattle.mm_laws.specs.Spelling.{IsEarlyDigit, AreEarlyDigits, AreLettersOf}
 use Rattle.mm_laws.specs.Laws.Numerals.{NumbersHaveOneSpelling, BookNumbers}
@@ -18,17 +18,11 @@ horner_step_out : (n c p q r m d : ℕ) → n ≡ c * q + r → q ≡ 5 * p → 
 horner_step_out n c p q r m d n_is q_is r_is = rw (n_is, q_is, r_is) (omega arith)
 
 power_of_push : (es : List ℕ) (b : ℕ) → 5 ^ length (es ++ b ∷ []) ≡ 5 * 5 ^ length es
-power_of_push es b =
-    let length_is : length (es ++ b ∷ []) ≡ suc (length es) = omega (
-      arith,
-      length-append es (b ∷ []),
-    ) in
-    ap (λ i. 5 ^ i) length_is ∙ pow-succ' 5 (length es)
+power_of_push es b = grind (arith, common_steps)
 
 early_digits_push : (es : List ℕ) (b m d : ℕ) → AreEarlyDigits es m → IsEarlyDigit b d
     → AreEarlyDigits (es ++ b ∷ []) (5 * m + d)
-early_digits_push [] b m d are_early_digits is_early_digit =
-    (d, 0, is_early_digit, refl, omega arith)
+early_digits_push [] b m d are_early_digits is_early_digit = grind (arith, common_steps)
 early_digits_push (e ∷ es) b m d (c, r, is_c, are_later, m_is) is_early_digit = (
   c,
   5 * r + d,
@@ -53,11 +47,7 @@ early_digits_split (c ∷ es) b n (e, r, is_e, are_later, n_is) =
 -- ---- a spelling
 
 early_digit_of_remainder : (k : ℕ) → IsEarlyDigit (84 + suc (k % 5)) (suc (k % 5))
-early_digit_of_remainder k = record {
-  digit_ge_1 = omega arith;
-  digit_le_5 = omega arith;
-  letter_is = refl;
-}
+early_digit_of_remainder k = omega arith
 
 early_letters_exist : (fuel n : ℕ) → n < fuel → (es : List ℕ) × AreEarlyDigits es n
 early_letters_exist zero n n_lt_fuel = absurd (omega arith)
@@ -65,8 +55,7 @@ early_letters_exist (suc fuel) zero n_lt_fuel = ([], refl)
 early_letters_exist (suc fuel) (suc k) n_lt_fuel =
     let quotient_letters = early_letters_exist fuel (k / 5) (omega arith) in
     let quotient_and_remainder : 5 * (k / 5) + suc (k % 5) ≡ suc k = omega arith in (
-      quotient_letters.0 ++ (84 + suc (k % 5))
-          ∷ [],
+      quotient_letters.0 ++ (84 + suc (k % 5)) ∷ [],
       subst (AreEarlyDigits (quotient_letters.0 ++ (84 + suc (k % 5)) ∷ [])) quotient_and_remainder
           (early_digits_push quotient_letters.0 (84 + suc (k % 5)) (k / 5) (suc (k % 5))
           quotient_letters.1 (early_digit_of_remainder k)),
@@ -76,8 +65,7 @@ letters_exist : (n : ℕ) → 1 ≤ n → (letters : List ℕ) × AreLettersOf l
 letters_exist zero n_ge_1 = absurd (omega arith)
 letters_exist (suc k) n_ge_1 =
     let quotient_letters = early_letters_exist (suc (k / 20)) (k / 20) (omega arith) in (
-      quotient_letters.0 ++ (64 + suc (k % 20))
-          ∷ [],
+      quotient_letters.0 ++ (64 + suc (k % 20)) ∷ [],
       record {
         early_letters = quotient_letters.0;
         last_letter = 64 + suc (k % 20);
@@ -88,8 +76,7 @@ letters_exist (suc k) n_ge_1 =
         is_last_digit = record {
           digit_ge_1 = omega arith;
           digit_le_20 = omega arith;
-          letter_is =
-              refl;
+          letter_is = refl;
         };
         value_is = omega arith;
       },
@@ -108,14 +95,10 @@ empty_or_last (x ∷ xs) = elim (empty_or_last xs) [
 not_with_and_without : (n : ℕ) (es fs ys : List ℕ) (y : ℕ) → AreEarlyDigits es n
     → AreEarlyDigits fs n → es ≡ [] → fs ≡ ys ++ y ∷ [] → ⊥
 not_with_and_without n es fs ys y es_digits fs_digits es_is_nil fs_are =
-    let n_is_0 : n ≡ 0 = subst (λ xs. AreEarlyDigits xs n) es_is_nil es_digits in
-    let split = early_digits_split ys y n (subst (λ xs. AreEarlyDigits xs n) fs_are fs_digits) in
-    let last_digit = split.3 in
-    omega (arith, split.4)
+    search (rules, arith, early_digits_split)
 
 early_letters_are_unique : (fuel n : ℕ) (es fs : List ℕ) → n < fuel → AreEarlyDigits es n
-    → AreEarlyDigits fs n
-    → es ≡ fs
+    → AreEarlyDigits fs n → es ≡ fs
 early_letters_are_unique zero n es fs n_lt_fuel es_are_digits fs_are_digits = absurd (omega arith)
 early_letters_are_unique (suc fuel) n es fs n_lt_fuel es_digits fs_digits =
     elim (empty_or_last es) [

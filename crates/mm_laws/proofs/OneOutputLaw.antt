@@ -1,12 +1,12 @@
 -- There is one output.
-use Rattle.std.proofs.Common.{◌≡◌, ◌≢◌, ℕ, ◌<◌, Bool, true, false, List, [], ◌∷◌, ◌++◌}
-use Rattle.std.proofs.Common.{map, length, Option, Some, None, refl, sym, ap, ap₂, ◌∙◌, subst}
-use Rattle.std.proofs.Common.{append_assoc, length-append, take, drop, arith, ◌⊎◌, inl, inr}
+use Rattle.std.proofs.lemmas.Grind.{common_steps}
+use Rattle.std.proofs.Common.{◌≡◌, ◌≢◌, ℕ, ◌<◌, Bool, true, false, List, [], ◌∷◌, ◌++◌, map, length}
+use Rattle.std.proofs.Common.{Option, Some, None, refl, sym, ap, ap₂, ◌∙◌, subst, append_assoc}
+use Rattle.std.proofs.Common.{length-append, take, drop, arith, ◌⊎◌, inl, inr, rules}
 use Rattle.std.specs.Prelude.{flat_map, slice_get, count_by, IsTrue}
 use Rattle.std.specs.List.{AllZip}
 use Rattle.std.proofs.Math.Seq.{take-append_seam, drop-append_seam}
 use Rattle.std.proofs.lemmas.Option.{same_Some, none-some}
-use Rattle.mm_spec.specs.Citation.{is_theorem}
 use Rattle.mm_spec.proofs.FindsLaw.{passing_statement, got_lt_length}
 use Rattle.std.proofs.lemmas.Bool.{cases_order}
 use Rattle.std.proofs.lemmas.Bool.Decides.{same_from_decides}
@@ -14,17 +14,15 @@ use Rattle.std.proofs.lemmas.List.{append_cancel_left}
 use Rattle.mm_spec.specs.Text.{Bytes, Token, fault}
 use Rattle.mm_spec.specs.declared.Fault.{Fault}
 use Rattle.mm_spec.specs.Statement.{Statement, spelling_of, BeginStatements, IsBetween, ShapeFault}
-use Rattle.mm_spec.specs.Statement.{AreLongestStatements}
-use Rattle.mm_spec.specs.Statement.{FileEndFault, shape_code, is_closing, is_opening}
+use Rattle.mm_spec.specs.Statement.{AreLongestStatements, FileEndFault, shape_code, is_closing}
+use Rattle.mm_spec.specs.Statement.{is_opening}
 use Rattle.mm_spec.specs.Lawful.{least, scope_fault}
 use Rattle.mm_spec.specs.Derivation.{Formula, Context, Referent, hypothesis, assertion, Trees}
-use Rattle.mm_spec.specs.Derivation.{formulas}
-use Rattle.mm_spec.specs.Derivation.{postfix, AreDerivations, is_member}
+use Rattle.mm_spec.specs.Derivation.{formulas, postfix, AreDerivations}
 use Rattle.mm_spec.specs.Steps.{Step, label, marked, PlacedStep}
 use Rattle.mm_spec.specs.Valid as proof
 use Rattle.mm_spec.specs.Valid.{Reason, code_of, Fails, StepFails, StepFault, ExpandTo, IsEndCode}
 use Rattle.mm_spec.specs.Citation.{context_at, steps_at, IsValid}
-use Rattle.mm_spec.specs.Frame.{formula_at}
 use Rattle.mm_spec.specs.Report.{Row, CitingRow, report, refusal}
 use Rattle.mm_spec.proofs.RisingListsLaw.{equal_if_same_members}
 use Rattle.mm_spec.specs.Request.{Request}
@@ -32,19 +30,18 @@ use Rattle.mm_spec.specs.declared.Code.{Code}
 use Rattle.mm_spec.specs.Lexed.{LexedText, lexed_of}
 use Rattle.mm_spec.specs.Output.{TextFault, StopsReading, IsRead, ProofFault, proof_end}
 use Rattle.mm_spec.specs.Output.{is_theorem_at, AllAreValid, FirstProofFault, FirstFault}
-use Rattle.mm_spec.specs.Assertion.{label_at}
-use Rattle.mm_spec.specs.Output.{HasNoFault, theorems, columns, open_theorem_count}
-use Rattle.mm_spec.specs.Output.{IsRowOf}
+use Rattle.mm_spec.specs.Output.{HasNoFault, theorems, columns, open_theorem_count, IsRowOf}
 use Rattle.mm_spec.specs.Output.{AreCited, IsCitingRowOf, told, IsReportOf, IsOutput}
+use Rattle.mm_spec.specs.Assertion.{label_at}
 use Rattle.mm_spec.specs.Laws.Stack.{IsCompleteReferent}
 use Rattle.mm_laws.proofs.ExactLaw.{step_stops_if_fails}
 use Rattle.mm_spec.specs.Laws.Complete.{HasCompleteFrame, AreComplete}
-use Rattle.mm_spec.specs.Opened.{counted}
+use Rattle.mm_spec.specs.Opened.{open_as_axioms}
 use Rattle.mm_spec.proofs.CompleteLaw.{reads_complete}
 use Rattle.mm_spec.proofs.OpenedLaw.{counted_complete}
 use Rattle.mm_laws.proofs.ExcludedLaw.{excludes}
-use Rattle.mm_laws.proofs.JudgedLaw.{forests_are_equal}
-use Rattle.mm_laws.proofs.JudgedLaw.{stopped_steps, no_step_fault, no_end_fault, no_both_faults}
+use Rattle.mm_laws.proofs.JudgedLaw.{forests_are_equal, stopped_steps, no_step_fault, no_end_fault}
+use Rattle.mm_laws.proofs.JudgedLaw.{no_both_faults}
 use Rattle.mm_spec.proofs.LongestLaw.{longest_is_what_is_read}
 use Rattle.mm_spec.specs.declared.Code.TheVariants.{OpenStatement, OpenBlock}
 
@@ -58,10 +55,8 @@ Splits {X} xs x ys y =
 splits_of : {X : Type 0} (xs ys us vs : List X) (x y : X) → xs ++ x ∷ us ≡ ys ++ y ∷ vs
     → Splits xs x ys y
 splits_of [] [] us vs x y equal = inl (refl, cc)
-splits_of [] (b ∷ ys) us vs x y equal = let heads : b ≡ x = cc in
-    inr (inl (ys, ap (λ z. z ∷ ys) heads))
-splits_of (a ∷ xs) [] us vs x y equal = let heads : a ≡ y = cc in
-    inr (inr (xs, ap (λ z. z ∷ xs) heads))
+splits_of [] (b ∷ ys) us vs x y equal = grind (arith, common_steps)
+splits_of (a ∷ xs) [] us vs x y equal = grind (arith, common_steps)
 splits_of (a ∷ xs) (b ∷ ys) us vs x y equal =
     let heads : a ≡ b = cc in
     let tails : xs ++ x ∷ us ≡ ys ++ y ∷ vs = cc in
@@ -82,16 +77,13 @@ zip_is_unique R unique [] (y ∷ ys) zs all_y all_z = absurd all_y
 zip_is_unique R unique (x ∷ xs) [] zs all_y all_z = absurd all_y
 zip_is_unique R unique (x ∷ xs) (y ∷ ys) [] all_y all_z = absurd all_z
 zip_is_unique R unique (x ∷ xs) (y ∷ ys) (z ∷ zs) all_y all_z =
-    ap₂ (λ p q. p ∷ q) (unique x y z all_y.0 all_z.0)
-    (zip_is_unique R unique xs ys zs all_y.1 all_z.1)
+    grind (arith, common_steps, (zip_is_unique R unique xs ys zs all_y.1 all_z.1))
 
 -- ---- faults of steps and of the end
 
 module _ (c : Context) (all_complete : (l : ℕ) → HasCompleteFrame c (c.referent l)) where
   referent_is_complete : (r : Option Referent) (es : List Formula) (a : Reason)
-      → HasCompleteFrame c r
-      → Fails c r es a
-      → IsCompleteReferent c r
+      → HasCompleteFrame c r → Fails c r es a → IsCompleteReferent c r
   referent_is_complete None es _ frame_is_complete fails = absurd fails
   referent_is_complete (Some (hypothesis g)) es a frame_is_complete fails = tt
   referent_is_complete (Some (assertion g)) es a frame_is_complete fails = frame_is_complete
@@ -99,10 +91,7 @@ module _ (c : Context) (all_complete : (l : ℕ) → HasCompleteFrame c (c.refer
   reason_is_unique : (s : Step) (es : List Formula) (a b : Reason) → StepFails c s es a
       → StepFails c s es b → a ≡ b
   reason_is_unique (label l) es a b fails_by_a fails_by_b =
-      let stops = step_stops_if_fails c (c.referent l) es in
-      let is_complete = referent_is_complete (c.referent l) es a (all_complete l) fails_by_a in
-      let errors_equal = sym (stops a is_complete fails_by_a) ∙ stops b is_complete fails_by_b in
-      cc
+      search (rules, arith, step_stops_if_fails, referent_is_complete)
   reason_is_unique (marked j) es a b fails_by_a fails_by_b = absurd fails_by_a
 
   -- no later step fails too
@@ -133,8 +122,7 @@ module _ (c : Context) (all_complete : (l : ℕ) → HasCompleteFrame c (c.refer
       )
 
   pub step_fault_is_unique : (ps : List PlacedStep) (f g : Fault) → StepFault c ps f
-      → StepFault c ps g
-      → f ≡ g
+      → StepFault c ps g → f ≡ g
   step_fault_is_unique ps f g faults_f faults_g =
       elim (splits_of faults_f.before faults_g.before faults_f.after faults_g.after
       faults_f.failing faults_g.failing (sym faults_f.splits ∙ faults_g.splits)) [
@@ -166,22 +154,14 @@ module _ (c : Context) (all_complete : (l : ℕ) → HasCompleteFrame c (c.refer
   pub end_fault_is_unique : (ps : List PlacedStep) (formula : Formula) (end : ℕ) (f g : Fault)
       → proof.ProofEndFault c ps formula end f → proof.ProofEndFault c ps formula end g → f ≡ g
   end_fault_is_unique ps formula end f g faults_f faults_g =
-      let forests_equal = forests_are_equal c all_complete (map (λ p. p.step) ps) faults_f.forest
-      faults_g.forest faults_f.derivations faults_g.derivations faults_f.expansion
-      faults_g.expansion in
-      faults_f.fault_is ∙ ap (fault end)
-      (code_is_unique (formulas faults_g.forest) formula faults_f.code faults_g.code
-      (subst (λ r. IsEndCode (formulas r) formula faults_f.code) forests_equal faults_f.fails)
-      faults_g.fails)
-      ∙ sym faults_g.fault_is
+      search (rules, arith, forests_are_equal, code_is_unique)
 
 nil_has_no_least : (fs : List Fault) (f : Fault) → fs ≡ [] → least fs ≡ Some f → ⊥
 nil_has_no_least fs f fs_is_nil least_is_f = none-some f (sym (ap least fs_is_nil) ∙ least_is_f)
 
 module _ (db : List Statement) (all_complete : AreComplete db) where
   pub proof_fault_is_unique : (k end : ℕ) (f g : Fault) → ProofFault db k end f
-      → ProofFault db k end g
-      → f ≡ g
+      → ProofFault db k end g → f ≡ g
   proof_fault_is_unique k end f g (inl least_is_f) (inl least_is_g) =
       same_Some f g (sym least_is_f ∙ least_is_g)
   proof_fault_is_unique k end f g (inl least_is_f) (inr (none, _)) =
@@ -191,34 +171,24 @@ module _ (db : List Statement) (all_complete : AreComplete db) where
   proof_fault_is_unique k end f g (inr (_, inl of_f)) (inr (_, inl of_g)) =
       step_fault_is_unique (context_at db k) (all_complete k) (steps_at db k) f g of_f of_g
   proof_fault_is_unique k end f g (inr (_, inl of_f)) (inr (_, inr of_g)) =
-      absurd (no_both_faults (context_at db k) (all_complete k) (steps_at db k) (formula_at db k)
-      end f g of_f of_g)
+      search (rules, arith, no_both_faults)
   proof_fault_is_unique k end f g (inr (_, inr of_f)) (inr (_, inl of_g)) =
-      absurd (no_both_faults (context_at db k) (all_complete k) (steps_at db k) (formula_at db k)
-      end g f of_g of_f)
+      search (rules, arith, no_both_faults)
   proof_fault_is_unique k end f g (inr (_, inr of_f)) (inr (_, inr of_g)) =
-      end_fault_is_unique (context_at db k) (all_complete k) (steps_at db k) (formula_at db k) end
-      f g of_f of_g
+      search (rules, arith, end_fault_is_unique)
 
   pub valid_has_no_fault : (k end : ℕ) (f : Fault) → IsValid db k → ProofFault db k end f → ⊥
-  valid_has_no_fault k end f is_valid (inl least_is_f) =
-      nil_has_no_least _ f is_valid.0 least_is_f
-  valid_has_no_fault k end f is_valid (inr (_, inl of_step)) =
-      no_step_fault (context_at db k) (all_complete k) (steps_at db k) (formula_at db k) end
-      is_valid.1 is_valid.2 f of_step
-  valid_has_no_fault k end f is_valid (inr (_, inr of_end)) =
-      no_end_fault (context_at db k) (all_complete k) (steps_at db k) (formula_at db k) end
-      is_valid.1 is_valid.2 f of_end
+  valid_has_no_fault k end f is_valid (inl least_is_f) = nil_has_no_least _ f is_valid.0 least_is_f
+  valid_has_no_fault k end f is_valid (inr (_, inl of_step)) = search (rules, arith, no_step_fault)
+  valid_has_no_fault k end f is_valid (inr (_, inr of_end)) = search (rules, arith, no_end_fault)
 
   no_first_fault_is_earlier : (j k : ℕ) (f g : Fault) → j < k → FirstProofFault db j f
-      → FirstProofFault db k g
-      → ⊥
+      → FirstProofFault db k g → ⊥
   no_first_fault_is_earlier j k f g j_lt_k is_first_f is_first_g = valid_has_no_fault j (proof_end
       (slice_get db j)) f (is_first_g.1 j j_lt_k is_first_f.0) is_first_f.2
 
   first_proof_fault_is_unique : (j k : ℕ) (f g : Fault) → FirstProofFault db j f
-      → FirstProofFault db k g
-      → f ≡ g
+      → FirstProofFault db k g → f ≡ g
   first_proof_fault_is_unique j k f g is_first_f is_first_g = elim (cases_order j k) [
     | inl j_is_k ↦ proof_fault_is_unique k (proof_end (slice_get db k)) f g
         (subst (λ n. ProofFault db n (proof_end (slice_get db n)) f) j_is_k is_first_f.2)
@@ -230,13 +200,9 @@ module _ (db : List Statement) (all_complete : AreComplete db) where
 -- ---- rows of marks
 
 row_is_unique : (db : List Statement) (request : Request) (t : ℕ) (r s : Row)
-    → IsRowOf db request t r
-    → IsRowOf db request t s → r ≡ s
+    → IsRowOf db request t r → IsRowOf db request t s → r ≡ s
 row_is_unique db request t r s is_row_r is_row_s =
-    ap₂ (λ (l : Bytes) (m : List Bool). record { label = l; marks = m }) (is_row_r.0
-    ∙ sym is_row_s.0)
-    (zip_is_unique _ (λ x a b decides_a decides_b. same_from_decides a b decides_a decides_b)
-    (columns db request.only) r.marks s.marks is_row_r.1 is_row_s.1)
+    search (rules, arith, zip_is_unique, same_from_decides)
 
 -- ---- faults of the text
 
@@ -264,8 +230,7 @@ shape_fault_is_unique ts f g faults_f faults_g =
         first_token.word)))
 
     faults_equal : (tokens_before : List Token) (first_token : Token)
-        → HasShapeCode tokens_before first_token f
-        → HasShapeCode tokens_before first_token g
+        → HasShapeCode tokens_before first_token f → HasShapeCode tokens_before first_token g
         → f ≡ g
     faults_equal tokens_before first_token (inl code_of_f) (inl code_of_g) = code_of_f.1
         ∙ sym code_of_g.1
@@ -303,13 +268,11 @@ file_end_fault_is_unique len ts f g faults_f faults_g = faults_equal_by_kinds fa
   where
     rests_equal : faults_f.are_statements.rest ≡ faults_g.are_statements.rest
     rests_equal =
-        append_cancel_left
-        (flat_map spelling_of faults_g.statements) faults_f.are_statements.rest
+        append_cancel_left (flat_map spelling_of faults_g.statements) faults_f.are_statements.rest
         faults_g.are_statements.rest
         (sym (subst (λ r. ts ≡ flat_map spelling_of r ++ faults_f.are_statements.rest)
         (longest_statements_equal ts faults_f.statements faults_g.statements faults_f.are_statements
-        faults_g.are_statements)
-        faults_f.are_statements.splits)
+        faults_g.are_statements) faults_f.are_statements.splits)
         ∙ faults_g.are_statements.splits)
 
     faults_equal_by_kinds : ((faults_f.are_statements.rest ≢ []) × (f ≡ fault len OpenStatement))
@@ -351,8 +314,7 @@ fronts_equal xs ys us vs lengths equal = (
 stopping_fault_is_unique : (len : ℕ) (x : LexedText) (statements db later : List Statement) (f g :
     Option Fault)
     → StopsReading len x statements db later f → StopsReading len x statements db later g → f ≡ g
-stopping_fault_is_unique len x statements db (s ∷ later) f g stops_with_f stops_with_g = sym
-    stops_with_f.1 ∙ stops_with_g.1
+stopping_fault_is_unique len x statements db (s ∷ later) f g stops_with_f stops_with_g = cc
 stopping_fault_is_unique len x statements db [] None None stops_with_f stops_with_g = refl
 stopping_fault_is_unique len x statements db [] None (Some g) stops_with_f stops_with_g = absurd
     (stops_with_f g stops_with_g)
@@ -392,8 +354,7 @@ reading_is_unique len x a b f g reads_a reads_b = elim (cases_order (length a) (
             (subst (λ r. StopsReading len x r b reads_b.rest f) statements_equal
             (subst (λ r. StopsReading len x reads_a.statements b r f) equal.1
             (subst (λ d. StopsReading len x reads_a.statements d reads_a.rest f) equal.0
-            reads_a.stops)))
-            reads_b.stops,
+            reads_a.stops))) reads_b.stops,
       )
   | inr (inl a_lt_b) ↦ absurd (no_reading_is_shorter len x a b f g reads_a reads_b a_lt_b)
   | inr (inr b_lt_a) ↦ absurd (no_reading_is_shorter len x b a g f reads_b reads_a b_lt_a)
@@ -402,33 +363,27 @@ reading_is_unique len x a b f g reads_a reads_b = elim (cases_order (length a) (
 -- ---- the output
 
 theorem_lt_length : (db : List Statement) (k : ℕ) → IsTrue (is_theorem_at db k) → k < length db
-theorem_lt_length db k is_theorem_k =
-    let statement_k = passing_statement db is_theorem k is_theorem_k in
-    got_lt_length db k statement_k.0 statement_k.1
+theorem_lt_length db k is_theorem_k = search (rules, arith, passing_statement, got_lt_length)
 
 module _ (len : ℕ) (x : LexedText) (with_open : Bool) where
   IsCauseOf : List Statement → Option Fault → Fault → Type 0
   IsCauseOf db o f =
-      ((k : ℕ) × FirstProofFault (counted with_open db) k f)
-      ⊎ (AllAreValid (counted with_open db) × (o ≡ Some f))
+      ((k : ℕ) × FirstProofFault (open_as_axioms with_open db) k f)
+      ⊎ (AllAreValid (open_as_axioms with_open db) × (o ≡ Some f))
 
   are_complete : (db : List Statement) (o : Option Fault) → IsRead len x db o
-      → AreComplete (counted with_open db)
+      → AreComplete (open_as_axioms with_open db)
   are_complete db o is_read = counted_complete with_open db (reads_complete len x db o is_read)
 
   -- a proof with a fault is not valid
   fault_or_all_valid : (db : List Statement) (o : Option Fault) → IsRead len x db o
-      → (k : ℕ) (f : Fault)
-      → FirstProofFault (counted with_open db) k f → AllAreValid (counted with_open db) → ⊥
+      → (k : ℕ) (f : Fault) → FirstProofFault (open_as_axioms with_open db) k f
+      → AllAreValid (open_as_axioms with_open db) → ⊥
   fault_or_all_valid db o is_read k f is_first are_valid =
-      let statements = counted with_open db in
-      valid_has_no_fault statements (are_complete db o is_read) k (proof_end (slice_get statements
-      k)) f
-      (are_valid k (theorem_lt_length statements k is_first.0) is_first.0) is_first.2
+      search (rules, arith, valid_has_no_fault, are_complete, theorem_lt_length)
 
   first_fault_is_unique : (f g : Fault) → FirstFault len x with_open f
-      → FirstFault len x with_open g
-      → f ≡ g
+      → FirstFault len x with_open g → f ≡ g
   unfolding IsCauseOf
   first_fault_is_unique f g faults_f faults_g =
       let readings_equal = reading_is_unique len x faults_f.0 faults_g.0 faults_f.1 faults_g.1
@@ -440,7 +395,7 @@ module _ (len : ℕ) (x : LexedText) (with_open : Bool) where
       faults_equal_by_causes : IsCauseOf faults_g.0 faults_g.1 f → IsCauseOf faults_g.0 faults_g.1 g
           → f ≡ g
       faults_equal_by_causes (inl (j, first_f)) (inl (k, first_g)) =
-          first_proof_fault_is_unique (counted with_open faults_g.0) (are_complete faults_g.0
+          first_proof_fault_is_unique (open_as_axioms with_open faults_g.0) (are_complete faults_g.0
           faults_g.1 faults_g.2) j k f g first_f first_g
       faults_equal_by_causes (inl (j, first_f)) (inr (all_valid, _)) =
           absurd (fault_or_all_valid faults_g.0 faults_g.1 faults_g.2 j f first_f all_valid)
@@ -468,9 +423,7 @@ module _ (len : ℕ) (x : LexedText) (with_open : Bool) where
 cited_list_is_unique : (db : List Statement) (request : Request) (t : ℕ) (a b : List ℕ)
     → AreCited db request t a → AreCited db request t b → a ≡ b
 cited_list_is_unique db request t a b are_cited_a are_cited_b =
-    equal_if_same_members a b are_cited_a.rising are_cited_b.rising
-    (λ x. same_from_decides (is_member a x) (is_member b x) (are_cited_a.cited x) (are_cited_b.cited
-    x))
+    search (rules, arith, equal_if_same_members, same_from_decides)
 
 citing_row_is_unique : (db : List Statement) (request : Request) (t : ℕ) (r s : CitingRow)
     → IsCitingRowOf db request t r → IsCitingRowOf db request t s → r ≡ s
@@ -489,32 +442,29 @@ report_is_unique db opened lines request a b is_report_a is_report_b =
     is_report_a.bytes_are
     ∙ ap₂ (λ (rows : List Row) (citing : List CitingRow). report request opened
     (map (label_at db) (columns db request.only)) rows citing lines)
-    (zip_is_unique _ (row_is_unique db request) (theorems db) is_report_a.rows is_report_b.rows is_report_a.are_rows
-    is_report_b.are_rows)
-    (zip_is_unique _ (citing_row_is_unique db request) (theorems db) is_report_a.citing_rows is_report_b.citing_rows
-    is_report_a.are_citing_rows is_report_b.are_citing_rows)
+    (zip_is_unique _ (row_is_unique db request) (theorems db) is_report_a.rows is_report_b.rows
+    is_report_a.are_rows is_report_b.are_rows)
+    (zip_is_unique _ (citing_row_is_unique db request) (theorems db) is_report_a.citing_rows
+    is_report_b.citing_rows is_report_a.are_citing_rows is_report_b.are_citing_rows)
     ∙ sym is_report_b.bytes_are
 
 -- there is one output
 pub output_is_unique_for_text : (text : List ℕ) (request : Request) (a b : List ℕ)
-    → IsOutput text request a
-    → IsOutput text request b → a ≡ b
+    → IsOutput text request a → IsOutput text request b → a ≡ b
 output_is_unique_for_text text request a b (inl is_output_a) (inl is_output_b) =
     is_output_a.2 ∙ ap (refusal text)
     (first_fault_is_unique (length text) (lexed_of text) request.with_open is_output_a.0
     is_output_b.0 is_output_a.1 is_output_b.1)
     ∙ sym is_output_b.2
 output_is_unique_for_text text request a b (inl is_output_a) (inr is_output_b) =
-    absurd (fault_or_none (length text) (lexed_of text) request.with_open is_output_a.0
-    is_output_b.0 is_output_a.1 is_output_b.1)
+    search (rules, arith, fault_or_none)
 output_is_unique_for_text text request a b (inr is_output_a) (inl is_output_b) =
-    absurd (fault_or_none (length text) (lexed_of text) request.with_open is_output_b.0
-    is_output_a.0 is_output_b.1 is_output_a.1)
+    search (rules, arith, fault_or_none)
 output_is_unique_for_text text request a b (inr is_output_a) (inr is_output_b) =
     let databases_equal : is_output_a.0 ≡ is_output_b.0 =
     (reading_is_unique (length text) (lexed_of text) is_output_a.0 is_output_b.0 None None
     is_output_a.1.0 is_output_b.1.0).0 in
-    report_is_unique (counted request.with_open is_output_b.0)
+    report_is_unique (open_as_axioms request.with_open is_output_b.0)
     (open_theorem_count is_output_b.0 request) (told is_output_b.0 request) request a b
-    (subst (λ d. IsReportOf (counted request.with_open d) (open_theorem_count d request)
+    (subst (λ d. IsReportOf (open_as_axioms request.with_open d) (open_theorem_count d request)
     (told d request) request a) databases_equal is_output_a.2) is_output_b.2

@@ -1,6 +1,7 @@
 -- What is written for two small texts, a faulty one and a sound one.
-use Rattle.std.proofs.Common.{◌≡◌, ℕ, zero, suc, ◌<◌, List, [], ◌∷◌, flat_map, Some, None}
-use Rattle.std.proofs.Common.{codes, refl, sym, inl, inr, true≢false, arith}
+use Rattle.std.proofs.lemmas.Grind.{common_steps}
+use Rattle.std.proofs.Common.{◌≡◌, ℕ, zero, suc, ◌<◌, List, [], ◌∷◌, flat_map, Some, None, codes}
+use Rattle.std.proofs.Common.{refl, inl, inr, true≢false, arith}
 use Rattle.std.specs.Fmt.{digits}
 use Rattle.mm_spec.specs.Text.{token, fault}
 use Rattle.mm_spec.specs.Statement.{Statement, constants, axiomatic, opening, closing}
@@ -29,9 +30,7 @@ before_fault_lawful (suc zero) k_lt_2 = refl
 before_fault_lawful (suc (suc k)) k_lt_2 = absurd (omega arith)
 
 front_valid : AreValid before_fault 2
-front_valid zero k_lt_2 is_theorem = absurd (true≢false (sym is_theorem))
-front_valid (suc zero) k_lt_2 is_theorem = absurd (true≢false (sym is_theorem))
-front_valid (suc (suc k)) k_lt_2 is_theorem = absurd (omega arith)
+front_valid = grind (arith, common_steps, true≢false)
 
 front_read : IsRead 21 (lexed_of faulty) before_fault (Some (fault 11 ConstantInBlock))
 unfolding statements
@@ -64,14 +63,10 @@ db =
     ∷ axiomatic (token 8 (codes "ax")) 11 (token 14 (codes "a") ∷ []) 16 ∷ []
 
 db_lawful : (k : ℕ) → k < 2 → scope_fault db k ≡ None
-db_lawful zero k_lt_2 = refl
-db_lawful (suc zero) k_lt_2 = refl
-db_lawful (suc (suc k)) k_lt_2 = absurd (omega arith)
+db_lawful k h1 = grind (arith, common_steps)
 
 db_valid : AreValid db 2
-db_valid zero k_lt_2 is_theorem = absurd (true≢false (sym is_theorem))
-db_valid (suc zero) k_lt_2 is_theorem = absurd (true≢false (sym is_theorem))
-db_valid (suc (suc k)) k_lt_2 is_theorem = absurd (omega arith)
+db_valid = grind (arith, common_steps, true≢false)
 
 db_read : IsRead 18 (lexed_of sound) db None
 unfolding statements
@@ -84,8 +79,7 @@ db_read = record {
   stops = no_text_fault 18 (lexed_of sound) refl;
 }
 
-reported : IsOutput sound without_options
-    (flat_map line
+reported : IsOutput sound without_options (flat_map line
     (codes "mmdepend 1" ∷ codes "axioms 1" ∷ codes "theorems 0" ∷ codes "matrix" ∷ codes "counts"
     ∷ codes "usage" ∷ codes "ax:0:" ∷ codes "end" ∷ []))
 unfolding digits

@@ -1,7 +1,6 @@
 -- Where a text is read, its proofs are valid or a first one has a fault.
-use Rattle.std.proofs.Common.{ℕ, zero, suc, Bool, List, length, Option, Some}
-use Rattle.std.proofs.Common.{None, slice_get, ◌⊎◌, inl, inr, refl, sym, ◌∙◌, subst, true≢false}
-use Rattle.std.proofs.Common.{arith}
+use Rattle.std.proofs.Common.{ℕ, zero, suc, Bool, List, length, Option, Some, None, slice_get, ◌⊎◌}
+use Rattle.std.proofs.Common.{inl, inr, refl, sym, ◌∙◌, subst, true≢false, arith}
 use Rattle.std.specs.Prelude.{IsTrue}
 use Rattle.std.proofs.lemmas.Bool.{cases_eq, cases_Bool}
 use Rattle.mm_spec.specs.declared.Fault.{Fault}
@@ -9,10 +8,10 @@ use Rattle.mm_spec.specs.Statement.{Statement}
 use Rattle.mm_spec.specs.Citation.{IsValid}
 use Rattle.mm_spec.specs.Laws.Complete.{AreComplete}
 use Rattle.mm_spec.specs.Lexed.{LexedText}
-use Rattle.mm_spec.specs.Output.{IsRead, proof_end, is_theorem_at, AreValid}
-use Rattle.mm_spec.specs.Output.{AllAreValid, FirstProofFault}
+use Rattle.mm_spec.specs.Output.{IsRead, proof_end, is_theorem_at, AreValid, AllAreValid}
+use Rattle.mm_spec.specs.Output.{FirstProofFault}
 use Rattle.mm_laws.specs.Laws.FirstFaults.{IsSoundOrFaulty}
-use Rattle.mm_spec.specs.Opened.{counted}
+use Rattle.mm_spec.specs.Opened.{open_as_axioms}
 use Rattle.mm_spec.proofs.CompleteLaw.{reads_complete}
 use Rattle.mm_spec.proofs.OpenedLaw.{counted_complete}
 use Rattle.mm_laws.proofs.TheoremLaw.{is_valid_or_faulty}
@@ -50,15 +49,18 @@ pub is_sound_or_faulty : (len : ℕ) (x : LexedText) (with_open : Bool)
 is_sound_or_faulty len x with_open =
     let reading = is_readable len x in
     judged_by_reading reading.0 reading.1 reading.2
-    (are_valid_or_first_fault (counted with_open reading.0)
+    (are_valid_or_first_fault (open_as_axioms with_open reading.0)
     (counted_complete with_open reading.0 (reads_complete len x reading.0 reading.1 reading.2))
-    (length (counted with_open reading.0)))
+    (length (open_as_axioms with_open reading.0)))
   where
     judged_by_reading : (db : List Statement) (o : Option Fault) → IsRead len x db o
-        → AllAreValid (counted with_open db)
-        ⊎ ((k : ℕ) × (f : Fault) × FirstProofFault (counted with_open db) k f)
+        → AllAreValid (open_as_axioms with_open db)
+        ⊎ ((k : ℕ) × (f : Fault) × FirstProofFault (open_as_axioms with_open db) k f)
         → IsSoundOrFaulty len x with_open
-    judged_by_reading db o is_read (inr (k, f, is_first)) = inl (f, (db, o, is_read, inl (k, is_first)))
+    judged_by_reading db o is_read (inr (k, f, is_first)) = inl (
+      f,
+      (db, o, is_read, inl (k, is_first)),
+    )
     judged_by_reading db (Some f) is_read (inl are_valid) =
         inl (f, (db, Some f, is_read, inr (are_valid, refl)))
     judged_by_reading db None is_read (inl are_valid) = inr (db, (is_read, are_valid))

@@ -1,16 +1,16 @@
 -- There is an output.
-use Rattle.std.proofs.Common.{ℕ, Bool, List, Option, None, inl, inr, refl, length}
+use Rattle.std.proofs.Common.{ℕ, Bool, List, Option, None, inl, inr, refl, length, rules, arith}
 use Rattle.mm_spec.specs.Report.{refusal}
 use Rattle.mm_spec.specs.Statement.{Statement}
 use Rattle.mm_spec.specs.Laws.Complete.{AreComplete}
 use Rattle.mm_spec.specs.Request.{Request}
 use Rattle.mm_spec.specs.Lexed.{LexedText, lexed_of}
-use Rattle.mm_spec.specs.Output.{theorems, AllAreValid, open_theorem_count, told}
-use Rattle.mm_spec.specs.Output.{IsReportOf, IsOutput}
+use Rattle.mm_spec.specs.Output.{theorems, AllAreValid, open_theorem_count, told, IsReportOf}
+use Rattle.mm_spec.specs.Output.{IsOutput}
 use Rattle.mm_laws.specs.Laws.FirstFaults.{IsSoundOrFaulty}
 use Rattle.mm_laws.specs.Laws.Cells.{AreDecided}
 use Rattle.mm_laws.specs.Laws.SomeOutput.{OutputExists}
-use Rattle.mm_spec.specs.Opened.{counted}
+use Rattle.mm_spec.specs.Opened.{open_as_axioms}
 use Rattle.mm_spec.proofs.CompleteLaw.{reads_complete}
 use Rattle.mm_spec.proofs.OpenedLaw.{counted_complete}
 use Rattle.mm_laws.proofs.SomeFaultLaw.{is_sound_or_faulty}
@@ -19,13 +19,11 @@ use Rattle.mm_spec.proofs.RestsLaw.{rests_on_is_decided, rows_of, citing_rows_of
 -- in a sound text each cell is marked or not
 pub cells_are_decided : (len : ℕ) (x : LexedText) (with_open : Bool) → AreDecided len x with_open
 cells_are_decided len x with_open db has_no_fault by_essential t a =
-    rests_on_is_decided (counted with_open db) by_essential
-    (counted_complete with_open db (reads_complete len x db None has_no_fault.0)) has_no_fault.1 t a
+    search (rules, arith, rests_on_is_decided, counted_complete, reads_complete)
 
 -- a database without faults has a report
 report_exists : (db : List Statement) (opened : Option ℕ) (lines : List ℕ) (request : Request)
-    → AreComplete db → AllAreValid db
-    → (bytes : List ℕ) × IsReportOf db opened lines request bytes
+    → AreComplete db → AllAreValid db → (bytes : List ℕ) × IsReportOf db opened lines request bytes
 report_exists db opened lines request all_complete are_valid =
     let rows = rows_of db request all_complete are_valid (theorems db) in
     let citing_rows = citing_rows_of db request all_complete are_valid (theorems db) in (
@@ -46,14 +44,13 @@ output_exists_for_text text request =
   where
     sound_or_faulty_text : IsSoundOrFaulty (length text) (lexed_of text) request.with_open
         → (bytes : List ℕ) × IsOutput text request bytes
-    sound_or_faulty_text (inl (fault, is_first)) =
-        (refusal text fault, inl (fault, is_first, refl))
+    sound_or_faulty_text (inl (fault, is_first)) = (refusal text fault, inl (fault, is_first, refl))
     sound_or_faulty_text (inr has_no_fault) =
         let all_complete =
         counted_complete request.with_open has_no_fault.0
         (reads_complete (length text) (lexed_of text) has_no_fault.0 None has_no_fault.1.0) in
         let report =
-        report_exists (counted request.with_open has_no_fault.0)
+        report_exists (open_as_axioms request.with_open has_no_fault.0)
         (open_theorem_count has_no_fault.0 request) (told has_no_fault.0 request) request
         all_complete has_no_fault.1.1 in
         (report.0, inr (has_no_fault.0, has_no_fault.1, report.1))

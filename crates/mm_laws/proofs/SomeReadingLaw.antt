@@ -1,8 +1,6 @@
 -- Each text is read, up to what stops the reading.
-use Rattle.std.proofs.Common.{◌≡◌, ℕ, ◌+◌, ◌<◌, List, [], ◌∷◌, ◌++◌, length, Option, Some}
-use Rattle.std.proofs.Common.{None, inl, inr, refl, sym, ap, ◌∙◌, append_assoc, length-append}
-use Rattle.std.proofs.Common.{arith}
-use Rattle.std.proofs.lemmas.Bool.{cases_lt}
+use Rattle.std.proofs.Common.{◌≡◌, ℕ, ◌+◌, ◌<◌, List, [], ◌∷◌, ◌++◌, length, Option, Some, None}
+use Rattle.std.proofs.Common.{refl, sym, ◌∙◌, append_assoc, length-append, arith}
 use Rattle.mm_spec.specs.declared.Fault.{Fault}
 use Rattle.mm_spec.specs.Statement.{Statement}
 use Rattle.mm_spec.specs.Laws.Table.{statements_of}
@@ -18,12 +16,8 @@ abbrev AreLawful : List Statement → ℕ → Type 0
 AreLawful list n = (k : ℕ) → k < n → scope_fault list k ≡ None
 
 lawful_up_to_next : (list : List Statement) (n : ℕ) → AreLawful list n → scope_fault list n ≡ None
-    → (m : ℕ)
-    → m ≡ n + 1 → AreLawful list m
-lawful_up_to_next list n are_lawful n_is_lawful m m_is k k_lt_m = elim (cases_lt k n) [
-  | inl k_lt_n ↦ are_lawful k k_lt_n
-  | inr n_le_k ↦ let k_is_n : k ≡ n = omega arith in ap (scope_fault list) k_is_n ∙ n_is_lawful
-]
+    → (m : ℕ) → m ≡ n + 1 → AreLawful list m
+lawful_up_to_next list n are_lawful n_is_lawful m m_is k k_lt_m = grind arith
 
 module _ (len : ℕ) (x : LexedText) where
   read_up_to : (db rest : List Statement) (o : Option Fault) → statements_of x.tokens ≡ db ++ rest
@@ -57,8 +51,7 @@ module _ (len : ℕ) (x : LexedText) where
       (λ is_lawful. read_from later (db ++ s ∷ []) (statements_are
       ∙ sym (append_assoc db (s ∷ []) later))
       (lawful_up_to_next (statements_of x.tokens) (length db) are_lawful is_lawful (length (db ++ s
-      ∷ []))
-      (length-append db (s ∷ []))))
+      ∷ [])) (length-append db (s ∷ []))))
     where
       readable_by_scope_fault : (o : Option Fault)
           → scope_fault (statements_of x.tokens) (length db) ≡ o

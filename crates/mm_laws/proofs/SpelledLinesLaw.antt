@@ -1,17 +1,17 @@
 -- What is read of a text is spelled as the lines of the statements need it.
 use Rattle.std.proofs.Common.{◌≡◌, ◌∙◌, ℕ, zero, suc, ◌+◌, ◌<◌, ◌≤◌, ◌^◌, Bool, true, false, ◌&&◌}
 use Rattle.std.proofs.Common.{◌==◌, List, [], ◌∷◌, ◌++◌, length, map, refl, sym, ap, subst, arith}
-use Rattle.std.proofs.Common.{true≢false, append-nil, not, Option, Some, None, is_some, eqb-true}
+use Rattle.std.proofs.Common.{append-nil, not, Option, Some, None, is_some, eqb-true, inl, inr}
+use Rattle.std.proofs.Common.{rules}
 use Rattle.std.specs.Prelude.{flat_map, unwrap_or, slice_get, codes}
-use Rattle.std.proofs.Common.{inl, inr}
 use Rattle.std.specs.Option.{option_map, option_and_then}
 use Rattle.std.specs.List.{list_any, list_all, AllByRecursion}
-use Rattle.std.proofs.lemmas.Bool.{and_parts, cases_lt, cases_Bool, or_from, false_from_ne_true}
+use Rattle.std.proofs.lemmas.Bool.{and_parts, cases_lt, or_from, false_from_ne_true}
 use Rattle.std.proofs.lemmas.Bool.{not-true}
 use Rattle.std.proofs.lemmas.Grind.{common_steps}
 use Rattle.mm_laws.proofs.ToldLaw.{all_of_both}
 use Rattle.std.proofs.lemmas.List.Elements.{recursion_from_All, All-weaker}
-use Rattle.mm_spec.specs.Text.{Bytes, Token, token, is_in, has_dollar, words, is_label, is_label_byte}
+use Rattle.mm_spec.specs.Text.{Bytes, Token, token, has_dollar, words, is_label}
 use Rattle.mm_spec.specs.Bytes.{is_printable}
 use Rattle.mm_spec.specs.Limits.{text_limit}
 use Rattle.mm_spec.specs.Words.{words_of}
@@ -22,7 +22,7 @@ use Rattle.mm_spec.specs.Lexed.{lexed_of}
 use Rattle.mm_spec.specs.Statement.{Statement, constants, variables, disjoint, floating, essential}
 use Rattle.mm_spec.specs.Statement.{axiomatic, provable, opening, closing, spelling_of, symbols_of}
 use Rattle.mm_spec.specs.Statement.{is_complete, is_plain, label_of, is_label_if_any}
-use Rattle.mm_spec.specs.Opened.{is_open_proof, as_axiom, counted}
+use Rattle.mm_spec.specs.Opened.{as_axiom, open_as_axioms}
 use Rattle.mm_spec.specs.Scope.{label_words, constants_of, variables_of}
 use Rattle.mm_spec.specs.Frame.{first_occurrences}
 use Rattle.mm_spec.specs.Assertion.{end_at}
@@ -30,7 +30,8 @@ use Rattle.mm_spec.specs.declared.Word.{Word}
 use Rattle.mm_spec.specs.declared.Role.{Role}
 use Rattle.mm_spec.specs.declared.Role.TheVariants as role
 use Rattle.mm_spec.proofs.ReadingsLaw.{read_as_token, reading_token, reading_opening}
-use Rattle.mm_spec.proofs.ReadingsLaw.{reading_closing, reading_comment, reading_faulty, reading_end}
+use Rattle.mm_spec.proofs.ReadingsLaw.{reading_closing, reading_comment, reading_faulty}
+use Rattle.mm_spec.proofs.ReadingsLaw.{reading_end}
 use Rattle.mm_spec.proofs.WordsLaw.{words_of_are_words}
 use Rattle.mm_spec.proofs.LexedLaw.{tokens_of_long, tokens_of_read}
 use Rattle.mm_laws.specs.Laws.Told.{is_gap, is_colon, IsPlainWord, AreSpelled, ReadIsSpelled}
@@ -39,9 +40,7 @@ use Rattle.mm_laws.specs.Laws.Told.{is_gap, is_colon, IsPlainWord, AreSpelled, R
 
 -- a byte that passes a test isn't one that fails it
 differs : (p : ℕ → Bool) (c : ℕ) → p c ≡ false → (b : ℕ) → p b ≡ true → (b == c) ≡ false
-differs p c c_fails b passes =
-    false_from_ne_true (b == c) (λ is_c. true≢false (sym passes ∙ ap p (eqb-true b c is_c)
-    ∙ c_fails))
+differs p c c_fails b passes = search (rules, arith, false_from_ne_true, eqb-true)
 
 none_if_all : (p q : ℕ → Bool) → ((b : ℕ) → p b ≡ true → q b ≡ false) → (w : Bytes)
     → list_all p w ≡ true → list_any q w ≡ false
@@ -51,25 +50,17 @@ none_if_all p q fails (b ∷ w) all_pass =
     rw (fails b parts.0) (none_if_all p q fails w parts.1)
 
 is_no_gap : (p : ℕ → Bool) → p 10 ≡ false → p 32 ≡ false → (b : ℕ) → p b ≡ true → is_gap b ≡ false
-is_no_gap p fails_10 fails_32 b passes =
-    or_from _ _ (differs p 10 fails_10 b passes) (differs p 32 fails_32 b passes)
+is_no_gap p fails_10 fails_32 b passes = grind (arith, common_steps, or_from, differs)
 
 token_has_no_gap : (w : Bytes) → is_token w ≡ true → list_any is_gap w ≡ false
 unfolding is_token is_clean is_printable
-token_has_no_gap w passes =
-    none_if_all is_printable is_gap (is_no_gap is_printable refl refl) w
-    (and_parts (list_all is_printable w) _ passes).0
+token_has_no_gap w passes = search (rules, arith, none_if_all, is_no_gap, and_parts)
 
 label_is_plain : (w : Bytes) → is_label w ≡ true → IsPlainWord w
-label_is_plain w passes = record {
-  no_gap = none_if_all is_label_byte is_gap (is_no_gap is_label_byte refl refl) w passes;
-  no_dollar =
-      none_if_all is_label_byte (λ b. b == 0x24) (differs is_label_byte 0x24 refl) w passes;
-}
+label_is_plain w passes = search (rules, arith, none_if_all, is_no_gap, differs)
 
 label_has_no_colon : (w : Bytes) → is_label w ≡ true → list_any is_colon w ≡ false
-label_has_no_colon w passes =
-    none_if_all is_label_byte is_colon (differs is_label_byte 58 refl) w passes
+label_has_no_colon w passes = grind (arith, common_steps, none_if_all, differs)
 
 -- ---- tokens
 
@@ -90,7 +81,8 @@ read_tokens text open_comment (w ∷ ws) starts =
     (λ comment. read_tokens text comment ws starts.1)
   where
     by_role : (r : Role) → role_of (is_some open_comment) (bytes_of text w) ≡ r
-        → ((comment : Option ℕ) → AllByRecursion (IsTokenWord text) (reading text comment ws).tokens)
+        → ((comment : Option ℕ) → AllByRecursion (IsTokenWord text) (reading text comment
+        ws).tokens)
         → AllByRecursion (IsTokenWord text) (reading text open_comment (w ∷ ws)).tokens
     by_role role.Token role_is later =
         rw (reading_token text [] open_comment w ws role_is) (
@@ -125,10 +117,7 @@ tokens_are_text_tokens text = elim (cases_lt text_limit (length text)) [
         → AllByRecursion IsTextToken (map (λ w. token w.start (bytes_of text w)) ws)
     as_tokens [] fits are_tokens = tt
     as_tokens (w ∷ ws) fits are_tokens = (
-      record {
-        is_token = are_tokens.0.0;
-        place = omega (arith, fits, are_tokens.0.1);
-      },
+      record { is_token = are_tokens.0.0; place = omega (arith, fits, are_tokens.0.1) },
       as_tokens ws fits are_tokens.1,
     )
 
@@ -141,8 +130,7 @@ tokens_are_text_tokens text = elim (cases_lt text_limit (length text)) [
 all_split : {X : Type 0} (P : X → Type 0) (xs ys : List X) → AllByRecursion P (xs ++ ys)
     → AllByRecursion P xs × AllByRecursion P ys
 all_split P [] ys all_hold = (tt, all_hold)
-all_split P (x ∷ xs) ys (holds, later) =
-    let parts = all_split P xs ys later in ((holds, parts.0), parts.1)
+all_split P (x ∷ xs) ys (holds, later) = grind (arith, common_steps, (all_split P xs ys later))
 
 -- a statement whose words are spelled as the lines need it
 record IsSpelled (s : Statement) : Type 0 where
@@ -171,13 +159,8 @@ plain_symbols (x ∷ xs) are_tokens plain =
 unlabelled : (s : Statement) (xs : List Token) (t : Token) → label_of s ≡ None
     → symbols_of s ≡ xs → AllByRecursion IsTextToken xs → is_plain xs ≡ true
     → IsTextToken t → end_at s ≡ t.at → IsSpelled s
-unlabelled s xs t no_label symbols_are are_tokens plain last end_is = record {
-  label = rw (no_label, label_words) no_label_is_plain;
-  label_without_colon = rw (no_label, label_words) refl;
-  symbols = rw symbols_are (plain_symbols xs are_tokens plain);
-  start = rw no_label (omega arith);
-  end = omega (arith, last.place, end_is);
-}
+unlabelled s xs t no_label symbols_are are_tokens plain last end_is =
+    search (rules, arith, no_label_is_plain, plain_symbols)
 
 -- a statement with a label
 labelled : (s : Statement) (l : Token) (xs : List Token) (t : Token) → label_of s ≡ Some l
@@ -214,7 +197,8 @@ with_label : (s : Statement) (l : Token) (k : ℕ) (xs : List Token) (d : ℕ) (
     → AllByRecursion IsTextToken (l ∷ token k keyword ∷ (xs ++ token d (codes "$.") ∷ []))
     → is_complete s ≡ true → IsSpelled s
 with_label s l k xs d keyword label_is symbols_are end_is are_tokens complete =
-    let parts = complete_parts (is_label_if_any (label_of s)) (is_plain (symbols_of s)) _ complete in
+    let parts = complete_parts (is_label_if_any (label_of s)) (is_plain (symbols_of s)) _ complete
+    in
     let tokens = all_split IsTextToken xs (token d (codes "$.") ∷ []) are_tokens.1.1 in
     labelled s l xs (token d (codes "$.")) label_is symbols_are are_tokens.0
     (sym (ap is_label_if_any label_is) ∙ parts.0) tokens.0
@@ -223,18 +207,12 @@ with_label s l k xs d keyword label_is symbols_are end_is are_tokens complete =
 -- a complete statement of tokens
 statement_is_spelled : (s : Statement) → AllByRecursion IsTextToken (spelling_of s)
     → is_complete s ≡ true → IsSpelled s
-statement_is_spelled (constants k xs d) are_tokens complete =
-    without_label (constants k xs d) k xs d (codes "$c") refl refl refl are_tokens complete
-statement_is_spelled (variables k xs d) are_tokens complete =
-    without_label (variables k xs d) k xs d (codes "$v") refl refl refl are_tokens complete
-statement_is_spelled (disjoint k xs d) are_tokens complete =
-    without_label (disjoint k xs d) k xs d (codes "$d") refl refl refl are_tokens complete
-statement_is_spelled (floating l k xs d) are_tokens complete =
-    with_label (floating l k xs d) l k xs d (codes "$f") refl refl refl are_tokens complete
-statement_is_spelled (essential l k xs d) are_tokens complete =
-    with_label (essential l k xs d) l k xs d (codes "$e") refl refl refl are_tokens complete
-statement_is_spelled (axiomatic l k xs d) are_tokens complete =
-    with_label (axiomatic l k xs d) l k xs d (codes "$a") refl refl refl are_tokens complete
+statement_is_spelled (constants k xs d) are_tokens complete = search (rules, arith, without_label)
+statement_is_spelled (variables k xs d) are_tokens complete = search (rules, arith, without_label)
+statement_is_spelled (disjoint k xs d) are_tokens complete = search (rules, arith, without_label)
+statement_is_spelled (floating l k xs d) are_tokens complete = search (rules, arith, with_label)
+statement_is_spelled (essential l k xs d) are_tokens complete = search (rules, arith, with_label)
+statement_is_spelled (axiomatic l k xs d) are_tokens complete = search (rules, arith, with_label)
 statement_is_spelled (provable l k xs e ps d) are_tokens complete =
     let parts = complete_parts (is_label l.word) (is_plain xs) (is_plain ps) complete in
     let formula_and_proof =
@@ -242,10 +220,8 @@ statement_is_spelled (provable l k xs e ps d) are_tokens complete =
     are_tokens.1.1 in
     labelled _ l xs (token d (codes "$.")) refl refl are_tokens.0 parts.0 formula_and_proof.0
     parts.1.0 (all_split IsTextToken ps (token d (codes "$.") ∷ []) formula_and_proof.1.1).1.0 refl
-statement_is_spelled (opening k) are_tokens complete =
-    unlabelled _ [] (token k (codes "${")) refl refl tt refl are_tokens.0 refl
-statement_is_spelled (closing k) are_tokens complete =
-    unlabelled _ [] (token k (codes "$}")) refl refl tt refl are_tokens.0 refl
+statement_is_spelled (opening k) are_tokens complete = grind (arith, common_steps, unlabelled)
+statement_is_spelled (closing k) are_tokens complete = grind (arith, common_steps, unlabelled)
 
 all_statements_are_spelled : (ss : List Statement)
     → AllByRecursion IsTextToken (flat_map spelling_of ss) → list_all is_complete ss ≡ true
@@ -259,22 +235,10 @@ all_statements_are_spelled (s ∷ ss) are_tokens complete =
 -- ---- statements as they count
 
 open_is_spelled : (s : Statement) → IsSpelled s → IsSpelled (as_axiom s)
-open_is_spelled (provable l k xs e ps d) spelled = by_openness (is_open_proof ps)
-  where
-    by_openness : (b : Bool)
-        → IsSpelled (elim b [ true ↦ axiomatic l k xs d | false ↦ provable l k xs e ps d ])
-    by_openness true = record {
-      label = spelled.label;
-      label_without_colon = spelled.label_without_colon;
-      symbols = spelled.symbols;
-      start = spelled.start;
-      end = spelled.end;
-    }
-    by_openness false = spelled
-open_is_spelled _ spelled = spelled
+open_is_spelled s h1 = grind (arith, common_steps)
 
 counted_are_spelled : (with_open : Bool) (db : List Statement) → AllByRecursion IsSpelled db
-    → AllByRecursion IsSpelled (counted with_open db)
+    → AllByRecursion IsSpelled (open_as_axioms with_open db)
 counted_are_spelled false db are_spelled = are_spelled
 counted_are_spelled true [] are_spelled = tt
 counted_are_spelled true (s ∷ db) are_spelled =
@@ -293,26 +257,23 @@ module _ {X : Type 0} (Q : X → Type 0) (P : Option X → Type 0) where
 
 declared_words : (s : Statement) → IsSpelled s
     → AllByRecursion IsPlainWord (constants_of s ++ variables_of s)
-declared_words (constants k xs d) spelled =
-    subst (AllByRecursion IsPlainWord) (sym (append-nil (words xs))) spelled.symbols
-declared_words (variables k xs d) spelled = spelled.symbols
-declared_words _ spelled = tt
+declared_words s h1 = grind (arith, common_steps, append-nil)
 
 all_declared : (db : List Statement) → AllByRecursion IsSpelled db
     → AllByRecursion IsPlainWord (flat_map (λ s. constants_of s ++ variables_of s) db)
 all_declared [] are_spelled = tt
 all_declared (s ∷ db) are_spelled =
-    all_of_both IsPlainWord (constants_of s ++ variables_of s) _ (declared_words s are_spelled.0)
-    (all_declared db are_spelled.1)
+    grind (arith, common_steps, all_of_both, declared_words, (all_declared db are_spelled.1))
 
 first_are_plain : (earlier ws : List Bytes) → AllByRecursion IsPlainWord ws
     → AllByRecursion IsPlainWord (first_occurrences earlier ws)
 first_are_plain earlier [] are_plain = tt
-first_are_plain earlier (w ∷ ws) are_plain = elim (cases_Bool (is_in w earlier)) [
-  | inl is_old ↦ rw (is_old, first_occurrences) (first_are_plain earlier ws are_plain.1)
-  | inr is_new ↦ rw (is_new, first_occurrences)
-      (are_plain.0, first_are_plain (w ∷ earlier) ws are_plain.1)
-]
+first_are_plain earlier (w ∷ ws) are_plain =
+    grind (
+      arith,
+      (first_are_plain earlier ws are_plain.1),
+      (first_are_plain (w ∷ earlier) ws are_plain.1),
+    )
 
 -- the label of what may be a statement
 abbrev label_in : Option Statement → Bytes
@@ -332,9 +293,8 @@ spelled_database db are_spelled = record {
   names = of_got IsPlainWord (λ o. IsPlainWord (unwrap_or o [])) no_label_is_plain
       (λ w plain. plain) _ (first_are_plain [] _ (all_declared db are_spelled));
   places = λ k. (
-    of_got IsSpelled (λ o. unwrap_or (option_map (λ t. t.at) (option_and_then label_of o)) 0 < 2 ^ 64)
-        (omega arith) (λ s spelled. omega (arith, spelled.start)) db
-        are_spelled k,
+    of_got IsSpelled (λ o. unwrap_or (option_map (λ t. t.at) (option_and_then label_of o)) 0 < 2 ^
+        64) (omega arith) (λ s spelled. omega (arith, spelled.start)) db are_spelled k,
     of_got IsSpelled (λ o. unwrap_or (option_map end_at o) 0 + 2 < 2 ^ 64) (omega arith)
         (λ s spelled. omega (arith, spelled.end)) db are_spelled k,
   );
@@ -342,12 +302,9 @@ spelled_database db are_spelled = record {
 
 pub read_is_spelled : ReadIsSpelled
 read_is_spelled text db fault is_read with_open =
-    spelled_database (counted with_open db)
-    (counted_are_spelled with_open db
-    (all_split IsSpelled db is_read.rest
-    (subst (AllByRecursion IsSpelled) is_read.splits
+    spelled_database (open_as_axioms with_open db) (counted_are_spelled with_open db
+    (all_split IsSpelled db is_read.rest (subst (AllByRecursion IsSpelled) is_read.splits
     (all_statements_are_spelled is_read.statements
     (all_split IsTextToken (flat_map spelling_of is_read.statements) is_read.are_statements.rest
     (subst (AllByRecursion IsTextToken) is_read.are_statements.splits
-    (tokens_are_text_tokens text))).0
-    is_read.are_statements.are_statements.complete))).0)
+    (tokens_are_text_tokens text))).0 is_read.are_statements.are_statements.complete))).0)

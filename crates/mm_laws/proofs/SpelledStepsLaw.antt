@@ -1,31 +1,27 @@
 -- The steps of a proof are what its numbers or its labels name.
-use Rattle.std.proofs.Common.{◌≡◌, ◌≢◌, ℕ, zero, suc, ◌+◌, ◌-◌, ◌<◌, ◌≤◌, Bool, true}
-use Rattle.std.proofs.Common.{false, ◌&&◌, ◌⊎◌, inl, inr, List, [], ◌∷◌, ◌++◌, map, length}
-use Rattle.std.proofs.Common.{flat_map, count_by, Option, Some, None, slice_get, nat_le, bytes_eq}
-use Rattle.std.proofs.Common.{codes, refl, sym, ap, ◌∙◌, subst, true≢false, arith, leb-true}
-use Rattle.std.proofs.Common.{append_assoc, append-nil, length-append}
+use Rattle.std.proofs.lemmas.Grind.{common_steps}
+use Rattle.std.proofs.Common.{◌≡◌, ◌≢◌, ℕ, zero, suc, ◌+◌, ◌-◌, ◌<◌, ◌≤◌, Bool, true, false, ◌⊎◌}
+use Rattle.std.proofs.Common.{inl, inr, List, [], ◌∷◌, ◌++◌, map, length, flat_map, count_by}
+use Rattle.std.proofs.Common.{Option, Some, slice_get, nat_le, bytes_eq, codes, refl, sym, ◌∙◌}
+use Rattle.std.proofs.Common.{subst, true≢false, arith, leb-true, append_assoc, append-nil}
+use Rattle.std.proofs.Common.{length-append, rules}
 use Rattle.std.specs.List.{list_any, range_with_len, AllZip, filter}
-use Rattle.std.proofs.lemmas.Bool.{and_parts, or_left, cases_order, cases_Bool, false_from_ne_true}
+use Rattle.std.proofs.lemmas.Bool.{and_parts, or_left, cases_Bool, false_from_ne_true}
 use Rattle.std.proofs.lemmas.Bool.Decides.{not_from_Decides}
 use Rattle.std.proofs.lemmas.List.Sums.{sum_by-append}
 use Rattle.std.proofs.lemmas.Option.{slice_get_cases}
 use Rattle.std.proofs.lemmas.Slice.Eq.{bytes_eq-Decides}
 use Rattle.mm_spec.specs.Text.{Bytes, Token, fault, is_in}
 use Rattle.mm_spec.specs.declared.Fault.{Fault}
-use Rattle.mm_spec.specs.Statement.{Statement, floating, essential, axiomatic, provable, label_of}
-use Rattle.mm_spec.specs.Scope.{Names as KnownNames, names_before, depth, active_at, statement_at}
-use Rattle.mm_spec.specs.Scope.{label_words}
-use Rattle.mm_spec.specs.Lawful.{floating_faults, formula_faults, scope_faults}
-use Rattle.mm_spec.specs.Lawful.{IsLawful}
+use Rattle.mm_spec.specs.Statement.{Statement}
+use Rattle.mm_spec.specs.Scope.{Names as KnownNames, names_before, depth, statement_at, label_words}
+use Rattle.mm_spec.specs.Lawful.{scope_faults, IsLawful}
 use Rattle.mm_spec.specs.Lawful as lawful
-use Rattle.mm_spec.specs.Opened.{counted}
+use Rattle.mm_spec.specs.Opened.{open_as_axioms}
 use Rattle.mm_spec.specs.Frame.{mandatory_hypotheses}
 use Rattle.mm_spec.specs.Steps.{Step, PlacedStep, placed, label, marked}
-use Rattle.mm_spec.specs.NormalProof.{is_labelled, usable, proof_label_faults}
-use Rattle.mm_spec.specs.NormalProof.{normal_steps}
-use Rattle.mm_spec.specs.CompressedProof.{letters_of, Group, groups}
-use Rattle.mm_spec.specs.CompressedProof.{value}
-use Rattle.mm_spec.specs.CompressedProof.{starts_at, step_of, group_steps}
+use Rattle.mm_spec.specs.NormalProof.{is_labelled, usable, proof_label_faults, normal_steps}
+use Rattle.mm_spec.specs.CompressedProof.{Group, value, starts_at, step_of, group_steps}
 use Rattle.mm_spec.specs.CompressedProof.{compressed_faults, compressed_steps}
 use Rattle.mm_spec.specs.Proof.{reading_faults, steps}
 use Rattle.mm_spec.specs.Lexed.{LexedText}
@@ -33,8 +29,7 @@ use Rattle.mm_spec.specs.Output.{IsRead}
 use Rattle.mm_laws.specs.Spelling.{Item, number, mark, is_number, is_mark_item, Spells, letters_in}
 use Rattle.mm_laws.specs.Spelling.{IsMark, NamesStep, AreSteps, IsUsable}
 use Rattle.mm_laws.specs.Laws.Read.{WhereRead}
-use Rattle.mm_laws.specs.Laws.NamedSteps.{StepsAreNamed}
-use Rattle.mm_laws.specs.Laws.NamedSteps.{StepsAreLabels}
+use Rattle.mm_laws.specs.Laws.NamedSteps.{StepsAreNamed, StepsAreLabels}
 use Rattle.mm_spec.specs.declared.Code.TheVariants.{IncompleteProof}
 use Rattle.mm_spec.proofs.FindsLaw.{equal_bytes_equal_words, passing_statement}
 use Rattle.mm_spec.proofs.FindsLaw.{later_place_knows_declared}
@@ -44,8 +39,8 @@ use Rattle.mm_spec.proofs.CompleteLaw.{lawful_is_faultless}
 use Rattle.mm_spec.proofs.GoodStepsLaw.{group_value_is_positive}
 use Rattle.mm_spec.proofs.GroupsLaw.{AreFaultless}
 use Rattle.mm_laws.proofs.ReadLaw.{read_statements_are_lawful}
-use Rattle.mm_laws.proofs.SpellingLaw.{compressed_reads, letters_are_faultless, item_of}
-use Rattle.mm_laws.proofs.SpellingLaw.{items_of, letters_spell_items, spelled_items_are_unique}
+use Rattle.mm_laws.proofs.SpellingLaw.{compressed_reads, letters_are_faultless, item_of, items_of}
+use Rattle.mm_laws.proofs.SpellingLaw.{letters_spell_items, spelled_items_are_unique}
 use Rattle.std.proofs.lemmas.Slice.Zip.{AllZip-long}
 
 -- ---- lists
@@ -54,14 +49,10 @@ get_append : {X : Type 0} (xs ys : List X) (n : ℕ) (x : X) → slice_get (xs +
     → (slice_get xs n ≡ Some x) ⊎ ((i : ℕ) × (n ≡ length xs + i) × (slice_get ys i ≡ Some x))
 get_append [] ys n x x_is_at_n = inr (n, omega arith, x_is_at_n)
 get_append (y ∷ xs) ys zero x x_is_at_n = inl x_is_at_n
-get_append (y ∷ xs) ys (suc n) x x_is_at_n = elim (get_append xs ys n x x_is_at_n) [
-  | inl in_xs ↦ inl in_xs
-  | inr in_ys ↦ inr (in_ys.0, omega (arith, in_ys.1), in_ys.2)
-]
+get_append (y ∷ xs) ys (suc n) x x_is_at_n = search (rules, arith, (get_append xs ys n x x_is_at_n))
 
 get_only : {X : Type 0} (y x : X) (i : ℕ) → slice_get (y ∷ []) i ≡ Some x → (i ≡ 0) × (y ≡ x)
-get_only y x zero x_is_at_i = (refl, cc)
-get_only y x (suc i) x_is_at_i = absurd (cc)
+get_only y x i h1 = grind (arith, common_steps)
 
 pub count_append : (p : Item → Bool) (xs ys : List Item)
     → count_by p (xs ++ ys) ≡ count_by p xs + count_by p ys
@@ -78,15 +69,7 @@ count_with_mark b = omega (arith, count_append is_number (mark ∷ []) b)
 
 mark_stays_in_longer : (items added : List Item) (k i : ℕ) → IsMark items k i
     → IsMark (items ++ added) k i
-mark_stays_in_longer items added k i is_mark =
-    record {
-      items_before = is_mark.items_before;
-      items_after = is_mark.items_after ++ added;
-      items_are = ap (λ x. x ++ added) is_mark.items_are ∙ append_assoc is_mark.items_before (mark ∷
-          is_mark.items_after) added;
-      mark_count_is = is_mark.mark_count_is;
-      number_count_is = is_mark.number_count_is;
-    }
+mark_stays_in_longer items added k i is_mark = search (rules, arith, append_assoc)
 
 abbrev AreMarks : List Item → List ℕ → Type 0
 AreMarks items_before marks = (k i : ℕ) → slice_get marks k ≡ Some i → IsMark items_before k i
@@ -96,17 +79,7 @@ marks_push : (items_before : List Item) (marks : List ℕ) (count : ℕ) → 0 <
     → count ≡ count_by is_number items_before → length marks ≡ count_by is_mark_item items_before
     → AreMarks items_before marks → AreMarks (items_before ++ mark ∷ []) (marks ++ (count - 1) ∷ [])
 marks_push items_before marks count count_gt_0 count_is mark_count_is are_marks k i i_is_at_k =
-    elim (get_append marks ((count - 1) ∷ []) k i i_is_at_k) [
-      | inl is_earlier ↦ mark_stays_in_longer items_before (mark ∷ []) k i
-          (are_marks k i is_earlier)
-      | inr is_new ↦ let only = get_only (count - 1) i is_new.0 is_new.2 in record {
-        items_before = items_before;
-        items_after = [];
-        items_are = refl;
-        mark_count_is = omega (arith, is_new.1, only.0);
-        number_count_is = omega (arith, only.1);
-      }
-    ]
+    search (rules, arith, get_append, mark_stays_in_longer, get_only)
 
 -- ---- the steps that items name, if other items come before them
 
@@ -243,28 +216,16 @@ module _ (hypotheses labels : List ℕ) where
 word_is_new : (n : KnownNames) (l : Token) (w : Bytes) (fs : List Fault)
     → bytes_eq l.word w ≡ true → lawful.label_faults n l ++ fs ≡ [] → is_in w n.labels ≡ false
 word_is_new n l w fs is_word no_fault =
-    rw (← equal_bytes_equal_words l.word w is_word)
-    (faultless_label_is_new n l (both_are_empty _ fs no_fault).0)
+    search (rules, arith, equal_bytes_equal_words, faultless_label_is_new, both_are_empty)
 
 label_is_new : (n : KnownNames) (d : ℕ) (s : Statement) (w : Bytes) → scope_faults n d s ≡ []
     → is_labelled w s ≡ true → is_in w n.labels ≡ false
-label_is_new n d (floating l k xs e) w no_fault has_label = word_is_new n l w _ has_label no_fault
-label_is_new n d (essential l k xs e) w no_fault has_label = word_is_new n l w _ has_label no_fault
-label_is_new n d (axiomatic l k xs e) w no_fault has_label = word_is_new n l w _ has_label no_fault
-label_is_new n d (provable l k xs p ps e) w no_fault has_label =
-    word_is_new n l w _ has_label no_fault
-label_is_new n d _ w no_fault has_label = absurd (true≢false (sym has_label))
+label_is_new n d s w h1 h2 = grind (arith, common_steps, word_is_new, true≢false)
 
 label_is_word : (s : Statement) (w : Bytes) → is_labelled w s ≡ true
     → is_in w (label_words s) ≡ true
-label_is_word s w has_label = word_by_label (label_of s) has_label
-  where
-    word_by_label : (o : Option Token) → elim o [ None ↦ false | Some l ↦ bytes_eq l.word w ] ≡ true
-        → is_in w (elim o [ None ↦ [] | Some l ↦ l.word ∷ [] ]) ≡ true
-    word_by_label None has_label = absurd (true≢false (sym has_label))
-    word_by_label (Some l) has_label =
-        or_left (bytes_eq w l.word) false
-        ((bytes_eq-Decides w l.word).1 (sym (equal_bytes_equal_words l.word w has_label)))
+label_is_word s w has_label =
+    search (rules, arith, bytes_eq, or_left, bytes_eq-Decides, equal_bytes_equal_words)
 
 -- the test finds nothing in a range, or one place
 at_most_one_in_range : (passes : ℕ → Bool) → ((i j : ℕ) → passes i ≡ true → passes j ≡ true → i
@@ -273,17 +234,7 @@ at_most_one_in_range : (passes : ℕ → Bool) → ((i j : ℕ) → passes i ≡
     ⊎ ((j : ℕ) × (filter passes (range_with_len a n) ≡ j ∷ []) × (passes j ≡ true) × (a ≤ j))
 at_most_one_in_range passes passes_once zero a = inl refl
 at_most_one_in_range passes passes_once (suc n) a =
-    let later = at_most_one_in_range passes passes_once n (a + 1) in
-    elim (cases_Bool (passes a)) [
-      | inl passes_a ↦ elim later [
-        | inl none ↦ rw (passes_a, filter) (inr (a, ap (λ xs. a ∷ xs) none, passes_a, omega arith))
-        | inr one ↦ absurd (omega (arith, one.3, passes_once a one.0 passes_a one.2))
-      ]
-      | inr not_a ↦ elim later [
-        | inl none ↦ rw (not_a, filter) (inl none)
-        | inr one ↦ rw (not_a, filter) (inr (one.0, one.1, one.2, omega (arith, one.3)))
-      ]
-    ]
+    grind (arith, common_steps, cases_Bool, (at_most_one_in_range passes passes_once n (a + 1)))
 
 abbrev pub HasLabel : List Statement → Bytes → ℕ → Type 0
 HasLabel db w j = list_any (is_labelled w) (statement_at db j) ≡ true
@@ -304,15 +255,11 @@ module _ (db : List Statement) (are_lawful : (k : ℕ) → k < length db → IsL
       i_lt_j (label_is_word labelled_i.0 w labelled_i.2)) ∙ is_new)
 
   labels_are_distinct : LabelsDiffer db
-  labels_are_distinct w i j labels_i labels_j = elim (cases_order i j) [
-    | inl i_is_j ↦ i_is_j
-    | inr (inl i_lt_j) ↦ absurd (label_not_twice w i j i_lt_j labels_i labels_j)
-    | inr (inr j_lt_i) ↦ absurd (label_not_twice w j i j_lt_i labels_j labels_i)
-  ]
+  labels_are_distinct w i j labels_i labels_j = search (rules, arith, label_not_twice)
 
 -- the labels of what is read differ, as it counts
 pub labels_differ : (len : ℕ) (x : LexedText) (db : List Statement) (fault : Option Fault)
-    → IsRead len x db fault → (with_open : Bool) → LabelsDiffer (counted with_open db)
+    → IsRead len x db fault → (with_open : Bool) → LabelsDiffer (open_as_axioms with_open db)
 labels_differ len x db fault is_read with_open w i j labels_i labels_j =
     let same = counted_any with_open db (is_labelled w) (λ l k xs e ps d. refl) in
     labels_are_distinct db (read_statements_are_lawful len x db fault is_read) w i j
@@ -326,53 +273,22 @@ own_faults db k u =
 
 pub no_own_faults : (db : List Statement) (k : ℕ) (u : Token) → own_faults db k u ≡ []
     → (u.word ≢ codes "?") × (proof_label_faults db k u ≡ [])
-no_own_faults db k u no_fault = elim (cases_Bool (bytes_eq u.word (codes "?"))) [
-  | inl is_unknown ↦ (let some_fault = rw (is_unknown, own_faults) at no_fault in absurd (cc))
-  | inr is_known ↦ (
-    not_from_Decides _ (bytes_eq-Decides u.word (codes "?")) is_known,
-    rw (is_known, own_faults) at no_fault,
-  )
-]
+no_own_faults db k u no_fault =
+    search (rules, arith, cases_Bool, bytes_eq, not_from_Decides, bytes_eq-Decides)
 
 -- the words of a normal proof are read as one
 pub normal_reads : (db : List Statement) (k end : ℕ) (t : Token) (ts : List Token)
-    → t.word ≢ codes "("
-    → (reading_faults db k end (t ∷ ts) ≡ flat_map (own_faults db k) (t ∷ ts))
+    → t.word ≢ codes "(" → (reading_faults db k end (t ∷ ts) ≡ flat_map (own_faults db k) (t ∷ ts))
     × (steps db k (t ∷ ts) ≡ normal_steps db k (t ∷ ts))
 normal_reads db k end t ts no_bracket =
-    let not_bracket = false_from_ne_true (bytes_eq t.word (codes "("))
-    (λ e. no_bracket (equal_bytes_equal_words t.word (codes "(") e)) in
-    (rw (not_bracket, reading_faults) refl, rw (not_bracket, steps) refl)
+    search (rules, arith, false_from_ne_true, bytes_eq, equal_bytes_equal_words)
 
 module _ (db : List Statement) (labels_differ : LabelsDiffer db) where
   module _ (k : ℕ) where
     pub one_statement_is_usable : (t : Token) → proof_label_faults db k t ≡ []
         → (j : ℕ) × (usable db k t.word ≡ j ∷ []) × IsUsable db k t.word j
     one_statement_is_usable t no_fault =
-        elim (at_most_one_in_range is_usable_at at_most_once k 0) [
-          | inl none ↦ (let some_fault = rw (none, proof_label_faults) at no_fault in absurd (cc))
-          | inr (j, only_j, passes_j, _) ↦ let parts = parts_of j passes_j in (
-            j,
-            only_j,
-            record {
-              statement_is_active = parts.0;
-              statement_has_label = parts.1;
-              no_other_is_usable = λ i a b. labels_differ t.word i j b parts.1;
-            },
-          )
-        ]
-      where
-        is_usable_at : ℕ → Bool
-        is_usable_at j = active_at db j k && list_any (is_labelled t.word) (statement_at db j)
-
-        parts_of : (j : ℕ) → is_usable_at j ≡ true
-            → (active_at db j k ≡ true) × HasLabel db t.word j
-        parts_of j =
-            and_parts (active_at db j k) (list_any (is_labelled t.word) (statement_at db j))
-
-        at_most_once : (i j : ℕ) → is_usable_at i ≡ true → is_usable_at j ≡ true → i ≡ j
-        at_most_once i j passes_i passes_j =
-            labels_differ t.word i j (parts_of i passes_i).1 (parts_of j passes_j).1
+        search (rules, arith, at_most_one_in_range, labels_differ, and_parts)
 
     pub labels_are_usable : (ts : List Token) → flat_map (proof_label_faults db k) ts ≡ []
         → (js : List ℕ) × AllZip (λ t j. IsUsable db k t.word j) ts js
@@ -407,26 +323,21 @@ module _ (db : List Statement) (labels_differ : LabelsDiffer db) where
         → compressed_faults db k end (record { labels = labels; letters = Some letters }) ≡ []
         → Spells (letters_in letters) items
         → (js : List ℕ) × AllZip (λ t j. IsUsable db k t.word j) labels js
-        × AreSteps (mandatory_hypotheses db k) js items
-        (map (λ p. p.step)
+        × AreSteps (mandatory_hypotheses db k) js items (map (λ p. p.step)
         (compressed_steps db k (record { labels = labels; letters = Some letters })))
     letters_name_steps end labels letters items no_faults letters_spell =
-        let label_count = length (mandatory_hypotheses db k) + length labels in
-        let none = both_are_empty _ _ no_faults in
-        let js = labels_are_usable labels none.0 in
-        let faultless = letters_are_faultless label_count end (letters_of letters) none.1 in
-        let items_equal : items_of letters ≡ items =
-        spelled_items_are_unique (letters_in letters) (items_of letters) items
-        (letters_spell_items label_count letters faultless) letters_spell in
-        let gs = (groups [] (letters_of letters)).0 in
-        let groups_faultless : AreFaultless
-        (length (mandatory_hypotheses db k) + length js.0) 0 0 gs =
-        subst (λ n. AreFaultless (length (mandatory_hypotheses db k) + n) 0 0 gs)
-        (sym (AllZip-long _ labels js.0 js.1)) faultless.has_faultless_groups in (
-          js.0,
-          js.1,
-          rw (js.2, ← items_equal)
-              (groups_name_steps (mandatory_hypotheses db k) js.0 gs groups_faultless),
+        search (
+          rules,
+          arith,
+          both_are_empty,
+          labels_are_usable,
+          letters_are_faultless,
+          items_of,
+          spelled_items_are_unique,
+          letters_spell_items,
+          AreFaultless,
+          AllZip-long,
+          groups_name_steps,
         )
 
     compressed_steps_are_named : StepsAreNamed db k
@@ -438,10 +349,8 @@ module _ (db : List Statement) (labels_differ : LabelsDiffer db) where
 
 pub steps_are_named : WhereRead StepsAreNamed
 steps_are_named len x db fault is_read with_open k =
-    compressed_steps_are_named (counted with_open db) (labels_differ len x db fault is_read
-    with_open) k
+    search (rules, arith, compressed_steps_are_named, labels_differ)
 
 pub steps_are_labels_where_read : WhereRead StepsAreLabels
 steps_are_labels_where_read len x db fault is_read with_open k =
-    normal_steps_are_labels (counted with_open db) (labels_differ len x db fault is_read with_open)
-    k
+    search (rules, arith, normal_steps_are_labels, labels_differ)

@@ -1,35 +1,32 @@
 -- Letters spell one list of items at most, and those of a proof without reading faults spell one.
-use Rattle.std.proofs.Common.{◌≡◌, ◌≢◌, ℕ, suc, ◌+◌, ◌-◌, ◌*◌, ◌^◌, ◌<◌, true}
-use Rattle.std.proofs.Common.{false, ◌⊎◌, inl, inr, List, [], ◌∷◌, ◌++◌, map, length, fold}
-use Rattle.std.proofs.Common.{flat_map, Option, Some, None, nat_le, nat_lt, bytes_eq, codes, refl}
-use Rattle.std.proofs.Common.{sym, ap, ap₂, ◌∙◌, subst, arith, leb-true}
-use Rattle.std.proofs.Common.{append_assoc, append-nil, length-append}
+use Rattle.std.proofs.Common.{◌≡◌, ◌≢◌, ℕ, suc, ◌+◌, ◌-◌, ◌*◌, ◌^◌, ◌<◌, true, false, ◌⊎◌, inl, inr}
+use Rattle.std.proofs.Common.{List, [], ◌∷◌, ◌++◌, map, length, fold, flat_map, Option, Some, None}
+use Rattle.std.proofs.Common.{nat_le, bytes_eq, codes, refl, sym, ap, ap₂, ◌∙◌, subst, arith}
+use Rattle.std.proofs.Common.{leb-true, append_assoc, length-append, rules}
 use Rattle.std.specs.List.{AllByRecursion}
 use Rattle.std.proofs.Math.Nat.{pow-succ'}
-use Rattle.std.proofs.lemmas.Bool.{and_parts, cases_Bool, false_from_ne_true}
+use Rattle.std.proofs.lemmas.Bool.{and_parts, cases_Bool}
 use Rattle.std.proofs.lemmas.Bool.Decides.{not_from_Decides}
 use Rattle.std.proofs.lemmas.List.{map-append}
 use Rattle.std.proofs.lemmas.Option.{same_Some}
 use Rattle.std.proofs.lemmas.Slice.Eq.{bytes_eq-Decides}
+use Rattle.std.proofs.lemmas.Grind.{common_steps}
 use Rattle.mm_spec.specs.Text.{Bytes, Token, fault}
 use Rattle.mm_spec.specs.declared.Fault.{Fault}
 use Rattle.mm_spec.specs.Statement.{Statement}
-use Rattle.mm_spec.specs.Lawful.{when, faults_at}
 use Rattle.mm_spec.specs.Frame.{mandatory_hypotheses}
 use Rattle.mm_spec.specs.NormalProof.{proof_label_faults}
-use Rattle.mm_spec.specs.CompressedProof.{bracketed, with_label, Letter, letters_from}
-use Rattle.mm_spec.specs.CompressedProof.{letters_of, Group, is_early_letter, is_last_letter}
-use Rattle.mm_spec.specs.CompressedProof.{groups, value}
-use Rattle.mm_spec.specs.CompressedProof.{group_faults, letter_faults, compressed_faults}
-use Rattle.mm_spec.specs.CompressedProof.{compressed_steps}
+use Rattle.mm_spec.specs.CompressedProof.{bracketed, with_label, Letter, letters_from, letters_of}
+use Rattle.mm_spec.specs.CompressedProof.{Group, is_early_letter, is_last_letter, groups, value}
+use Rattle.mm_spec.specs.CompressedProof.{letter_faults, compressed_faults, compressed_steps}
 use Rattle.mm_spec.specs.Proof.{reading_faults, steps}
 use Rattle.mm_laws.specs.Spelling.{Item, number, mark, IsEarlyDigit, IsLastDigit, AreEarlyDigits}
 use Rattle.mm_laws.specs.Spelling.{AreLettersOf, IsSpelled, Spells, letters_in, IsCompressed}
 use Rattle.mm_laws.specs.Laws.Letters.{PartsAreUnique, SpellingIsUnique, ProofsAreSpelled}
-use Rattle.mm_spec.specs.declared.Code.TheVariants.{OpenBrackets, OpenNumber}
+use Rattle.mm_spec.specs.declared.Code.TheVariants.{OpenBrackets}
 use Rattle.mm_spec.proofs.FindsLaw.{equal_bytes_equal_words}
 use Rattle.mm_spec.proofs.GroupsLaw.{AreFaultless, nil_if_not_positive, groups_are_faultless}
-use Rattle.mm_spec.proofs.FaultlessLaw.{both_are_empty, no_faults_no_codes, no_code_if_false}
+use Rattle.mm_spec.proofs.FaultlessLaw.{both_are_empty}
 
 -- ---- one spelling
 
@@ -42,9 +39,7 @@ last_unique b c d is_c is_d = omega arith
 early_unique : (bs : List ℕ) (m n : ℕ) → AreEarlyDigits bs m → AreEarlyDigits bs n → m ≡ n
 early_unique [] m n are_m are_n = are_m ∙ sym are_n
 early_unique (b ∷ bs) m n are_m are_n =
-    let digits_equal : are_m.0 ≡ are_n.0 = digit_unique b are_m.0 are_n.0 are_m.2 are_n.2 in
-    let rests_equal : are_m.1 ≡ are_n.1 = early_unique bs are_m.1 are_n.1 are_m.3 are_n.3 in
-    are_m.4 ∙ ap₂ (λ d r. d * 5 ^ length bs + r) digits_equal rests_equal ∙ sym are_n.4
+    grind (arith, common_steps, digit_unique, (early_unique bs are_m.1 are_n.1 are_m.3 are_n.3))
 
 -- what ends an item is no earlier digit
 abbrev pub EndsItem : ℕ → Type 0
@@ -65,7 +60,8 @@ record IsItemLetters (letters : List ℕ) : Type 0 where
   pub are_early_digits : AreEarlyDigits early_letters early_value
   pub ends_item : EndsItem last_letter
 
-abbrev item_letters : (item : Item) (letters : List ℕ) → IsSpelled letters item → IsItemLetters letters
+abbrev item_letters : (item : Item) (letters : List ℕ) → IsSpelled letters item → IsItemLetters
+    letters
 item_letters (number n) letters is_spelled =
     record {
       early_letters = is_spelled.early_letters;
@@ -95,13 +91,9 @@ fronts_equal : (early early' : List ℕ) (last_letter last_letter' m n : ℕ) (l
 fronts_equal [] [] last_letter last_letter' m n later later' early_is_m early_is_n last_ends
     last_ends' letters_equal = (refl, cc, cc)
 fronts_equal [] (c ∷ early') last_letter last_letter' m n later later' early_is_m early_is_n
-    last_ends last_ends' letters_equal =
-    let last_is_c : last_letter ≡ c = cc in absurd (no_early c early_is_n.0 (subst EndsItem
-    last_is_c last_ends) early_is_n.2)
+    last_ends last_ends' letters_equal = search (rules, arith, no_early)
 fronts_equal (c ∷ early) [] last_letter last_letter' m n later later' early_is_m early_is_n
-    last_ends last_ends' letters_equal =
-    let last_is_c : last_letter' ≡ c = cc in absurd (no_early c early_is_m.0 (subst EndsItem
-    last_is_c last_ends') early_is_m.2)
+    last_ends last_ends' letters_equal = search (rules, arith, no_early)
 fronts_equal (c ∷ early) (d ∷ early') last_letter last_letter' m n later later' early_is_m
     early_is_n last_ends last_ends' letters_equal =
     let heads_equal : c ≡ d = cc in
@@ -111,61 +103,23 @@ fronts_equal (c ∷ early) (d ∷ early') last_letter last_letter' m n later lat
     (ap₂ (λ x xs. x ∷ xs) heads_equal rest_equal.0, rest_equal.1, rest_equal.2)
 
 item_letters_equal : (front front' later later' : List ℕ) → IsItemLetters front
-    → IsItemLetters front'
-    → front ++ later ≡ front' ++ later' → (front ≡ front') × (later ≡ later')
+    → IsItemLetters front' → front ++ later ≡ front' ++ later' → (front ≡ front') × (later ≡ later')
 item_letters_equal front front' later later' is_item is_item' letters_equal =
-    let front_splits : front ++ later ≡ is_item.early_letters ++ is_item.last_letter ∷ later =
-    ap (λ x. x ++ later) is_item.letters_are ∙ append_assoc is_item.early_letters
-    (is_item.last_letter ∷ []) later in
-    let front_splits' : front' ++ later' ≡ is_item'.early_letters ++ is_item'.last_letter ∷ later' =
-    ap (λ x. x ++ later') is_item'.letters_are ∙ append_assoc is_item'.early_letters
-    (is_item'.last_letter ∷ []) later' in
-    let parts_equal =
-    fronts_equal is_item.early_letters is_item'.early_letters is_item.last_letter
-    is_item'.last_letter is_item.early_value is_item'.early_value later later'
-    is_item.are_early_digits is_item'.are_early_digits is_item.ends_item
-    is_item'.ends_item (sym front_splits ∙ letters_equal ∙ front_splits') in (
-      is_item.letters_are ∙ ap₂ (λ xs x. xs ++ x ∷ []) parts_equal.0 parts_equal.1
-          ∙ sym is_item'.letters_are,
-      parts_equal.2,
-    )
+    grind (arith, common_steps, append_assoc, fronts_equal)
 
 parts_equal : (letters : List ℕ) (p q : IsItemLetters letters)
     → (p.early_letters ≡ q.early_letters) × (p.last_letter ≡ q.last_letter)
-parts_equal letters p q =
-    let equal = fronts_equal p.early_letters q.early_letters p.last_letter q.last_letter
-    p.early_value q.early_value [] [] p.are_early_digits q.are_early_digits p.ends_item
-    q.ends_item (sym p.letters_are ∙ q.letters_are) in (equal.0, equal.1)
+parts_equal letters p q = search (rules, arith, fronts_equal)
 
 number_is_no_mark : (n : ℕ) (letters : List ℕ) → AreLettersOf letters n
     → IsSpelled letters mark → ⊥
-number_is_no_mark n letters are_letters is_mark =
-    let last_is_90 : are_letters.last_letter ≡ 90 = (parts_equal letters
-    (item_letters (number n) letters are_letters) (item_letters mark letters is_mark)).1 in
-    omega (arith, are_letters.is_last_digit)
+number_is_no_mark n letters are_letters is_mark = grind (arith, common_steps, parts_equal)
 
 -- the letters of one item are those of no other
 pub spelled_item_is_unique : (a b : Item) (letters : List ℕ) → IsSpelled letters a
-    → IsSpelled letters b
-    → a ≡ b
-spelled_item_is_unique mark mark letters spells_a spells_b = refl
-spelled_item_is_unique (number m) (number n) letters spells_a spells_b =
-    let equal = parts_equal letters (item_letters (number m) letters spells_a)
-    (item_letters (number n) letters spells_b) in
-    let early_values_equal : spells_a.early_value ≡ spells_b.early_value =
-    early_unique spells_b.early_letters spells_a.early_value spells_b.early_value
-    (subst (λ xs. AreEarlyDigits xs spells_a.early_value) equal.0 spells_a.are_early_digits)
-    spells_b.are_early_digits in
-    let last_digits_equal : spells_a.last_digit ≡ spells_b.last_digit =
-    last_unique spells_b.last_letter spells_a.last_digit spells_b.last_digit (subst (λ x.
-    IsLastDigit x spells_a.last_digit) equal.1 spells_a.is_last_digit) spells_b.is_last_digit
-    in
-    ap number (spells_a.value_is ∙ ap₂ (λ x y. x * 20 + y) early_values_equal last_digits_equal
-    ∙ sym spells_b.value_is)
-spelled_item_is_unique (number m) mark letters spells_a spells_b =
-    absurd (number_is_no_mark m letters spells_a spells_b)
-spelled_item_is_unique mark (number n) letters spells_a spells_b =
-    absurd (number_is_no_mark n letters spells_b spells_a)
+    → IsSpelled letters b → a ≡ b
+spelled_item_is_unique a b letters h1 h2 =
+    grind (arith, common_steps, parts_equal, early_unique, last_unique, number_is_no_mark)
 
 no_letters_no_item : (item : Item) (letters later : List ℕ) → IsSpelled letters item
     → ¬ ([] ≡ letters ++ later)
@@ -182,16 +136,13 @@ no_letters_no_item item letters later is_spelled is_nil =
 pub spelled_items_are_unique : SpellingIsUnique
 spelled_items_are_unique letters [] [] spells_items spells_others = refl
 spelled_items_are_unique letters [] (b ∷ other_items) spells_items spells_others =
-    absurd (no_letters_no_item b spells_others.0 spells_others.1 spells_others.3
-    (sym spells_items ∙ spells_others.2))
+    search (rules, arith, no_letters_no_item)
 spelled_items_are_unique letters (a ∷ items) [] spells_items spells_others =
-    absurd (no_letters_no_item a spells_items.0 spells_items.1 spells_items.3
-    (sym spells_others ∙ spells_items.2))
+    search (rules, arith, no_letters_no_item)
 spelled_items_are_unique letters (a ∷ items) (b ∷ other_items) spells_items spells_others =
     let parts_equal = item_letters_equal spells_items.0 spells_others.0 spells_items.1
     spells_others.1 (item_letters a spells_items.0 spells_items.3) (item_letters b spells_others.0
-    spells_others.3)
-    (sym spells_items.2 ∙ spells_others.2) in
+    spells_others.3) (sym spells_items.2 ∙ spells_others.2) in
     let items_equal : a ≡ b = spelled_item_is_unique a b spells_others.0 (subst (λ x. IsSpelled x a)
     parts_equal.0 spells_items.3) spells_others.3 in
     ap₂ (λ x xs. x ∷ xs) items_equal
@@ -212,27 +163,21 @@ goes_on t ts no_bracket = rw (no_bracket, bracketed) refl
 pub bracketed_splits : (labels : List Token) (closing : Token) (letters : List Token)
     → closing.word ≡ codes ")" → AllByRecursion (λ t. t.word ≢ codes ")") labels
     → bracketed (labels ++ closing ∷ letters) ≡ record { labels = labels; letters = Some letters }
-bracketed_splits [] closing letters is_closing no_label_closes =
-    closes closing letters ((bytes_eq-Decides closing.word (codes ")")).1 is_closing)
+bracketed_splits [] closing letters is_closing no_label_closes = cc
 bracketed_splits (t ∷ labels) closing letters is_closing no_label_closes =
-    goes_on t (labels ++ closing ∷ letters) (false_from_ne_true _ (λ is_bracket.
-    no_label_closes.0 (equal_bytes_equal_words t.word (codes ")") is_bracket)))
-    ∙ ap (with_label t) (bracketed_splits labels closing letters is_closing no_label_closes.1)
+    grind (
+      arith,
+      equal_bytes_equal_words,
+      (bracketed_splits labels closing letters is_closing no_label_closes.1),
+    )
 
 -- the words of a compressed proof are read as one
 pub compressed_reads : (db : List Statement) (k end : ℕ) (ts labels letters : List Token)
-    → IsCompressed ts labels letters
-    → (reading_faults db k end ts
+    → IsCompressed ts labels letters → (reading_faults db k end ts
     ≡ compressed_faults db k end (record { labels = labels; letters = Some letters }))
     × (steps db k ts ≡ compressed_steps db k (record { labels = labels; letters = Some letters }))
 compressed_reads db k end ts labels letters is_compressed =
-    let opens = (bytes_eq-Decides is_compressed.opening.word (codes "(")).1
-    is_compressed.opening_is in
-    let parts = bracketed_splits labels is_compressed.closing letters is_compressed.closing_is
-    is_compressed.no_label_closes in (
-      rw (is_compressed.words_are, opens, reading_faults) (ap (compressed_faults db k end) parts),
-      rw (is_compressed.words_are, opens, steps) (ap (compressed_steps db k) parts),
-    )
+    search (rules, arith, bytes_eq-Decides, bracketed_splits)
 
 pub parts_are_unique : PartsAreUnique
 parts_are_unique ts labels letters other_labels other_letters is_compressed is_other_compressed =
@@ -291,18 +236,10 @@ abbrev pub item_of : Group → Item
 item_of g = elim (is_last_letter g.last.byte) [ true ↦ number (value g) | false ↦ mark ]
 
 pub early_byte_is_digit : (b : ℕ) → is_early_letter b ≡ true → IsEarlyDigit b (b - 84)
-early_byte_is_digit b is_early_byte =
-    let bounds = and_parts (nat_le 85 b) (nat_le b 89) is_early_byte in
-    let b_ge_85 = leb-true 85 b bounds.0 in
-    let b_le_89 = leb-true b 89 bounds.1 in
-    record { digit_ge_1 = omega arith; digit_le_5 = omega arith; letter_is = omega arith }
+early_byte_is_digit b is_early_byte = search (rules, arith, and_parts, nat_le, leb-true)
 
 last_byte_is_digit : (b : ℕ) → is_last_letter b ≡ true → IsLastDigit b (b - 64)
-last_byte_is_digit b is_last_byte =
-    let bounds = and_parts (nat_le 65 b) (nat_le b 84) is_last_byte in
-    let b_ge_65 = leb-true 65 b bounds.0 in
-    let b_le_84 = leb-true b 84 bounds.1 in
-    record { digit_ge_1 = omega arith; digit_le_20 = omega arith; letter_is = omega arith }
+last_byte_is_digit b is_last_byte = search (rules, arith, and_parts, nat_le, leb-true)
 
 horner_step : (n d p q r : ℕ) → q ≡ 5 * p → (5 * n + d) * p + r ≡ n * q + (d * p + r)
 horner_step n d p q r q_is = rw q_is (omega arith)
@@ -317,8 +254,7 @@ early_value_exists (x ∷ xs) n are_early =
       (x.byte - 84) * 5 ^ length (bytes_of xs) + rest_value.0,
       (x.byte - 84, rest_value.0, early_byte_is_digit x.byte are_early.0, rest_value.1, refl),
       rest_value.2 ∙ horner_step n (x.byte - 84) (5 ^ length (bytes_of xs))
-          (5 ^ suc (length (bytes_of xs))) rest_value.0
-          (pow-succ' 5 (length (bytes_of xs))),
+          (5 ^ suc (length (bytes_of xs))) rest_value.0 (pow-succ' 5 (length (bytes_of xs))),
     )
 
 pub group_spells_its_value : (g : Group) → AreEarly g.early → is_last_letter g.last.byte ≡ true
@@ -342,27 +278,18 @@ group_is_spelled : (g : Group) → AreEarly g.early
     → (is_last_letter g.last.byte ≡ true)
     ⊎ ((is_last_letter g.last.byte ≡ false) × (g.last.byte ≡ 90) × (g.early ≡ []))
     → IsSpelled (bytes_of g.early ++ g.last.byte ∷ []) (item_of g)
-group_is_spelled g are_early (inl is_number) =
-    rw (is_number, item_of) (group_spells_its_value g are_early is_number)
-group_is_spelled g are_early (inr (no_number, is_90, none_early)) =
-    rw (no_number, item_of, none_early, is_90) refl
+group_is_spelled g h1 h2 = grind (arith, common_steps, group_spells_its_value)
 
 early_push : (early : List Letter) (x : Letter) → AreEarly early → is_early_letter x.byte ≡ true
     → AreEarly (early ++ x ∷ [])
-early_push [] x are_early is_early_byte = (is_early_byte, tt)
-early_push (y ∷ early) x are_early is_early_byte = (
-  are_early.0,
-  early_push early x are_early.1
-      is_early_byte,
-)
+early_push early x h1 h2 = grind (arith, common_steps)
 
 pub group_goes : (early : List Letter) (x : Letter) (later : List Letter)
     → is_early_letter x.byte ≡ true → groups early (x ∷ later) ≡ groups (early ++ x ∷ []) later
 group_goes early x later is_early = rw (is_early, groups) refl
 
 pub group_ends : (early : List Letter) (x : Letter) (later : List Letter)
-    → is_early_letter x.byte ≡ false
-    → groups early (x ∷ later)
+    → is_early_letter x.byte ≡ false → groups early (x ∷ later)
     ≡ (record { early = early; last = x } ∷ (groups [] later).0, (groups [] later).1)
 group_ends early x later not_early = rw (not_early, groups) refl
 
@@ -370,8 +297,7 @@ group_ends early x later not_early = rw (not_early, groups) refl
 pub groups_spell : (xs early : List Letter) (label_count marks count : ℕ) → AreEarly early
     → AreFaultless label_count marks count (groups early xs).0 → (groups early xs).1 ≡ []
     → Spells (bytes_of early ++ bytes_of xs) (map item_of (groups early xs).0)
-groups_spell [] early label_count marks count are_early are_faultless none_left = append-nil
-    (bytes_of early) ∙ ap bytes_of none_left
+groups_spell [] early label_count marks count are_early are_faultless none_left = cc
 groups_spell (x ∷ xs) early label_count marks count are_early are_faultless none_left =
     elim (cases_Bool (is_early_letter x.byte)) [
       | inl is_early ↦ subst SpelledIfFaultless (sym (group_goes early x xs is_early))
@@ -425,22 +351,10 @@ pub record AreFaultlessLetters (label_count : ℕ) (xs : List Letter) : Type 0 w
   pub has_letters : xs ≢ []
 
 pub letters_are_faultless : (label_count end : ℕ) (xs : List Letter)
-    → letter_faults label_count end xs ≡ []
-    → AreFaultlessLetters label_count xs
+    → letter_faults label_count end xs ≡ [] → AreFaultlessLetters label_count xs
 letters_are_faultless label_count end [] no_faults = absurd (cc)
-letters_are_faultless label_count end (x ∷ xs) no_faults = record {
-  has_faultless_groups =
-      groups_are_faultless (groups [] (x ∷ xs)).0 label_count 0 0
-      (both_are_empty (group_faults label_count 0 0 (groups [] (x ∷ xs)).0)
-      (faults_at end (when (nat_lt 0 (length (groups [] (x ∷ xs)).1)) OpenNumber)) no_faults).0;
-  no_open_group =
-      nil_if_not_positive (groups [] (x ∷ xs)).1
-      (no_code_if_false (nat_lt 0 (length (groups [] (x ∷ xs)).1)) OpenNumber
-      (no_faults_no_codes end (when (nat_lt 0 (length (groups [] (x ∷ xs)).1)) OpenNumber)
-      (both_are_empty (group_faults label_count 0 0 (groups [] (x ∷ xs)).0)
-      (faults_at end (when (nat_lt 0 (length (groups [] (x ∷ xs)).1)) OpenNumber)) no_faults).1));
-  has_letters = λ is_nil. cc;
-}
+letters_are_faultless label_count end (x ∷ xs) no_faults =
+    search (arith, groups_are_faultless, both_are_empty, nil_if_not_positive)
 
 -- the items of the groups of the letters
 abbrev pub items_of : List Token → List Item
@@ -450,9 +364,7 @@ pub letters_spell_items : (label_count : ℕ) (letters : List Token)
     → AreFaultlessLetters label_count (letters_of letters)
     → Spells (letters_in letters) (items_of letters)
 letters_spell_items label_count letters are_faultless =
-    subst (λ bs. Spells bs (items_of letters)) (bytes_of_letters letters)
-    (groups_spell (letters_of letters) [] label_count 0 0 tt are_faultless.has_faultless_groups
-    are_faultless.no_open_group)
+    search (rules, arith, bytes_of_letters, groups_spell)
 
 -- a compressed proof without faults: its labels, its letters, and the items that they spell
 pub record IsFaultlessProof (db : List Statement) (k : ℕ) (ts : List Token) : Type 0 where
@@ -519,12 +431,4 @@ proof_is_faultless db k end t ts is_opening no_faults =
 
 pub proofs_are_spelled : ProofsAreSpelled
 proofs_are_spelled db k end t ts is_opening no_faults =
-    let faultless = proof_is_faultless db k end t ts is_opening no_faults in
-    record {
-      labels = faultless.labels;
-      letters = faultless.letters;
-      is_compressed = faultless.is_compressed;
-      items = items_of faultless.letters;
-      items_are_spelled = letters_spell_items _ faultless.letters faultless.has_faultless_letters;
-      has_items = faultless.has_items;
-    }
+    search (rules, arith, proof_is_faultless, letters_spell_items)

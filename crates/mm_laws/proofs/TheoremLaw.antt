@@ -1,18 +1,17 @@
 -- A theorem of what was read is valid or faulty, and has one proof and one fault at most.
 use Rattle.std.proofs.Common.{◌≡◌, ℕ, Bool, true, false, List, [], ◌∷◌, Option, Some, None, ◌⊎◌}
-use Rattle.std.proofs.Common.{inl, inr, refl, ap, ◌∙◌}
+use Rattle.std.proofs.Common.{inl, inr, refl, ap, ◌∙◌, rules, arith}
 use Rattle.mm_spec.specs.declared.Fault.{Fault}
 use Rattle.mm_spec.specs.Statement.{Statement}
 use Rattle.mm_spec.specs.Lawful.{least, lesser, is_before}
 use Rattle.mm_spec.specs.Frame.{formula_at}
 use Rattle.mm_spec.specs.Citation.{context_at, steps_at, reading_faults_at, IsValid}
-use Rattle.mm_spec.specs.Opened.{counted}
+use Rattle.mm_spec.specs.Opened.{open_as_axioms}
 use Rattle.mm_spec.specs.Laws.Complete.{AreComplete}
 use Rattle.mm_spec.specs.Output.{ProofFault}
 use Rattle.mm_laws.specs.Laws.Read.{WhereRead}
 use Rattle.mm_laws.specs.Laws.Derivations.{LabelsDetermine, ProofIsUnique}
-use Rattle.mm_laws.specs.Laws.Faults.{IsValidOrFaulty}
-use Rattle.mm_laws.specs.Laws.Faults.{ValidHasNoFault, FaultIsUnique}
+use Rattle.mm_laws.specs.Laws.Faults.{IsValidOrFaulty, ValidHasNoFault, FaultIsUnique}
 use Rattle.mm_spec.proofs.CheckedLaw.{same_labels_same_forest}
 use Rattle.mm_spec.proofs.CitedLaw.{two_proofs_are_equal}
 use Rattle.mm_spec.proofs.GoodStepsLaw.{faultless_steps_are_good}
@@ -56,24 +55,22 @@ module _ (db : List Statement) (all_complete : AreComplete db) (k : ℕ) where
 
 pub labels_determine_derivations : WhereRead LabelsDetermine
 labels_determine_derivations len x db fault is_read with_open k =
-    same_labels_same_forest (context_at (counted with_open db) k)
-    (frames_are_complete len x db fault is_read with_open k)
+    search (rules, arith, same_labels_same_forest, frames_are_complete)
 
 pub proof_is_unique : WhereRead ProofIsUnique
-proof_is_unique len x db fault is_read with_open k = two_proofs_are_equal (counted with_open db)
+proof_is_unique len x db fault is_read with_open k =
+    two_proofs_are_equal (open_as_axioms with_open db)
     (frames_are_complete len x db fault is_read with_open) k
 
 pub theorem_is_valid_or_faulty : WhereRead IsValidOrFaulty
 theorem_is_valid_or_faulty len x db fault is_read with_open k is_theorem_k =
-    is_valid_or_faulty (counted with_open db) (frames_are_complete len x db fault is_read with_open)
-    k _
+    is_valid_or_faulty (open_as_axioms with_open db) (frames_are_complete len x db fault is_read
+    with_open) k _
 
 pub valid_theorem_has_no_fault : WhereRead ValidHasNoFault
 valid_theorem_has_no_fault len x db fault is_read with_open k f =
-    valid_has_no_fault (counted with_open db) (frames_are_complete len x db fault is_read with_open)
-    k _ f
+    search (rules, arith, valid_has_no_fault, frames_are_complete)
 
 pub fault_is_unique : WhereRead FaultIsUnique
 fault_is_unique len x db fault is_read with_open k =
-    proof_fault_is_unique (counted with_open db) (frames_are_complete len x db fault is_read
-    with_open) k _
+    search (rules, arith, proof_fault_is_unique, frames_are_complete)

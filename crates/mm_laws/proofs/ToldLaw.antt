@@ -1,27 +1,27 @@
 -- The lines of the statements tell the assertions: a line is split at the first line feed or space,
 -- its words at the keywords, and its front at each `:`.
-use Rattle.std.proofs.Common.{◌≡◌, ◌∙◌, ℕ, ◌+◌, ◌<◌, ◌^◌, ◌%◌, Bool, true, false, ◌||◌}
-use Rattle.std.proofs.Common.{List, [], ◌∷◌, ◌++◌, length, map, refl, sym, ap, ap₂, subst, arith}
-use Rattle.std.proofs.Common.{true≢false, inl, inr, append_assoc, append-nil, length-append, decimal, not}
+use Rattle.std.proofs.lemmas.Bool.Decides.{nat_tests}
+use Rattle.std.proofs.Common.{◌≡◌, ◌∙◌, ℕ, ◌+◌, ◌<◌, ◌^◌, ◌%◌, Bool, true, false, ◌||◌, List, []}
+use Rattle.std.proofs.Common.{◌∷◌, ◌++◌, length, map, refl, sym, ap, ap₂, subst, arith, true≢false}
+use Rattle.std.proofs.Common.{append_assoc, append-nil, length-append, decimal, not, rules}
 use Rattle.std.specs.Prelude.{flat_map, codes, bytes_eq}
 use Rattle.std.specs.List.{list_any, AllByRecursion}
 use Rattle.std.proofs.lemmas.Bool.{agree_below, agree_below_at, cases_Bool, or_parts}
 use Rattle.mm_spec.proofs.FindsLaw.{each_map, each_any}
 use Rattle.std.proofs.lemmas.Fmt.{decimal_by_steps, decimal_injective}
-use Rattle.std.proofs.lemmas.Grind.{flat_map-append}
+use Rattle.std.proofs.lemmas.Grind.{flat_map-append, common_steps}
 use Rattle.std.proofs.lemmas.List.Folds.{list_any-append, flat_map-map}
 use Rattle.mm_spec.specs.Text.{Bytes, has_dollar}
 use Rattle.mm_spec.specs.Statement.{Statement}
 use Rattle.mm_spec.specs.Derivation.{Pair}
-use Rattle.mm_spec.specs.Scope.{statement_at}
-use Rattle.mm_spec.specs.Frame.{formula_at, mandatory_hypotheses, mandatory_pairs, is_floating}
+use Rattle.mm_spec.specs.Frame.{formula_at, mandatory_hypotheses, mandatory_pairs}
 use Rattle.mm_spec.specs.Assertion.{label_at, name_at, hypothesis_keyword, hypothesis_text, spaced}
-use Rattle.mm_spec.specs.Assertion.{pair_text, dummies_text, symbols_text, kind_letter, kind_keyword}
-use Rattle.mm_spec.specs.Assertion.{is_axiom_at, start_place, end_place, dummies, dummy_pairs}
-use Rattle.mm_spec.specs.Assertion.{conditions_text, assertion_line}
+use Rattle.mm_spec.specs.Assertion.{pair_text, dummies_text, symbols_text, kind_letter}
+use Rattle.mm_spec.specs.Assertion.{kind_keyword, is_axiom_at, start_place, end_place, dummies}
+use Rattle.mm_spec.specs.Assertion.{dummy_pairs, assertion_line}
 use Rattle.mm_laws.specs.Laws.Told.{Part, InWords, hypothesis_part, pair_part, dummies_part}
-use Rattle.mm_laws.specs.Laws.Told.{formula_part, in_words, is_gap, is_colon}
-use Rattle.mm_laws.specs.Laws.Told.{AreSpelled, LinesTellAssertions}
+use Rattle.mm_laws.specs.Laws.Told.{formula_part, in_words, is_gap, is_colon, AreSpelled}
+use Rattle.mm_laws.specs.Laws.Told.{LinesTellAssertions}
 
 -- ---- lists that are split where a test passes
 
@@ -41,8 +41,7 @@ module _ {X : Type 0} (p : X → Bool) where
   -- a list that begins passing doesn't begin with an element that fails
   not_begun : (rs : List X) (y : X) (ys : List X) → BeginsPassing rs → p y ≡ false
       → ¬ (rs ≡ y ∷ ys)
-  not_begun rs y ys begins fails equal =
-      true≢false (sym (subst BeginsPassing equal begins) ∙ fails)
+  not_begun rs y ys begins fails equal = true≢false (sym (subst BeginsPassing equal begins) ∙ fails)
 
   -- two equal lists are split at the same place, the first at which an element passes
   split : (xs ys rs ss : List X) → NonePasses xs → NonePasses ys → BeginsPassing rs
@@ -51,7 +50,8 @@ module _ {X : Type 0} (p : X → Bool) where
   split [] (y ∷ ys) rs ss no_x no_y rs_begin ss_begin equal =
       absurd (not_begun rs y (ys ++ ss) rs_begin (or_parts (p y) (list_any p ys) no_y).0 equal)
   split (x ∷ xs) [] rs ss no_x no_y rs_begin ss_begin equal =
-      absurd (not_begun ss x (xs ++ rs) ss_begin (or_parts (p x) (list_any p xs) no_x).0 (sym equal))
+      absurd (not_begun ss x (xs ++ rs) ss_begin (or_parts (p x) (list_any p xs) no_x).0 (sym
+      equal))
   split (x ∷ xs) (y ∷ ys) rs ss no_x no_y rs_begin ss_begin equal =
       let heads : x ≡ y = cc in
       let tails : xs ++ rs ≡ ys ++ ss = cc in
@@ -85,10 +85,8 @@ rest_begins (w ∷ ws) rs = refl
 words_equal : (ws vs : List Bytes) (rs ss : List ℕ) → NonePasses has_gap ws → NonePasses has_gap vs
     → spaced ws ++ 10 ∷ rs ≡ spaced vs ++ 10 ∷ ss → (ws ≡ vs) × (rs ≡ ss)
 words_equal [] [] rs ss no_w no_v equal = (refl, cc)
-words_equal [] (v ∷ vs) rs ss no_w no_v equal = let first : ◌≡◌ {A = ℕ} 10 32 = cc in
-    absurd (omega (arith, first))
-words_equal (w ∷ ws) [] rs ss no_w no_v equal = let first : ◌≡◌ {A = ℕ} 32 10 = cc in
-    absurd (omega (arith, first))
+words_equal [] (v ∷ vs) rs ss no_w no_v equal = grind (arith, common_steps)
+words_equal (w ∷ ws) [] rs ss no_w no_v equal = grind (arith, common_steps)
 words_equal (w ∷ ws) (v ∷ vs) rs ss no_w no_v equal =
     let tails : (w ++ spaced ws) ++ 10 ∷ rs ≡ (v ++ spaced vs) ++ 10 ∷ ss = cc in
     let here =
@@ -105,13 +103,7 @@ words_equal (w ∷ ws) (v ∷ vs) rs ss no_w no_v equal =
 line_equal : (a b : Line) (rs ss : List ℕ) → IsLine a → IsLine b
     → line_text a ++ rs ≡ line_text b ++ ss → (a ≡ b) × (rs ≡ ss)
 line_equal a b rs ss is_a is_b equal =
-    let fronts =
-    split is_gap a.front b.front (spaced a.words ++ 10 ∷ rs) (spaced b.words ++ 10 ∷ ss) is_a.front
-    is_b.front (rest_begins a.words rs) (rest_begins b.words ss) (simp append_assoc at equal) in
-    let later = words_equal a.words b.words rs ss is_a.words is_b.words fronts.1 in (
-      ap₂ (λ (f : Bytes) (ws : List Bytes). record { front = f; words = ws }) fronts.0 later.0,
-      later.1,
-    )
+    search (rules, arith, split, rest_begins, append_assoc, words_equal)
 
 no_empty_line : (l : Line) (rs : List ℕ) → ¬ ([] ≡ line_text l ++ rs)
 no_empty_line l rs equal =
@@ -130,8 +122,7 @@ lines_equal [] (y ∷ ys) are_x are_y equal = absurd (no_empty_line y _ equal)
 lines_equal (x ∷ xs) [] are_x are_y equal = absurd (no_empty_line x _ (sym equal))
 lines_equal (x ∷ xs) (y ∷ ys) are_x are_y equal =
     let here = line_equal x y _ _ are_x.0 are_y.0 equal in
-    ap₂ (λ (z : Line) (zs : List Line). z ∷ zs) here.0
-    (lines_equal xs ys are_x.1 are_y.1 here.1)
+    ap₂ (λ (z : Line) (zs : List Line). z ∷ zs) here.0 (lines_equal xs ys are_x.1 are_y.1 here.1)
 
 -- ---- parts
 
@@ -169,8 +160,7 @@ parts_equal (p ∷ ps) (q ∷ qs) are_p are_q equal =
 -- what is true of each part of two lists is true of both together
 pub all_of_both : {X : Type 0} (P : X → Type 0) (xs ys : List X) → AllByRecursion P xs
     → AllByRecursion P ys → AllByRecursion P (xs ++ ys)
-all_of_both P [] ys all_x all_y = all_y
-all_of_both P (x ∷ xs) ys all_x all_y = (all_x.0, all_of_both P xs ys all_x.1 all_y)
+all_of_both P xs ys h1 h2 = grind (arith, common_steps)
 
 all_mapped : {X Y : Type 0} (P : Y → Type 0) (f : X → Y) → ((x : X) → P (f x)) → (xs : List X)
     → AllByRecursion P (map f xs)
@@ -179,10 +169,7 @@ all_mapped P f holds xs = each_map P f xs (each_any (λ x. P (f x)) xs holds)
 no_gap_in_parts : (ps : List Part) → AllByRecursion IsPart ps
     → NonePasses has_gap (flat_map part_words ps)
 no_gap_in_parts [] are_parts = refl
-no_gap_in_parts (p ∷ ps) are_parts =
-    none_of_both has_gap (part_words p) _
-    (rw are_parts.0.keyword_has_no_gap are_parts.0.words_have_no_gap)
-    (no_gap_in_parts ps are_parts.1)
+no_gap_in_parts (p ∷ ps) are_parts = grind (arith, common_steps, (no_gap_in_parts ps are_parts.1))
 
 -- ---- the text of parts
 
@@ -197,8 +184,7 @@ text_of_mapped : {X : Type 0} (text : X → List ℕ) (part : X → Part)
     → parts_text (map part xs) ≡ flat_map text xs
 text_of_mapped text part text_is [] = refl
 text_of_mapped text part text_is (x ∷ xs) =
-    flat_map-append (λ (w : Bytes). 32 ∷ w) (part_words (part x)) _
-    ∙ ap₂ (λ (a b : List ℕ). a ++ b) (text_is x) (text_of_mapped text part text_is xs)
+    grind (arith, common_steps, flat_map-append, (text_of_mapped text part text_is xs))
 
 module _ (db : List Statement) where
   names_text : (xs : List ℕ) → spaced (map (name_at db) xs) ≡ symbols_text db xs
@@ -212,9 +198,7 @@ module _ (db : List Statement) where
 
   dummies_part_text : (xs : List ℕ) → parts_text (dummies_part db xs) ≡ dummies_text db xs
   dummies_part_text [] = refl
-  dummies_part_text (x ∷ xs) =
-      ap spaced (append-nil (codes "$v" ∷ map (name_at db) (x ∷ xs)))
-      ∙ ap (λ (y : List ℕ). (32 ∷ codes "$v") ++ y) (names_text (x ∷ xs))
+  dummies_part_text (x ∷ xs) = search (rules, arith, append-nil, names_text)
 
   hypotheses_text : (js : List ℕ)
       → parts_text (map (hypothesis_part db) js) ≡ flat_map (hypothesis_text db) js
@@ -244,34 +228,24 @@ module _ (db : List Statement) where
 
   abbrev line_of : (is_open : Bool) → ℕ → Line
   line_of is_open k =
-      record {
-        front = front_of is_open k;
-        words = flat_map part_words (parts_of is_open k);
-      }
+      record { front = front_of is_open k; words = flat_map part_words (parts_of is_open k) }
 
   formula_text : (is_open : Bool) (k : ℕ)
       → parts_text (formula_part db is_open k ∷ [])
       ≡ 32 ∷ kind_keyword is_open (is_axiom_at db k) ++ symbols_text db (formula_at db k)
-  formula_text is_open k =
-      ap spaced (append-nil (part_words (formula_part db is_open k)))
-      ∙ ap (λ (x : List ℕ). (32 ∷ kind_keyword is_open (is_axiom_at db k)) ++ x)
-      (names_text (formula_at db k))
+  formula_text is_open k = search (rules, arith, append-nil, names_text)
 
   line_of_assertion : (is_open : Bool) (k : ℕ)
       → line_text (line_of is_open k) ≡ assertion_line db is_open k
   line_of_assertion is_open k =
-      let words_are : parts_text (parts_of is_open k)
-      ≡ conditions_text db k ++ (32 ∷ kind_keyword is_open (is_axiom_at db k)
-      ++ symbols_text db (formula_at db k)) =
-      simp (
+      search (
         parts_text-append,
         hypotheses_text,
         pairs_text,
         dummies_part_text,
         formula_text,
         append_assoc,
-      ) in
-      rw words_are (simp append_assoc)
+      )
 
 -- ---- what is spelled has lines and parts
 
@@ -279,19 +253,15 @@ module _ (db : List Statement) where
 no_digit_passes : (p : ℕ → Bool) → agree_below (λ k. p (48 + k)) (λ k. false) 10 ≡ true → (n : ℕ)
     → n < 2 ^ 64 → NonePasses p (decimal n)
 no_digit_passes p digits_fail =
-    decimal_by_steps (λ n ds. NonePasses p ds)
-    (λ n n_lt_10. rw (digit_fails n n_lt_10) refl)
+    decimal_by_steps (λ n ds. NonePasses p ds) (λ n n_lt_10. rw (digit_fails n n_lt_10) refl)
     (λ n ds ten_le_n earlier. none_of_both p ds ((48 + n % 10) ∷ []) earlier
     (rw (digit_fails (n % 10) (omega arith)) refl))
   where
     digit_fails : (n : ℕ) → n < 10 → p (48 + n) ≡ false
-    digit_fails n n_lt_10 =
-        agree_below_at (λ k. p (48 + k)) (λ k. false) 10 n digits_fail n_lt_10
+    digit_fails n n_lt_10 = agree_below_at (λ k. p (48 + k)) (λ k. false) 10 n digits_fail n_lt_10
 
 letter_is_no_gap : (is_open is_axiom : Bool) → is_gap (kind_letter is_open is_axiom) ≡ false
-letter_is_no_gap true is_axiom = refl
-letter_is_no_gap false true = refl
-letter_is_no_gap false false = refl
+letter_is_no_gap is_open is_axiom = grind (arith, common_steps)
 
 -- which parts are hypotheses, and which the formula
 abbrev is_no_hypothesis : Part → Bool
@@ -303,21 +273,12 @@ is_formula p = bytes_eq p.keyword (codes "$a") || bytes_eq p.keyword (codes "$p"
 hypothesis_keyword_is : (db : List Statement) (j : ℕ)
     → (has_dollar (hypothesis_keyword db j) ≡ true) × (has_gap (hypothesis_keyword db j) ≡ false)
     × (is_no_hypothesis (hypothesis_part db j) ≡ false)
-hypothesis_keyword_is db j = elim (cases_Bool (list_any is_floating (statement_at db j))) [
-  | inl floats ↦ (rw floats refl, rw floats refl, rw floats refl)
-  | inr floats_not ↦ (rw floats_not refl, rw floats_not refl, rw floats_not refl)
-]
+hypothesis_keyword_is db j = search (rules, arith, cases_Bool)
 
 module _ (db : List Statement) (spelled : AreSpelled db) where
   front_has_no_gap : (is_open : Bool) (k : ℕ) → NonePasses is_gap (front_of db is_open k)
   front_has_no_gap is_open k =
-      simp (
-        list_any-append,
-        (spelled.labels k).no_gap,
-        letter_is_no_gap is_open (is_axiom_at db k),
-        no_digit_passes is_gap refl (start_place db k) (spelled.places k).0,
-        no_digit_passes is_gap refl (end_place db k) (spelled.places k).1,
-      )
+      search (rules, arith, list_any-append, letter_is_no_gap, no_digit_passes)
 
   no_name_has : (p : Bytes → Bool) → ((x : ℕ) → p (name_at db x) ≡ false) → (xs : List ℕ)
       → NonePasses p (map (name_at db) xs)
@@ -327,22 +288,10 @@ module _ (db : List Statement) (spelled : AreSpelled db) where
   names_are_plain : (keyword : Bytes) (xs : List ℕ) → has_dollar keyword ≡ true
       → has_gap keyword ≡ false
       → IsPart (record { keyword = keyword; words = map (name_at db) xs })
-  names_are_plain keyword xs has no_gap = record {
-    keyword_has_dollar = has;
-    words_have_no_dollar = no_name_has has_dollar (λ x. (spelled.names x).no_dollar) xs;
-    keyword_has_no_gap = no_gap;
-    words_have_no_gap = no_name_has has_gap (λ x. (spelled.names x).no_gap) xs;
-  }
+  names_are_plain keyword xs has no_gap = search (rules, arith, no_name_has)
 
   hypothesis_is_part : (j : ℕ) → IsPart (hypothesis_part db j)
-  hypothesis_is_part j = record {
-    keyword_has_dollar = (hypothesis_keyword_is db j).0;
-    words_have_no_dollar = rw (spelled.labels j).no_dollar
-        (no_name_has has_dollar (λ x. (spelled.names x).no_dollar) (formula_at db j));
-    keyword_has_no_gap = (hypothesis_keyword_is db j).1;
-    words_have_no_gap = rw (spelled.labels j).no_gap
-        (no_name_has has_gap (λ x. (spelled.names x).no_gap) (formula_at db j));
-  }
+  hypothesis_is_part j = search (rules, arith, hypothesis_keyword_is, no_name_has)
 
   pair_is_part : (p : Pair) → IsPart (pair_part db p)
   pair_is_part p = names_are_plain (codes "$d") (p.low ∷ p.high ∷ []) refl refl
@@ -365,19 +314,14 @@ module _ (db : List Statement) (spelled : AreSpelled db) where
   are_parts is_open k =
       all_of_both IsPart _ _
       (all_mapped IsPart (hypothesis_part db) hypothesis_is_part (mandatory_hypotheses db k))
-      (all_of_both IsPart _ _
-      (all_of_both IsPart _ _
-      (all_of_both IsPart _ _
+      (all_of_both IsPart _ _ (all_of_both IsPart _ _ (all_of_both IsPart _ _
       (all_mapped IsPart (pair_part db) pair_is_part (mandatory_pairs db k))
       (dummies_are_parts (dummies db k)))
       (all_mapped IsPart (pair_part db) pair_is_part (dummy_pairs db k)))
       (formula_is_part is_open k, tt))
 
   is_line : (is_open : Bool) (k : ℕ) → IsLine (line_of db is_open k)
-  is_line is_open k = record {
-    front = front_has_no_gap is_open k;
-    words = no_gap_in_parts (parts_of db is_open k) (are_parts is_open k);
-  }
+  is_line is_open k = search (rules, arith, front_has_no_gap, no_gap_in_parts, are_parts)
 
 -- ---- which parts are hypotheses, conditions, and the formula
 
@@ -387,8 +331,7 @@ record IsCondition (p : Part) : Type 0 where
 
 none_formula : (ps : List Part) → AllByRecursion IsCondition ps → NonePasses is_formula ps
 none_formula [] are_conditions = refl
-none_formula (p ∷ ps) are_conditions =
-    rw are_conditions.0.no_formula (none_formula ps are_conditions.1)
+none_formula (p ∷ ps) are_conditions = grind (arith, nat_tests, (none_formula ps are_conditions.1))
 
 conditions_begin : (ps : List Part) (f : Part) → AllByRecursion IsCondition ps
     → is_no_hypothesis f ≡ true → BeginsPassing is_no_hypothesis (ps ++ f ∷ [])
@@ -409,27 +352,12 @@ module _ (db : List Statement) where
 
   are_conditions : (k : ℕ) → AllByRecursion IsCondition (conditions_of db k)
   are_conditions k =
-      all_of_both IsCondition _ _
-      (all_of_both IsCondition _ _
-      (all_mapped IsCondition (pair_part db) pair_is_condition (mandatory_pairs db k))
-      (dummies_are_conditions (dummies db k)))
-      (all_mapped IsCondition (pair_part db) pair_is_condition (dummy_pairs db k))
+      search (rules, arith, all_of_both, all_mapped, pair_is_condition, dummies_are_conditions)
 
   formula_passes : (is_open : Bool) (k : ℕ)
       → (is_formula (formula_part db is_open k) ≡ true)
       × (is_no_hypothesis (formula_part db is_open k) ≡ true)
-  formula_passes is_open k = by_kind is_open (is_axiom_at db k)
-    where
-      by_kind : (o a : Bool)
-          → (is_formula
-          (record { keyword = kind_keyword o a; words = map (name_at db) (formula_at db k) })
-          ≡ true)
-          × (is_no_hypothesis
-          (record { keyword = kind_keyword o a; words = map (name_at db) (formula_at db k) })
-          ≡ true)
-      by_kind true a = (refl, refl)
-      by_kind false true = (refl, refl)
-      by_kind false false = (refl, refl)
+  formula_passes is_open k = grind (arith, common_steps)
 
 -- ---- equal lines
 
@@ -484,16 +412,14 @@ module _ (db other : List Statement) (spelled : AreSpelled db) (other_spelled : 
       let starts =
       split is_colon start other_start (58 ∷ (end ++ 58 ∷ [])) (58 ∷ (other_end ++ 58 ∷ []))
       (no_digit_passes is_colon refl (start_place db k) (spelled.places k).0)
-      (no_digit_passes is_colon refl (start_place other j)
-      (other_spelled.places j).0)
+      (no_digit_passes is_colon refl (start_place other j) (other_spelled.places j).0)
       refl refl after_letter in
       let after_start = starts.1 in
       let after_colon : end ++ 58 ∷ [] ≡ other_end ++ 58 ∷ [] = cc in
       let ends =
       split is_colon end other_end (58 ∷ []) (58 ∷ [])
       (no_digit_passes is_colon refl (end_place db k) (spelled.places k).1)
-      (no_digit_passes is_colon refl (end_place other j)
-      (other_spelled.places j).1)
+      (no_digit_passes is_colon refl (end_place other j) (other_spelled.places j).1)
       refl refl after_colon in (
         (labels.0, letters),
         (
@@ -505,12 +431,7 @@ module _ (db other : List Statement) (spelled : AreSpelled db) (other_spelled : 
       )
 
   line_tells : line_of db o k ≡ line_of other p j → in_words db o k ≡ in_words other p j
-  line_tells equal =
-      let parts =
-      parts_tell (parts_equal (parts_of db o k) (parts_of other p j) (are_parts db spelled o k)
-      (are_parts other other_spelled p j) (ap (λ (l : Line). l.words) equal)) in
-      let front = front_tells (ap (λ (l : Line). l.front) equal) in
-      cc (front.0.0, front.0.1, front.1.0, front.1.1, parts.0, parts.1.0, parts.1.1)
+  line_tells equal = search (rules, arith, parts_tell, parts_equal, are_parts, front_tells)
 
 lines_are : (db : List Statement) (is_open : ℕ → Bool) (ks : List ℕ)
     → flat_map line_text (map (λ k. line_of db (is_open k) k) ks)
@@ -535,8 +456,7 @@ assertions_equal db other o p spelled other_spelled (k ∷ ks) (j ∷ js) equal 
 
 pub lines_tell_assertions : LinesTellAssertions
 lines_tell_assertions db other o p only other_only spelled other_spelled equal =
-    assertions_equal db other o p spelled other_spelled _ _
-    (lines_equal _ _
+    assertions_equal db other o p spelled other_spelled _ _ (lines_equal _ _
     (all_mapped IsLine (λ k. line_of db (o k) k) (λ k. is_line db spelled (o k) k) _)
     (all_mapped IsLine (λ j. line_of other (p j) j) (λ j. is_line other other_spelled (p j) j) _)
     (lines_are db o _ ∙ equal ∙ sym (lines_are other p _)))

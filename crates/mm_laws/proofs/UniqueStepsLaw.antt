@@ -1,76 +1,59 @@
 -- The words of a proof name no other steps than those that it has.
-use Rattle.std.proofs.Common.{◌≡◌, ℕ, zero, suc, ◌+◌, ◌<◌, Bool}
-use Rattle.std.proofs.Common.{inl, inr, List, [], ◌∷◌, ◌++◌, length}
-use Rattle.std.proofs.Common.{count_by, Some, slice_get}
-use Rattle.std.proofs.Common.{refl, sym, ap, ap₂, ◌∙◌, subst, arith}
+use Rattle.std.proofs.lemmas.Bool.Decides.{nat_tests}
+use Rattle.std.proofs.Common.{◌≡◌, ℕ, zero, suc, ◌+◌, ◌<◌, Bool, inl, inr, List, [], ◌∷◌, ◌++◌}
+use Rattle.std.proofs.Common.{length, count_by, Some, slice_get, refl, sym, ap, ap₂, ◌∙◌, subst}
+use Rattle.std.proofs.Common.{arith, rules}
 use Rattle.mm_spec.specs.Steps.{Step, label, marked}
-use Rattle.mm_laws.specs.Spelling.{Item, number, mark, is_number, is_mark_item}
-use Rattle.mm_laws.specs.Spelling.{IsMark, NamesStep}
+use Rattle.mm_laws.specs.Spelling.{Item, number, mark, is_number, is_mark_item, IsMark, NamesStep}
 use Rattle.mm_laws.specs.Laws.NamedSteps.{NamedStepsAreUnique}
 use Rattle.mm_laws.proofs.SpelledStepsLaw.{count_append}
 use Rattle.std.proofs.lemmas.Option.{same_Some, slice_get_within}
+use Rattle.std.proofs.lemmas.Grind.{common_steps}
 
 tail_counts_equal : (p : Item → Bool) (x : Item) (b c : List Item) → count_by p (x ∷ b)
     ≡ count_by p (x ∷ c)
     → count_by p b ≡ count_by p c
-tail_counts_equal p x b c counts_equal = omega (
-  arith,
-  counts_equal,
-  count_append p (x ∷ []) b,
-  count_append p (x ∷ []) c,
-)
+tail_counts_equal p x b c counts_equal = grind (arith, common_steps)
 
 no_mark_before : (b : List Item) (x : Item) → x ≡ mark → ¬ (0 ≡ count_by is_mark_item (x ∷ b))
-no_mark_before b x x_is_mark count_is_0 =
-    let with_mark = ap (λ y. count_by is_mark_item (y ∷ b)) x_is_mark in
-    omega (arith, count_append is_mark_item (mark ∷ []) b)
+no_mark_before b x x_is_mark count_is_0 = grind (arith, common_steps)
 
 fronts_equal : (b c d e : List Item) → b ++ mark ∷ d ≡ c ++ mark ∷ e
     → count_by is_mark_item b ≡ count_by is_mark_item c → b ≡ c
 fronts_equal [] [] d e lists_equal mark_counts_equal = refl
-fronts_equal [] (x ∷ c) d e lists_equal mark_counts_equal =
-    absurd (no_mark_before c x (cc) mark_counts_equal)
-fronts_equal (x ∷ b) [] d e lists_equal mark_counts_equal =
-    absurd (no_mark_before b x (cc) (sym mark_counts_equal))
+fronts_equal [] (x ∷ c) d e lists_equal mark_counts_equal = grind (arith, nat_tests, no_mark_before)
+fronts_equal (x ∷ b) [] d e lists_equal mark_counts_equal = grind (arith, nat_tests, no_mark_before)
 fronts_equal (x ∷ b) (y ∷ c) d e lists_equal mark_counts_equal =
     let heads_equal : x ≡ y = cc in
     let tails_equal : b ++ mark ∷ d ≡ c ++ mark ∷ e = cc in
-    ap₂ (λ z zs. z ∷ zs) heads_equal
-    (fronts_equal b c d e tails_equal
+    ap₂ (λ z zs. z ∷ zs) heads_equal (fronts_equal b c d e tails_equal
     (tail_counts_equal is_mark_item y b c (ap (λ z. count_by is_mark_item (z ∷ b)) (sym heads_equal)
     ∙ mark_counts_equal)))
 
 -- mark k stands after one step
 marked_step_is_unique : (items : List Item) (k i j : ℕ) → IsMark items k i → IsMark items k j → i
     ≡ j
-marked_step_is_unique items k i j marks_i marks_j =
-    let fronts_are_equal : marks_i.items_before ≡ marks_j.items_before =
-    fronts_equal marks_i.items_before marks_j.items_before marks_i.items_after marks_j.items_after
-    (sym marks_i.items_are ∙ marks_j.items_are) (marks_i.mark_count_is
-    ∙ sym marks_j.mark_count_is) in
-    let number_counts_equal : count_by is_number marks_i.items_before
-    ≡ count_by is_number marks_j.items_before =
-    ap (count_by is_number) fronts_are_equal in
-    let number_count_is_i = marks_i.number_count_is in
-    let number_count_is_j = marks_j.number_count_is in
-    omega arith
+marked_step_is_unique items k i j marks_i marks_j = search (rules, arith, fronts_equal)
 
 elements_equal : (xs : List ℕ) (i j x y : ℕ) → i ≡ j → slice_get xs i ≡ Some x → slice_get xs j
     ≡ Some y
     → x ≡ y
-elements_equal xs i j x y i_is_j x_is_at_i y_is_at_j =
-    same_Some x y (sym x_is_at_i ∙ ap (slice_get xs) i_is_j ∙ y_is_at_j)
+elements_equal xs i j x y i_is_j x_is_at_i y_is_at_j = search (rules, arith, same_Some, slice_get)
 
 -- a number names one step
 named_step_is_unique : (hypotheses labels : List ℕ) (before : List Item) (n : ℕ) (s t : Step)
     → NamesStep hypotheses labels before n s → NamesStep hypotheses labels before n t → s ≡ t
-named_step_is_unique hs ls before n (label i) (label j) (inl (a, n_is, at_a)) (inl (b, m_is, at_b)) =
+named_step_is_unique hs ls before n (label i) (label j) (inl (a, n_is, at_a)) (inl
+    (b, m_is, at_b)) =
     ap label (elements_equal hs a b i j (omega arith) at_a at_b)
-named_step_is_unique hs ls before n (label i) (label j) (inr (a, n_is, at_a)) (inr (b, m_is, at_b)) =
+named_step_is_unique hs ls before n (label i) (label j) (inr (a, n_is, at_a)) (inr
+    (b, m_is, at_b)) =
     ap label (elements_equal ls a b i j (omega arith) at_a at_b)
-named_step_is_unique hs ls before n (label i) (label j) (inl (a, n_is, at_a)) (inr (b, m_is, at_b)) =
+named_step_is_unique hs ls before n (label i) (label j) (inl (a, n_is, at_a)) (inr
+    (b, m_is, at_b)) =
     absurd (omega (arith, slice_get_within hs a i at_a))
-named_step_is_unique hs ls before n (label i) (label j) (inr (a, n_is, at_a)) (inl (b, m_is, at_b)) =
+named_step_is_unique hs ls before n (label i) (label j) (inr (a, n_is, at_a)) (inl
+    (b, m_is, at_b)) =
     absurd (omega (arith, slice_get_within hs b j at_b))
 named_step_is_unique hs ls before n (label i) (marked j) (inl (a, n_is, at_a)) (b, m_is, _) =
     absurd (omega (arith, slice_get_within hs a i at_a))
@@ -150,5 +133,4 @@ named_steps_are_unique hypotheses labels items ss other_steps are_steps are_othe
         named_step_is_unique hypotheses labels number_i.items_before number_i.n named.0
         other_named.0 named.2 other_named.2 in
         ap (slice_get ss) (sym number_i.number_count_is) ∙ named.1 ∙ ap Some steps_are_equal
-        ∙ sym other_named.1
-        ∙ ap (slice_get other_steps) number_i.number_count_is
+        ∙ sym other_named.1 ∙ ap (slice_get other_steps) number_i.number_count_is

@@ -27,8 +27,7 @@ axioms_and_rule_text =
 
 abbrev with_proof : List ℕ → List Statement
 with_proof p =
-    statements
-    (axioms_and_rule_text ++ codes "${ h $e |- p $. a1i $p |- ( q -> p ) $= " ++ p
+    statements (axioms_and_rule_text ++ codes "${ h $e |- p $. a1i $p |- ( q -> p ) $= " ++ p
     ++ codes " $. $}")
 
 abbrev bare_steps_at : List Statement → ℕ → List Step
@@ -57,15 +56,13 @@ reading_fault p =
     [ Some (provable l k xs e ps d) ↦ least (reading_faults db 13 d ps) | _ ↦ None ]
 
 faults_read :
-    map reading_fault
-    (codes "( wi ax-1 ax-mp )" ∷ codes "( wi ax-1 ax-mp ) ABADCABE?"
+    map reading_fault (codes "( wi ax-1 ax-mp )" ∷ codes "( wi ax-1 ax-mp ) ABADCABE?"
     ∷ codes "( wi ax-1 ax-mp ABADCABEF" ∷ codes "( wi ax-1 ax-mp"
     ∷ codes "( wi ax-1 ax-mp ) ABADCAbEF"
     ∷ codes "( wi ax-1 ax-mp ) ABADCABEU" ∷ codes "( wi ax-1 ax-mp ) ZABADCABEF"
     ∷ codes "( wi ax-1 ax-mp ) ABADCABEG" ∷ codes "( wi ax-1 ax-mp ) ABADCABEF" ∷ [])
     ≡ Some (fault 238 EmptyProof) ∷ Some (fault 246 IncompleteProof)
-    ∷ Some (fault 236 UnusableLabel) ∷ Some (fault 236 OpenBrackets)
-    ∷ Some (fault 244 BadLetter)
+    ∷ Some (fault 236 UnusableLabel) ∷ Some (fault 236 OpenBrackets) ∷ Some (fault 244 BadLetter)
     ∷ Some (fault 248 OpenNumber) ∷ Some (fault 238 MarkBeforeStep)
     ∷ Some (fault 246 NumberTooLarge) ∷ None ∷ []
 unfolding statements
@@ -84,8 +81,7 @@ values_of_letters = refl
 -- the step of a pair of variables that no `$d` has
 abbrev faulty_db : List Statement
 faulty_db =
-    statements
-    (axioms_text
+    statements (axioms_text
     ++ codes "${ $d p q $. ax-d $a |- ( p -> q ) $. $} bad $p |- ( p -> q ) $= wp wq ax-d $. ")
 
 two_hypotheses : Trees

@@ -15,7 +15,7 @@ use Rattle.mm_spec.specs.Output.{AreValid}
 use Rattle.mm_spec.specs.Laws.Decided.{IsDecided}
 use Rattle.mm_laws.specs.Laws.OneWave.{HaveWaves}
 use Rattle.mm_spec.proofs.ChainsLaw.{two_waves_are_equal}
-use Rattle.mm_spec.specs.Opened.{counted}
+use Rattle.mm_spec.specs.Opened.{open_as_axioms}
 use Rattle.mm_spec.proofs.CompleteLaw.{reads_complete}
 use Rattle.mm_spec.proofs.OpenedLaw.{counted_complete}
 use Rattle.mm_spec.proofs.CitedLaw.{cited_lt_theorem}
@@ -112,7 +112,7 @@ module _ (db : List Statement) (by_essential : Bool) (all_complete : AreComplete
 -- in a sound text each theorem has one wave
 pub have_waves : (len : ℕ) (x : LexedText) (with_open : Bool) → HaveWaves len x with_open
 have_waves len x with_open db has_no_fault by_essential t =
-    let statements = counted with_open db in
+    let statements = open_as_axioms with_open db in
     let wave =
     wave_exists statements by_essential
     (counted_complete with_open db (reads_complete len x db None has_no_fault.0)) has_no_fault.1 t
@@ -120,6 +120,5 @@ have_waves len x with_open db has_no_fault by_essential t =
       wave.0,
       wave.1,
       λ m is_wave. two_waves_are_equal (Cites statements by_essential)
-          (IsTheorem statements) t m wave.0
-          is_wave wave.1,
+          (IsTheorem statements) t m wave.0 is_wave wave.1,
     )

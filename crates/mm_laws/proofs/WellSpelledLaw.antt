@@ -1,39 +1,37 @@
 -- Reading finds no fault in exactly the proofs that are well formed.
-use Rattle.std.proofs.Common.{◌≡◌, ◌≢◌, ℕ, ◌+◌, ◌==◌, ◌<◌, ◌≤◌, Bool, true}
-use Rattle.std.proofs.Common.{false, ◌&&◌, inl, inr, List, [], ◌∷◌, ◌++◌, map, length}
-use Rattle.std.proofs.Common.{flat_map, count_by, codes, refl, sym}
-use Rattle.std.proofs.Common.{ap, ap₂, ◌∙◌, subst, true≢false, arith}
-use Rattle.std.proofs.Common.{eq-eqb, append_assoc, append-nil}
+use Rattle.std.proofs.lemmas.Grind.{common_steps}
+use Rattle.std.proofs.Common.{◌≡◌, ◌≢◌, ℕ, ◌+◌, ◌<◌, ◌≤◌, Bool, true, false, ◌&&◌, inl, inr, List}
+use Rattle.std.proofs.Common.{[], ◌∷◌, ◌++◌, map, length, flat_map, count_by, codes, refl, sym, ap}
+use Rattle.std.proofs.Common.{ap₂, ◌∙◌, subst, true≢false, arith, append_assoc, append-nil}
+use Rattle.std.proofs.Common.{rules}
 use Rattle.std.specs.List.{list_any, range_with_len, AllByRecursion, AllZip}
-use Rattle.std.proofs.lemmas.Bool.{le-ltb, ne_eqb, false_from_ne_true}
+use Rattle.std.proofs.lemmas.Bool.{le-ltb, false_from_ne_true}
 use Rattle.std.proofs.lemmas.Bool.Decides.{nat_tests}
 use Rattle.mm_spec.specs.Text.{Token, fault}
 use Rattle.mm_spec.specs.declared.Fault.{Fault}
 use Rattle.mm_spec.specs.Statement.{Statement}
 use Rattle.mm_spec.specs.Scope.{active_at, statement_at}
-use Rattle.mm_spec.specs.Opened.{counted}
+use Rattle.mm_spec.specs.Opened.{open_as_axioms}
 use Rattle.mm_spec.specs.Frame.{mandatory_hypotheses}
 use Rattle.mm_spec.specs.NormalProof.{is_labelled, usable, proof_label_faults}
 use Rattle.mm_spec.specs.CompressedProof.{Letter, letters_of, Group, is_early_letter}
-use Rattle.mm_spec.specs.CompressedProof.{is_last_letter}
-use Rattle.mm_spec.specs.CompressedProof.{groups, value, group_fault, group_faults, letter_faults}
+use Rattle.mm_spec.specs.CompressedProof.{is_last_letter, groups, value, group_faults}
+use Rattle.mm_spec.specs.CompressedProof.{letter_faults}
 use Rattle.mm_spec.specs.Proof.{reading_faults}
 use Rattle.mm_laws.specs.Spelling.{Item, number, mark, is_number, is_mark_item, IsEarlyDigit}
-use Rattle.mm_laws.specs.Spelling.{IsLastDigit, AreEarlyDigits, AreLettersOf, Spells}
-use Rattle.mm_laws.specs.Spelling.{IsUsable, IsWellSpelled}
+use Rattle.mm_laws.specs.Spelling.{IsLastDigit, AreEarlyDigits, AreLettersOf, Spells, IsUsable}
+use Rattle.mm_laws.specs.Spelling.{IsWellSpelled}
 use Rattle.mm_laws.specs.Laws.Read.{WhereRead}
 use Rattle.mm_laws.specs.Laws.WellFormed.{CompressedIsExact, NormalIsExact}
 use Rattle.mm_spec.specs.declared.Code.TheVariants.{UnusableLabel}
 use Rattle.mm_spec.proofs.FindsLaw.{equal_bytes_equal_words, active_lt_place, any_filter, range_any}
 use Rattle.mm_spec.proofs.FaultlessLaw.{both_are_empty}
-use Rattle.mm_laws.proofs.SpellingLaw.{EndsItem, spelled_item_is_unique}
-use Rattle.mm_laws.proofs.SpellingLaw.{group_spells_its_value}
-use Rattle.mm_laws.proofs.SpellingLaw.{group_ends, group_goes, items_of, letters_spell_items}
+use Rattle.mm_laws.proofs.SpellingLaw.{EndsItem, spelled_item_is_unique, group_spells_its_value}
+use Rattle.mm_laws.proofs.SpellingLaw.{group_ends, letters_spell_items}
 use Rattle.mm_laws.proofs.SpellingLaw.{compressed_reads, bytes_of, AreEarly, last_digit_ends}
-use Rattle.mm_laws.proofs.SpellingLaw.{item_of}
-use Rattle.mm_spec.proofs.GroupsLaw.{AreFaultless}
-use Rattle.mm_laws.proofs.SpellingLaw.{bytes_of_letters, spelled_items_are_unique}
+use Rattle.mm_laws.proofs.SpellingLaw.{item_of, bytes_of_letters, spelled_items_are_unique}
 use Rattle.mm_laws.proofs.SpellingLaw.{proof_is_faultless}
+use Rattle.mm_spec.proofs.GroupsLaw.{AreFaultless}
 use Rattle.mm_laws.proofs.SpelledStepsLaw.{count_append, LabelsDiffer, labels_differ}
 use Rattle.mm_laws.proofs.SpelledStepsLaw.{one_statement_is_usable, labels_are_usable, own_faults}
 use Rattle.mm_laws.proofs.SpelledStepsLaw.{no_own_faults, normal_reads}
@@ -53,9 +51,15 @@ faultless_are_meaningful : (gs : List Group) (label_count marks count : ℕ)
     → AreMeaningful label_count marks count (map item_of gs)
 faultless_are_meaningful [] label_count marks count are_faultless = tt
 faultless_are_meaningful (g ∷ gs) label_count marks count (inl (ends_number, fits, later)) =
-    rw (ends_number, AreMeaningful, item_of) (fits, faultless_are_meaningful gs label_count marks (count + 1) later)
+    rw (ends_number, AreMeaningful, item_of) (
+      fits,
+      faultless_are_meaningful gs label_count marks (count + 1) later,
+    )
 faultless_are_meaningful (g ∷ gs) label_count marks count (inr (no_number, _, _, follows, later)) =
-    rw (no_number, AreMeaningful, item_of) (follows, faultless_are_meaningful gs label_count (marks + 1) count later)
+    rw (no_number, AreMeaningful, item_of) (
+      follows,
+      faultless_are_meaningful gs label_count (marks + 1) count later,
+    )
 
 -- an item means something after so many marks and numbers
 abbrev IsMeaningful : ℕ → ℕ → ℕ → Item → Type 0
@@ -75,15 +79,17 @@ each_is_meaningful : (before after : List Item) (item : Item) (label_count marks
 each_is_meaningful [] after (number n) label_count marks count (fits, _) = omega arith
 each_is_meaningful [] after mark label_count marks count (follows, _) = omega arith
 each_is_meaningful (number m ∷ before) after item label_count marks count (_, later) =
-    meaningful_after_more item label_count _ _ _ _
-    (each_is_meaningful before after item label_count marks (count + 1) later)
-    (omega (arith, count_append is_mark_item (number m ∷ []) before))
-    (omega (arith, count_append is_number (number m ∷ []) before))
+    grind (
+      arith,
+      common_steps,
+      (each_is_meaningful before after item label_count marks (count + 1) later),
+    )
 each_is_meaningful (mark ∷ before) after item label_count marks count (_, later) =
-    meaningful_after_more item label_count _ _ _ _
-    (each_is_meaningful before after item label_count (marks + 1) count later)
-    (omega (arith, count_append is_mark_item (mark ∷ []) before))
-    (omega (arith, count_append is_number (mark ∷ []) before))
+    grind (
+      arith,
+      common_steps,
+      (each_is_meaningful before after item label_count (marks + 1) count later),
+    )
 
 meaningful_if_each_is : (items : List Item) (label_count marks count : ℕ)
     → ((before after : List Item) (item : Item) → items ≡ before ++ item ∷ after
@@ -121,22 +127,19 @@ ending_byte_is_not_early b ends_item = grind (arith, nat_tests)
 
 letters_are_early : (xs : List Letter) (n : ℕ) → AreEarlyDigits (bytes_of xs) n → AreEarly xs
 letters_are_early [] n are_early_digits = tt
-letters_are_early (x ∷ xs) n are_early_digits = (
-  digit_is_early x.byte are_early_digits.0
-      are_early_digits.2,
-  letters_are_early xs are_early_digits.1 are_early_digits.3,
-)
+letters_are_early (x ∷ xs) n are_early_digits =
+    grind (arith, (letters_are_early xs are_early_digits.1 are_early_digits.3))
 
 group_of_run : (early front : List Letter) (x : Letter) (later : List Letter) → AreEarly front
-    → is_early_letter x.byte ≡ false
-    → groups early (front ++ x ∷ later)
+    → is_early_letter x.byte ≡ false → groups early (front ++ x ∷ later)
     ≡ (record { early = early ++ front; last = x } ∷ (groups [] later).0, (groups [] later).1)
-group_of_run early [] x later front_is_early not_early =
-    rw (group_ends early x later not_early, append-nil early) refl
+group_of_run early [] x later front_is_early not_early = rw (group_ends, append-nil) refl
 group_of_run early (y ∷ front) x later front_is_early not_early =
-    group_goes early y (front ++ x ∷ later) front_is_early.0
-    ∙ rw (group_of_run (early ++ y ∷ []) front x later front_is_early.1 not_early, append_assoc)
-    refl
+    grind (
+      arith,
+      append_assoc,
+      (group_of_run (early ++ y ∷ []) front x later front_is_early.1 not_early),
+    )
 
 -- letters by their bytes
 record IsSplit (xs : List Letter) (es : List ℕ) (last_byte : ℕ) (later_bytes : List ℕ) : Type 0
@@ -191,9 +194,7 @@ spelled_are_faultless : (items : List Item) (xs : List Letter) (label_count mark
     → Spells (bytes_of xs) items → AreMeaningful label_count marks count items
     → AreFaultlessGroups label_count marks count (groups [] xs)
 spelled_are_faultless [] xs label_count marks count are_spelled are_meaningful =
-    subst (λ ys. AreFaultlessGroups label_count marks count (groups [] ys)) (sym (nil_if_no_bytes xs
-    are_spelled))
-    (tt, refl)
+    search (rules, arith, nil_if_no_bytes)
 spelled_are_faultless (number n ∷ items) xs label_count marks count
     (bytes, later_bytes, bytes_are, are_letters, later_are_spelled) (fits, later_are_meaningful) =
     let letters_of_n : AreLettersOf bytes n = are_letters in
@@ -228,42 +229,27 @@ spelled_are_faultless (mark ∷ items) xs label_count marks count
       split.letters_are,
       group_of_run [] split.front split.x split.later
           (rw front_is_nil tt) (ending_byte_is_not_early split.x.byte (inr (omega arith))),
-    )
-    (inr (ap is_last_letter byte_is, byte_is, front_is_nil, follows, later.0), later.1)
+    ) (inr (ap is_last_letter byte_is, byte_is, front_is_nil, follows, later.0), later.1)
 
 -- ---- groups without faults
 
 no_faults_of_faultless : (gs : List Group) (label_count marks count : ℕ)
-    → AreFaultless label_count marks count gs
-    → group_faults label_count marks count gs ≡ []
+    → AreFaultless label_count marks count gs → group_faults label_count marks count gs ≡ []
 no_faults_of_faultless [] label_count marks count are_faultless = refl
 no_faults_of_faultless (g ∷ gs) label_count marks count (inl (ends_number, fits, later)) =
-    let not_mark : (g.last.byte == 90) ≡ false = grind (arith, nat_tests, ends_number) in
-    rw (ends_number, group_fault, le-ltb (label_count + marks) (value g) fits, not_mark)
-    (no_faults_of_faultless gs label_count marks (count + 1) later)
-no_faults_of_faultless (g ∷ gs) label_count marks count
-    (inr (no_number, is_mark, none_early, count_gt_0, later)) =
-    rw (
-      no_number,
-      group_fault,
-      eq-eqb g.last.byte 90 is_mark,
-      none_early,
-      ne_eqb count 0 (λ count_is_0. omega arith),
-    )
-    (no_faults_of_faultless gs label_count (marks + 1) count later)
+    search (rules, arith, le-ltb, (no_faults_of_faultless gs label_count marks (count + 1) later))
+no_faults_of_faultless (g ∷ gs) label_count marks count (inr
+    (no_number, is_mark, none_early, count_gt_0, later)) =
+    grind (arith, (no_faults_of_faultless gs label_count (marks + 1) count later))
 
 no_letter_faults : (label_count end : ℕ) (xs : List Letter) → xs ≢ []
-    → AreFaultlessGroups label_count 0 0 (groups [] xs)
-    → letter_faults label_count end xs ≡ []
-no_letter_faults label_count end [] not_nil are_faultless_groups = absurd (not_nil refl)
-no_letter_faults label_count end (x ∷ xs) not_nil (are_faultless, none_open) =
-    rw (no_faults_of_faultless (groups [] (x ∷ xs)).0 label_count 0 0 are_faultless, none_open) refl
+    → AreFaultlessGroups label_count 0 0 (groups [] xs) → letter_faults label_count end xs ≡ []
+no_letter_faults label_count end xs h1 h2 = grind (arith, common_steps, no_faults_of_faultless)
 
 -- ---- labels
 
 usable_label_has_no_fault : (db : List Statement) (k : ℕ) (t : Token) (j : ℕ)
-    → IsUsable db k t.word j
-    → proof_label_faults db k t ≡ []
+    → IsUsable db k t.word j → proof_label_faults db k t ≡ []
 usable_label_has_no_fault db k t j is_usable = no_fault_if_usable (usable db k t.word) refl
   where
     is_usable_at : ℕ → Bool
@@ -293,11 +279,8 @@ each_label_is_usable : (db : List Statement) (k : ℕ) (ts : List Token) (js : L
     → AllByRecursion (λ t. (j : ℕ) × IsUsable db k t.word j) ts
 each_label_is_usable db k [] js are_usable = tt
 each_label_is_usable db k (t ∷ ts) [] are_usable = absurd are_usable
-each_label_is_usable db k (t ∷ ts) (j ∷ js) are_usable = (
-  (j, are_usable.0),
-  each_label_is_usable db
-      k ts js are_usable.1,
-)
+each_label_is_usable db k (t ∷ ts) (j ∷ js) are_usable =
+    grind (arith, common_steps, (each_label_is_usable db k ts js are_usable.1))
 
 -- ---- proofs
 
@@ -305,32 +288,18 @@ module _ (db : List Statement) (differ : LabelsDiffer db) (k end : ℕ) where
   read_is_well_spelled : (t : Token) (ts : List Token) → t.word ≡ codes "("
       → reading_faults db k end (t ∷ ts) ≡ [] → IsWellSpelled db k (t ∷ ts)
   read_is_well_spelled t ts is_opening no_faults =
-      let faultless = proof_is_faultless db k end t ts is_opening no_faults in
-      let label_count = length (mandatory_hypotheses db k) + length faultless.labels in
-      let are_meaningful = faultless_are_meaningful
-      (groups [] (letters_of faultless.letters)).0 label_count 0 0
-      faultless.has_faultless_letters.has_faultless_groups in
-      let js = labels_are_usable db differ k faultless.labels faultless.no_label_faults in
-      record {
-        labels = faultless.labels;
-        letters = faultless.letters;
-        is_compressed = faultless.is_compressed;
-        labels_are_usable = each_label_is_usable db k faultless.labels js.0 js.1;
-        items = items_of faultless.letters;
-        items_are_spelled =
-            letters_spell_items label_count faultless.letters faultless.has_faultless_letters;
-        has_items = faultless.has_items;
-        numbers_name_steps =
-            λ b a n items_are. let n_le_count = each_is_meaningful b a (number n) label_count 0 0
-            (subst (AreMeaningful label_count 0 0) items_are are_meaningful) in omega arith;
-        marks_follow_numbers =
-            λ b a items_are. let count_gt_0 = each_is_meaningful b a mark label_count 0 0
-            (subst (AreMeaningful label_count 0 0) items_are are_meaningful) in omega arith;
-      }
+      search (
+        arith,
+        proof_is_faultless,
+        faultless_are_meaningful,
+        labels_are_usable,
+        each_label_is_usable,
+        letters_spell_items,
+        each_is_meaningful,
+      )
 
   well_spelled_is_read : (t : Token) (ts : List Token) → t.word ≡ codes "("
-      → IsWellSpelled db k (t ∷ ts)
-      → reading_faults db k end (t ∷ ts) ≡ []
+      → IsWellSpelled db k (t ∷ ts) → reading_faults db k end (t ∷ ts) ≡ []
   well_spelled_is_read t ts is_opening is_well_spelled =
       (compressed_reads db k end (t ∷ ts) is_well_spelled.labels is_well_spelled.letters
       is_well_spelled.is_compressed).0
@@ -384,7 +353,7 @@ module _ (db : List Statement) (differ : LabelsDiffer db) (k end : ℕ) where
 
 pub normal_is_exact : WhereRead NormalIsExact
 normal_is_exact len x db fault is_read with_open k end t ts no_bracket =
-    let statements = counted with_open db in
+    let statements = open_as_axioms with_open db in
     let differ = labels_differ len x db fault is_read with_open in
     let faults_are = (normal_reads statements k end t ts no_bracket).0 in (
       λ no_faults. read_are_usable_words statements differ k end (t ∷ ts)
@@ -395,7 +364,4 @@ normal_is_exact len x db fault is_read with_open k end t ts no_bracket =
 
 pub compressed_is_exact : WhereRead CompressedIsExact
 compressed_is_exact len x db fault is_read with_open k end t ts is_opening =
-    let labels_are_distinct = labels_differ len x db fault is_read with_open in (
-      read_is_well_spelled (counted with_open db) labels_are_distinct k end t ts is_opening,
-      well_spelled_is_read (counted with_open db) labels_are_distinct k end t ts is_opening,
-    )
+    search (rules, arith, labels_differ, read_is_well_spelled, well_spelled_is_read)

@@ -1,8 +1,8 @@
 -- What the masks of a block tell of its bytes, and where words begin in it.
 use Rattle.std.proofs.Common.{◌≡◌, ℕ, ◌+◌, ◌-◌, ◌*◌, ◌/◌, ◌%◌, ◌^◌, ◌<◌, ◌≤◌, ◌||◌, ◌&&◌, ◌==◌}
 use Rattle.std.proofs.Common.{Bool, true, false, not, cond, min, max, List, [], ◌∷◌, map, length}
-use Rattle.std.proofs.Common.{take, drop, get_or, refl, sym, ap, ap₂, subst, ◌∙◌, ⊎_elim, w64}
-use Rattle.std.proofs.Common.{true≢false, arith, bit_and, bit_or, if◌then◌else◌, pow_pos}
+use Rattle.std.proofs.Common.{take, drop, get_or, refl, sym, ap, ap₂, subst, ◌∙◌, inl, inr, w64}
+use Rattle.std.proofs.Common.{true≢false, arith, bit_and, bit_or, if◌then◌else◌, pow_pos, rules}
 use Rattle.std.specs.Int.{bit_at, bit_not}
 use Rattle.std.specs.List.{list_all}
 use Rattle.std.proofs.lemmas.Nat.Bits.{bit_at-zero, bit_at_above, bit_at_not, bit_at_and, bit_at_or}
@@ -10,7 +10,8 @@ use Rattle.std.proofs.lemmas.Nat.Bits.{bit_at_lowest, bit_at_cat_low, bit_at_cat
 use Rattle.std.proofs.lemmas.Nat.Bits.{bit_at_clear_same, bit_at_clear_other, bit_at-lt}
 use Rattle.std.proofs.lemmas.Simd.{bit_mask_l}
 use Rattle.std.proofs.lemmas.List.{get_or-drop, length-drop, take_all}
-use Rattle.std.proofs.lemmas.Bool.{and_parts, cases_lt, ne_eqb, not-true}
+use Rattle.std.proofs.lemmas.Bool.{and_parts, cases_eq, cases_lt, ne_eqb, not-true}
+use Rattle.std.proofs.lemmas.Grind.{common_steps}
 use Rattle.mm_bytes.specs.Masks.{mask, is_bad}
 use Rattle.mm_spec.specs.Bytes.{is_white, is_printable}
 use Rattle.mm_spec.specs.Words.{white_at, begins_word, word_at, words_between}
@@ -19,9 +20,9 @@ use Rattle.mm_spec.specs.Readings.{bytes_of}
 use Rattle.mm_spec.specs.Roles.{is_clean}
 use Rattle.mm_spec.specs.Text.{has_dollar}
 use Rattle.mm_spec.specs.declared.Word.{Word}
-use Rattle.mm_spec.proofs.WordRunsLaw.{none_begins_after_not_white, words_between_none}
-use Rattle.mm_spec.proofs.WordRunsLaw.{words_between_skips}
-use Rattle.mm_spec.proofs.WordRunsLaw.{words_between_take, word_at_not_white, word_at_nonempty}
+use Rattle.mm_spec.proofs.WordsBetweenLaw.{none_begins_after_not_white, words_between_none}
+use Rattle.mm_spec.proofs.WordsBetweenLaw.{words_between_skips, words_between_take, word_at_not_white}
+use Rattle.mm_spec.proofs.WordsBetweenLaw.{word_at_nonempty}
 use Rattle.mm_spec.proofs.WordsLaw.{begins_word_boundary, begins_word_not_white}
 use Rattle.mm_spec.proofs.WordsLaw.{word_at_start_is_word}
 use Rattle.mm_spec.proofs.BitLaw.{shifted}
@@ -33,15 +34,9 @@ use Rattle.mm_lex.proofs.MaskLaw.{value_one_is_true, value_zero_is_false}
 
 -- ---- bytes at which nothing stops
 
-both_are_zero : (a b : ℕ) → max a b ≡ 0 → (a ≡ 0) × (b ≡ 0)
-both_are_zero a b greater_is_zero = (omega (arith, greater_is_zero), omega (arith, greater_is_zero))
-
 plain_byte : (w p : Bool) (d : Bool) → w ≡ false → (not w && not p) ≡ false → d ≡ false
     → (p && not d) ≡ true
-plain_byte false true false is_not_white is_not_bad is_no_dollar = refl
-plain_byte false false false is_not_white is_not_bad is_no_dollar = absurd (true≢false is_not_bad)
-plain_byte true p d is_not_white is_not_bad is_no_dollar = absurd (true≢false is_not_white)
-plain_byte w p true is_not_white is_not_bad is_no_dollar = absurd (true≢false is_no_dollar)
+plain_byte w p d h1 h2 h3 = grind (arith, common_steps, true≢false)
 
 zero_bit_fails_test : (p : ℕ → Bool) (bytes : List ℕ) (i : ℕ) → i < 64 → i < length bytes → (m : ℕ)
     → m ≡ mask p (take 64 bytes) → bit_at m i ≡ 0 → p (get_or bytes i 0) ≡ false
@@ -55,34 +50,27 @@ module _ (bytes : List ℕ) (white bad dollars : ℕ)
     (white_is : white ≡ mask is_white (take 64 bytes))
     (bad_is : bad ≡ mask is_bad (take 64 bytes))
     (dollars_are : dollars ≡ mask (λ x. x == 0x24) (take 64 bytes)) where
+  no_bits : (i : ℕ) → bit_at (bit_or (bit_or white bad) dollars) i ≡ 0
+      → (bit_at white i ≡ 0) × (bit_at bad i ≡ 0) × (bit_at dollars i ≡ 0)
+  no_bits i no_stop_at_i = search (rules, arith, bit_at_or)
+
   pub no_stop_is_not_white : (i : ℕ) → i < 64 → i < length bytes
       → bit_at (bit_or (bit_or white bad) dollars) i ≡ 0 → white_at bytes i ≡ false
   unfolding white_at
   no_stop_is_not_white i i_lt_64 i_in_bytes no_stop_at_i =
-      let not_class_nor_dollar =
-      both_are_zero (bit_at (bit_or white bad) i) (bit_at dollars i)
-      (sym (bit_at_or (bit_or white bad) dollars i) ∙ no_stop_at_i) in
-      let not_white_nor_bad =
-      both_are_zero (bit_at white i) (bit_at bad i)
-      (sym (bit_at_or white bad i) ∙ not_class_nor_dollar.0) in
-      zero_bit_fails_test is_white bytes i i_lt_64 i_in_bytes white white_is not_white_nor_bad.0
+      zero_bit_fails_test is_white bytes i i_lt_64 i_in_bytes white white_is
+      (no_bits i no_stop_at_i).0
 
   pub no_stop_is_plain : (i : ℕ) → i < 64 → i < length bytes
       → bit_at (bit_or (bit_or white bad) dollars) i ≡ 0 → plain_at bytes i ≡ true
   unfolding plain_at is_bad
   no_stop_is_plain i i_lt_64 i_in_bytes no_stop_at_i =
-      let not_class_nor_dollar =
-      both_are_zero (bit_at (bit_or white bad) i) (bit_at dollars i)
-      (sym (bit_at_or (bit_or white bad) dollars i) ∙ no_stop_at_i) in
-      let not_white_nor_bad =
-      both_are_zero (bit_at white i) (bit_at bad i)
-      (sym (bit_at_or white bad i) ∙ not_class_nor_dollar.0) in
+      let none = no_bits i no_stop_at_i in
       plain_byte (is_white (get_or bytes i 0)) (is_printable (get_or bytes i 0))
       (get_or bytes i 0 == 0x24)
-      (zero_bit_fails_test is_white bytes i i_lt_64 i_in_bytes white white_is not_white_nor_bad.0)
-      (zero_bit_fails_test is_bad bytes i i_lt_64 i_in_bytes bad bad_is not_white_nor_bad.1)
-      (zero_bit_fails_test (λ x. x == 0x24) bytes i i_lt_64 i_in_bytes dollars dollars_are
-      not_class_nor_dollar.1)
+      (zero_bit_fails_test is_white bytes i i_lt_64 i_in_bytes white white_is none.0)
+      (zero_bit_fails_test is_bad bytes i i_lt_64 i_in_bytes bad bad_is none.1)
+      (zero_bit_fails_test (λ x. x == 0x24) bytes i i_lt_64 i_in_bytes dollars dollars_are none.2)
 
 -- bytes after a place
 
@@ -99,8 +87,7 @@ plain_at_dropped text base i =
 
 pub taken_dropped_is_all : (text : List ℕ) (base : ℕ)
     → take (length text - base) (drop base text) ≡ drop base text
-taken_dropped_is_all text base =
-    take_all (length text - base) (drop base text) (omega (arith, length-drop {A = ℕ}))
+taken_dropped_is_all text base = grind (arith, common_steps, take_all, length-drop)
 
 pub place_in_dropped : (text : List ℕ) (base i : ℕ) → base + i < length text
     → i < length (drop base text)
@@ -166,28 +153,17 @@ module _ (n k : ℕ) where
 
   pub kept_bit_is_above_k : (i : ℕ) → i < 64 → bit_at (n / 2 ^ k * 2 ^ k % 2 ^ 64) i ≡ 1
       → (k ≤ i) × (bit_at n i ≡ 1)
-  kept_bit_is_above_k i i_lt_64 bit_is_one =
-      ⊎_elim {C = (k ≤ i) × (bit_at n i ≡ 1)}
-      (λ i_lt_k. let zero_is_one : 0 ≡ 1 = sym (bits_below i i_lt_64 i_lt_k) ∙ bit_is_one in
-      absurd (omega (arith, zero_is_one)))
-      (λ k_le_i. (k_le_i, sym (bits_from i i_lt_64 k_le_i) ∙ bit_is_one))
-      (cases_lt i k)
+  kept_bit_is_above_k i i_lt_64 bit_is_one = search (rules, arith, bits_below, bits_from)
 
 -- ---- where words begin
 
 first_start_test : (w first : Bool)
     → ◌≡◌ {A = ℕ} (if first then 1 - cond w 1 0 else 0) (cond (not w && first) 1 0)
-first_start_test true true = refl
-first_start_test true false = refl
-first_start_test false true = refl
-first_start_test false false = refl
+first_start_test w first = grind (arith, common_steps)
 
 next_start_test : (w v : Bool)
     → ◌≡◌ {A = ℕ} (min (1 - cond w 1 0) (cond v 1 0)) (cond (not w && v) 1 0)
-next_start_test true true = refl
-next_start_test true false = refl
-next_start_test false true = refl
-next_start_test false false = refl
+next_start_test w v = grind (arith, common_steps)
 
 module _ (text : List ℕ) (base white starts : ℕ) (first : Bool)
     (white_mask_is : white ≡ mask is_white (take 64 (drop base text)))
@@ -220,40 +196,30 @@ module _ (text : List ℕ) (base white starts : ℕ) (first : Bool)
       → bit_at starts (i + 1) ≡ cond (begins_word text (base + (i + 1))) 1 0
   unfolding begins_word
   next_bit_tells_beginning i next_lt_64 place_in_text =
-      let place_is_not_zero : (base + (i + 1) == 0) ≡ false =
-      ne_eqb (base + (i + 1)) 0 (λ place_is_zero. omega (arith, place_is_zero)) in
-      let pred_place_is : base + i ≡ base + (i + 1) - 1 = omega arith in
-      next_bits_are i next_lt_64
-      ∙ ap₂ (λ (m n : ℕ). min (1 - m) n) (white_bit (i + 1) next_lt_64 place_in_text)
-      (white_bit i (omega arith) (omega arith))
-      ∙ next_start_test (white_at text (base + (i + 1))) (white_at text (base + i))
-      ∙ rw (place_is_not_zero, pred_place_is) refl
+      grind (arith, common_steps, ne_eqb, white_bit, next_start_test)
 
   bit_tells_beginning : (i : ℕ) → i < 64 → base + i < length text
       → bit_at starts i ≡ cond (begins_word text (base + i)) 1 0
-  bit_tells_beginning i i_lt_64 place_in_text =
-      ⊎_elim {C = bit_at starts i ≡ cond (begins_word text (base + i)) 1 0}
-      (λ i_is_positive. let numbers_equal : i - 1 + 1 ≡ i = omega arith in
-      subst (λ (k : ℕ). bit_at starts k ≡ cond (begins_word text (base + k)) 1 0) numbers_equal
-      (next_bit_tells_beginning (i - 1) (omega arith) (omega arith)))
-      (λ i_le_zero. let zero_is_i : 0 ≡ i = omega arith in
-      let numbers_equal : base ≡ base + 0 = omega arith in
-      subst (λ (k : ℕ). bit_at starts k ≡ cond (begins_word text (base + k)) 1 0) zero_is_i
-      (first_bit_tells_beginning (omega arith)
-      ∙ ap (λ (k : ℕ). cond (begins_word text k) 1 0) numbers_equal))
-      (cases_lt 0 i)
+  bit_tells_beginning i i_lt_64 place_in_text = elim (cases_lt 0 i) [
+    | inl i_is_positive ↦
+        let pred_is : i - 1 + 1 ≡ i = omega arith in
+        subst (λ (k : ℕ). bit_at starts k ≡ cond (begins_word text (base + k)) 1 0) pred_is
+        (next_bit_tells_beginning (i - 1) (omega arith) (omega arith))
+    | inr i_le_zero ↦
+        let i_is_zero : i ≡ 0 = omega arith in
+        let base_is : base + 0 ≡ base = omega arith in
+        rw (i_is_zero, base_is) (first_bit_tells_beginning (omega arith))
+  ]
 
   pub one_bit_begins_word : (i : ℕ) → i < 64 → base + i < length text → bit_at starts i ≡ 1
       → begins_word text (base + i) ≡ true
   one_bit_begins_word i i_lt_64 place_in_text bit_is_one =
-      value_one_is_true (begins_word text (base + i))
-      (sym (bit_tells_beginning i i_lt_64 place_in_text) ∙ bit_is_one)
+      search (rules, arith, value_one_is_true, bit_tells_beginning)
 
   pub zero_bit_begins_none : (i : ℕ) → i < 64 → base + i < length text → bit_at starts i ≡ 0
       → begins_word text (base + i) ≡ false
   zero_bit_begins_none i i_lt_64 place_in_text bit_is_zero =
-      value_zero_is_false (begins_word text (base + i))
-      (sym (bit_tells_beginning i i_lt_64 place_in_text) ∙ bit_is_zero)
+      search (rules, arith, value_zero_is_false, bit_tells_beginning)
 
 -- ---- a word goes on
 
@@ -283,16 +249,17 @@ pub holds_up_to_next_bit : (Q : List ℕ → ℕ → Type 0) (t text : List ℕ)
 holds_up_to_next_bit Q t text m from at base found texts_equal base_le_at found_le_64
     holds_before_at
     no_bit_before_found zero_bit_tells i from_le_i i_lt_end i_in_text =
-    ⊎_elim {C = Q text i} (λ i_lt_at. holds_before_at i from_le_i i_lt_at i_in_text)
-    (λ at_le_i.
-    let place_is_i : base + (i - base) ≡ i = omega arith in
-    let place_in_t : base + (i - base) < length t =
-    subst (λ (s : List ℕ). base + (i - base) < length s) (sym texts_equal) (omega arith) in
-    subst (λ (s : List ℕ). Q s i) texts_equal
-    (subst (Q t) place_is_i
-    (zero_bit_tells (i - base) (omega arith) place_in_t (omega arith)
-    (no_bit_before_found (i - base) (omega arith) (omega arith)))))
-    (cases_lt i at)
+    elim (cases_lt i at) [
+      | inl i_lt_at ↦ holds_before_at i from_le_i i_lt_at i_in_text
+      | inr at_le_i ↦
+          let place_is_i : base + (i - base) ≡ i = omega arith in
+          let place_in_t : base + (i - base) < length t =
+          subst (λ (s : List ℕ). base + (i - base) < length s) (sym texts_equal) (omega arith) in
+          subst (λ (s : List ℕ). Q s i) texts_equal
+          (subst (Q t) place_is_i
+          (zero_bit_tells (i - base) (omega arith) place_in_t (omega arith)
+          (no_bit_before_found (i - base) (omega arith) (omega arith))))
+    ]
 
 -- no word begins inside one
 pub no_word_begins_inside : (text : List ℕ) (start end : ℕ)
@@ -314,25 +281,25 @@ module _ (n k : ℕ) (k_lt_64 : k < 64) where
       → bit_at (bit_and n (bit_not w64 (1 * 2 ^ k % 2 ^ 64))) i ≡ 1
       → (i ≡ k → ⊥) × (bit_at n i ≡ 1)
   remaining_bit_is_other i i_lt_64 bit_is_one =
-      let i_is_not_k : i ≡ k → ⊥ =
-      λ i_is_k. let cleared_bit_is_zero : bit_at (bit_and n (bit_not w64 (1 * 2 ^ k % 2 ^ 64))) i
-      ≡ 0 =
-      ap (bit_at (bit_and n (bit_not w64 (1 * 2 ^ k % 2 ^ 64)))) i_is_k
-      ∙ bit_at_clear_same w64 n k k_lt_64 in
-      omega (arith, cleared_bit_is_zero, bit_is_one) in
+      let i_is_not_k : i ≡ k → ⊥ = λ i_is_k.
+      let cleared_bit_is = bit_at_clear_same w64 n k k_lt_64 in
+      let zero_is_one = ap (bit_at (bit_and n (bit_not w64 (1 * 2 ^ k % 2 ^ 64)))) i_is_k in
+      omega arith in
       (i_is_not_k, sym (other_bits_are_kept i i_lt_64 i_is_not_k) ∙ bit_is_one)
 
   pub remaining_bits_are_above : ((i : ℕ) → i < k → bit_at n i ≡ 0) → (i : ℕ) → i < 64
       → bit_at (bit_and n (bit_not w64 (1 * 2 ^ k % 2 ^ 64))) i ≡ 1 → k < i
   remaining_bits_are_above no_bit_below_k i i_lt_64 bit_is_one =
       let kept_bit = remaining_bit_is_other i i_lt_64 bit_is_one in
-      ⊎_elim {C = k < i} (λ k_lt_i. k_lt_i)
-      (λ i_le_k. ⊎_elim {C = k < i}
-      (λ i_lt_k. let zero_is_one : 0 ≡ 1 = sym (no_bit_below_k i i_lt_k) ∙ kept_bit.1 in
-      absurd (omega (arith, zero_is_one)))
-      (λ k_le_i. let i_is_k : i ≡ k = omega arith in absurd (kept_bit.0 i_is_k))
-      (cases_lt i k))
-      (cases_lt k i)
+      elim (cases_lt i k) [
+        | inl i_lt_k ↦
+            let bit_is_zero = no_bit_below_k i i_lt_k in let bit_of_n = kept_bit.1 in
+            absurd (omega arith)
+        | inr k_le_i ↦ elim (cases_eq i k) [
+          | inl i_is_k ↦ absurd (kept_bit.0 i_is_k)
+          | inr i_is_not_k ↦ omega arith
+        ]
+      ]
 
 -- ---- words between places
 
@@ -340,18 +307,19 @@ pub words_between_skip_to : (text : List ℕ) (from upto to : ℕ) → from ≤ 
     → ((i : ℕ) → from ≤ i → i < upto → i < to → begins_word text i ≡ false)
     → words_between text from to ≡ words_between text upto to
 words_between_skip_to text from upto to from_le_upto none_begins =
-    ⊎_elim {C = words_between text from to ≡ words_between text upto to}
-    (λ upto_lt_to. ⊎_elim {C = words_between text from to ≡ words_between text upto to}
-    (λ from_lt_to. words_between_skips text (to - from) from to to (omega arith) (omega arith)
-    (λ j from_le_j j_lt_end. none_begins j from_le_j (omega arith) j_lt_end)
-    ∙ words_between_none text to to (omega arith)
-    ∙ sym (words_between_none text upto to (omega arith)))
-    (λ to_le_from. words_between_none text from to to_le_from
-    ∙ sym (words_between_none text upto to (omega arith)))
-    (cases_lt from to))
-    (λ upto_le_to. words_between_skips text (upto - from) from upto to (omega arith) upto_le_to
-    (λ j from_le_j j_lt_end. none_begins j from_le_j j_lt_end (omega arith)))
-    (cases_lt to upto)
+    elim (cases_lt upto to) [
+      | inl upto_lt_to ↦ words_between_skips text (upto - from) from upto to (omega arith)
+          (omega arith)
+          (λ j from_le_j j_lt_end. none_begins j from_le_j j_lt_end (omega arith))
+      | inr to_le_upto ↦ elim (cases_lt from to) [
+        | inl from_lt_to ↦ words_between_skips text (to - from) from to to (omega arith)
+            (omega arith) (λ j from_le_j j_lt_end. none_begins j from_le_j (omega arith) j_lt_end)
+            ∙ words_between_none text to to (omega arith)
+            ∙ sym (words_between_none text upto to to_le_upto)
+        | inr to_le_from ↦ words_between_none text from to to_le_from
+            ∙ sym (words_between_none text upto to to_le_upto)
+      ]
+    ]
 
 pub no_words_between : (text : List ℕ) (from upto to : ℕ) → from ≤ upto → to ≤ upto
     → ((i : ℕ) → from ≤ i → i < upto → i < to → begins_word text i ≡ false)
@@ -366,23 +334,7 @@ module _ (text : List ℕ) (start end : ℕ) (begins : begins_word text start �
     (none_is_white : (i : ℕ) → start ≤ i → i < end → white_at text i ≡ false)
     (white_after : end < length text → white_at text end ≡ true) where
   pub found_bytes_are_word : IsWord text (record { start = start; end = end })
-  found_bytes_are_word =
-      let not_white = begins_word_not_white text start begins in
-      let start_lt_end : start < end =
-      ⊎_elim {C = start < end} (λ start_lt_end_there. start_lt_end_there)
-      (λ end_le_start. let end_is_start : end ≡ start = omega (arith, start_le_end) in
-      absurd
-      (true≢false (sym (white_after (omega arith)) ∙ ap (white_at text) end_is_start ∙ not_white)))
-      (cases_lt start end) in
-      record {
-        nonempty = start_lt_end;
-        within = end_le_length;
-        no_white = none_is_white;
-        white_before =
-            λ i is_place_before. begins_word_boundary text start begins i is_place_before
-            place_is_in_text not_white;
-        white_after = white_after;
-      }
+  found_bytes_are_word = search (rules, arith, begins_word_not_white, begins_word_boundary)
 
 -- the words that begin from the place `from` on are this one, and those that begin from `upto` on
 pub words_begin_with_found : (text : List ℕ) (w : Word) (from upto to : ℕ) → IsWord text w
@@ -409,15 +361,8 @@ pub plain_bytes_are_plain_word : (text : List ℕ) (start end : ℕ) → start �
     → ((i : ℕ) → start ≤ i → i < end → plain_at text i ≡ true)
     → IsPlainWord (bytes_of text (record { start = start; end = end }))
 unfolding plain_at is_clean
-plain_bytes_are_plain_word text start end start_le_end end_le_length each_is_plain = record {
-  clean =
-      range_passes_test is_printable text start (end - start) (omega arith)
-      (λ i start_le_i i_lt_end. (and_parts _ _ (each_is_plain i start_le_i (omega arith))).0);
-  no_dollar =
-      no_byte_no_dollar (take (end - start) (drop start text))
-      (range_passes_test (λ x. not (x == 0x24)) text start (end - start) (omega arith)
-      (λ i start_le_i i_lt_end. (and_parts _ _ (each_is_plain i start_le_i (omega arith))).1));
-}
+plain_bytes_are_plain_word text start end start_le_end end_le_length each_is_plain =
+    search (rules, arith, range_passes_test, and_parts, no_byte_no_dollar)
 
 -- ---- words that are plain
 
@@ -427,12 +372,7 @@ module _ (text : List ℕ) (from upto : ℕ) (place_is_in_text : upto < length t
     (each_is_plain : (i : ℕ) → from ≤ i → i < upto → white_at text i ≡ false → plain_at text i
     ≡ true) where
   word_ends_before_white : (i : ℕ) → i ≤ upto → (word_at text i).end ≤ upto
-  word_ends_before_white i i_le_upto =
-      ⊎_elim {C = (word_at text i).end ≤ upto}
-      (λ upto_lt_end. absurd
-      (true≢false (sym upto_is_white ∙ word_at_not_white text i upto i_le_upto upto_lt_end)))
-      (λ end_le_upto. end_le_upto)
-      (cases_lt upto (word_at text i).end)
+  word_ends_before_white i i_le_upto = search (rules, arith, word_at_not_white)
 
   pub plain_bytes_are_plain_words : ArePlain text from upto
   unfolding word_at
@@ -455,19 +395,15 @@ module _ (text : List ℕ) (base white stops bit special : ℕ) (white_lt_2_64 :
   unstopped_byte_is_plain : (i : ℕ) → bit ≤ i → i < special → i < 64 → base + i < length text
       → white_at text (base + i) ≡ false → plain_at text (base + i) ≡ true
   unstopped_byte_is_plain i bit_le_i i_lt_special i_lt_64 place_in_text not_white =
-      let negated_bit_is : bit_at (bit_not w64 white) i ≡ 1 - bit_at white i =
-      bit_at_not w64 white i white_lt_2_64 i_lt_64 in
-      let no_stop_but_white : min (bit_at stops i) (1 - bit_at white i) ≡ 0 =
-      ap (min (bit_at stops i)) (sym negated_bit_is)
-      ∙ sym (bit_at_and stops (bit_not w64 white) i)
-      ∙ no_stop_before_special i bit_le_i i_lt_special in
-      ⊎_elim {C = plain_at text (base + i) ≡ true}
-      (λ bit_is_positive. absurd (true≢false
-      (sym (one_bit_is_white text base white white_mask_is i i_lt_64
-      (omega (arith, bit_at-lt white i))).1
-      ∙ not_white)))
-      (λ bit_le_zero. stops_tell_plain i i_lt_64 place_in_text (omega (arith, no_stop_but_white)))
-      (cases_lt 0 (bit_at white i))
+      let negated_bit_is = bit_at_not w64 white i white_lt_2_64 i_lt_64 in
+      let both_bits_are = bit_at_and stops (bit_not w64 white) i in
+      let no_both = no_stop_before_special i bit_le_i i_lt_special in
+      elim (cases_lt 0 (bit_at white i)) [
+        | inl bit_is_positive ↦ absurd (true≢false
+            (sym (one_bit_is_white text base white white_mask_is i i_lt_64
+            (omega (arith, bit_at-lt white i))).1 ∙ not_white))
+        | inr bit_is_zero ↦ stops_tell_plain i i_lt_64 place_in_text (omega arith)
+      ]
 
   pub skipped_words_are_plain : (end : ℕ) → end ≤ special → end < 64 → bit_at white end ≡ 1
       → ArePlain text (base + bit) (base + end)
@@ -487,11 +423,7 @@ pub plain_with_none_before : (text : List ℕ) (from mid upto : ℕ)
     → ((i : ℕ) → from ≤ i → i < mid → begins_word text i ≡ false) → ArePlain text mid upto
     → ArePlain text from upto
 plain_with_none_before text from mid upto none_begins_before_mid plain_from_mid i from_le_i
-    i_lt_upto begins =
-    ⊎_elim {C = IsPlainWord (bytes_of text (word_at text i))}
-    (λ i_lt_mid. absurd (true≢false (sym begins ∙ none_begins_before_mid i from_le_i i_lt_mid)))
-    (λ mid_le_i. plain_from_mid i mid_le_i i_lt_upto begins)
-    (cases_lt i mid)
+    i_lt_upto begins = grind arith
 
 -- ---- blocks without a white byte
 

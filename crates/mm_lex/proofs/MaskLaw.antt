@@ -1,10 +1,10 @@
 -- Bits of masks, and the bytes for which they stand.
-use Rattle.std.proofs.Common.{◌≡◌, ℕ, zero, suc, ◌+◌, ◌-◌, ◌*◌, ◌/◌, ◌%◌, ◌^◌, ◌<◌, ◌≤◌, Bool}
-use Rattle.std.proofs.Common.{true, false, cond, List, map, length, take, drop, get_or, refl, sym}
-use Rattle.std.proofs.Common.{ap, subst, ◌∙◌, ⊎_elim, w64, true≢false, arith, pow_pos}
+use Rattle.std.proofs.lemmas.Grind.{common_steps}
+use Rattle.std.proofs.Common.{◌≡◌, ℕ, zero, suc, ◌+◌, ◌-◌, ◌*◌, ◌/◌, ◌%◌, ◌^◌, ◌<◌, ◌≤◌, Bool, true}
+use Rattle.std.proofs.Common.{false, cond, List, map, length, take, drop, get_or, refl, sym, ap}
+use Rattle.std.proofs.Common.{subst, ◌∙◌, inl, inr, w64, arith, pow_pos, rules}
 use Rattle.std.specs.Int.{bit_at, leading_zeros, trailing_zeros}
 use Rattle.std.specs.List.{list_all}
-use Rattle.std.proofs.Math.Nat.{pow-suc}
 use Rattle.std.proofs.lemmas.Nat.{div-add-mod', leading_top}
 use Rattle.std.proofs.lemmas.Nat.Bits.{bit_at-trailing_zeros, bit_at-zero, bit_at_above}
 use Rattle.std.proofs.lemmas.Nat.Bits.{bit_at_cat_low, bit_at_cat_high}
@@ -19,9 +19,7 @@ use Rattle.mm_bytes.specs.Masks.{mask}
 -- ---- the next bit that is 1
 
 bit_of_shifted : (n k i : ℕ) → k ≤ i → bit_at n i ≡ bit_at (n / 2 ^ k) (i - k)
-bit_of_shifted n k i k_le_i =
-    let place_is_i : k + (i - k) ≡ i = omega arith in
-    sym (shifted n k (i - k) ∙ ap (bit_at n) place_is_i)
+bit_of_shifted n k i k_le_i = search (rules, arith, shifted)
 
 pub no_bits_left : (n k : ℕ) → n / 2 ^ k ≡ 0 → (i : ℕ) → k ≤ i → bit_at n i ≡ 0
 no_bits_left n k shifted_is_zero i k_le_i =
@@ -43,15 +41,14 @@ module _ (n k : ℕ) (n_lt_2_64 : n < 2 ^ 64) (shifted_lt_2_64 : n / 2 ^ k < 2 ^
       (omega arith)
 
   pub next_bit_lt_64 : k + trailing_zeros w64 (n / 2 ^ k) < 64
-  next_bit_lt_64 =
-      ⊎_elim {C = k + trailing_zeros w64 (n / 2 ^ k) < 64} (λ next_lt_64. next_lt_64)
-      (λ next_ge_64. absurd
-      (let zero_is_one : 0
-      ≡ 1 =
-      sym (bit_at_above n 64 (k + trailing_zeros w64 (n / 2 ^ k)) n_lt_2_64 next_ge_64)
-      ∙ next_bit_is_one in
-      omega (arith, zero_is_one)))
-      (cases_lt (k + trailing_zeros w64 (n / 2 ^ k)) 64)
+  next_bit_lt_64 = elim (cases_lt (k + trailing_zeros w64 (n / 2 ^ k)) 64) [
+    | inl next_lt_64 ↦ next_lt_64
+    | inr next_ge_64 ↦
+        let bit_is_zero = bit_at_above n 64 (k + trailing_zeros w64 (n / 2 ^ k)) n_lt_2_64
+        next_ge_64
+        in
+        let bit_is_one = next_bit_is_one in absurd (omega arith)
+  ]
 
 -- ---- the last bit that is 1
 
@@ -61,12 +58,7 @@ low_bits_are_kept n k i i_lt_k =
     ∙ bit_at_cat_low (n / 2 ^ k) k (n % 2 ^ k) i i_lt_k)
 
 top_bit_of_power : (m j : ℕ) → 2 ^ j ≤ m → m < 2 ^ suc j → bit_at m j ≡ 1
-top_bit_of_power m j power_le_m m_lt_next_power =
-    let sum_is_m : 1 * 2 ^ j + (m - 2 ^ j) ≡ m = omega arith in
-    let difference_is_zero : j - j ≡ 0 = omega arith in
-    ap (λ (n : ℕ). bit_at n j) (sym sum_is_m)
-    ∙ bit_at_cat_high 1 j (m - 2 ^ j) j (omega (arith, pow-suc 2 j)) (omega arith)
-    ∙ ap (bit_at 1) difference_is_zero
+top_bit_of_power m j power_le_m m_lt_next_power = grind arith
 
 -- the bits up to k, moved to the left end, and what lies left of the first of them that is 1
 module _ (n k : ℕ) (k_lt_64 : k < 64) (shifted_is_positive : 0 < n * 2 ^ (63 - k) % 2 ^ 64) where
@@ -82,12 +74,12 @@ module _ (n k : ℕ) (k_lt_64 : k < 64) (shifted_is_positive : 0 < n * 2 ^ (63 -
       let plus_zero_is : moved + 0 ≡ moved = omega arith in
       let top_bit_of_sum : bit_at (moved + 0) top.0 ≡ 1 =
       ap (λ (m : ℕ). bit_at m top.0) plus_zero_is ∙ top_bit_is_one in
-      let shift_le_top : 63 - k ≤ top.0 = ⊎_elim {C = 63 - k ≤ top.0}
-      (λ top_lt_shift. let zero_is_one : 0
-      ≡ 1 = sym (bit_at_cat_low n (63 - k) 0 top.0 top_lt_shift ∙ bit_at-zero top.0)
-      ∙ top_bit_of_sum in absurd (omega (arith, zero_is_one)))
-      (λ shift_le_top_holds. shift_le_top_holds)
-      (cases_lt top.0 (63 - k)) in (
+      let shift_le_top : 63 - k ≤ top.0 = elim (cases_lt top.0 (63 - k)) [
+        | inl top_lt_shift ↦
+            let bit_is_zero = bit_at_cat_low n (63 - k) 0 top.0 top_lt_shift ∙ bit_at-zero top.0 in
+            absurd (omega arith)
+        | inr shift_le_top ↦ shift_le_top
+      ] in (
         top.0,
         top.1,
         shift_le_top,
@@ -98,21 +90,15 @@ module _ (n k : ℕ) (k_lt_64 : k < 64) (shifted_is_positive : 0 < n * 2 ^ (63 -
   last_place_le_k = omega (arith, highest_moved.1, highest_moved.2)
 
   pub last_bit_is_one : bit_at n (k - leading_zeros w64 (n * 2 ^ (63 - k) % 2 ^ 64)) ≡ 1
-  last_bit_is_one =
-      let place_is : highest_moved.0 - (63 - k) ≡ k - leading_zeros w64
-      (n * 2 ^ (63 - k) % 2 ^ 64) =
-      omega (arith, highest_moved.1, highest_moved.2) in
-      ap (bit_at n) (sym place_is) ∙ highest_moved.3
+  last_bit_is_one = search (rules, arith, highest_moved)
 
 -- ---- bits of a block
 
 pub value_one_is_true : (b : Bool) → ◌≡◌ {A = ℕ} (cond b 1 0) 1 → b ≡ true
-value_one_is_true true value_is_one = refl
-value_one_is_true false value_is_one = absurd (omega (arith, value_is_one))
+value_one_is_true b h1 = grind (arith, common_steps)
 
 pub value_zero_is_false : (b : Bool) → ◌≡◌ {A = ℕ} (cond b 1 0) 0 → b ≡ false
-value_zero_is_false true value_is_zero = absurd (omega (arith, value_is_zero))
-value_zero_is_false false value_is_zero = refl
+value_zero_is_false b h1 = grind (arith, common_steps)
 
 module _ (p : ℕ → Bool) (text : List ℕ) (base : ℕ) where
   pub block_test_in_text : (i : ℕ) → i < 64 → base + i < length text
@@ -137,20 +123,12 @@ module _ (p : ℕ → Bool) (text : List ℕ) (base : ℕ) where
   pub one_bit_passes_test : (i : ℕ) → i < 64 → bit_at (mask p (take 64 (drop base text))) i ≡ 1
       → (base + i < length text) × (p (get_or text (base + i) 0) ≡ true)
   one_bit_passes_test i i_lt_64 bit_is_one =
-      let test_is_true : get_or (map p (take 64 (drop base text))) i false ≡ true =
-      value_one_is_true _ (sym (bit_mask_l (map p (take 64 (drop base text))) i) ∙ bit_is_one) in
-      ⊎_elim {C = (base + i < length text) × (p (get_or text (base + i) 0) ≡ true)}
-      (λ place_in_text.
-      (place_in_text, sym (block_test_in_text i i_lt_64 place_in_text) ∙ test_is_true))
-      (λ place_past_end. absurd
-      (true≢false (sym test_is_true ∙ block_test_past_text i place_past_end)))
-      (cases_lt (base + i) (length text))
+      search (rules, arith, value_one_is_true, bit_mask_l, block_test_in_text, block_test_past_text)
 
   pub zero_bit_fails_block_test : (i : ℕ) → i < 64 → base + i < length text
       → bit_at (mask p (take 64 (drop base text))) i ≡ 0 → p (get_or text (base + i) 0) ≡ false
   zero_bit_fails_block_test i i_lt_64 place_in_text bit_is_zero =
-      sym (block_test_in_text i i_lt_64 place_in_text)
-      ∙ value_zero_is_false _ (sym (bit_mask_l (map p (take 64 (drop base text))) i) ∙ bit_is_zero)
+      search (rules, arith, block_test_in_text, value_zero_is_false, bit_mask_l)
 
   -- no byte of a block whose mask is 0
   pub empty_mask_has_none : mask p (take 64 (drop base text)) ≡ 0 → (i : ℕ) → base ≤ i

@@ -6,17 +6,17 @@
 ghost use Rattle.std.specs.Prelude.{◌≡◌, ◌<◌, ◌≤◌, ◌+◌, ℕ, List, length, IfOk, is_some};
 ghost use Rattle.mm_spec.specs.Lexed.{fault_in, lexical_fault, tokens_of};
 
+mod batches;
 mod cuts;
 mod ends;
 mod masks;
 mod modes;
 mod pieces;
 mod roles;
-mod runs;
 mod scanner;
 
+use crate::batches::read_text;
 use crate::pieces::lex_piece_with_room;
-use crate::runs::read_text;
 pub use cuts::{Cuts, CutsFault};
 use mm_spec::TEXT_LIMIT;
 pub use mm_spec::{Code, Fault, Lexed, Word};

@@ -1,6 +1,6 @@
 -- How a call ends, put together from its parts.
-use Rattle.std.proofs.Common.{◌≡◌, ◌∙◌, ℕ, List, ◌≤◌, Bool, true, false, drop, length, take}
-use Rattle.std.proofs.Common.{nat_lt, if◌then◌else◌, refl, sym, ap, arith}
+use Rattle.std.proofs.Common.{◌≡◌, ◌∙◌, ℕ, List, ◌≤◌, Bool, true, false, drop, length, take, nat_lt}
+use Rattle.std.proofs.Common.{if◌then◌else◌, refl, sym, ap}
 use Rattle.std.proofs.lemmas.Bool.{ltb-true, ltb-false}
 use Rattle.mm_spec.specs.Request.{Request}
 use Rattle.mm_spec.specs.Output.{IsOutput}

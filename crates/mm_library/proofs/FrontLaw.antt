@@ -1,12 +1,10 @@
 -- Bytes at the front of a list that may be too short for them.
-use Rattle.std.proofs.Common.{zero, suc, refl, ◌∷◌}
-use Rattle.std.proofs.Common.{◌≡◌, ◌∙◌, ℕ, List, [], ◌++◌, ◌+◌, ◌-◌, ◌<◌, ◌≤◌, ◌⊎◌, inl, inr}
-use Rattle.std.proofs.Common.{drop, get_or, length, take, min, sym, ap, arith}
+use Rattle.std.proofs.Common.{zero, suc, refl, ◌∷◌, ◌≡◌, ◌∙◌, ℕ, List, [], ◌++◌, ◌+◌, ◌-◌, ◌<◌, ◌≤◌}
+use Rattle.std.proofs.Common.{◌⊎◌, inl, inr, drop, get_or, length, take, min, sym, ap, arith}
 use Rattle.std.proofs.lemmas.Bool.{cases_lt}
 use Rattle.std.proofs.Math.Seq.{take-append_seam, take-append-add, drop-append_seam}
 use Rattle.std.proofs.lemmas.List.{append-nil, append_assoc, length-append, length-take-le}
-use Rattle.std.proofs.lemmas.List.{nil_from_length}
-use Rattle.std.proofs.lemmas.List.{drop-drop, take_all}
+use Rattle.std.proofs.lemmas.List.{nil_from_length, drop-drop, take_all}
 use Rattle.mm_library.specs.Fronts.{front_contents}
 
 -- as many of bs as fit are put behind the first n of xs, and zs are left behind them

@@ -50,8 +50,8 @@ use mm_version::VERSION;
 /// The result is a status. 0: `out` begins with the report. 1: `out` begins with the refusal. 2:
 /// `only` isn't UTF-8. 3: `out` is too short, and has as much of the output as it holds; a second
 /// call with `written` bytes has room for it. 4: the room is too small. 5: `sections` has no
-/// bit, or another one, or no form has the number `form`. With 2 and 5 `out` stays as it was. With 4
-/// its bytes are not to be read.
+/// bit, or another one, or no form has the number `form`. With 2 and 5 `out` stays as it was. With
+/// 4 its bytes are not to be read.
 #[unsafe(no_mangle)]
 pub extern "C" fn mmdepend_report(
     room: &mut Room,

@@ -3,7 +3,7 @@
 ghost use Rattle.std.specs.Prelude.{◌≡◌, ◌≤◌, ℕ, List, ◌++◌, IfOk, OnOk, length};
 ghost use Rattle.mm_spec.specs.Ends.{reading_limit};
 ghost use Rattle.mm_spec.specs.Output.{IsOutput};
-ghost use Rattle.mm_run.specs.Counted.{IsJudgedText};
+ghost use Rattle.mm_run.specs.Judging.{IsJudgedText};
 ghost use Rattle.mm_library.specs.Calls.{HasVerdict, WritingEnds};
 
 use crate::front::Front;

@@ -1,8 +1,7 @@
 -- The entry of an argument with a default has a text that passed the argument's parser.
 use Rattle.std.proofs.Common.{◌≡◌, ◌∙◌, ◌⊎◌, ◌<◌, ◌≤◌, inl, inr, ℕ, zero, suc, Bool, true, false}
-use Rattle.std.proofs.Common.{true≢false, refl, sym, ap, subst, arith, List, [], ◌∷◌, map}
-use Rattle.std.proofs.Common.{length, slice_index_or, Option, Some, None, option_map, slice_get}
-use Rattle.std.proofs.Common.{eqb-true}
+use Rattle.std.proofs.Common.{true≢false, refl, sym, ap, subst, arith, List, [], ◌∷◌, map, length}
+use Rattle.std.proofs.Common.{slice_index_or, Option, Some, None, option_map, slice_get, eqb-true}
 use Rattle.std.proofs.lemmas.List.{get_or-map}
 use Rattle.std.proofs.lemmas.List.Elements.{All-get_or}
 use Rattle.std.proofs.lemmas.Slice.Eq.{bytes_eq-Decides}

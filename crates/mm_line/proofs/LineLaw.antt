@@ -1,8 +1,8 @@
 -- What the words of a command line come to.
 use Rattle.std.proofs.Common.{◌≡◌, ◌∙◌, ◌⊎◌, ◌<◌, ◌≤◌, ◌+◌, ◌==◌, eqb-true, eq-eqb, option_map, inl}
 use Rattle.std.proofs.Common.{inr, ℕ, zero, suc, Bool, true, false, true≢false, ◌&&◌, ◌||◌, refl}
-use Rattle.std.proofs.Common.{sym, ap, subst, arith, codes, map, length, slice_index_or, List}
-use Rattle.std.proofs.Common.{[], ◌∷◌, Some, None}
+use Rattle.std.proofs.Common.{sym, ap, subst, arith, codes, map, length, slice_index_or, List, []}
+use Rattle.std.proofs.Common.{◌∷◌, Some, None}
 use Rattle.std.proofs.lemmas.Bool.{and_parts, or_cases, or_left, or_right}
 use Rattle.std.proofs.lemmas.List.{length-map}
 use Rattle.std.proofs.lemmas.Slice.Eq.{bytes_eq-Decides}
@@ -40,10 +40,9 @@ use Rattle.clap.proofs.WalkLemmas.{first_value-rows, list_any-map, one_text-rows
 use Rattle.mm_spec.specs.declared.Form.{Form}
 use Rattle.mm_spec.specs.declared.Form.TheVariants.{One, Two}
 use Rattle.mm_spec.specs.Derivation.{is_member}
-use Rattle.mm_line.specs.Lines.{IsCommand, IsFormRule, IsFlag, IsHelpOrVersion}
-use Rattle.mm_line.specs.Lines.{IsLineRefusal, has_known_names, sections_in}
-use Rattle.mm_line.specs.Lines.{command_of, flag_rule, number_rule, text_rule}
-use Rattle.mm_line.specs.Lines.{file_rule, form_rule, form_word, form_words, AreReadAs}
+use Rattle.mm_line.specs.Lines.{IsCommand, IsFormRule, IsFlag, IsHelpOrVersion, IsLineRefusal}
+use Rattle.mm_line.specs.Lines.{has_known_names, sections_in, command_of, flag_rule, number_rule}
+use Rattle.mm_line.specs.Lines.{text_rule, file_rule, form_rule, form_word, form_words, AreReadAs}
 use Rattle.mm_line.specs.Found.{Finds, HasForm, HasNumber, IsBadOrMemory, IsRefusalOf}
 use Rattle.mm_line.proofs.EntryLaw.{Defaulted, default_is_read, empty_is_nil, rule_of_argument_is}
 use Rattle.mm_line.proofs.EntryLaw.{simple_leaves_out}
@@ -234,7 +233,8 @@ module _ (forms : Bor (List (Bor Text))) where
   abbrev pub the_rules : List Rule
   the_rules =
       number_rule (codes "workers") ∷ number_rule (codes "pieces") ∷ text_rule (codes "only")
-      ∷ text_rule (codes "report") ∷ form_rule forms ∷ flag_rule (codes "essential") ∷ flag_rule (codes "open") ∷ file_rule ∷ []
+      ∷ text_rule (codes "report") ∷ form_rule forms ∷ flag_rule (codes "essential") ∷ flag_rule
+      (codes "open") ∷ file_rule ∷ []
 
   module _ (c : Command) (app_is : app_of c ≡ command_of (form_rule forms)) where
     rules_are : map rule_of (args_of c) ≡ the_rules

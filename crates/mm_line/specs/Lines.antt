@@ -54,7 +54,8 @@ sections_named names = let default = is_in (codes "all") names in
       statements = is_in (codes "statements") names;
     }
 
--- the sections that the entry of `--report` names, or if there is none, those of a report by default
+-- the sections that the entry of `--report` names, or if there is none, those of a report by
+-- default
 abbrev pub sections_in : Option Text → Sections
 sections_in None = default_sections
 sections_in (Some text) = sections_named (names_in text)

@@ -1,7 +1,8 @@
 -- The step of an assertion without hypotheses pushes its formula.
+use Rattle.std.proofs.lemmas.Grind.{common_steps}
 use Rattle.std.proofs.Common.{◌≡◌, ℕ, ◌-◌, ◌<◌, ◌≤◌, Bool, true, false, List, [], ◌∷◌, ◌++◌, length}
-use Rattle.std.proofs.Common.{take, drop, map, nat_le, refl, ap, ap₂, ◌∙◌, subst, arith, All}
-use Rattle.std.proofs.Common.{cond, Some, Ok, Err, le-leb}
+use Rattle.std.proofs.Common.{take, drop, map, nat_le, refl, ap, ap₂, ◌∙◌, subst, arith, All, cond}
+use Rattle.std.proofs.Common.{Some, Ok, Err, le-leb}
 use Rattle.std.specs.List.{list_all, AllByRecursion}
 use Rattle.std.proofs.lemmas.Bool.{lt-leb}
 use Rattle.std.proofs.lemmas.List.{take_all, drop_all, length-map}
@@ -21,15 +22,16 @@ use Rattle.mm_machine.specs.State.{applied}
 use Rattle.mm_machine.proofs.EntryRuleLaw.{length_all_parts}
 
 empty_of_length_0 : {X : Type 0} (xs : List X) → length xs ≡ 0 → xs ≡ []
-empty_of_length_0 [] length_is_0 = refl
-empty_of_length_0 (x ∷ xs) length_is_0 = absurd (omega (arith, length_is_0))
+empty_of_length_0 xs h1 = grind (arith, common_steps)
 
 no_pairs : (ps : List (ℕ × ℕ)) → All (λ (p : ℕ × ℕ). (p.0 < 0) × (p.1 < 0)) ps → length ps ≡ 0
 no_pairs [] all_below_0 = refl
 no_pairs (p ∷ ps) all_below_0 =
-    absurd (let index_lt_0 = (recursion_from_All (λ (p : ℕ × ℕ). (p.0 < 0) × (p.1 < 0)) (p ∷ ps)
-    all_below_0).0.0 in
-    omega (arith, index_lt_0))
+    absurd (omega (
+      arith,
+      (recursion_from_All (λ (p : ℕ × ℕ). (p.0 < 0) × (p.1 < 0)) (p ∷ ps)
+          all_below_0).0.0,
+    ))
 
 -- a frame without hypotheses and pairs, whose formula has no variables
 module _ (c : Context) (a : Frame) (hypotheses_are_nil : a.hypotheses
@@ -42,14 +44,12 @@ module _ (c : Context) (a : Frame) (hypotheses_are_nil : a.hypotheses
       let n = length es - length a.hypotheses in
       let length_es_le_n : length es ≤ n = omega (arith, length_hypotheses_is_0) in
       let σ = substitution_from c a.hypotheses [] in
-      ap (λ b. apply c a b (take n es) (drop n es))
-      (le-leb _ _ (omega (arith, length_hypotheses_is_0)))
-      ∙ ap₂ (λ below premises. apply c a true below premises) (take_all n es length_es_le_n)
-      (drop_all n es length_es_le_n)
+      ap (λ b. apply c a b (take n es) (drop n es)) (le-leb _ _
+      (omega (arith, length_hypotheses_is_0))) ∙ ap₂ (λ below premises. apply c a true below
+      premises) (take_all n es length_es_le_n) (drop_all n es length_es_le_n)
       ∙ ap₂ (λ matched disjoint. unless_failed true matched disjoint
-      (nat_le (length (substitute c σ a.formula)) formula_limit)
-      (es ++ substitute c σ a.formula ∷ []))
-      (ap (λ hs. are_equal [] (map (substitute c σ) hs)) hypotheses_are_nil)
+      (nat_le (length (substitute c σ a.formula)) formula_limit) (es ++ substitute c σ a.formula
+      ∷ [])) (ap (λ hs. are_equal [] (map (substitute c σ) hs)) hypotheses_are_nil)
       (ap (list_all (λ (p : Pair). are_all_disjoint c (σ p.low) (σ p.high))) pairs_are_nil)
       ∙ ap (λ f. unless_too_long (nat_le (length f) formula_limit) (es ++ f ∷ [])) (formula_stays σ)
 
@@ -62,8 +62,7 @@ module _ (db : List Statement) (t : ℕ) (hs : List Formula) (σ : Substitution)
       (formula_stays_itself f variables_below_0.1)
     where
       symbol_stays : (v : Bool) → IsVariableBelow 0 (cond v (Variable (floating_index db hs s))
-          (Constant s))
-          → cond v (σ s) (s ∷ []) ≡ s ∷ []
+          (Constant s)) → cond v (σ s) (s ∷ []) ≡ s ∷ []
       symbol_stays true variable_below_0 = absurd (omega (arith, variable_below_0))
       symbol_stays false variable_below_0 = refl
 
@@ -77,31 +76,25 @@ module _ (db : List Statement) (t : ℕ) (c : CompiledRule) (rule : IsCompiled d
 
   hypotheses_are : frame.hypotheses ≡ []
   hypotheses_are =
-      let counts_equal = ap length rule.hypotheses_are in
-      let length_parts = length_all_parts c.parts 0 c.hypotheses in
-      let length_map = length-map frame.hypotheses (parts_of db frame.hypotheses) in
       empty_of_length_0 frame.hypotheses (omega (
         arith,
         length_is_0,
-        counts_equal,
-        length_parts,
-        length_map,
+        ap length rule.hypotheses_are,
+        length_all_parts c.parts 0 c.hypotheses,
+        length-map frame.hypotheses (parts_of db frame.hypotheses),
       ))
 
   pairs_are : frame.pairs ≡ []
   pairs_are =
-      let length_pairs_is_0 =
-      no_pairs c.pairs
-      (subst (λ n. All (λ (p : ℕ × ℕ). (p.0 < n) × (p.1 < n)) c.pairs) length_is_0
-      rule.pairs_in_range) in
-      let pair_counts_equal : length c.pairs ≡ length frame.pairs =
-      ap length rule.pairs_are
-      ∙ length-map {B = ℕ × ℕ} frame.pairs
-      (λ (p : Pair). (
-        floating_index db frame.hypotheses p.low,
-        floating_index db frame.hypotheses p.high,
-      )) in
-      empty_of_length_0 frame.pairs (omega (arith, length_pairs_is_0, pair_counts_equal))
+      empty_of_length_0 frame.pairs (omega (
+        arith,
+        no_pairs c.pairs
+            (subst (λ n. All (λ (p : ℕ × ℕ). (p.0 < n) × (p.1 < n)) c.pairs) length_is_0
+            rule.pairs_in_range),
+        ap length rule.pairs_are ∙ length-map {B = ℕ × ℕ} frame.pairs
+            (λ (p : Pair).
+            (floating_index db frame.hypotheses p.low, floating_index db frame.hypotheses p.high)),
+      ))
 
   symbols_are_constants : AllByRecursion (IsVariableBelow 0) (parts_of db frame.hypotheses f)
   symbols_are_constants =

@@ -7,8 +7,8 @@ use Rattle.mm_spec.specs.Citation.{context_at}
 use Rattle.mm_rule.proofs.DisjointLaw.{are_disjoint_symmetric}
 use Rattle.mm_machine.specs.DisjointCache.{ArePairsDisjointAt, HasPair, MayInsertPair}
 
-module _ (db : List Statement) (t : ℕ) (ps : List (ℕ × ℕ)) (pairs_are_disjoint : ArePairsDisjointAt db t
-    ps) where
+module _ (db : List Statement) (t : ℕ) (ps : List (ℕ × ℕ)) (pairs_are_disjoint : ArePairsDisjointAt
+    db t ps) where
   abbrev Disjoint : ℕ → ℕ → Type 0
   Disjoint a b = are_disjoint (context_at db t) a b ≡ true
 
@@ -24,12 +24,11 @@ module _ (db : List Statement) (t : ℕ) (ps : List (ℕ × ℕ)) (pairs_are_dis
 
   pub insert_keeps_disjoint : (a b : ℕ) (qs : List (ℕ × ℕ)) → Disjoint a b → MayInsertPair ps a b qs
       → ArePairsDisjointAt db t qs
-  insert_keeps_disjoint a b qs is_disjoint (inl qs_are) = subst (ArePairsDisjointAt db t) (sym qs_are)
-      pairs_are_disjoint
+  insert_keeps_disjoint a b qs is_disjoint (inl qs_are) =
+      subst (ArePairsDisjointAt db t) (sym qs_are) pairs_are_disjoint
   insert_keeps_disjoint a b qs is_disjoint (inr qs_are) =
-      subst (ArePairsDisjointAt db t) (sym qs_are)
-      (All-push (λ (p : ℕ × ℕ). are_disjoint (context_at db t) p.0 p.1
-      ≡ true) ps (a, b) pairs_are_disjoint is_disjoint)
+      subst (ArePairsDisjointAt db t) (sym qs_are) (All-push (λ (p : ℕ × ℕ). are_disjoint
+      (context_at db t) p.0 p.1 ≡ true) ps (a, b) pairs_are_disjoint is_disjoint)
 
   pub either_insert_keeps_disjoint : (a b : ℕ) (qs : List (ℕ × ℕ)) → Disjoint a b
       → MayInsertPair ps a b qs ⊎ MayInsertPair ps b a qs → ArePairsDisjointAt db t qs

@@ -1,15 +1,17 @@
 -- Lists with the same variables are disjoint from the same lists.
-use Rattle.std.proofs.Common.{◌≡◌, ℕ, zero, suc, ◌+◌, ◌-◌, ◌<◌, ◌≤◌, Bool, true, false, ◌&&◌, ◌||◌}
-use Rattle.std.proofs.Common.{◌==◌, not, ◌⊎◌, inl, inr, List, [], ◌∷◌, ◌++◌, length, take, drop}
-use Rattle.std.proofs.Common.{get_or, All, refl, sym, ap, ap₂, ◌∙◌, subst, arith, append_assoc}
-use Rattle.std.proofs.Common.{length-append, length-drop, slice_range}
+use Rattle.std.proofs.lemmas.Grind.{common_steps}
+use Rattle.std.proofs.lemmas.Bool.Decides.{nat_tests}
+use Rattle.std.proofs.Common.{◌≡◌, ℕ, ◌+◌, ◌-◌, ◌<◌, ◌≤◌, Bool, true, false, ◌&&◌, ◌⊎◌, inl, inr}
+use Rattle.std.proofs.Common.{List, [], ◌∷◌, ◌++◌, length, take, drop, get_or, All, refl, sym, ap}
+use Rattle.std.proofs.Common.{ap₂, ◌∙◌, subst, arith, append_assoc, length-append, length-drop}
+use Rattle.std.proofs.Common.{slice_range}
 use Rattle.std.proofs.Math.Bool.{and-true, and-false, and_assoc}
 use Rattle.std.proofs.Math.Seq.{get_or-append_seam}
 use Rattle.std.specs.List.{list_all, Contains, AllByRecursion}
 use Rattle.std.proofs.lemmas.List.{drop_at, take_more, get_or-drop, get_or_append_left}
 use Rattle.std.proofs.lemmas.Bool.{cases_lt}
 use Rattle.std.proofs.lemmas.List.Folds.{list_all-append, list_all_more}
-use Rattle.std.proofs.lemmas.List.Elements.{All-push, All-append, All-nil, All-weaker, All-get_or}
+use Rattle.std.proofs.lemmas.List.Elements.{All-push, All-append, All-weaker, All-get_or}
 use Rattle.std.proofs.lemmas.List.Elements.{recursion_from_All}
 use Rattle.mm_spec.specs.Statement.{Statement}
 use Rattle.mm_spec.specs.Derivation.{Formula, are_disjoint, is_disjoint_from, are_all_disjoint}
@@ -22,31 +24,26 @@ use Rattle.mm_machine.specs.declared.entry.Entry.{Entry}
 use Rattle.mm_machine.specs.Entries.{no_entry}
 use Rattle.mm_machine.specs.Filled.{body_string_at}
 use Rattle.mm_machine.specs.Distinct.{stretch, stretch_at, IsStretch, HaveSameVariables}
-use Rattle.mm_machine.specs.Distinct.{AppendsIfNew, AppendsVariables, AppendsStretch, AreReduced}
+use Rattle.mm_machine.specs.Distinct.{AppendsIfNew, AppendsVariables, AppendsStretch, HaveVariables}
 
 list_all_equal : (p q : ℕ → Bool) → ((s : ℕ) → p s ≡ q s) → (u : List ℕ)
     → list_all p u ≡ list_all q u
-list_all_equal p q equal [] = refl
-list_all_equal p q equal (s ∷ u) = ap₂ (λ a b. a && b) (equal s) (list_all_equal p q equal u)
+list_all_equal p q h1 u = grind (arith, common_steps)
 
 and_again : (a b : Bool) → ((a && b) && a) ≡ (a && b)
-and_again true b = and-true b
-and_again false b = refl
+and_again a b = grind (arith, common_steps, and-true)
 
 -- a test of a symbol that a list has says nothing new
 list_all_known : (test : ℕ → Bool) (v : List ℕ) (s k : ℕ) → k < length v → get_or v k s ≡ s
     → (list_all test v && test s) ≡ list_all test v
-list_all_known test [] s k k_lt_length is_s = absurd (omega arith)
-list_all_known test (x ∷ v) s zero k_lt_length is_s =
-    ap (λ b. (test x && list_all test v) && b) (ap test (sym is_s)) ∙ and_again (test x)
-    (list_all test v)
-list_all_known test (x ∷ v) s (suc k) k_lt_length is_s =
-    and_assoc (test x) (list_all test v) (test s)
-    ∙ ap (λ b. test x && b) (list_all_known test v s k (omega arith) is_s)
+list_all_known test v s k h1 h2 = grind (arith, common_steps, and_again, and_assoc)
 
-pub has_at : (start index symbol x : ℕ) (list : List ℕ) → start ≤ index → index < length list
+-- a symbol at an index from `start` on is in the list without its first `start`; x is what is read
+-- at the index
+pub contained_by_index : (start index symbol x : ℕ) (list : List ℕ) → start ≤ index → index < length
+    list
     → x ≡ get_or list index x → x ≡ symbol → Contains (drop start list) symbol
-has_at start index symbol x list start_le_index index_lt_length x_is x_is_symbol =
+contained_by_index start index symbol x list start_le_index index_lt_length x_is x_is_symbol =
     let place_is : start + (index - start) ≡ index = omega (arith, start_le_index) in (
       index - start,
       omega (arith, length-drop start list, start_le_index, index_lt_length),
@@ -57,16 +54,14 @@ has_at start index symbol x list start_le_index index_lt_length x_is x_is_symbol
 -- ---- a symbol after the others
 
 module _ (db : List Statement) (f : Formula) (i s : ℕ) (i_lt_length : i < length f)
-    (s_is : s ≡ get_or f i s) (xs ys : List ℕ)
-    (so_far : AppendsVariables db (take i f) xs ys) where
+    (s_is : s ≡ get_or f i s) (xs ys : List ℕ) (so_far : AppendsVariables db (take i f) xs ys) where
   one_more : (test : ℕ → Bool) → ((s : ℕ) → is_variable_number db s ≡ false → test s ≡ true)
       → list_all test (take (i + 1) f) ≡ (list_all test so_far.variables && test s)
   one_more test constants_pass =
       list_all_more test f i s i_lt_length
       ∙ ap₂ (λ a b. a && b) (so_far.have_same_variables test constants_pass) (ap test (sym s_is))
 
-  stays : ((test : ℕ → Bool)
-      → ((s : ℕ) → is_variable_number db s ≡ false → test s ≡ true)
+  stays : ((test : ℕ → Bool) → ((s : ℕ) → is_variable_number db s ≡ false → test s ≡ true)
       → (list_all test so_far.variables && test s) ≡ list_all test so_far.variables)
       → AppendsVariables db (take (i + 1) f) xs ys
   stays says_nothing_new = record {
@@ -81,15 +76,13 @@ module _ (db : List Statement) (f : Formula) (i s : ℕ) (i_lt_length : i < leng
       → All (λ s. s < length (symbol_names db)) f → AppendsIfNew db start s ys zs
       → AppendsVariables db (take (i + 1) f) xs zs
   next_variable start zs start_is are_symbols (inl (zs_is, inl is_constant)) =
-      subst (AppendsVariables db (take (i + 1) f) xs) (sym zs_is)
-      (stays (λ test constants_pass. ap (λ b. list_all test so_far.variables && b)
-      (constants_pass s is_constant) ∙ and-true _))
+      subst (AppendsVariables db (take (i + 1) f) xs) (sym zs_is) (stays (λ test constants_pass.
+      ap (λ b. list_all test so_far.variables && b) (constants_pass s is_constant) ∙ and-true _))
   next_variable start zs start_is are_symbols (inl (zs_is, inr is_known)) =
-      let rest_is : drop start ys ≡ so_far.variables =
-      ap₂ drop start_is so_far.list_is ∙ drop_at xs so_far.variables (length xs) refl in
-      let known : Contains so_far.variables s = subst (λ v. Contains v s) rest_is is_known in
-      subst (AppendsVariables db (take (i + 1) f) xs) (sym zs_is)
-      (stays (λ test constants_pass. list_all_known test so_far.variables s known.0 known.1 known.2))
+      let known : Contains so_far.variables s = subst (λ v. Contains v s) (ap₂ drop start_is
+      so_far.list_is ∙ drop_at xs so_far.variables (length xs) refl) is_known in
+      subst (AppendsVariables db (take (i + 1) f) xs) (sym zs_is) (stays (λ test constants_pass.
+      list_all_known test so_far.variables s known.0 known.1 known.2))
   next_variable start zs start_is are_symbols (inr zs_is) = record {
     variables = so_far.variables ++ s ∷ [];
     list_is = zs_is ∙ ap (λ z. z ++ s ∷ []) so_far.list_is ∙ append_assoc xs so_far.variables
@@ -106,12 +99,10 @@ module _ (db : List Statement) (f : Formula) (i s : ℕ) (i_lt_length : i < leng
 
 have_same_at : (db : List Statement) (u u' v v' : List ℕ) → u ≡ u' → v ≡ v'
     → HaveSameVariables db u' v' → HaveSameVariables db u v
-have_same_at db u u' v v' u_is v_is have_same =
-    subst (λ z. HaveSameVariables db z v) (sym u_is)
-    (subst (λ z. HaveSameVariables db u' z) (sym v_is) have_same)
+have_same_at db u u' v v' u_is v_is have_same = grind (arith, common_steps)
 
 module _ (db : List Statement) (nodes : List (List ℕ)) (es : List Entry) (xs : List ℕ)
-    (ss : List Stretch) (e : Entry) (so_far : AreReduced db nodes es xs ss) (variables : List ℕ)
+    (ss : List Stretch) (e : Entry) (so_far : HaveVariables db nodes es xs ss) (variables : List ℕ)
     (have_same : HaveSameVariables db (string_of nodes e.body) variables)
     (are_symbols : All (λ s. s < length (symbol_names db)) variables) where
   abbrev added : Stretch
@@ -122,29 +113,24 @@ module _ (db : List Statement) (nodes : List (List ℕ)) (es : List Entry) (xs :
 
   new_stretch : stretch_at (xs ++ variables) (ss ++ added ∷ []) (length ss) ≡ variables
   new_stretch =
-      ap (λ z. slice_range (xs ++ variables) z.start z.end)
-      (get_or-append_seam ss added [] (stretch 0 0))
-      ∙ range_behind xs variables (length xs) (length (xs ++ variables)) refl refl
+      ap (λ z. slice_range (xs ++ variables) z.start z.end) (get_or-append_seam ss added []
+      (stretch 0 0)) ∙ range_behind xs variables (length xs) (length (xs ++ variables)) refl refl
 
   stretch_stays : (j : ℕ) → j < length ss
       → stretch_at (xs ++ variables) (ss ++ added ∷ []) j ≡ stretch_at xs ss j
   stretch_stays j j_lt_length =
-      let is_stretch = All-get_or (IsStretch (length xs)) ss j (stretch 0 0) j_lt_length
-      so_far.are_stretches in
-      ap (λ z. slice_range (xs ++ variables) z.start z.end)
-      (get_or_append_left ss (added ∷ []) (stretch 0 0) j j_lt_length)
-      ∙ range_of_front xs variables (get_or ss j (stretch 0 0)).start
-      (get_or ss j (stretch 0 0)).end is_stretch.end_le
+      ap (λ z. slice_range (xs ++ variables) z.start z.end) (get_or_append_left ss (added ∷ [])
+      (stretch 0 0) j j_lt_length) ∙ range_of_front xs variables (get_or ss j (stretch 0 0)).start
+      (get_or ss j (stretch 0 0)).end (All-get_or (IsStretch (length xs)) ss j (stretch 0 0)
+      j_lt_length so_far.are_stretches).end_le
 
-  have_same_with_stretch : (j : ℕ) → (j < length es) ⊎ (length es ≤ j)
-      → j < length (es ++ e ∷ [])
+  have_same_with_stretch : (j : ℕ) → (j < length es) ⊎ (length es ≤ j) → j < length (es ++ e ∷ [])
       → HaveSameVariables db (body_string_at nodes (es ++ e ∷ []) j)
       (stretch_at (xs ++ variables) (ss ++ added ∷ []) j)
   have_same_with_stretch j (inl j_lt_es) j_lt_length =
-      have_same_at db _ (body_string_at nodes es j) _ (stretch_at xs ss j)
-      (ap (λ z. string_of nodes z.body) (get_or_append_left es (e ∷ []) no_entry j j_lt_es))
-      (stretch_stays j (omega (arith, so_far.counts_equal, j_lt_es)))
-      (so_far.have_same_variables j j_lt_es)
+      have_same_at db _ (body_string_at nodes es j) _ (stretch_at xs ss j) (ap (λ z. string_of nodes
+      z.body) (get_or_append_left es (e ∷ []) no_entry j j_lt_es)) (stretch_stays j (omega
+      (arith, so_far.counts_equal, j_lt_es))) (so_far.have_same_variables j j_lt_es)
   have_same_with_stretch j (inr es_le_j) j_lt_length =
       let j_is_es : j ≡ length es = omega (arith, length-append es (e ∷ []), es_le_j) in
       let j_is_ss : j ≡ length ss = omega (arith, j_is_es, so_far.counts_equal) in
@@ -152,8 +138,8 @@ module _ (db : List Statement) (nodes : List (List ℕ)) (es : List Entry) (xs :
       (ap (body_string_at nodes (es ++ e ∷ [])) j_is_es ∙ old_string)
       (ap (stretch_at (xs ++ variables) (ss ++ added ∷ [])) j_is_ss ∙ new_stretch) have_same
 
-  reduced : AreReduced db nodes (es ++ e ∷ []) (xs ++ variables) (ss ++ added ∷ [])
-  reduced = record {
+  have_variables : HaveVariables db nodes (es ++ e ∷ []) (xs ++ variables) (ss ++ added ∷ [])
+  have_variables = record {
     are_symbols = All-append (λ s. s < length (symbol_names db)) xs variables so_far.are_symbols
         are_symbols;
     are_stretches =
@@ -178,27 +164,17 @@ module _ (db : List Statement) (nodes : List (List ℕ)) (es : List Entry) (xs :
 
 pub next_stretch : (db : List Statement) (nodes : List (List ℕ)) (es : List Entry) (i : ℕ)
     (xs ys : List ℕ) (ss ts : List Stretch) → i < length es
-    → AreReduced db nodes (take i es) xs ss
+    → HaveVariables db nodes (take i es) xs ss
     → AppendsStretch db (string_of nodes (get_or es i no_entry).body) xs ys ss ts
-    → AreReduced db nodes (take (i + 1) es) ys ts
+    → HaveVariables db nodes (take (i + 1) es) ys ts
 next_stretch db nodes es i xs ys ss ts i_lt_length so_far appended =
     let e = get_or es i no_entry in
-    let variables = appended.appends_variables.variables in
-    subst (λ z. AreReduced db nodes z ys ts) (sym (take_more es i no_entry i_lt_length))
-    (subst (λ z. AreReduced db nodes (take i es ++ e ∷ []) ys z) (sym appended.stretches_are)
-    (subst (λ z. AreReduced db nodes (take i es ++ e ∷ []) z
+    subst (λ z. HaveVariables db nodes z ys ts) (sym (take_more es i no_entry i_lt_length))
+    (subst (λ z. HaveVariables db nodes (take i es ++ e ∷ []) ys z) (sym appended.stretches_are)
+    (subst (λ z. HaveVariables db nodes (take i es ++ e ∷ []) z
     (ss ++ stretch (length xs) (length z) ∷ [])) (sym appended.appends_variables.list_is)
-    (reduced db nodes (take i es) xs ss e so_far variables
+    (have_variables db nodes (take i es) xs ss e so_far appended.appends_variables.variables
     appended.appends_variables.have_same_variables appended.appends_variables.are_symbols)))
-
-pub no_stretches : (db : List Statement) (nodes : List (List ℕ)) (es : List Entry)
-    → AreReduced db nodes (take 0 es) [] []
-no_stretches db nodes es = record {
-  are_symbols = All-nil (λ s. s < length (symbol_names db));
-  are_stretches = All-nil (IsStretch 0);
-  counts_equal = refl;
-  have_same_variables = λ j j_lt_0. absurd (omega arith);
-}
 
 -- ---- the test of pairs
 
@@ -206,29 +182,20 @@ pub constant_is_disjoint_from : (db : List Statement) (t s : ℕ) → is_variabl
     → (v : List ℕ) → is_disjoint_from (context_at db t) s v ≡ true
 constant_is_disjoint_from db t s is_constant [] = refl
 constant_is_disjoint_from db t s is_constant (x ∷ v) =
-    ap₂ (λ a b.
-    (not (a && is_variable_number db x) || (not (s == x) && (context_at db t).is_disjoint s x))
-    && b) is_constant (constant_is_disjoint_from db t s is_constant v)
+    grind (arith, common_steps, (constant_is_disjoint_from db t s is_constant v))
 
 pub is_disjoint_from_constant : (db : List Statement) (t s r : ℕ) → is_variable_number db r ≡ false
     → are_disjoint (context_at db t) s r ≡ true
-is_disjoint_from_constant db t s r is_constant =
-    ap (λ b. not b || (not (s == r) && (context_at db t).is_disjoint s r))
-    (ap (λ b. is_variable_number db s && b) is_constant ∙ and-false (is_variable_number db s))
+is_disjoint_from_constant db t s r is_constant = grind (arith, common_steps, and-false)
 
 disjoint_by_variables : (db : List Statement) (t : ℕ) (u u' v v' : List ℕ)
     → HaveSameVariables db u u' → HaveSameVariables db v v'
     → are_all_disjoint (context_at db t) u v ≡ are_all_disjoint (context_at db t) u' v'
 disjoint_by_variables db t u u' v v' first_same second_same =
-    first_same (λ s. is_disjoint_from (context_at db t) s v)
-    (λ s is_constant. constant_is_disjoint_from db t s is_constant v)
-    ∙ list_all_equal (λ s. is_disjoint_from (context_at db t) s v)
-    (λ s. is_disjoint_from (context_at db t) s v')
-    (λ s. second_same (are_disjoint (context_at db t) s)
-    (λ r. is_disjoint_from_constant db t s r)) u'
+    grind (arith, nat_tests, constant_is_disjoint_from, list_all_equal, is_disjoint_from_constant)
 
 module _ (db : List Statement) (t : ℕ) (nodes : List (List ℕ)) (es : List Entry) (xs : List ℕ)
-    (ss : List Stretch) (reduced : AreReduced db nodes es xs ss) where
+    (ss : List Stretch) (have_variables : HaveVariables db nodes es xs ss) where
   abbrev keep : ℕ × ℕ → Bool
   keep p = are_all_disjoint (context_at db t) (body_string_at nodes es p.0)
       (body_string_at nodes es p.1)
@@ -244,15 +211,13 @@ module _ (db : List Statement) (t : ℕ) (nodes : List (List ℕ)) (es : List En
   each_pair (p ∷ ps) in_range = ap₂ (λ x y. x && y)
       (sym (disjoint_by_variables db t (body_string_at nodes es p.0) (stretch_at xs ss p.0)
       (body_string_at nodes es p.1) (stretch_at xs ss p.1)
-      (reduced.have_same_variables p.0 in_range.0.0)
-      (reduced.have_same_variables p.1 in_range.0.1)))
-      (each_pair ps in_range.1)
+      (have_variables.have_same_variables p.0 in_range.0.0)
+      (have_variables.have_same_variables p.1 in_range.0.1))) (each_pair ps in_range.1)
 
   pub pairs_by_variables : (ps : List (ℕ × ℕ))
       → All (λ (p : ℕ × ℕ). (p.0 < length es) × (p.1 < length es)) ps
       → list_all (λ (p : ℕ × ℕ). are_all_disjoint (context_at db t) (stretch_at xs ss p.0)
-      (stretch_at xs ss p.1)) ps
-      ≡ list_all (λ (p : ℕ × ℕ). are_all_disjoint (context_at db t) (body_string_at nodes es p.0)
-      (body_string_at nodes es p.1)) ps
+      (stretch_at xs ss p.1)) ps ≡ list_all (λ (p : ℕ × ℕ). are_all_disjoint (context_at db t)
+      (body_string_at nodes es p.0) (body_string_at nodes es p.1)) ps
   pairs_by_variables ps in_range = each_pair ps (recursion_from_All
       (λ (p : ℕ × ℕ). (p.0 < length es) × (p.1 < length es)) ps in_range)

@@ -1,4 +1,4 @@
--- What the answers of the machine say.
+-- What the test of a rule answers, and the machine once it has performed a step.
 use Rattle.std.specs.Prelude.{ℕ, ◌≡◌, ◌<◌, ◌+◌, ◌++◌, ◌∷◌, [], List, length, take, drop, nat_le}
 use Rattle.std.specs.Prelude.{Result, Ok, Err, OnOk, IfErr}
 use Rattle.mm_spec.specs.Statement.{Statement}
@@ -24,9 +24,9 @@ IsRefusalOf Memory r = Unit {0}
 -- parts with each variable replaced. It fails if that formula is too long.
 abbrev pub entries_after : List (List ℕ) → List Entry → ℕ → List RulePart
     → Result (List Formula) SpecReason
-entries_after nodes es below parts =
-    unless_too_long (nat_le (length (filled_parts nodes (drop below es) parts)) formula_limit)
-    (take below (entry_formulas nodes es) ++ filled_parts nodes (drop below es) parts ∷ [])
+entries_after nodes stack below parts =
+    unless_too_long (nat_le (length (filled_parts nodes (drop below stack) parts)) formula_limit)
+    (take below (entry_formulas nodes stack) ++ filled_parts nodes (drop below stack) parts ∷ [])
 
 -- what a test of a rule says: how many entries stay below the formula that the step pushes if it is
 -- short enough, or why the step isn't performed
@@ -41,15 +41,15 @@ TestsRule db t c nodes stack (Err e) =
 
 -- At theorem `t` the step of assertion `a` leads from the state `s` to the state `s'`. It changes
 -- the entries alone, and there is at least the one that it pushes.
-pub record Applies (db : List Statement) (t a : ℕ) (s s' : MachineState) : Type 0 where
+pub record LeadsTo (db : List Statement) (t a : ℕ) (s s' : MachineState) : Type 0 where
   pub entries_are : applied db t a s.stack ≡ Ok s'.stack
   pub has_entry : 0 < length s'.stack
   pub marks_stay : s'.marks ≡ s.marks
   pub formulas_stay : s'.formulas ≡ s.formulas
 
 -- what the machine says of that step, and the state that it leaves
-pub record IsApplied {T : Type 0} (db : List Statement) (t a : ℕ) (s s' : MachineState)
+pub record AnswersStep {T : Type 0} (db : List Statement) (t a : ℕ) (s s' : MachineState)
     (answer : Result T StepRefused) : Type 0 where
-  pub applies_if_ok : OnOk answer (Applies db t a s s')
+  pub leads_if_ok : OnOk answer (LeadsTo db t a s s')
   pub refusal_is_right : IfErr answer (λ e. IsRefusalOf e (applied db t a s.stack))
-  pub variables_stay : s'.variables ≡ s.variables
+  pub variables_stay : s'.variable_flags ≡ s.variable_flags

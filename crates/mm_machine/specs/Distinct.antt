@@ -14,7 +14,8 @@ stretch start end = record { start = start; end = end }
 
 -- the symbols of stretch `j` of a list
 abbrev pub stretch_at : List ℕ → List Stretch → ℕ → List ℕ
-stretch_at list ss j = slice_range list (get_or ss j (stretch 0 0)).start (get_or ss j (stretch 0 0)).end
+stretch_at list ss j =
+    slice_range list (get_or ss j (stretch 0 0)).start (get_or ss j (stretch 0 0)).end
 
 -- it is a stretch of a list of `n` symbols
 pub record IsStretch (n : ℕ) (s : Stretch) : Type 0 where
@@ -49,7 +50,7 @@ pub record AppendsStretch (db : List Statement) (f : Formula) (xs ys : List ℕ)
   pub stretches_are : ts ≡ ss ++ stretch (length xs) (length ys) ∷ []
 
 -- the stretches of the list have the variables of what replaces a variable by the entries
-pub record AreReduced (db : List Statement) (nodes : List (List ℕ)) (es : List Entry)
+pub record HaveVariables (db : List Statement) (nodes : List (List ℕ)) (es : List Entry)
     (list : List ℕ) (ss : List Stretch) : Type 0 where
   pub are_symbols : All (λ s. s < length (symbol_names db)) list
   pub are_stretches : All (IsStretch (length list)) ss

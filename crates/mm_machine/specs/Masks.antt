@@ -14,11 +14,11 @@ use Rattle.mm_machine.specs.Entries.{no_entry, entry_formulas}
 -- which symbols are variables, and the variables that have a bit of their own, in the order of
 -- their bits
 pub record Owned : Type 0 where
-  pub variables : List Bool
+  pub variable_flags : List Bool
   pub symbols : List ℕ
 
 abbrev pub owned : List Bool → List ℕ → Owned
-owned variables symbols = record { variables = variables; symbols = symbols }
+owned variable_flags symbols = record { variable_flags = variable_flags; symbols = symbols }
 
 -- of each symbol of the database, whether it is a variable
 pub record AreVariablesOf (db : List Statement) (vs : List Bool) : Type 0 where

@@ -6,7 +6,7 @@ ghost use Rattle.mm_spec.specs.Frame.{symbol_names};
 ghost use Rattle.mm_nodes.specs.Strings.{string_of};
 ghost use Rattle.mm_machine.specs.Entries.{AreInRange, entry_formulas};
 ghost use Rattle.mm_machine.specs.Distinct.{AppendsIfNew, AppendsVariables, AppendsStretch};
-ghost use Rattle.mm_machine.specs.Distinct.{AreReduced};
+ghost use Rattle.mm_machine.specs.Distinct.{HaveVariables};
 
 use crate::entry::Entry;
 use mm_database::{Database, Sym};
@@ -79,8 +79,8 @@ impl<A: Allocator> DistinctVariables<A> {
         requires { AreInRange (length (symbol_names database.now.statements))
             (entry_formulas nodes.old premises.now) }
         ensures nodes_unchanged { nodes.new ≡ nodes.old }
-        ensures are_reduced { OnOk result
-            (AreReduced database.now.statements nodes.old premises.now self.new.symbols.items
+        ensures have_variables { OnOk result
+            (HaveVariables database.now.statements nodes.old premises.now self.new.symbols.items
             self.new.stretches.items) }
     {
         collect_variables(
@@ -108,8 +108,8 @@ fn collect_variables<A: Allocator>(
     requires { AreInRange (length (symbol_names database.now.statements))
         (entry_formulas nodes.old premises.now) }
     ensures nodes_unchanged { nodes.new ≡ nodes.old }
-    ensures are_reduced { OnOk result
-        (AreReduced database.now.statements nodes.old premises.now list.new.items
+    ensures have_variables { OnOk result
+        (HaveVariables database.now.statements nodes.old premises.now list.new.items
         stretches.new.items) }
 {
     list.clear();

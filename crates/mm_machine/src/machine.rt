@@ -9,7 +9,7 @@ ghost use Rattle.mm_nodes.specs.Strings.{first_node};
 ghost use Rattle.mm_rule.specs.Rule.{IsCompiled};
 ghost use Rattle.mm_machine.specs.DisjointCache.{AreDisjointAt};
 ghost use Rattle.mm_machine.specs.State.{machine_state, with_mark, Repeats, IsRising};
-ghost use Rattle.mm_machine.specs.Applied.{IsApplied};
+ghost use Rattle.mm_machine.specs.Applied.{AnswersStep};
 ghost use Rattle.mm_machine.specs.Masks.{AreVariablesOf};
 
 use crate::disjoint_cache::DisjointCache;
@@ -80,7 +80,7 @@ impl<A: Allocator> Model for Machine<A> {
     ghost Value = { MachineState };
 
     ghost view = { λ m. machine_state (entry_formulas m.nodes m.stack.items) m.marks.items
-        (entry_formulas m.nodes m.marked.items) m.owners.variables };
+        (entry_formulas m.nodes m.marked.items) m.owners.variable_flags };
 
     ghost invariant = { λ m. IsMaskedMachine m.nodes m.stack.items m.marks.items m.marked.items
         m.floor m.owners };
@@ -112,9 +112,9 @@ impl<A: Allocator> Machine<A> {
     pub fn new(alloc: A, database: &Database<A>) -> Result<Self, AllocError>
     where
         A: Copy,
-        ensures is_empty { IfOk result (λ m. m ≡ machine_state [] [] [] m.variables) }
+        ensures is_empty { IfOk result (λ m. m ≡ machine_state [] [] [] m.variable_flags) }
         ensures are_variables { IfOk result
-            (λ m. AreVariablesOf database.now.statements m.variables) }
+            (λ m. AreVariablesOf database.now.statements m.variable_flags) }
     {
         let slots = vec![in alloc; 0; MARK_SLOTS]?;
         Ok(Machine {
@@ -133,7 +133,7 @@ impl<A: Allocator> Machine<A> {
 
     /// Removes all entries and marks, and keeps the memory of the lists, except that of long ones.
     pub fn restart(&mut self)
-        ensures { self.new ≡ machine_state [] [] [] self.old.variables }
+        ensures { self.new ≡ machine_state [] [] [] self.old.variable_flags }
     {
         self.nodes.clear();
         empty(&mut self.stack);
@@ -149,13 +149,13 @@ impl<A: Allocator> Machine<A> {
     /// Pushes a formula, which may have as many symbols as the limit.
     #[inline(always)]
     pub fn push(&mut self, formula: &[Sym]) -> Result<(), AllocError>
-        requires in_range { All (λ s. s < length self.old.variables) formula.now }
+        requires in_range { All (λ s. s < length self.old.variable_flags) formula.now }
         requires length_le_limit { length formula.now ≤ formula_limit }
         ensures pushes_formula { OnOk result
             (self.new
             ≡ machine_state (self.old.stack ++ formula.now ∷ []) self.old.marks self.old.formulas
-            self.old.variables) }
-        ensures variables_stay { self.new.variables ≡ self.old.variables }
+            self.old.variable_flags) }
+        ensures variables_stay { self.new.variable_flags ≡ self.old.variable_flags }
     {
         let mask = self.owners.mask_of(formula);
         let below = self.stack.len();
@@ -174,7 +174,7 @@ impl<A: Allocator> Machine<A> {
     pub fn repeat(&mut self, step: u32) -> Result<(), AllocError>
         requires { Contains self.old.marks step }
         ensures repeats_step { OnOk result (Repeats step self.old self.new) }
-        ensures variables_stay { self.new.variables ≡ self.old.variables }
+        ensures variables_stay { self.new.variable_flags ≡ self.old.variable_flags }
     {
         let index = index_of_mark(&self.marks, step as usize, &self.slots);
         let entry = for_top(&self.nodes, self.marked[index]);
@@ -187,7 +187,7 @@ impl<A: Allocator> Machine<A> {
         requires has_entry { 0 < length self.old.stack }
         requires marks_lt_step { All (λ j. j < step) self.old.marks }
         ensures marks_step { OnOk result (self.new ≡ with_mark true step self.old) }
-        ensures variables_stay { self.new.variables ≡ self.old.variables }
+        ensures variables_stay { self.new.variable_flags ≡ self.old.variable_flags }
     {
         let top = self.stack[self.stack.len() - 1];
         let entry = for_itself(&self.nodes, top);
@@ -209,10 +209,10 @@ impl<A: Allocator> Machine<A> {
     ) -> Result<(), StepRefused>
         requires theorem_lt_length { theorem < length database.now.statements }
         requires is_compiled { IsCompiled database.now.statements rule.now }
-        requires are_variables { AreVariablesOf database.now.statements self.old.variables }
+        requires are_variables { AreVariablesOf database.now.statements self.old.variable_flags }
         requires cached_are_disjoint { AreDisjointAt database.now.statements theorem cache.old }
         ensures cached_are_disjoint { AreDisjointAt database.now.statements theorem cache.new }
-        ensures is_applied { IsApplied database.now.statements theorem rule.now.assertion self.old
+        ensures is_applied { AnswersStep database.now.statements theorem rule.now.assertion self.old
             self.new
             result }
     {
@@ -233,10 +233,9 @@ impl<A: Allocator> Machine<A> {
     ) -> Result<(), StepRefused>
         requires is_compiled { IsCompiled database.now.statements rule.now }
         requires no_hypotheses { length rule.now.hypotheses ≡ 0 }
-        requires are_variables { AreVariablesOf database.now.statements self.old.variables }
-        ensures is_applied { IsApplied database.now.statements _theorem rule.now.assertion self.old
-            self.new
-            result }
+        requires are_variables { AreVariablesOf database.now.statements self.old.variable_flags }
+        ensures is_applied { AnswersStep database.now.statements _theorem
+            rule.now.assertion self.old self.new result }
     {
         let symbols = formula(database, rule.assertion());
         if symbols.len() > FORMULA_LIMIT {
@@ -259,10 +258,10 @@ impl<A: Allocator> Machine<A> {
     ) -> Result<(), StepRefused>
         requires theorem_lt_length { theorem < length database.now.statements }
         requires is_compiled { IsCompiled database.now.statements rule.now }
-        requires are_variables { AreVariablesOf database.now.statements self.old.variables }
+        requires are_variables { AreVariablesOf database.now.statements self.old.variable_flags }
         requires cached_are_disjoint { AreDisjointAt database.now.statements theorem cache.old }
         ensures cached_are_disjoint { AreDisjointAt database.now.statements theorem cache.new }
-        ensures is_applied { IsApplied database.now.statements theorem rule.now.assertion self.old
+        ensures is_applied { AnswersStep database.now.statements theorem rule.now.assertion self.old
             self.new
             result }
     {
@@ -291,7 +290,7 @@ impl<A: Allocator> Machine<A> {
     /// Whether the only entry has this formula, which may have as many symbols as the limit.
     pub fn is_only(&mut self, formula: &[Sym]) -> Result<bool, AllocError>
         requires one_entry { length self.old.stack ≡ 1 }
-        requires in_range { All (λ s. s < length self.old.variables) formula.now }
+        requires in_range { All (λ s. s < length self.old.variable_flags) formula.now }
         ensures is_unchanged { self.new ≡ self.old }
         ensures is_only_entry { IfOk result (λ r. r ≡ true → self.old.stack ≡ formula.now ∷ []) }
         ensures is_other { IfOk result

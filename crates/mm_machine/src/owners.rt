@@ -60,7 +60,7 @@ impl<A: Allocator> Owners<A> {
     where
         A: Copy,
         ensures are_variables { IfOk result
-            (λ o. AreVariablesOf database.now.statements o.variables) }
+            (λ o. AreVariablesOf database.now.statements o.variable_flags) }
         ensures no_owners { IfOk result (λ o. o.symbols ≡ []) }
     {
         Ok(Owners {
@@ -72,7 +72,7 @@ impl<A: Allocator> Owners<A> {
 
     /// Takes all bits from their variables.
     pub fn clear(&mut self)
-        ensures { self.new ≡ owned self.old.variables [] }
+        ensures { self.new ≡ owned self.old.variable_flags [] }
     {
         empty(&mut self.symbols);
     }
@@ -109,11 +109,11 @@ impl<A: Allocator> Owners<A> {
 
     /// Gives a variable a bit, if one is left and there is memory. Returns the index of its bit.
     fn add(&mut self, symbol: Sym) -> usize
-        ensures variables_stay { self.new.variables ≡ self.old.variables }
+        ensures variables_stay { self.new.variable_flags ≡ self.old.variable_flags }
         ensures extends { Extends self.old.symbols self.new.symbols }
-        ensures stay_in_range { symbol < length self.old.variables
-            → All (λ s. s < length self.old.variables) self.old.symbols
-            → All (λ s. s < length self.old.variables) self.new.symbols }
+        ensures stay_in_range { symbol < length self.old.variable_flags
+            → All (λ s. s < length self.old.variable_flags) self.old.symbols
+            → All (λ s. s < length self.old.variable_flags) self.new.symbols }
         ensures index_le_others { result ≤ OTHERS }
         ensures index_lt_length { result < OTHERS → result < length self.new.symbols }
         ensures is_owner { result < OTHERS → get_or self.new.symbols result 0 ≡ symbol }
@@ -134,12 +134,12 @@ impl<A: Allocator> Owners<A> {
     /// The mask of a symbol.
     #[inline(always)]
     pub fn mask_of_symbol(&mut self, symbol: Sym) -> u64
-        requires { symbol < length self.old.variables }
-        ensures variables_stay { self.new.variables ≡ self.old.variables }
+        requires { symbol < length self.old.variable_flags }
+        ensures variables_stay { self.new.variable_flags ≡ self.old.variable_flags }
         ensures extends { Extends self.old.symbols self.new.symbols }
-        ensures stay_in_range { All (λ s. s < length self.old.variables) self.old.symbols
-            → All (λ s. s < length self.old.variables) self.new.symbols }
-        ensures is_masked { IsMasked self.old.variables self.new.symbols result symbol }
+        ensures stay_in_range { All (λ s. s < length self.old.variable_flags) self.old.symbols
+            → All (λ s. s < length self.old.variable_flags) self.new.symbols }
+        ensures is_masked { IsMasked self.old.variable_flags self.new.symbols result symbol }
     {
         if !self.variables[symbol.number() as usize] {
             return 0;
@@ -152,12 +152,12 @@ impl<A: Allocator> Owners<A> {
 
     /// The mask of a formula.
     pub fn mask_of(&mut self, formula: &[Sym]) -> u64
-        requires { All (λ s. s < length self.old.variables) formula.now }
-        ensures variables_stay { self.new.variables ≡ self.old.variables }
+        requires { All (λ s. s < length self.old.variable_flags) formula.now }
+        ensures variables_stay { self.new.variable_flags ≡ self.old.variable_flags }
         ensures extends { Extends self.old.symbols self.new.symbols }
-        ensures stay_in_range { All (λ s. s < length self.old.variables) self.old.symbols
-            → All (λ s. s < length self.old.variables) self.new.symbols }
-        ensures are_masked { AreMasked self.old.variables self.new.symbols result formula.now }
+        ensures stay_in_range { All (λ s. s < length self.old.variable_flags) self.old.symbols
+            → All (λ s. s < length self.old.variable_flags) self.new.symbols }
+        ensures are_masked { AreMasked self.old.variable_flags self.new.symbols result formula.now }
     {
         let mut mask = 0u64;
         for symbol in formula {

@@ -195,13 +195,13 @@ pub fn apply_rule<A: Allocator>(
     requires floor_le_count { floor ≤ length nodes.old }
     requires formulas_in_range { AreInRange (length (symbol_names database.now.statements))
         (entry_formulas nodes.old stack.old.items) }
-    requires are_variables { AreVariablesOf database.now.statements owners.now.variables }
+    requires are_variables { AreVariablesOf database.now.statements owners.now.variable_flags }
     requires owners_in_range { All (λ s. s < length (symbol_names database.now.statements))
         owners.now.symbols }
-    requires are_masked { AreAllMasked owners.now.variables owners.now.symbols
+    requires are_masked { AreAllMasked owners.now.variable_flags owners.now.symbols
         (entry_masks stack.old.items) (entry_formulas nodes.old stack.old.items) }
     requires cached_are_disjoint { AreDisjointAt database.now.statements theorem cache.old }
-    ensures are_masked { AreAllMasked owners.now.variables owners.now.symbols
+    ensures are_masked { AreAllMasked owners.now.variable_flags owners.now.symbols
         (entry_masks stack.new.items) (entry_formulas nodes.new stack.new.items) }
     ensures is_stack { IsStack nodes.new stack.new.items }
     ensures nodes_are_kept { Extends (take floor nodes.old) nodes.new }

@@ -139,7 +139,7 @@ fn are_all_disjoint<A: Allocator>(
 }
 
 /// Whether a symbol is disjoint from each of the others, whose columns are listed.
-fn is_disjoint_from_listed<A: Allocator>(
+fn is_disjoint_by_row<A: Allocator>(
     database: &Database<A>,
     theorem: u32,
     symbol: Sym,
@@ -169,7 +169,8 @@ fn is_disjoint_from_listed<A: Allocator>(
 }
 
 /// Whether each variable of `first` is disjoint from each variable of `second`. What is known of
-/// a symbol of `first` is asked at once for all of `second`.
+/// a symbol of `first` is asked at once for all of `second`, whose columns are listed in `columns`.
+/// If there is no room for these columns, each pair is tested.
 #[cold]
 #[inline(never)]
 fn are_all_disjoint_by_rows<A: Allocator>(
@@ -194,7 +195,7 @@ fn are_all_disjoint_by_rows<A: Allocator>(
         return are_all_disjoint(database, theorem, first, second, cache);
     }
     for symbol in first {
-        if !is_disjoint_from_listed(database, theorem, *symbol, second, columns, cache) {
+        if !is_disjoint_by_row(database, theorem, *symbol, second, columns, cache) {
             return false;
         }
     }
@@ -345,7 +346,7 @@ fn bodies_are_disjoint<A: Allocator>(
 
 /// Whether a symbol is known to be disjoint from all variables of a mask: each has its own bit.
 #[inline(always)]
-fn is_apart_from<A: Allocator>(
+fn is_surely_apart_from<A: Allocator>(
     database: &Database<A>,
     theorem: u32,
     symbol: Sym,
@@ -410,7 +411,7 @@ fn are_apart_by_masks<A: Allocator>(
         if index >= OTHERS || index >= owners.len() {
             return false;
         }
-        if !is_apart_from(database, theorem, owners[index], owners, second, cache) {
+        if !is_surely_apart_from(database, theorem, owners[index], owners, second, cache) {
             return false;
         }
         rest &= !(1u64 << index);
@@ -444,10 +445,10 @@ fn keeps_disjoint<A: Allocator>(
         (entry_formulas nodes.old premises.now) }
     requires pairs_in_range { All
         (λ (p : ℕ × ℕ). (p.0 < length premises.now) × (p.1 < length premises.now)) pairs.now }
-    requires are_variables { AreVariablesOf database.now.statements owners.now.variables }
+    requires are_variables { AreVariablesOf database.now.statements owners.now.variable_flags }
     requires owners_in_range { All (λ s. s < length (symbol_names database.now.statements))
         owners.now.symbols }
-    requires are_masked { AreAllMasked owners.now.variables owners.now.symbols
+    requires are_masked { AreAllMasked owners.now.variable_flags owners.now.symbols
         (entry_masks premises.now) (entry_formulas nodes.old premises.now) }
     requires cached_are_disjoint { AreDisjointAt database.now.statements theorem cache.old }
     ensures nodes_unchanged { nodes.new ≡ nodes.old }
@@ -521,10 +522,10 @@ pub fn test_rule<A: Allocator>(
     requires formulas_in_range { AreInRange (length (symbol_names database.now.statements))
         (entry_formulas nodes.old stack.now) }
     requires has_room { length rule.now.parts ≤ length room.old }
-    requires are_variables { AreVariablesOf database.now.statements owners.now.variables }
+    requires are_variables { AreVariablesOf database.now.statements owners.now.variable_flags }
     requires owners_in_range { All (λ s. s < length (symbol_names database.now.statements))
         owners.now.symbols }
-    requires are_masked { AreAllMasked owners.now.variables owners.now.symbols
+    requires are_masked { AreAllMasked owners.now.variable_flags owners.now.symbols
         (entry_masks stack.now) (entry_formulas nodes.old stack.now) }
     requires cached_are_disjoint { AreDisjointAt database.now.statements theorem cache.old }
     ensures nodes_unchanged { nodes.new ≡ nodes.old }

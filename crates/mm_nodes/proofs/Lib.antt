@@ -2,3 +2,4 @@ mod CopyLaw
 pub mod StringLaw
 pub mod StoreLaw
 mod WalkLaw
+mod OverlapLaw

@@ -1,63 +1,46 @@
 -- Nodes are added and given up, and the others stay.
+use Rattle.std.proofs.lemmas.Grind.{common_steps}
 use Rattle.std.proofs.Common.{◌≡◌, ℕ, zero, suc, ◌+◌, ◌-◌, ◌<◌, ◌≤◌, ◌⊎◌, inl, inr, List, [], ◌∷◌}
-use Rattle.std.proofs.Common.{◌++◌, length, take, drop, get_or, slice_range, refl, sym, ap, ap₂, ◌∙◌}
-use Rattle.std.proofs.Common.{subst, arith, All, length-append, map, nat_lt, true, false}
-use Rattle.std.proofs.Common.{Bool}
+use Rattle.std.proofs.Common.{◌++◌, length, take, drop, get_or, slice_range, refl, sym, ap, ap₂}
+use Rattle.std.proofs.Common.{◌∙◌, subst, arith, All, length-append, nat_lt, false, length-drop}
 use Rattle.std.proofs.lemmas.List.{take-append-drop, length-take-le, take-append-le, drop_at}
-use Rattle.std.proofs.lemmas.List.{take_all}
+use Rattle.std.proofs.lemmas.List.{take_all, drop-append-le, get_or_append_left, get_or-append-add}
+use Rattle.std.proofs.lemmas.List.{get_or_past, get_or-take}
 use Rattle.std.specs.List.{AllByRecursion}
 use Rattle.std.proofs.lemmas.List.Elements.{recursion_from_All}
 use Rattle.std.proofs.lemmas.Bool.{cases_lt}
 use Rattle.std.proofs.lemmas.Bool.Decides.{nat_tests}
 use Rattle.mm_nodes.specs.declared.heads.Head.{Head}
-use Rattle.mm_nodes.specs.Strings.{first_node, no_body, body_string, joined_strings, strings_after}
-use Rattle.mm_nodes.specs.Strings.{strings_of, string_of, joined_string_of, IsBody, IsMade, Extends}
+use Rattle.mm_nodes.specs.Strings.{first_node, no_body, body_string, strings_after, strings_of}
+use Rattle.mm_nodes.specs.Strings.{string_of, joined_string_of, IsBody, IsMade}
 use Rattle.mm_nodes.specs.Store.{no_head, nodes_of, Follow, IsNode, AreNodes, IsStore}
-use Rattle.mm_nodes.proofs.StringLaw.{get_or_front, get_or_behind, get_or_past, length_strings}
-use Rattle.mm_nodes.proofs.StringLaw.{string_stays, strings_append, body_stays, joined_stay}
+use Rattle.mm_nodes.proofs.StringLaw.{length_strings, string_stays, strings_append, body_stays}
 use Rattle.mm_nodes.proofs.StringLaw.{strings_take, node_string}
 
 -- ---- stretches
 
-empty_range : (xs : List ℕ) (a b : ℕ) → b ≤ a → slice_range xs a b ≡ []
-empty_range xs a b b_le_a =
-    let no_length : b - a ≡ 0 = omega arith in ap (λ n. take n (drop a xs)) no_length
+pub empty_range : (xs : List ℕ) (a b : ℕ) → b ≤ a → slice_range xs a b ≡ []
+empty_range xs a b b_le_a = grind (arith, common_steps)
 
 pub range_of_front : (xs ys : List ℕ) (a b : ℕ) → b ≤ length xs
     → slice_range (xs ++ ys) a b ≡ slice_range xs a b
-range_of_front xs ys zero b b_le =
-    let b_is : b - 0 ≡ b = omega arith in
-    ap (λ n. take n (xs ++ ys)) b_is ∙ take-append-le b xs ys b_le
-    ∙ sym (ap (λ n. take n xs) b_is)
-range_of_front [] ys (suc a) b b_le =
-    empty_range ([] ++ ys) (suc a) b (omega arith) ∙ sym (empty_range [] (suc a) b (omega arith))
-range_of_front (x ∷ xs) ys (suc a) zero b_le =
-    empty_range ((x ∷ xs) ++ ys) (suc a) 0 (omega arith)
-    ∙ sym (empty_range (x ∷ xs) (suc a) 0 (omega arith))
-range_of_front (x ∷ xs) ys (suc a) (suc b) b_le =
-    let b_is : suc b - suc a ≡ b - a = omega arith in
-    ap (λ n. take n (drop a (xs ++ ys))) b_is ∙ range_of_front xs ys a b (omega arith)
-    ∙ sym (ap (λ n. take n (drop a xs)) b_is)
+range_of_front xs ys a b b_le =
+    grind (arith, common_steps, cases_lt, empty_range, drop-append-le, take-append-le, length-drop)
 
 pub range_behind : (xs ys : List ℕ) (a b : ℕ) → a ≡ length xs → b ≡ length (xs ++ ys)
     → slice_range (xs ++ ys) a b ≡ ys
-range_behind xs ys a b a_is b_is =
-    ap (take (b - a)) (drop_at xs ys a (sym a_is)) ∙ take_all (b - a) ys
-    (omega (arith, a_is, b_is, length-append xs ys))
+range_behind xs ys a b a_is b_is = grind (arith, common_steps, drop_at, take_all, length-append)
 
 -- ---- the bodies of each node
 
 pub length_nodes : (bodies : List ℕ) (heads : List Head)
     → length (nodes_of bodies heads) ≡ length heads
-length_nodes bodies [] = refl
-length_nodes bodies (h ∷ heads) = ap suc (length_nodes bodies heads)
+length_nodes bodies heads = grind (arith, common_steps)
 
 pub node_at : (bodies : List ℕ) (heads : List Head) (i : ℕ) → i < length heads
     → get_or (nodes_of bodies heads) i []
     ≡ slice_range bodies (get_or heads i no_head).start (get_or heads i no_head).end
-node_at bodies [] i i_lt = absurd (omega arith)
-node_at bodies (h ∷ heads) zero i_lt = refl
-node_at bodies (h ∷ heads) (suc i) i_lt = node_at bodies heads i (omega arith)
+node_at bodies heads i h1 = grind (arith, common_steps)
 
 nodes_take : (bodies : List ℕ) (heads : List Head) (k : ℕ)
     → nodes_of bodies (take k heads) ≡ take k (nodes_of bodies heads)
@@ -68,9 +51,7 @@ nodes_take bodies (h ∷ heads) (suc k) =
 
 nodes_append : (bodies : List ℕ) (heads more : List Head)
     → nodes_of bodies (heads ++ more) ≡ nodes_of bodies heads ++ nodes_of bodies more
-nodes_append bodies [] more = refl
-nodes_append bodies (h ∷ heads) more =
-    ap (λ ns. slice_range bodies h.start h.end ∷ ns) (nodes_append bodies heads more)
+nodes_append bodies heads more = grind (arith, common_steps, slice_range)
 
 pub nodes_with_more : (bodies more : List ℕ) (heads : List Head)
     → ((i : ℕ) → i < length heads → (get_or heads i no_head).end ≤ length bodies)
@@ -98,10 +79,7 @@ end_le from (h ∷ heads) to (suc i) follow i_lt = end_le h.end heads to i follo
 start_le : (from : ℕ) (heads : List Head) (to i : ℕ) → Follow from heads to → i < length heads
     → (get_or heads i no_head).start ≤ to
 start_le from [] to i follow i_lt = absurd (omega arith)
-start_le from (h ∷ heads) to zero follow i_lt =
-    let start_is = follow.0 in let from_le_end = follow.1 in
-    let end_le_to = follow_rises h.end heads to follow.2 in
-    omega (arith, start_is, from_le_end, end_le_to)
+start_le from (h ∷ heads) to zero follow i_lt = grind (arith, common_steps, follow_rises)
 start_le from (h ∷ heads) to (suc i) follow i_lt = start_le h.end heads to i follow.2 (omega arith)
 
 follow_take : (from : ℕ) (heads : List Head) (to k : ℕ) → Follow from heads to → k < length heads
@@ -113,8 +91,7 @@ follow_take from (h ∷ heads) to (suc k) follow k_lt =
 
 follow_push : (from : ℕ) (heads : List Head) (to : ℕ) (h : Head) → Follow from heads to
     → h.start ≡ to → to ≤ h.end → Follow from (heads ++ h ∷ []) h.end
-follow_push from [] to h follow start_is to_le =
-    (start_is ∙ sym follow, omega (arith, follow, to_le), refl)
+follow_push from [] to h follow start_is to_le = grind (arith, common_steps)
 follow_push from (x ∷ heads) to h follow start_is to_le =
     (follow.0, follow.1, follow_push x.end heads to h follow.2 start_is to_le)
 
@@ -123,28 +100,19 @@ follow_push from (x ∷ heads) to h follow start_is to_le =
 -- a body that is no node has no symbols
 pub no_string : (nodes : List (List ℕ)) (b i : ℕ) → b ≡ first_node + i → length nodes ≤ i
     → string_of nodes b ≡ []
-no_string nodes b i b_is le =
-    let is_no_symbol : nat_lt b first_node ≡ false = grind (arith, nat_tests) in
-    let index_is : b - first_node ≡ i = omega arith in
-    let count = length_strings [] [] nodes in
-    rw (is_no_symbol, index_is) (get_or_past (strings_of nodes) i [] (omega (arith, count)))
+no_string nodes b i b_is le = grind (arith, common_steps, length_strings, get_or_past)
 
 -- a node has the strings of its bodies
 pub string_of_node : (nodes : List (List ℕ)) (b i : ℕ) → b ≡ first_node + i → i < length nodes
     → All (λ b. b < first_node + i) (get_or nodes i [])
     → string_of nodes b ≡ joined_string_of nodes (get_or nodes i [])
-string_of_node nodes b i b_is i_lt are_below =
-    let is_no_symbol : nat_lt b first_node ≡ false = grind (arith, nat_tests) in
-    let index_is : b - first_node ≡ i = omega arith in
-    rw (is_no_symbol, index_is) (node_string [] nodes i i_lt are_below)
+string_of_node nodes b i b_is i_lt are_below = grind (arith, nat_tests, node_string)
 
 -- the string of a body stays as nodes are added
 pub string_with_more : (nodes more : List (List ℕ)) (b : ℕ) → IsBody nodes b
     → string_of (nodes ++ more) b ≡ string_of nodes b
 string_with_more nodes more b is_body =
-    let count = length_strings [] [] nodes in
-    ap (λ ss. body_string ss b) (strings_append [] [] nodes more)
-    ∙ body_stays [] (strings_of nodes) more b (omega (arith, count, is_body))
+    grind (arith, common_steps, length_strings, strings_append, body_stays)
 
 -- ---- a node among others
 
@@ -155,13 +123,8 @@ node_kept : (bodies bodies' : List ℕ) (heads heads' : List Head) (i : ℕ) →
     → get_or (strings_of (nodes_of bodies' heads')) i []
     ≡ get_or (strings_of (nodes_of bodies heads)) i []
     → IsNode bodies' heads' i
-node_kept bodies bodies' heads heads' i is_node head_is end_le node_is string_is = record {
-  start_le_end = subst (λ (h : Head). h.start ≤ h.end) (sym head_is) is_node.start_le_end;
-  end_le_length = subst (λ (h : Head). h.end ≤ length bodies') (sym head_is) end_le;
-  bodies_below =
-      subst (λ (bs : List ℕ). All (λ b. b < first_node + i) bs) (sym node_is) is_node.bodies_below;
-  length_is = ap (λ h. h.length) head_is ∙ is_node.length_is ∙ ap length (sym string_is);
-}
+node_kept bodies bodies' heads heads' i is_node head_is end_le node_is string_is =
+    grind (arith, common_steps, end_le)
 
 -- nodes stay if bodies are put behind theirs
 pub nodes_are_kept : (bodies more : List ℕ) (heads : List Head) → AreNodes bodies heads
@@ -174,13 +137,6 @@ nodes_are_kept bodies more heads are_nodes i i_lt =
     (ap (λ ns. get_or (strings_of ns) i []) same)
 
 -- ---- nodes are given up
-
-get_or_take : {X : Type 0} (k : ℕ) (xs : List X) (i : ℕ) (d : X) → i < k
-    → get_or (take k xs) i d ≡ get_or xs i d
-get_or_take zero xs i d i_lt = absurd (omega arith)
-get_or_take (suc k) [] i d i_lt = refl
-get_or_take (suc k) (x ∷ xs) zero d i_lt = refl
-get_or_take (suc k) (x ∷ xs) (suc i) d i_lt = get_or_take k xs i d (omega arith)
 
 module _ (bodies : List ℕ) (heads : List Head) (k m : ℕ) (is_store : IsStore bodies heads)
     (k_lt : k < length heads) (m_is : m ≡ (get_or heads k no_head).start) where
@@ -215,10 +171,10 @@ module _ (bodies : List ℕ) (heads : List Head) (k m : ℕ) (is_store : IsStore
         let count = length_strings [] [] (take k (nodes_of bodies heads)) in
         node_kept bodies (take m bodies) heads (take k heads) i
         (is_store.are_nodes i (omega (arith, i_lt_k, k_lt)))
-        (get_or_take k heads i no_head i_lt_k)
-        (subst (λ (h : Head). h.end ≤ length (take m bodies)) (get_or_take k heads i no_head i_lt_k)
+        (get_or-take k heads i no_head i_lt_k)
+        (subst (λ (h : Head). h.end ≤ length (take m bodies)) (get_or-take k heads i no_head i_lt_k)
         (end_le 0 (take k heads) (length (take m bodies)) i kept_follow i_lt))
-        (ap (λ ns. get_or ns i []) nodes_cut ∙ get_or_take k (nodes_of bodies heads) i [] i_lt_k)
+        (ap (λ ns. get_or ns i []) nodes_cut ∙ get_or-take k (nodes_of bodies heads) i [] i_lt_k)
         (ap (λ ns. get_or (strings_of ns) i []) nodes_cut
         ∙ sym (ap (λ ss. get_or ss i []) (strings_take [] (nodes_of bodies heads) k)
         ∙ string_stays [] (strings_of (take k (nodes_of bodies heads)))
@@ -273,18 +229,18 @@ module _ (bodies : List ℕ) (heads : List Head) (added : List ℕ) (h : Head)
       by_case i (inl i_before) i_lt =
           let end_le = (is_store.are_nodes i i_before).end_le_length in
           node_kept bodies (bodies ++ added) heads (heads ++ h ∷ []) i
-          (is_store.are_nodes i i_before) (get_or_front heads (h ∷ []) i no_head i_before)
+          (is_store.are_nodes i i_before) (get_or_append_left heads (h ∷ []) no_head i i_before)
           (omega (arith, end_le, length-append bodies added))
           (ap (λ ns. get_or ns i []) nodes_pushed
-          ∙ get_or_front (nodes_of bodies heads) (added ∷ []) i [] (omega (
+          ∙ get_or_append_left (nodes_of bodies heads) (added ∷ []) [] i (omega (
             arith,
             node_count,
             i_before,
           )))
           (ap (λ ns. get_or (strings_of ns) i []) nodes_pushed
           ∙ ap (λ ss. get_or ss i []) strings_pushed
-          ∙ get_or_front (strings_of (nodes_of bodies heads))
-          (joined_string_of (nodes_of bodies heads) added ∷ []) i []
+          ∙ get_or_append_left (strings_of (nodes_of bodies heads)) (joined_string_of
+          (nodes_of bodies heads) added ∷ []) [] i
           (omega (arith, string_count, i_before)))
       by_case i (inr i_behind) i_lt =
           let i_is : i ≡ length heads + 0 =
@@ -295,7 +251,7 @@ module _ (bodies : List ℕ) (heads : List Head) (added : List ℕ) (h : Head)
           omega (arith, i_is, string_count) in
           let head_is : get_or (heads ++ h ∷ []) i no_head ≡ h =
           ap (λ n. get_or (heads ++ h ∷ []) n no_head) i_is
-          ∙ get_or_behind heads (h ∷ []) 0 no_head in
+          ∙ get_or-append-add heads (h ∷ []) 0 no_head in
           record {
             start_le_end =
                 subst (λ (x : Head). x.start ≤ x.end) (sym head_is)
@@ -309,7 +265,7 @@ module _ (bodies : List ℕ) (heads : List Head) (added : List ℕ) (h : Head)
                 subst (λ (bs : List ℕ). All (λ b. b < first_node + i) bs)
                 (sym (ap (λ ns. get_or ns i []) nodes_pushed
                 ∙ ap (λ n. get_or (nodes_of bodies heads ++ added ∷ []) n []) i_is_node
-                ∙ get_or_behind (nodes_of bodies heads) (added ∷ []) 0 []))
+                ∙ get_or-append-add (nodes_of bodies heads) (added ∷ []) 0 []))
                 (subst (λ (n : ℕ). All (λ b. b < first_node + n) added) below_is are_bodies);
             length_is =
                 ap (λ x. x.length) head_is ∙ length_is
@@ -317,11 +273,12 @@ module _ (bodies : List ℕ) (heads : List Head) (added : List ℕ) (h : Head)
                 ∙ ap (λ ss. get_or ss i []) strings_pushed
                 ∙ ap (λ n. get_or (strings_of (nodes_of bodies heads)
                 ++ joined_string_of (nodes_of bodies heads) added ∷ []) n []) i_is_string
-                ∙ get_or_behind (strings_of (nodes_of bodies heads))
+                ∙ get_or-append-add (strings_of (nodes_of bodies heads))
                 (joined_string_of (nodes_of bodies heads) added ∷ []) 0 []));
           }
 
-  pub made_by_push : 0 < length added → (nodes' : List (List ℕ)) (b : ℕ) → nodes' ≡ nodes_of bodies heads ++ added ∷ []
+  pub made_by_push : 0 < length added → (nodes' : List (List ℕ)) (b : ℕ) → nodes' ≡ nodes_of bodies
+      heads ++ added ∷ []
       → b ≡ first_node + length heads → IsMade (nodes_of bodies heads) nodes' added b
   made_by_push has_bodies nodes' b nodes_are b_is =
       let node_count = length_nodes bodies heads in
@@ -344,7 +301,7 @@ module _ (bodies : List ℕ) (heads : List Head) (added : List ℕ) (h : Head)
             ap (λ ns. string_of ns b) nodes_are
             ∙ ap (λ ss. body_string ss b) strings_pushed
             ∙ rw (is_no_symbol, index_is)
-            (get_or_behind (strings_of (nodes_of bodies heads))
+            (get_or-append-add (strings_of (nodes_of bodies heads))
             (joined_string_of (nodes_of bodies heads) added ∷ []) 0 []);
       }
 
@@ -352,11 +309,7 @@ module _ (bodies : List ℕ) (heads : List Head) (added : List ℕ) (h : Head)
 
 pub nothing_made : (nodes : List (List ℕ)) → length nodes < first_node
     → (bodies : List ℕ) → length bodies ≡ 0 → (b : ℕ) → b ≡ no_body → IsMade nodes nodes bodies b
-nothing_made nodes count_lt [] none b b_is = record {
-  is_body = λ some. absurd (omega (arith, some));
-  is_none = λ no_length. b_is;
-  string_is = no_string nodes b 2147483647 (omega (arith, b_is)) (omega (arith, count_lt));
-}
+nothing_made nodes count_lt [] none b b_is = grind (arith, nat_tests, no_string)
 nothing_made nodes count_lt (x ∷ bodies) none b b_is = absurd (omega (arith, none))
 
 -- the string of a node
@@ -365,9 +318,7 @@ pub listed_string : (bodies : List ℕ) (heads : List Head) → AreNodes bodies 
     → string_of (nodes_of bodies heads) b
     ≡ joined_string_of (nodes_of bodies heads) (get_or (nodes_of bodies heads) i [])
 listed_string bodies heads are_nodes b i b_is i_lt =
-    let count = length_nodes bodies heads in
-    string_of_node (nodes_of bodies heads) b i b_is (omega (arith, count, i_lt))
-    (are_nodes i i_lt).bodies_below
+    grind (arith, nat_tests, length_nodes, string_of_node)
 
 -- what has symbols is a body
 pub body_if_some : (nodes : List (List ℕ)) (b : ℕ) → 0 < length (string_of nodes b)

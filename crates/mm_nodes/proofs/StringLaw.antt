@@ -1,36 +1,16 @@
 -- The strings of nodes stay as nodes are added or given up.
-use Rattle.std.proofs.Common.{◌≡◌, ℕ, zero, suc, ◌+◌, ◌-◌, ◌<◌, ◌≤◌, Bool, true, false, List, []}
-use Rattle.std.proofs.Common.{◌∷◌, ◌++◌, length, take, drop, get_or, nat_lt, cond, refl, sym, ap, ap₂}
-use Rattle.std.proofs.Common.{◌∙◌, subst, arith, All, length-append, ◌⊎◌, inl, inr}
-use Rattle.std.specs.List.{AllByRecursion, flat_map}
-use Rattle.std.proofs.lemmas.List.{take-append-drop, length-take-le}
+use Rattle.std.proofs.lemmas.Grind.{common_steps}
+use Rattle.std.proofs.Common.{◌≡◌, ℕ, zero, suc, ◌+◌, ◌-◌, ◌<◌, List, [], ◌∷◌, ◌++◌, length, take}
+use Rattle.std.proofs.Common.{drop, get_or, refl, sym, ap, ap₂, ◌∙◌, arith, All, length-append}
+use Rattle.std.specs.List.{AllByRecursion}
+use Rattle.std.proofs.lemmas.List.{take-append-drop, length-take-le, get_or_append_left}
+use Rattle.std.proofs.lemmas.List.{get_or-append-add, get_or_past}
 use Rattle.std.proofs.lemmas.Bool.Decides.{nat_tests}
 use Rattle.std.proofs.lemmas.Bool.{cases_lt}
 use Rattle.std.proofs.lemmas.List.Elements.{recursion_from_All, All-from_recursion, All-get_or}
 use Rattle.std.proofs.lemmas.List.Elements.{All-nil, All-append, All-push}
 use Rattle.mm_nodes.specs.Strings.{first_node, body_string, joined_strings, strings_after}
 use Rattle.mm_nodes.specs.Strings.{strings_of}
-
--- an element of a list, after others are put behind it
-pub get_or_front : {X : Type 0} (xs ys : List X) (i : ℕ) (d : X) → i < length xs
-    → get_or (xs ++ ys) i d ≡ get_or xs i d
-get_or_front [] ys i d i_lt = absurd (omega arith)
-get_or_front (x ∷ xs) ys zero d i_lt = refl
-get_or_front (x ∷ xs) ys (suc i) d i_lt = get_or_front xs ys i d (omega arith)
-
-pub get_or_behind : {X : Type 0} (xs ys : List X) (i : ℕ) (d : X)
-    → get_or (xs ++ ys) (length xs + i) d ≡ get_or ys i d
-get_or_behind [] ys i d = let i_is : 0 + i ≡ i = omega arith in ap (λ n. get_or ys n d) i_is
-get_or_behind (x ∷ xs) ys i d =
-    let i_is : length (x ∷ xs) + i ≡ suc (length xs + i) = omega arith in
-    ap (λ n. get_or (x ∷ (xs ++ ys)) n d) i_is ∙ get_or_behind xs ys i d
-
--- past the end there is the default alone
-pub get_or_past : {X : Type 0} (xs : List X) (i : ℕ) (d : X) → length xs ≤ i → get_or xs i d ≡ d
-get_or_past [] zero d le = refl
-get_or_past [] (suc i) d le = refl
-get_or_past (x ∷ xs) zero d le = absurd (omega arith)
-get_or_past (x ∷ xs) (suc i) d le = get_or_past xs i d (omega arith)
 
 module _ (front : List ℕ) where
   length_added : (ss : List (List ℕ)) (bs : List ℕ)
@@ -53,7 +33,7 @@ module _ (front : List ℕ) where
   string_stays ss (bs ∷ ns) i i_lt =
       let one_more = length_added ss bs in
       string_stays (ss ++ (front ++ joined_strings ss bs) ∷ []) ns i (omega (arith, one_more))
-      ∙ get_or_front ss ((front ++ joined_strings ss bs) ∷ []) i [] i_lt
+      ∙ get_or_append_left ss ((front ++ joined_strings ss bs) ∷ []) [] i i_lt
 
   pub strings_append : (ss xs ys : List (List ℕ))
       → strings_after front ss (xs ++ ys)
@@ -72,7 +52,7 @@ module _ (front : List ℕ) where
       let one_more = length_added ss bs in
       string_stays (ss ++ (front ++ joined_strings ss bs) ∷ []) ns (length ss + 0)
       (omega (arith, one_more))
-      ∙ get_or_behind ss ((front ++ joined_strings ss bs) ∷ []) 0 []
+      ∙ get_or-append-add ss ((front ++ joined_strings ss bs) ∷ []) 0 []
   string_at ss (bs ∷ ns) (suc i) i_lt =
       let one_more = length_added ss bs in
       let i_is : length ss + suc i ≡ length (ss ++ (front ++ joined_strings ss bs) ∷ []) + i =
@@ -84,12 +64,7 @@ module _ (front : List ℕ) where
   -- a body that there was stands for the same string
   pub body_stays : (ss ns : List (List ℕ)) (b : ℕ) → b < first_node + length ss
       → body_string (strings_after front ss ns) b ≡ body_string ss b
-  body_stays ss ns b b_lt = by_case (nat_lt b first_node) refl
-    where
-      by_case : (test : Bool) → nat_lt b first_node ≡ test
-          → body_string (strings_after front ss ns) b ≡ body_string ss b
-      by_case true is = rw is refl
-      by_case false is = rw is (string_stays ss ns (b - first_node) (grind (arith, nat_tests)))
+  body_stays ss ns b b_lt = grind (arith, nat_tests, string_stays)
 
   pub joined_stay : (ss ns : List (List ℕ)) (bs : List ℕ)
       → All (λ b. b < first_node + length ss) bs
@@ -136,27 +111,14 @@ abbrev pub AreSymbols : List ℕ → Type 0
 AreSymbols u = All (λ s. s < first_node) u
 
 body_has_symbols : (ss : List (List ℕ)) (b : ℕ) → All AreSymbols ss → AreSymbols (body_string ss b)
-body_has_symbols ss b all_have = by_case (nat_lt b first_node) refl
-  where
-    by_index : (b - first_node < length ss) ⊎ (length ss ≤ b - first_node)
-        → AreSymbols (get_or ss (b - first_node) [])
-    by_index (inl i_lt) = All-get_or AreSymbols ss (b - first_node) [] i_lt all_have
-    by_index (inr past) =
-        subst AreSymbols (sym (get_or_past ss (b - first_node) [] past))
-        (All-nil (λ s. s < first_node))
-
-    by_case : (test : Bool) → nat_lt b first_node ≡ test → AreSymbols (body_string ss b)
-    by_case true is =
-        let b_lt : b < first_node = grind (arith, nat_tests) in
-        rw is (All-from_recursion (λ s. s < first_node) (b ∷ []) (b_lt, tt))
-    by_case false is = rw is (by_index (cases_lt (b - first_node) (length ss)))
+body_has_symbols ss b all_have =
+    grind (arith, common_steps, cases_lt, All-from_recursion, All-get_or, get_or_past, All-nil)
 
 joined_have_symbols : (ss : List (List ℕ)) (bs : List ℕ) → All AreSymbols ss
     → AreSymbols (joined_strings ss bs)
 joined_have_symbols ss [] all_have = All-nil (λ s. s < first_node)
 joined_have_symbols ss (b ∷ bs) all_have =
-    All-append (λ s. s < first_node) (body_string ss b) (joined_strings ss bs)
-    (body_has_symbols ss b all_have) (joined_have_symbols ss bs all_have)
+    grind (arith, common_steps, All-append, body_has_symbols, (joined_have_symbols ss bs all_have))
 
 strings_have_symbols : (ss ns : List (List ℕ)) → All AreSymbols ss
     → All AreSymbols (strings_after [] ss ns)

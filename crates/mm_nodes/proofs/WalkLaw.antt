@@ -1,10 +1,12 @@
 -- A string is read from its first body on, and what is left of it is a stretch and stretches that
 -- were put off.
-use Rattle.std.proofs.Common.{◌≡◌, ℕ, zero, suc, ◌+◌, ◌-◌, ◌<◌, ◌≤◌, ◌⊎◌, inl, inr, List, [], ◌∷◌}
-use Rattle.std.proofs.Common.{◌++◌, length, take, drop, get_or, slice_range, refl, sym, ap, ap₂, ◌∙◌}
-use Rattle.std.proofs.Common.{subst, arith, All, length-append, Bool, true, false, nat_lt, bytes_eq}
-use Rattle.std.proofs.Common.{true≢false, append-nil}
-use Rattle.std.proofs.lemmas.List.{append_assoc, drop_more}
+use Rattle.std.proofs.lemmas.Grind.{common_steps}
+use Rattle.std.proofs.Common.{◌≡◌, ℕ, ◌+◌, ◌-◌, ◌<◌, ◌≤◌, inl, inr, List, [], ◌∷◌, ◌++◌, length}
+use Rattle.std.proofs.Common.{take, get_or, slice_range, refl, sym, ap, ap₂, ◌∙◌, subst, arith, All}
+use Rattle.std.proofs.Common.{length-append, true, false, nat_lt, bytes_eq, append-nil}
+use Rattle.std.proofs.lemmas.List.{append_assoc, append_cancel_left, drop_more, get_or_push}
+use Rattle.std.proofs.lemmas.List.{get_or_default}
+use Rattle.std.proofs.Math.Seq.{take-append_seam}
 use Rattle.std.proofs.lemmas.List.Elements.{All-get_or, All-take, All-drop, All-weaker, All-push}
 use Rattle.std.proofs.lemmas.List.Elements.{All-nil}
 use Rattle.std.proofs.lemmas.Slice.Eq.{bytes_eq-Decides}
@@ -18,26 +20,11 @@ use Rattle.mm_nodes.specs.Store.{nodes_of, AreNodes, IsStretch, MayPutOff, IsPla
 use Rattle.mm_nodes.specs.Store.{stretch_bodies, stretch_string, no_head}
 use Rattle.mm_nodes.proofs.StringLaw.{node_string}
 use Rattle.mm_nodes.proofs.StoreLaw.{length_nodes, node_at, nodes_with_more, nodes_are_kept}
-use Rattle.mm_nodes.proofs.StoreLaw.{range_of_front, range_behind}
+use Rattle.mm_nodes.proofs.StoreLaw.{empty_range, range_of_front, range_behind}
 
-slice_is_cons : (l : List ℕ) (a e : ℕ) → a < e → e ≤ length l
+pub slice_is_cons : (l : List ℕ) (a e : ℕ) → a < e → e ≤ length l
     → slice_range l a e ≡ get_or l a 0 ∷ slice_range l (a + 1) e
-slice_is_cons l a e a_lt_e e_le_length =
-    let difference_is_suc : e - a ≡ suc (e - (a + 1)) = omega arith in
-    ap (take (e - a)) (drop_more l a 0 (omega arith))
-    ∙ ap (λ m. take m (get_or l a 0 ∷ drop (a + 1) l)) difference_is_suc
-
-last_is : {X : Type 0} (xs : List X) (x d : X) → get_or (xs ++ x ∷ []) (length xs) d ≡ x
-last_is [] x d = refl
-last_is (y ∷ xs) x d = last_is xs x d
-
-front_is : {X : Type 0} (xs ys : List X) → take (length xs) (xs ++ ys) ≡ xs
-front_is [] ys = refl
-front_is (x ∷ xs) ys = ap (λ zs. x ∷ zs) (front_is xs ys)
-
-slice_is_empty : (l : List ℕ) (a e : ℕ) → e ≤ a → slice_range l a e ≡ []
-slice_is_empty l a e e_le =
-    let no_length : e - a ≡ 0 = omega arith in ap (λ n. take n (drop a l)) no_length
+slice_is_cons l a e a_lt_e e_le_length = grind (arith, nat_tests, drop_more)
 
 module _ (front bodies : List ℕ) (heads : List Head) where
   -- the string of a stretch, with `front` before the string of each node
@@ -74,7 +61,7 @@ module _ (front bodies : List ℕ) (heads : List Head) where
   pub string_is_empty : (s : Stretch) → s.end ≤ s.start → string_of_stretch s ≡ []
   string_is_empty s end_le =
       ap (joined_strings (strings_after front [] (nodes_of bodies heads)))
-      (slice_is_empty bodies s.start s.end end_le)
+      (empty_range bodies s.start s.end end_le)
 
   pub later_string_put_off : (s : Stretch) (later later' : List Stretch) → MayPutOff s later later'
       → later_string later'
@@ -107,12 +94,9 @@ module _ (front bodies : List ℕ) (heads : List Head) where
 pub body_in_range : (bodies : List ℕ) (heads : List Head) (s : Stretch) → IsStretch bodies heads s
     → s.start < s.end → get_or bodies s.start 0 < first_node + length heads
 body_in_range bodies heads s is_in start_lt =
-    All-get_or (λ b. b < first_node + length heads)
-    (get_or bodies s.start 0 ∷ slice_range bodies (s.start + 1) s.end) 0 0 (omega arith)
-    (subst (λ (bs : List ℕ). All (λ b. b < first_node + length heads) bs)
-    (slice_is_cons bodies s.start s.end start_lt is_in.end_le_length) is_in.are_bodies)
+    grind (arith, nat_tests, All-get_or, slice_range, slice_is_cons)
 
-rest_is_in : (bodies : List ℕ) (heads : List Head) (s : Stretch) → IsStretch bodies heads s
+pub rest_is_in : (bodies : List ℕ) (heads : List Head) (s : Stretch) → IsStretch bodies heads s
     → s.start < s.end → IsStretch bodies heads (stretch (s.start + 1) s.end)
 rest_is_in bodies heads s is_in start_lt = record {
   end_le_length = is_in.end_le_length;
@@ -125,21 +109,13 @@ rest_is_in bodies heads s is_in start_lt = record {
 
 pub place_is_in : (bodies : List ℕ) (heads : List Head) (i : ℕ) (p : Stretch)
     → AreNodes bodies heads → i < length heads → IsPlaceOf heads i p → IsStretch bodies heads p
-place_is_in bodies heads i p are_nodes i_lt is_place = record {
-  end_le_length = rw is_place.1 (are_nodes i i_lt).end_le_length;
-  are_bodies =
-      subst (λ (bs : List ℕ). All (λ b. b < first_node + length heads) bs)
-      (node_at bodies heads i i_lt ∙ sym (ap₂ (slice_range bodies) is_place.0 is_place.1))
-      (All-weaker (λ b. b < first_node + i) (λ b. b < first_node + length heads)
-      (λ b b_lt. omega (arith, b_lt, i_lt)) (get_or (nodes_of bodies heads) i [])
-      (are_nodes i i_lt).bodies_below);
-}
+place_is_in bodies heads i p are_nodes i_lt is_place =
+    grind (arith, nat_tests, node_at, slice_range, All-weaker)
 
 later_are_in : (bodies : List ℕ) (heads : List Head) (s : Stretch) (later later' : List Stretch)
     → IsStretch bodies heads s → s.start < s.end → All (IsStretch bodies heads) later
     → MayPutOff s later later' → All (IsStretch bodies heads) later'
-later_are_in bodies heads s later later' is_in start_lt are_in (inl none) =
-    subst (All (IsStretch bodies heads)) (sym none.1) are_in
+later_are_in bodies heads s later later' is_in start_lt are_in (inl none) = grind (arith, nat_tests)
 later_are_in bodies heads s later later' is_in start_lt are_in (inr is_pushed) =
     subst (All (IsStretch bodies heads)) (sym is_pushed)
     (All-push (IsStretch bodies heads) later (stretch (s.start + 1) s.end) are_in
@@ -159,27 +135,23 @@ pub record Reads (bodies : List ℕ) (heads : List Head) (whole common : List �
 some_work : (bodies : List ℕ) (heads : List Head) → AreNodes bodies heads → (b : ℕ)
     → b < first_node + length heads
     → 0 < length (body_string (strings_after (0 ∷ 0 ∷ []) [] (nodes_of bodies heads)) b)
-some_work bodies heads are_nodes b b_lt = by_case (cases_lt b first_node)
-  where
-    by_case : (b < first_node) ⊎ (first_node ≤ b)
-        → 0 < length (body_string (strings_after (0 ∷ 0 ∷ []) [] (nodes_of bodies heads)) b)
-    by_case (inl is_symbol) =
-        let test_is : nat_lt b first_node ≡ true = grind (arith, nat_tests) in
-        rw test_is (omega arith)
-    by_case (inr is_node) =
-        let i = b - first_node in
-        let opened = ap length (node_is_opened (0 ∷ 0 ∷ []) bodies heads are_nodes b (b - first_node)
-        (stretch (get_or heads (b - first_node) no_head).start
-        (get_or heads (b - first_node) no_head).end) (omega (arith, is_node))
-        (omega (arith, is_node, b_lt)) (refl, refl)) in
-        omega (
-          arith,
-          opened,
-          length-append (0 ∷ 0 ∷ [])
-              (string_of_stretch (0 ∷ 0 ∷ []) bodies heads
-              (stretch (get_or heads (b - first_node) no_head).start
-              (get_or heads (b - first_node) no_head).end)),
-        )
+some_work bodies heads are_nodes b b_lt =
+    elim (cases_lt b first_node) [
+      | inl is_symbol ↦
+          let test_is : nat_lt b first_node ≡ true = grind (arith, nat_tests) in
+          rw test_is (omega arith)
+      | inr is_node ↦
+          let h = get_or heads (b - first_node) no_head in
+          let opened = ap length (node_is_opened (0 ∷ 0 ∷ []) bodies heads are_nodes b
+          (b - first_node) (stretch h.start h.end) (omega (arith, is_node))
+          (omega (arith, is_node, b_lt)) (refl, refl)) in
+          omega (
+            arith,
+            opened,
+            length-append (0 ∷ 0 ∷ [])
+                (string_of_stretch (0 ∷ 0 ∷ []) bodies heads (stretch h.start h.end)),
+          )
+    ]
 
 -- what is left to be done: two for each node, one for each symbol, one for each that was put off
 abbrev pub work : List ℕ → List Head → Stretch → List Stretch → ℕ
@@ -187,7 +159,7 @@ work bodies heads s later =
     length (string_of_stretch (0 ∷ 0 ∷ []) bodies heads s)
     + length (later_string (0 ∷ 0 ∷ []) bodies heads later) + length later
 
-module _ (bodies : List ℕ) (heads : List Head) (are_nodes : AreNodes bodies heads) where
+module _ {bodies : List ℕ} {heads : List Head} (are_nodes : AreNodes bodies heads) where
   pub reading_begins : (s : Stretch) (later : List Stretch) → IsStretch bodies heads s
       → later ≡ [] → Reads bodies heads (stretch_string bodies heads s) [] s later
   reading_begins s later is_in later_is = rw later_is (record {
@@ -198,7 +170,7 @@ module _ (bodies : List ℕ) (heads : List Head) (are_nodes : AreNodes bodies he
     are_in = All-nil (IsStretch bodies heads);
   })
 
-  module _ (whole common : List ℕ) (s : Stretch) (later : List Stretch)
+  module _ {whole common : List ℕ} {s : Stretch} {later : List Stretch}
       (reads : Reads bodies heads whole common s later) where
     pub all_is_read : s.end ≤ s.start → later ≡ [] → common ≡ whole
     all_is_read end_le later_is =
@@ -214,15 +186,16 @@ module _ (bodies : List ℕ) (heads : List Head) (are_nodes : AreNodes bodies he
       whole_is =
           sym (ap (λ u. common ++ u)
           (ap₂ (λ u v. u ++ v) (string_is_empty [] bodies heads s end_le)
-          (ap (later_string [] bodies heads) later_is ∙ later_string_push [] bodies heads later' t)))
+          (ap (later_string [] bodies heads) later_is ∙ later_string_push [] bodies heads later'
+          t)))
           ∙ reads.whole_is;
       is_in =
-          subst (IsStretch bodies heads) (last_is later' t s)
+          subst (IsStretch bodies heads) (get_or_push later' t s (length later') refl)
           (All-get_or (IsStretch bodies heads) (later' ++ t ∷ []) (length later') s
           (omega (arith, length-append later' (t ∷ [])))
           (subst (All (IsStretch bodies heads)) later_is reads.are_in));
       are_in =
-          subst (All (IsStretch bodies heads)) (front_is later' (t ∷ []))
+          subst (All (IsStretch bodies heads)) (take-append_seam later' (t ∷ []))
           (All-take (IsStretch bodies heads) (length later') (later' ++ t ∷ [])
           (subst (All (IsStretch bodies heads)) later_is reads.are_in));
     }
@@ -242,7 +215,11 @@ module _ (bodies : List ℕ) (heads : List Head) (are_nodes : AreNodes bodies he
               (later_string (0 ∷ 0 ∷ []) bodies heads later'),
         )
 
-    module _ (start_lt : s.start < s.end) (b : ℕ) (b_is : b ≡ get_or bodies s.start 0) where
+    module _ (start_lt : s.start < s.end) (b : ℕ) (b_read : b ≡ get_or bodies s.start b) where
+      b_is : b ≡ get_or bodies s.start 0
+      b_is = let end_le = reads.is_in.end_le_length in
+          b_read ∙ get_or_default bodies s.start b 0 (omega (arith, start_lt, end_le))
+
       pub first_body_is : whole ≡ common
           ++ (body_string (strings_after [] [] (nodes_of bodies heads)) b
           ++ (string_of_stretch [] bodies heads (stretch (s.start + 1) s.end)
@@ -300,7 +277,8 @@ module _ (bodies : List ℕ) (heads : List Head) (are_nodes : AreNodes bodies he
               (later_string_put_off [] bodies heads s later later' put_off))
               ∙ sym first_body_is;
           is_in = place_is_in bodies heads i p are_nodes index_lt is_place;
-          are_in = later_are_in bodies heads s later later' reads.is_in start_lt reads.are_in put_off;
+          are_in = later_are_in bodies heads s later later' reads.is_in start_lt reads.are_in
+              put_off;
         }
 
         pub less_work_into : (p : Stretch) (later' : List Stretch) → IsPlaceOf heads i p
@@ -311,7 +289,8 @@ module _ (bodies : List ℕ) (heads : List Head) (are_nodes : AreNodes bodies he
             reads.is_in.end_le_length) in
             let opened = ap length (node_is_opened front bodies heads are_nodes b i p is_node
             index_lt is_place) in
-            let later_is = ap length (later_string_put_off front bodies heads s later later' put_off)
+            let later_is = ap length (later_string_put_off front bodies heads s later later'
+            put_off)
             in
             let count_le = put_off_count put_off in
             let same = ap (λ x. length (body_string (strings_after front [] (nodes_of bodies heads))
@@ -340,22 +319,16 @@ module _ (bodies : List ℕ) (heads : List Head) (are_nodes : AreNodes bodies he
 
 pub equal_if_first_is_read : (u v more : List ℕ) → u ++ more ≡ v → length u ≡ length v
     → true ≡ bytes_eq v u
-equal_if_first_is_read u v [] v_is lengths_equal =
-    sym ((bytes_eq-Decides v u).1 (sym v_is ∙ append-nil u))
-equal_if_first_is_read u v (x ∷ more) v_is lengths_equal =
-    let sum = ap length v_is in
-    absurd (omega (arith, sum, lengths_equal, length-append u (x ∷ more)))
+equal_if_first_is_read u v more h1 h2 =
+    grind (arith, common_steps, bytes_eq-Decides, append-nil, length-append)
 
 pub equal_if_second_is_read : (u v more : List ℕ) → v ++ more ≡ u → length u ≡ length v
     → true ≡ bytes_eq v u
-equal_if_second_is_read u v [] u_is lengths_equal =
-    sym ((bytes_eq-Decides v u).1 (sym (append-nil v) ∙ u_is))
-equal_if_second_is_read u v (x ∷ more) u_is lengths_equal =
-    let sum = ap length u_is in
-    absurd (omega (arith, sum, lengths_equal, length-append v (x ∷ more)))
+equal_if_second_is_read u v more h1 h2 =
+    grind (arith, common_steps, bytes_eq-Decides, append-nil, length-append)
 
-module _ (bodies : List ℕ) (heads : List Head) (are_nodes : AreNodes bodies heads)
-    (u v common : List ℕ) (s t : Stretch) (later later' : List Stretch)
+module _ {bodies : List ℕ} {heads : List Head} (are_nodes : AreNodes bodies heads)
+    {u v common : List ℕ} {s t : Stretch} {later later' : List Stretch}
     (first : Reads bodies heads u common s later) (second : Reads bodies heads v common t later')
     (lengths_equal : length u ≡ length v) where
   pub equal_at_first_end : s.end ≤ s.start → later ≡ [] → true ≡ bytes_eq v u
@@ -363,7 +336,7 @@ module _ (bodies : List ℕ) (heads : List Head) (are_nodes : AreNodes bodies he
       equal_if_first_is_read u v
       (string_of_stretch [] bodies heads t ++ later_string [] bodies heads later')
       (ap (λ w. w ++ (string_of_stretch [] bodies heads t ++ later_string [] bodies heads later'))
-      (sym (all_is_read bodies heads are_nodes u common s later first end_le later_is))
+      (sym (all_is_read are_nodes first end_le later_is))
       ∙ second.whole_is) lengths_equal
 
   pub equal_at_second_end : t.end ≤ t.start → later' ≡ [] → true ≡ bytes_eq v u
@@ -371,33 +344,18 @@ module _ (bodies : List ℕ) (heads : List Head) (are_nodes : AreNodes bodies he
       equal_if_second_is_read u v
       (string_of_stretch [] bodies heads s ++ later_string [] bodies heads later)
       (ap (λ w. w ++ (string_of_stretch [] bodies heads s ++ later_string [] bodies heads later))
-      (sym (all_is_read bodies heads are_nodes v common t later' second end_le later_is))
+      (sym (all_is_read are_nodes second end_le later_is))
       ∙ first.whole_is) lengths_equal
 
-pub nil_if_no_length : (later : List Stretch) → length later ≡ 0 → later ≡ []
-nil_if_no_length [] none = refl
-nil_if_no_length (s ∷ later) none = absurd (omega (arith, none))
-
-same_after : (common x y : List ℕ) → common ++ x ≡ common ++ y → x ≡ y
-same_after [] x y same = same
-same_after (c ∷ common) x y same = same_after common x y (cc)
+pub nil_if_no_length : {X : Type 0} (later : List X) → length later ≡ 0 → later ≡ []
+nil_if_no_length later h1 = grind (arith, common_steps)
 
 -- two different symbols follow
 pub different_if_symbols_are : (u v common x y : List ℕ) (strings : List (List ℕ)) (a b : ℕ)
     → u ≡ common ++ (body_string strings a ++ x) → v ≡ common ++ (body_string strings b ++ y)
     → a < first_node → b < first_node → (a ≡ b → ⊥) → false ≡ bytes_eq v u
 different_if_symbols_are u v common x y strings a b u_is v_is a_lt b_lt differ =
-    by_test (bytes_eq v u) refl
-  where
-    by_test : (t : Bool) → bytes_eq v u ≡ t → false ≡ t
-    by_test false is = refl
-    by_test true is =
-        let a_is_symbol : nat_lt a first_node ≡ true = grind (arith, nat_tests) in
-        let b_is_symbol : nat_lt b first_node ≡ true = grind (arith, nat_tests) in
-        let same : b ∷ y ≡ a ∷ x =
-        same_after common (b ∷ y) (a ∷ x)
-        (rw b_is_symbol at (sym v_is ∙ (bytes_eq-Decides v u).0 is ∙ rw a_is_symbol at u_is)) in
-        absurd (differ (cc))
+    grind (arith, common_steps, bytes_eq, append_cancel_left, bytes_eq-Decides)
 
 pub less_left : (a b c : ℕ) → a < b → a + c < b + c
 less_left a b c a_lt_b = omega (arith, a_lt_b)
@@ -410,8 +368,7 @@ less_both a b c d a_lt_b c_lt_d = omega (arith, a_lt_b, c_lt_d)
 
 pub symbol_string : (strings : List (List ℕ)) (b : ℕ) → b < first_node
     → body_string strings b ≡ b ∷ []
-symbol_string strings b b_lt =
-    let test_is : nat_lt b first_node ≡ true = grind (arith, nat_tests) in rw test_is refl
+symbol_string strings b b_lt = grind (arith, common_steps)
 
 -- ---- bodies behind those of the nodes
 
@@ -453,6 +410,13 @@ module _ (bodies wanted : List ℕ) (b : ℕ) (heads : List Head) (are_nodes : A
       ap₂ joined_string_of nodes_same second_bodies
       ∙ append-nil (string_of (nodes_of bodies heads) b)
 
+  pub is_body_behind : IsBody (nodes_of all heads) b
+  is_body_behind = subst (λ (ns : List (List ℕ)). IsBody ns b) (sym nodes_same) is_body
+
+  pub second_is_body : stretch_string all heads (stretch middle end) ≡ string_of (nodes_of all
+      heads) b
+  second_is_body = second_string ∙ sym (ap (λ ns. string_of ns b) nodes_same)
+
   pub first_is_stretch : IsStretch all heads (stretch start middle)
   first_is_stretch = record {
     end_le_length =
@@ -476,12 +440,10 @@ module _ (bodies wanted : List ℕ) (b : ℕ) (heads : List Head) (are_nodes : A
 
 pub bodies_stay : (bodies more all : List ℕ) → all ≡ bodies ++ more
     → take (length bodies) all ≡ bodies
-bodies_stay bodies more all all_is = ap (take (length bodies)) all_is ∙ front_is bodies more
+bodies_stay bodies more all all_is = ap (take (length bodies)) all_is ∙ take-append_seam bodies more
 
 pub equal_if_same : (u v : List ℕ) → u ≡ v → true ≡ bytes_eq u v
 equal_if_same u v same = sym ((bytes_eq-Decides u v).1 same)
 
 pub equal_if_empty : (u v : List ℕ) → length u ≡ 0 → length v ≡ 0 → true ≡ bytes_eq u v
-equal_if_empty [] [] no_u no_v = refl
-equal_if_empty [] (y ∷ v) no_u no_v = absurd (omega (arith, no_v))
-equal_if_empty (x ∷ u) v no_u no_v = absurd (omega (arith, no_u))
+equal_if_empty u v h1 h2 = grind (arith, common_steps)

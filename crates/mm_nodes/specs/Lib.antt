@@ -1,2 +1,3 @@
 pub mod Strings
 pub mod Store
+pub mod Overlaps

@@ -1,5 +1,5 @@
 -- How nodes are kept.
-use Rattle.std.specs.Prelude.{ℕ, ◌+◌, ◌-◌, ◌<◌, ◌≤◌, ◌≡◌, List, [], ◌∷◌, ◌++◌, length, get_or, map, ◌⊎◌}
+use Rattle.std.specs.Prelude.{ℕ, ◌+◌, ◌<◌, ◌≤◌, ◌≡◌, List, [], ◌∷◌, ◌++◌, length, get_or, map, ◌⊎◌}
 use Rattle.std.specs.Prelude.{slice_range, All}
 use Rattle.mm_nodes.specs.declared.heads.Head.{Head}
 use Rattle.mm_nodes.specs.declared.heads.Stretch.{Stretch}

@@ -1,6 +1,6 @@
 -- What strings bodies stand for.
 use Rattle.std.specs.Prelude.{ℕ, ◌+◌, ◌-◌, ◌<◌, ◌≡◌, List, [], ◌∷◌, ◌++◌, length, get_or, nat_lt}
-use Rattle.std.specs.Prelude.{if◌then◌else◌, flat_map, Bool, true, All}
+use Rattle.std.specs.Prelude.{if◌then◌else◌, flat_map}
 
 -- the least body that is a node: a smaller one is a symbol
 abbrev pub first_node : ℕ

@@ -6,12 +6,15 @@
 //!
 //! A caller makes a [`Nodes`] once, makes bodies of others with [`Nodes::make`], compares them with
 //! [`Nodes::is_equal`], reads their symbols with [`Nodes::append_symbols`], and gives up the last
-//! nodes with [`Nodes::truncate`]. No call is recursive, however deep nodes are nested.
+//! nodes with [`Nodes::truncate`]. No call is recursive, however deep nodes are nested. Two strings
+//! are compared by a walk over both; long ones before that by their parts, of which there can be
+//! far fewer than symbols.
 #![tactic(auto)]
 
 mod body;
 mod body_list;
 mod copy;
+mod facts;
 mod heads;
 mod nodes;
 mod walk;

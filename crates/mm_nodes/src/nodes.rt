@@ -4,10 +4,11 @@ ghost use Rattle.std.specs.Prelude.{◌≡◌, ◌<◌, ◌≤◌, ◌++◌, ◌
 ghost use Rattle.std.specs.Prelude.{IfOk, bytes_eq, true};
 ghost use Rattle.mm_nodes.specs.Strings.{first_node, string_of, joined_string_of, IsBody, IsMade};
 ghost use Rattle.mm_nodes.specs.Strings.{Extends};
-ghost use Rattle.mm_nodes.specs.Store.{nodes_of, AreNodes};
+ghost use Rattle.mm_nodes.specs.Store.{nodes_of, AreNodes, IsStretch, stretch_string};
 
 use crate::body::Body;
 use crate::body_list::BodyList;
+use crate::facts::{Overlap, are_equal_by_parts};
 use crate::heads::{Head, Stretch};
 use crate::walk::{append_all, are_equal, bodies_of, length_of, place_of};
 use std::alloc::{AllocError, Allocator};
@@ -15,6 +16,10 @@ use std::marker::Model;
 
 /// How many nodes there may be: one less than the numbers that stand for nodes.
 const MAX_NODES: usize = 2_147_483_647;
+
+/// Strings of so many symbols are compared by their parts first. If that takes as many steps as
+/// they have symbols, they are compared by their symbols.
+const LONG_STRING: usize = 4_096;
 
 /// How many elements of a list stay allocated from one use to the next.
 const MAX_ELEMENTS_KEPT: usize = 65_536;
@@ -28,6 +33,10 @@ pub struct Nodes<A: Allocator> {
     left: Vec<Stretch, A>,
     /// What is to come of the second string.
     right: Vec<Stretch, A>,
+    /// What two long strings come to that are compared by their parts.
+    pending: Vec<Overlap, A>,
+    /// What of that was seen before.
+    seen: Vec<Overlap, A>,
 }
 
 /// Dropped in one call: docs/PROOFS.md, "What a check costs".
@@ -38,6 +47,8 @@ impl<A: Allocator> Drop for Nodes<A> {
             heads: _,
             left: _,
             right: _,
+            pending: _,
+            seen: _,
         } = self;
     }
 }
@@ -73,6 +84,8 @@ impl<A: Allocator> Nodes<A> {
             heads: Vec::new(alloc),
             left: Vec::new(alloc),
             right: Vec::new(alloc),
+            pending: Vec::new(alloc),
+            seen: Vec::new(alloc),
         }
     }
 
@@ -84,6 +97,8 @@ impl<A: Allocator> Nodes<A> {
         empty(&mut self.heads);
         empty(&mut self.left);
         empty(&mut self.right);
+        empty(&mut self.pending);
+        empty(&mut self.seen);
     }
 
     /// How many nodes there are.
@@ -116,9 +131,10 @@ impl<A: Allocator> Nodes<A> {
         length_of(&self.heads, self.bodies.as_slice(), body)
     }
 
-    /// A body for the strings of other bodies, one after the other, which have `symbol_count` symbols
-    /// together: one of them, if there is no other, or else a node. Fails only if out of memory, or
-    /// if there are 2^31 - 1 nodes or their bodies are 2^32 or more, and then changes nothing.
+    /// A body for the strings of other bodies, one after the other, which have `symbol_count`
+    /// symbols together: one of them, if there is no other, or else a node. Fails only if out of
+    /// memory, or if there are 2^31 - 1 nodes or their bodies are 2^32 or more, and then changes
+    /// nothing.
     #[inline(always)]
     pub fn make(&mut self, bodies: &[Body], symbol_count: u32) -> Result<Body, AllocError>
         requires are_bodies { All (IsBody self.old) bodies.now }
@@ -226,13 +242,15 @@ impl<A: Allocator> Nodes<A> {
             (λ r. r ≡ bytes_eq (string_of self.old body) (joined_string_of self.old wanted.now)) }
     {
         let start = self.bodies.len();
-        let answer = compare_behind(
+        let answer = append_and_compare(
             &self.heads,
             &mut self.bodies,
             wanted,
             body,
             &mut self.left,
             &mut self.right,
+            &mut self.pending,
+            &mut self.seen,
         );
         self.bodies.truncate(start);
         answer
@@ -261,14 +279,17 @@ impl<A: Allocator> Nodes<A> {
     }
 }
 
-/// Compares strings whose bodies are appended to those of the nodes.
-fn compare_behind<A: Allocator>(
+/// Whether the string of `wanted` is that of `body`. Appends both to the bodies of the nodes, so
+/// that each is a stretch of one list; the caller takes them away again.
+fn append_and_compare<A: Allocator>(
     heads: &[Head],
     bodies: &mut BodyList<A>,
     wanted: &[Body],
     body: Body,
     left: &mut Vec<Stretch, A>,
     right: &mut Vec<Stretch, A>,
+    pending: &mut Vec<Overlap, A>,
+    seen: &mut Vec<Overlap, A>,
 ) -> Result<bool, AllocError>
     requires are_nodes { AreNodes bodies.old heads.now }
     requires are_bodies { All (IsBody (nodes_of bodies.old heads.now)) wanted.now }
@@ -289,5 +310,49 @@ fn compare_behind<A: Allocator>(
         start: middle,
         end: bodies.len(),
     };
-    are_equal(heads, bodies.as_slice(), first, second, left, right)
+    compare(
+        heads,
+        bodies.as_slice(),
+        first,
+        second,
+        body,
+        left,
+        right,
+        pending,
+        seen,
+    )
+}
+
+/// Whether two strings are equal, of which the second is that of a body. They have the same length.
+fn compare<A: Allocator>(
+    heads: &[Head],
+    bodies: &[Body],
+    first: Stretch,
+    second: Stretch,
+    body: Body,
+    left: &mut Vec<Stretch, A>,
+    right: &mut Vec<Stretch, A>,
+    pending: &mut Vec<Overlap, A>,
+    seen: &mut Vec<Overlap, A>,
+) -> Result<bool, AllocError>
+    requires are_nodes { AreNodes bodies.now heads.now }
+    requires first_is_stretch { IsStretch bodies.now heads.now first }
+    requires second_is_stretch { IsStretch bodies.now heads.now second }
+    requires is_body { IsBody (nodes_of bodies.now heads.now) body }
+    requires second_is_body { stretch_string bodies.now heads.now second
+        ≡ string_of (nodes_of bodies.now heads.now) body }
+    requires lengths_equal { length (stretch_string bodies.now heads.now first)
+        ≡ length (stretch_string bodies.now heads.now second) }
+    ensures { IfOk result
+        (λ b. b ≡ bytes_eq (stretch_string bodies.now heads.now second)
+        (stretch_string bodies.now heads.now first)) }
+{
+    let symbol_count = length_of(heads, bodies, body) as usize;
+    if symbol_count >= LONG_STRING {
+        let found = are_equal_by_parts(heads, bodies, first, body, symbol_count, pending, seen)?;
+        if let Some(answer) = found {
+            return Ok(answer);
+        }
+    }
+    are_equal(heads, bodies, first, second, left, right)
 }

@@ -1,20 +1,13 @@
 -- Which words the active statements have.
 use Rattle.std.proofs.lemmas.Grind.{common_steps, flat_map-append}
-use Rattle.std.proofs.Common.{cond, ◌≡◌, ℕ, zero, suc, ◌+◌, ◌<◌, Bool, true, false, ◌&&◌, ◌||◌}
-use Rattle.std.proofs.Common.{List, [], ◌∷◌, flat_map, map, bytes_eq, refl, ap, ap₂, ◌∙◌, arith}
+use Rattle.std.proofs.Common.{cond, ◌≡◌, ℕ, zero, suc, ◌+◌, Bool, true, false, ◌&&◌, ◌||◌, List, []}
+use Rattle.std.proofs.Common.{◌∷◌, flat_map, map, bytes_eq, refl, ap, ◌∙◌, arith}
 use Rattle.std.proofs.lemmas.List.Folds.{list_any-append}
 use Rattle.std.specs.List.{list_any, range_with_len, filter}
 use Rattle.mm_spec.specs.Text.{Bytes, is_in}
 use Rattle.mm_spec.specs.Statement.{Statement}
 use Rattle.mm_spec.specs.Scope.{Typing, statement_at, typings_of}
 use Rattle.mm_outline.specs.Typed.{has_word, typed_words}
-
-pub none_passes_no_any : (q : ℕ → Bool) (n a : ℕ) → ((j : ℕ) → j < a + n → q j ≡ false)
-    → list_any q (range_with_len a n) ≡ false
-none_passes_no_any q zero a none_passes = refl
-none_passes_no_any q (suc n) a none_passes =
-    ap₂ (λ x y. x || y) (none_passes a (omega arith))
-    (none_passes_no_any q n (a + 1) (λ j j_lt_end. none_passes j (omega arith)))
 
 module _ (db : List Statement) (f : Statement → List Bytes) (w : Bytes) where
   pub word_of_active_is_any : (p : ℕ → Bool) (n a : ℕ)
@@ -52,14 +45,5 @@ pub typed_word_is_typing : (w : Bytes) (xs : List Statement)
     ≡ is_in w (flat_map typed_words xs)
 typed_word_is_typing w [] = refl
 typed_word_is_typing w (s ∷ xs) =
-    grind (
-      arith,
-      common_steps,
-      list_any-append,
-      bytes_eq,
-      typings_of,
-      flat_map,
-      typed_variable_is_any,
-      typed_words,
-      (typed_word_is_typing w xs),
-    )
+    let later = typed_word_is_typing w xs in
+    grind (arith, common_steps, list_any-append, bytes_eq, typed_variable_is_any)

@@ -1,20 +1,19 @@
 -- What a statement with no fault says of its words.
-use Rattle.std.proofs.Common.{◌≡◌, ℕ, Bool, true, false, ◌&&◌, ◌||◌, List, []}
-use Rattle.std.proofs.Common.{◌∷◌, ◌++◌, refl, true≢false}
+use Rattle.std.proofs.Common.{arith, ◌≡◌, ℕ, Bool, true, false, ◌&&◌, ◌||◌, List, [], ◌∷◌, ◌++◌}
+use Rattle.std.proofs.Common.{refl, true≢false}
+use Rattle.std.proofs.lemmas.Grind.{common_steps}
 use Rattle.mm_spec.specs.Text.{Bytes, Token, is_in, words, fault}
 use Rattle.mm_spec.specs.declared.Fault.{Fault}
 use Rattle.mm_spec.specs.Scope.{Names}
-use Rattle.mm_spec.specs.Lawful.{faults_at, faults_at_each, when, constant_codes}
-use Rattle.mm_spec.specs.Lawful.{variable_codes, floating_faults, is_typed, is_typed_otherwise}
+use Rattle.mm_spec.specs.Lawful.{faults_at, faults_at_each, when, constant_codes, variable_codes}
+use Rattle.mm_spec.specs.Lawful.{floating_faults, is_typed, is_typed_otherwise}
 use Rattle.mm_spec.specs.declared.Code.TheVariants.{DeclaredBefore, BadFloating, TypedBefore}
 use Rattle.mm_spec.specs.declared.Code.TheVariants.{OtherTypecode, LabelIsSymbol}
 use Rattle.mm_spec.proofs.FaultlessLaw.{both_are_empty, no_faults_no_codes, no_code_if_false}
 use Rattle.mm_spec.proofs.FaultlessLaw.{each_word_has_no_codes}
 
 neither_of_first_two : (a b c : Bool) → (a || b || c) ≡ false → (a ≡ false) × (b ≡ false)
-neither_of_first_two false false c none_of_three = (refl, refl)
-neither_of_first_two false true c none_of_three = absurd (true≢false none_of_three)
-neither_of_first_two true b c none_of_three = absurd (true≢false none_of_three)
+neither_of_first_two a b c h1 = grind (arith, common_steps, true≢false)
 
 module _ (n : Names) where
   -- a word of a `$c` is new

@@ -1,6 +1,7 @@
 -- The statements of outlines, one by one.
-use Rattle.std.proofs.Common.{◌≡◌, ℕ, zero, suc, ◌<◌, Bool, true, false, List, [], ◌∷◌, length, map}
-use Rattle.std.proofs.Common.{get_or, slice_get, Some, refl, arith}
+use Rattle.std.proofs.lemmas.Grind.{common_steps}
+use Rattle.std.proofs.Common.{◌≡◌, ℕ, zero, suc, ◌<◌, Bool, true, List, [], ◌∷◌, length, map}
+use Rattle.std.proofs.Common.{get_or, slice_get, Some, arith}
 use Rattle.std.specs.List.{list_any}
 use Rattle.mm_spec.specs.Statement.{Statement}
 use Rattle.mm_spec.specs.Scope.{statement_at}
@@ -19,10 +20,8 @@ module _ (text : List ℕ) (ws : List Word) where
 -- a statement that is there stands below the length
 pub passing_lt_length : (p : Statement → Bool) (db : List Statement) (k : ℕ)
     → list_any p (statement_at db k) ≡ true → k < length db
-passing_lt_length p [] zero passes_at_k =
-    absurd (let false_is_true : false ≡ true = passes_at_k in cc)
-passing_lt_length p [] (suc k) passes_at_k =
-    absurd (let false_is_true : false ≡ true = passes_at_k in cc)
+passing_lt_length p [] zero passes_at_k = grind (arith, common_steps)
+passing_lt_length p [] (suc k) passes_at_k = grind (arith, common_steps)
 passing_lt_length p (s ∷ db) zero passes_at_k = omega arith
 passing_lt_length p (s ∷ db) (suc k) passes_at_k =
     let k_lt_later = passing_lt_length p db k passes_at_k in omega (arith, k_lt_later)
@@ -31,6 +30,4 @@ passing_lt_length p (s ∷ db) (suc k) passes_at_k =
 pub element_of_mapped : {X Y : Type 0} (f : X → Y) (xs : List X) (i : ℕ) (d : X) (e : Y)
     → i < length xs
     → get_or (map f xs) i e ≡ f (get_or xs i d)
-element_of_mapped f [] i d e i_lt_length = absurd (omega arith)
-element_of_mapped f (x ∷ xs) zero d e i_lt_length = refl
-element_of_mapped f (x ∷ xs) (suc i) d e i_lt_length = element_of_mapped f xs i d e (omega arith)
+element_of_mapped f xs i d e h1 = grind (arith, common_steps)

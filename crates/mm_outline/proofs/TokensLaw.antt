@@ -1,10 +1,11 @@
 -- The tokens of a text lie in it, rise, and are few; a text that is too long has none, and its
 -- lexical fault.
 use Rattle.std.proofs.lemmas.Grind.{common_steps}
-use Rattle.std.proofs.Common.{◌≡◌, ℕ, ◌-◌, ◌^◌, ◌<◌, ◌≤◌, ◌==◌, ◌||◌, ◌&&◌, Bool, true, false, not}
-use Rattle.std.proofs.Common.{List, [], ◌∷◌, length, map, drop, get_or, slice_index, codes, Option}
-use Rattle.std.proofs.Common.{None, Some, is_some, ◌⊎◌, inl, inr, refl, sym, ap, ◌∙◌, subst, arith}
-use Rattle.std.proofs.lemmas.Bool.{cases_lt}
+use Rattle.std.proofs.Common.{◌≡◌, ℕ, ◌-◌, ◌^◌, ◌<◌, ◌≤◌, ◌==◌, ◌&&◌, Bool, true, false, List, []}
+use Rattle.std.proofs.Common.{◌∷◌, length, map, drop, get_or, slice_index, codes, Option, None}
+use Rattle.std.proofs.Common.{Some, is_some, inl, inr, refl, arith}
+use Rattle.std.proofs.lemmas.Bool.Decides.{nat_tests}
+use Rattle.std.proofs.lemmas.Bool.{cases_lt, or_cases}
 use Rattle.std.proofs.lemmas.List.{length-map, length-drop, length-take-le}
 use Rattle.std.proofs.lemmas.List.FromFn.{length-range_with_len}
 use Rattle.std.proofs.lemmas.List.Elements.{All-nil, All-cons, All-head, All-tail}
@@ -12,11 +13,9 @@ use Rattle.std.proofs.lemmas.List.Sums.{length-filter, count_by-le-length}
 use Rattle.std.proofs.lemmas.List.Kept.{AllPairs-cons}
 use Rattle.std.specs.List.{All, AllPairs, filter, list_any, range_with_len}
 use Rattle.mm_spec.specs.declared.Word.{Word}
-use Rattle.mm_spec.specs.declared.Role.{Role}
 use Rattle.mm_spec.specs.declared.Role.TheVariants.{Token, Opening, Closing, Comment, Faulty}
-use Rattle.mm_spec.specs.declared.Code.TheVariants.{TextTooLong}
 use Rattle.mm_spec.specs.Limits.{text_limit}
-use Rattle.mm_spec.specs.Roles.{role_of, is_clean, is_token, is_keyword, is_dollar_and}
+use Rattle.mm_spec.specs.Roles.{role_of, is_token, is_keyword, is_dollar_and}
 use Rattle.mm_spec.specs.Text.{has_dollar}
 use Rattle.mm_spec.specs.Words.{begins_word, word_at, words_between, words_of}
 use Rattle.mm_spec.specs.Laws.Words.{IsWord}
@@ -32,45 +31,36 @@ use Rattle.mm_outline.specs.Tokens.{AreTokens}
 
 -- a property of tokens among words: it holds of no tokens, and of one word more in front, whether
 -- that is a token or not
-module _ (Q : List Word → List Word → Type 0) (holds_of_none : (ws : List Word) → Q ws [])
-    (holds_if_taken : (w : Word) (ws ts : List Word) → Q ws ts → Q (w ∷ ws) (w ∷ ts))
+module _ (text : List ℕ) (Q : List Word → List Word → Type 0)
+    (holds_of_none : (ws : List Word) → Q ws [])
+    (holds_if_taken : (w : Word) (ws ts : List Word) → is_token (bytes_of text w) ≡ true → Q ws ts
+    → Q (w ∷ ws) (w ∷ ts))
     (holds_if_skipped : (w : Word) (ws ts : List Word) → Q ws ts → Q (w ∷ ws) ts) where
-  kept_by_reading : (text : List ℕ) (c : Option ℕ) (ws : List Word)
-      → Q ws (reading text c ws).tokens
-  kept_by_reading text c [] =
-      subst (λ r. Q [] r.tokens) (sym (reading_end text c)) (holds_of_none [])
-  kept_by_reading text c (w ∷ ws) =
-      kept_by_role (role_of (is_some c) (bytes_of text w)) refl (λ d. kept_by_reading text d ws)
-    where
-      kept_by_role : (r : Role) → role_of (is_some c) (bytes_of text w) ≡ r
-          → ((d : Option ℕ) → Q ws (reading text d ws).tokens)
-          → Q (w ∷ ws) (reading text c (w ∷ ws)).tokens
-      kept_by_role Token role_is rest_is_kept =
-          subst (λ r. Q (w ∷ ws) r.tokens) (sym (reading_of_token text c w ws role_is))
-          (holds_if_taken w ws (reading text c ws).tokens (rest_is_kept c))
-      kept_by_role Opening role_is rest_is_kept =
-          subst (λ r. Q (w ∷ ws) r.tokens) (sym (reading_opening text c w ws role_is))
-          (holds_if_skipped w ws (reading text (Some w.start) ws).tokens
-          (rest_is_kept (Some w.start)))
-      kept_by_role Closing role_is rest_is_kept =
-          subst (λ r. Q (w ∷ ws) r.tokens) (sym (reading_closing text c w ws role_is))
-          (holds_if_skipped w ws (reading text None ws).tokens (rest_is_kept None))
-      kept_by_role Comment role_is rest_is_kept =
-          subst (λ r. Q (w ∷ ws) r.tokens) (sym (reading_comment text c w ws role_is))
-          (holds_if_skipped w ws (reading text c ws).tokens (rest_is_kept c))
-      kept_by_role Faulty role_is rest_is_kept =
-          subst (λ r. Q (w ∷ ws) r.tokens) (sym (reading_faulty text c w ws role_is))
-          (holds_of_none (w ∷ ws))
+  kept_by_reading : (c : Option ℕ) (ws : List Word) → Q ws (reading text c ws).tokens
+  kept_by_reading c [] = rw reading_end (holds_of_none [])
+  kept_by_reading c (w ∷ ws) =
+      (elim (role_of (is_some c) (bytes_of text w)) as (λ r.
+      role_of (is_some c) (bytes_of text w) ≡ r → Q (w ∷ ws) (reading text c (w ∷ ws)).tokens) [
+        | Token ↦ λ is. rw (reading_of_token text c w ws is) (holds_if_taken w ws _
+            (read_as_token (is_some c) (bytes_of text w) is) (kept_by_reading c ws))
+        | Opening ↦ λ is. rw (reading_opening text c w ws is)
+            (holds_if_skipped w ws _ (kept_by_reading (Some w.start) ws))
+        | Closing ↦ λ is. rw (reading_closing text c w ws is)
+            (holds_if_skipped w ws _ (kept_by_reading None ws))
+        | Comment ↦ λ is. rw (reading_comment text c w ws is)
+            (holds_if_skipped w ws _ (kept_by_reading c ws))
+        | Faulty ↦ λ is. rw (reading_faulty text c w ws is) (holds_of_none (w ∷ ws))
+      ]) refl
 
 -- the tokens are some of the words, in their order
 all_words_all_tokens : (P : Word → Type 0) (text : List ℕ) (c : Option ℕ) (ws : List Word)
     → All P ws
     → All P (reading text c ws).tokens
 all_words_all_tokens P text c ws =
-    kept_by_reading (λ vs ts. All P vs → All P ts) (λ vs all_words. All-nil P)
-    (λ w vs ts later_kept all_words. All-cons P w ts (All-head P w vs all_words)
+    kept_by_reading text (λ vs ts. All P vs → All P ts) (λ vs all_words. All-nil P)
+    (λ w vs ts is later_kept all_words. All-cons P w ts (All-head P w vs all_words)
     (later_kept (All-tail P w vs all_words)))
-    (λ w vs ts later_kept all_words. later_kept (All-tail P w vs all_words)) text c ws
+    (λ w vs ts later_kept all_words. later_kept (All-tail P w vs all_words)) c ws
 
 abbrev Later : Word → Word → Type 0
 Later v w = v.end ≤ w.start
@@ -79,35 +69,28 @@ Later v w = v.end ≤ w.start
 rising_words_rising_tokens : (text : List ℕ) (c : Option ℕ) (ws : List Word) → AllPairs Later ws
     → AllPairs Later (reading text c ws).tokens
 rising_words_rising_tokens text c ws words_rise =
-    (kept_by_reading
+    (kept_by_reading text
     (λ vs ts. AllPairs Later vs
     → AllPairs Later ts × ((u : Word) → All (Later u) vs → All (Later u) ts))
-    (λ vs words_rise_there.
-    (λ i j d i_lt_j j_lt_length. absurd (omega arith), λ u later_than_u. All-nil (Later u)))
-    (λ w vs ts later_implies words_rise_there.
-    let later_kept = later_implies (pairs_tail Later w vs words_rise_there) in (
-      AllPairs-cons Later w ts (later_kept.1 w (pairs_head Later w vs words_rise_there))
-          later_kept.0,
-      λ u later_than_u. All-cons
-          (Later u) w ts (All-head (Later u) w vs later_than_u)
-          (later_kept.1 u (All-tail (Later u) w vs later_than_u)),
+    (λ vs rise. (λ i j d i_lt_j j_lt_length. absurd (omega arith), λ u later. All-nil (Later u)))
+    (λ w vs ts is implied rise.
+    let kept = implied (pairs_tail Later w vs rise) in
+    let heads = kept.1 w (pairs_head Later w vs rise) in (
+      AllPairs-cons Later w ts heads kept.0,
+      λ u later. All-cons (Later u) w ts (All-head (Later u) w vs later)
+          (kept.1 u (All-tail (Later u) w vs later)),
     ))
-    (λ w vs ts later_implies words_rise_there. let later_kept = later_implies
-    (pairs_tail Later w vs words_rise_there) in
-    (later_kept.0, λ u later_than_u. later_kept.1 u (All-tail (Later u) w vs later_than_u))) text c
-    ws words_rise).0
+    (λ w vs ts implied rise. let kept = implied (pairs_tail Later w vs rise) in
+    (kept.0, λ u later. kept.1 u (All-tail (Later u) w vs later))) c ws words_rise).0
 
 tokens_le_words_read : (text : List ℕ) (c : Option ℕ) (ws : List Word)
     → length (reading text c ws).tokens ≤ length ws
 tokens_le_words_read text c ws =
-    kept_by_reading (λ vs ts. length ts ≤ length vs) (λ vs. omega arith)
-    (λ w vs ts later_le. omega (arith, later_le))
-    (λ w vs ts later_le. omega (arith, later_le)) text c ws
+    kept_by_reading text (λ vs ts. length ts ≤ length vs) (λ vs. omega arith)
+    (λ w vs ts is later_le. omega arith) (λ w vs ts later_le. omega arith) c ws
 
 filtered_le_length : {X : Type 0} (p : X → Bool) (xs : List X) → length (filter p xs) ≤ length xs
-filtered_le_length p xs =
-    let filtered_length_is = length-filter p xs in let count_le_length = count_by-le-length p xs in
-    omega (arith, filtered_length_is, count_le_length)
+filtered_le_length p xs = grind (arith, common_steps, length-filter, count_by-le-length)
 
 -- a text has no more words than bytes
 words_le_bytes_of_text : (text : List ℕ) → length (words_of text) ≤ length text
@@ -126,14 +109,7 @@ words_le_bytes_of_text text =
 holds_of_tokens_by_limit : (P : List Word → Type 0) (text : List ℕ) → P []
     → P (reading text None (words_of text)).tokens → P (tokens_of text)
 holds_of_tokens_by_limit P text holds_of_none holds_of_read =
-    holds_by_order (cases_lt text_limit (length text))
-  where
-    holds_by_order : (text_limit < length text) ⊎ (length text ≤ text_limit) → P (tokens_of text)
-    holds_by_order (inl text_and_limit) =
-        subst P (sym (tokens_of_long text text_and_limit)) holds_of_none
-    holds_by_order (inr text_and_limit) =
-        subst P (sym (tokens_of_read text (reading text None (words_of text)) text_and_limit refl))
-        holds_of_read
+    grind (arith, common_steps, cases_lt, tokens_of_long, tokens_of_read)
 
 -- each token is a word of the text
 pub tokens_are_words : (text : List ℕ) → All (IsWord text) (tokens_of text)
@@ -155,9 +131,7 @@ tokens_are_in_text text = grind (arith, common_steps, length, tokens_of, tokens_
 -- ---- a token with a `$` begins with it
 
 middle_of_three : (a b c : Bool) → (a && b && c) ≡ true → b ≡ true
-middle_of_three true true c all_three = refl
-middle_of_three true false c all_three = absurd (cc)
-middle_of_three false b c all_three = absurd (cc)
+middle_of_three a b c h1 = grind (arith, common_steps)
 
 dollar_word_begins_with_dollar : (b : ℕ) (w : List ℕ) → is_dollar_and b w ≡ true
     → (slice_index w 0 == 0x24) ≡ true
@@ -169,15 +143,10 @@ some_dollar_word_begins_with_dollar : (w bs : List ℕ) → list_any (λ b. is_d
     → (slice_index w 0 == 0x24) ≡ true
 some_dollar_word_begins_with_dollar w [] some_dollar_word = absurd (cc)
 some_dollar_word_begins_with_dollar w (b ∷ bs) some_dollar_word =
-    begins_by_test (is_dollar_and b w) refl
-    (λ later_is. some_dollar_word_begins_with_dollar w bs later_is) some_dollar_word
-  where
-    begins_by_test : (x : Bool) → is_dollar_and b w ≡ x
-        → (list_any (λ b. is_dollar_and b w) bs ≡ true → (slice_index w 0 == 0x24) ≡ true)
-        → (x || list_any (λ b. is_dollar_and b w) bs) ≡ true → (slice_index w 0 == 0x24) ≡ true
-    begins_by_test true test_is later_begins one_is_true =
-        dollar_word_begins_with_dollar b w test_is
-    begins_by_test false test_is later_begins one_is_true = later_begins one_is_true
+    elim (or_cases (is_dollar_and b w) (list_any (λ b. is_dollar_and b w) bs) some_dollar_word) [
+      | inl here ↦ dollar_word_begins_with_dollar b w here
+      | inr later ↦ some_dollar_word_begins_with_dollar w bs later
+    ]
 
 keyword_begins_with_dollar : (w : List ℕ) → is_keyword w ≡ true → (slice_index w 0 == 0x24) ≡ true
 unfolding is_keyword
@@ -186,59 +155,21 @@ keyword_begins_with_dollar w is_keyword_w =
 
 no_dollar_at_beginning : (w : List ℕ) → 0 < length w → has_dollar w ≡ false
     → (slice_index w 0 == 0x24) ≡ false
-no_dollar_at_beginning [] w_is_nonempty no_dollar = absurd (omega arith)
-no_dollar_at_beginning (x ∷ w) w_is_nonempty no_dollar = false_by_test (x == 0x24) no_dollar
-  where
-    false_by_test : (b : Bool) → (b || has_dollar w) ≡ false → b ≡ false
-    false_by_test true none_is_dollar = absurd (cc)
-    false_by_test false none_is_dollar = refl
+no_dollar_at_beginning w h1 h2 = grind (arith, common_steps)
 
 first_byte_tells_dollar : (w : List ℕ) → 0 < length w → is_token w ≡ true
     → has_dollar w ≡ (slice_index w 0 == 0x24)
 unfolding is_token
 first_byte_tells_dollar w w_is_nonempty is_token_w =
-    told_by_dollar (has_dollar w) refl (is_clean w) is_token_w
-  where
-    told_by_dollar : (d : Bool) → has_dollar w ≡ d → (c : Bool)
-        → (c && (not d || is_keyword w)) ≡ true
-        → d ≡ (slice_index w 0 == 0x24)
-    told_by_dollar false has_dollar_is c token_test =
-        sym (no_dollar_at_beginning w w_is_nonempty has_dollar_is)
-    told_by_dollar true has_dollar_is true token_test =
-        sym (keyword_begins_with_dollar w token_test)
-    told_by_dollar true has_dollar_is false token_test = absurd (cc)
+    grind (arith, nat_tests, no_dollar_at_beginning w, keyword_begins_with_dollar w)
 
 -- each token that is read is one
 read_tokens_are_tokens : (text : List ℕ) (c : Option ℕ) (ws : List Word)
     → All (λ w. is_token (bytes_of text w) ≡ true) (reading text c ws).tokens
-read_tokens_are_tokens text c [] =
-    subst (λ r. All (λ w. is_token (bytes_of text w) ≡ true) r.tokens) (sym (reading_end text c))
-    (All-nil (λ w. is_token (bytes_of text w) ≡ true))
-read_tokens_are_tokens text c (w ∷ ws) =
-    tokens_by_role (role_of (is_some c) (bytes_of text w)) refl
-    (λ d. read_tokens_are_tokens text d ws)
-  where
-    P : Word → Type 0
-    P w = is_token (bytes_of text w) ≡ true
-
-    tokens_by_role : (r : Role) → role_of (is_some c) (bytes_of text w) ≡ r
-        → ((d : Option ℕ) → All P (reading text d ws).tokens)
-        → All P (reading text c (w ∷ ws)).tokens
-    tokens_by_role Token role_is later_are_tokens =
-        subst (λ r. All P r.tokens) (sym (reading_of_token text c w ws role_is))
-        (All-cons P w (reading text c ws).tokens
-        (read_as_token (is_some c) (bytes_of text w) role_is)
-        (later_are_tokens c))
-    tokens_by_role Opening role_is later_are_tokens =
-        subst (λ r. All P r.tokens) (sym (reading_opening text c w ws role_is))
-        (later_are_tokens (Some w.start))
-    tokens_by_role Closing role_is later_are_tokens =
-        subst (λ r. All P r.tokens) (sym (reading_closing text c w ws role_is))
-        (later_are_tokens None)
-    tokens_by_role Comment role_is later_are_tokens =
-        subst (λ r. All P r.tokens) (sym (reading_comment text c w ws role_is)) (later_are_tokens c)
-    tokens_by_role Faulty role_is later_are_tokens =
-        subst (λ r. All P r.tokens) (sym (reading_faulty text c w ws role_is)) (All-nil P)
+read_tokens_are_tokens text c ws =
+    let P : Word → Type 0 = λ w. is_token (bytes_of text w) ≡ true in
+    kept_by_reading text (λ vs ts. All P ts) (λ vs. All-nil P) (λ w vs ts is. All-cons P w ts is)
+    (λ w vs ts later. later) c ws
 
 -- the first byte of each token tells whether it has a `$`
 pub tokens_are_told_by_first_byte : (text : List ℕ) → AreTokens text (tokens_of text)
@@ -273,25 +204,10 @@ tokens_le_bytes_of_text text =
     omega (arith, tokens_le_words, words_le_bytes))
 
 pub tokens_lt_2_31 : (text : List ℕ) → length (tokens_of text) < 2 ^ 31
-tokens_lt_2_31 text = small_by_order (cases_lt text_limit (length text))
-  where
-    small_by_order : (text_limit < length text) ⊎ (length text ≤ text_limit)
-        → length (tokens_of text) < 2 ^ 31
-    small_by_order (inl text_and_limit) =
-        let no_tokens : length (tokens_of text) ≡ 0 =
-        ap length (tokens_of_long text text_and_limit) in omega (arith, no_tokens)
-    small_by_order (inr text_and_limit) =
-        let tokens_le_bytes = tokens_le_bytes_of_text text in
-        omega (arith, text_and_limit, tokens_le_bytes)
+tokens_lt_2_31 text = grind (arith, common_steps, cases_lt, tokens_of_long, tokens_le_bytes_of_text)
 
 -- a text without a lexical fault is short
 pub faultless_text_fits_limit : (text : List ℕ) → lexical_fault text ≡ None
     → length text ≤ text_limit
-faultless_text_fits_limit text no_lexical_fault = short_by_order (cases_lt text_limit (length text))
-  where
-    short_by_order : (text_limit < length text) ⊎ (length text ≤ text_limit)
-        → length text ≤ text_limit
-    short_by_order (inl text_and_limit) =
-        absurd (let too_long_is_none : Some (record { at = 0; code = TextTooLong })
-        ≡ None = sym (lexical_fault_long text text_and_limit) ∙ no_lexical_fault in cc)
-    short_by_order (inr text_and_limit) = text_and_limit
+faultless_text_fits_limit text no_lexical_fault =
+    grind (arith, common_steps, cases_lt, lexical_fault_long)

@@ -1,4 +1,5 @@
 -- The tokens up to one more.
+use Rattle.std.proofs.lemmas.Grind.{common_steps}
 use Rattle.std.proofs.Common.{◌≡◌, ℕ, ◌+◌, ◌-◌, ◌<◌, ◌≤◌, List, [], ◌∷◌, ◌++◌, length, take, drop}
 use Rattle.std.proofs.Common.{get_or, ap, ◌∙◌, arith, get_or-drop, length-drop}
 use Rattle.std.proofs.lemmas.List.{take_more, map-append}
@@ -21,6 +22,4 @@ between_with_one_more text ws i j i_le_j j_lt_length =
 
 pub nothing_between_place_and_itself : (text : List ℕ) (ws : List Word) (i : ℕ)
     → [] ≡ between text ws i i
-nothing_between_place_and_itself text ws i =
-    let no_difference : 0 ≡ i - i = omega arith in
-    ap (λ m. as_tokens text (take m (drop i ws))) no_difference
+nothing_between_place_and_itself text ws i = grind (arith, common_steps)

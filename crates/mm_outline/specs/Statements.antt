@@ -31,9 +31,9 @@ end_fault_of None len _ d = Some (fault len OpenStatement)
 
 -- whether an earlier statement of a kind is active, by whether its block is open
 abbrev pub is_active_kind : Kind → Bool → Bool
-is_active_kind kind.Constants is_open = true
-is_active_kind kind.Axiom is_open = true
-is_active_kind kind.Theorem is_open = true
-is_active_kind kind.Open is_open = false
-is_active_kind kind.Close is_open = false
-is_active_kind _ is_open = is_open
+is_active_kind kind.Constants is_block_open = true
+is_active_kind kind.Axiom is_block_open = true
+is_active_kind kind.Theorem is_block_open = true
+is_active_kind kind.Open is_block_open = false
+is_active_kind kind.Close is_block_open = false
+is_active_kind _ is_block_open = is_block_open

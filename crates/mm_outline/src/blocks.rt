@@ -91,7 +91,7 @@ impl<A: Allocator> Blocks<A> {
     }
 
     /// Whether the statement is known and its block is still open.
-    pub fn is_open(&self, statement: u32) -> bool
+    pub fn is_still_open(&self, statement: u32) -> bool
         ensures { result ≡ is_open_in self.now statement }
     {
         match self.block_of.get(statement as usize) {
@@ -113,7 +113,7 @@ impl<A: Allocator> Blocks<A> {
     }
 
     /// Whether the block of the statement is open before the statement `at`, which comes later.
-    pub fn is_open_at(&self, statement: u32, at: u32) -> bool
+    pub fn is_block_open(&self, statement: u32, at: u32) -> bool
         requires statement_lt_count { statement < length self.now.block_of }
         requires block_has_end { slice_index self.now.block_of statement < length self.now.ends }
         ensures { result ≡ nat_le at (end_of self.now statement) }

@@ -15,7 +15,7 @@ ghost use Rattle.mm_outline.specs.Tokens.{AreTokens};
 use crate::words::{Class, classify, has_dollar, is_label};
 use mm_spec::{Code, Fault, Word};
 
-/// What a statement is.
+/// Which of the nine shapes a statement has: `Open` is a `${`, and `Close` a `$}`.
 #[derive(Clone, Copy, Debug, PartialEq, Eq)]
 pub enum Kind {
     Constants,

@@ -72,8 +72,8 @@ impl<A: Allocator> Cutting<A> {
 }
 
 impl<A: Allocator> Plan<A> {
-    /// The plan without options: the report with the sections that it has by default, of a text that
-    /// is cut in this way, whose proofs this many workers check.
+    /// The plan without options: the report with the sections that it has by default, of a text
+    /// that is cut in this way, whose proofs this many workers check.
     pub fn without_options(cuts: Cutting<A>, workers: u32) -> Self
         ensures cuts_are { result.cuts ≡ cuts }
         ensures workers_are { result.workers ≡ workers }

@@ -5,7 +5,7 @@
 -- letters give the steps so far and what the rest gives (`letters_begin_with_letter`,
 -- `continues_after_last_letter`, at the end `steps_are_all_steps` and `no_fault_at_end`, in
 -- `LettersLaw.antt`). `read_steps_are_compressed_steps` shows that these are `compressed_steps`.
--- `proof_words_are_in_order` (`RisingLaw.antt`) says that the places of the words ascend, so
+-- `proof_words_rise` (`RisingLaw.antt`) says that the places of the words ascend, so
 -- `first_fault_is_refusal` (`OrderLaw.antt`) shows that the first fault found is the least.
 pub mod UsableLaw
 pub mod LeastLaw

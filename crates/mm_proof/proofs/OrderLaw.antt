@@ -1,27 +1,24 @@
 -- The reading faults of a compressed proof stand in the order of their places.
-use Rattle.std.proofs.Common.{◌≡◌, ◌∙◌, ℕ, suc, ◌+◌, ◌<◌, ◌≤◌, ◌==◌, Bool, true, false, ◌||◌, ◌&&◌}
-use Rattle.std.proofs.Common.{List, [], ◌∷◌, ◌++◌, length, flat_map, Option, None, Some, bytes_eq}
-use Rattle.std.proofs.Common.{codes, nat_le, nat_lt, refl, sym, ap, subst, arith, append_assoc}
-use Rattle.std.proofs.Common.{eq-eqb}
+use Rattle.std.proofs.Common.{rules, ◌≡◌, ◌∙◌, ℕ, suc, ◌+◌, ◌<◌, ◌≤◌, ◌==◌, Bool, true, false, List}
+use Rattle.std.proofs.Common.{[], ◌∷◌, ◌++◌, length, flat_map, None, Some, bytes_eq, codes, nat_lt}
+use Rattle.std.proofs.Common.{sym, ap, subst, arith, append_assoc, eq-eqb}
+use Rattle.std.proofs.lemmas.Grind.{common_steps}
 use Rattle.std.specs.List.{AllByRecursion}
-use Rattle.std.proofs.lemmas.Bool.{lt-ltb}
 use Rattle.std.proofs.Math.Bool.{or-true}
 use Rattle.mm_spec.specs.Text.{Token, Bytes, fault}
-use Rattle.mm_spec.specs.Codes.{code_number}
 use Rattle.mm_spec.specs.declared.Fault.{Fault}
 use Rattle.mm_spec.specs.declared.Code.{Code}
-use Rattle.mm_spec.specs.declared.Code.TheVariants.{UnusableLabel, EmptyProof, OpenBrackets}
-use Rattle.mm_spec.specs.declared.Code.TheVariants.{OpenNumber, MarkBeforeStep, NumberTooLarge}
-use Rattle.mm_spec.specs.declared.Code.TheVariants.{IncompleteProof, BadLetter}
+use Rattle.mm_spec.specs.declared.Code.TheVariants.{OpenBrackets, OpenNumber, MarkBeforeStep}
+use Rattle.mm_spec.specs.declared.Code.TheVariants.{NumberTooLarge, IncompleteProof, BadLetter}
 use Rattle.mm_spec.specs.Statement.{Statement}
-use Rattle.mm_spec.specs.Lawful.{when, faults_at, least, lesser, is_before}
+use Rattle.mm_spec.specs.Lawful.{when, faults_at, least, is_before}
 use Rattle.mm_spec.specs.Frame.{mandatory_hypotheses}
-use Rattle.mm_spec.specs.NormalProof.{usable, proof_label_faults}
+use Rattle.mm_spec.specs.NormalProof.{proof_label_faults}
 use Rattle.mm_spec.specs.CompressedProof.{Compressed, bracketed, with_label, Letter, letters_from}
 use Rattle.mm_spec.specs.CompressedProof.{letters_of, Group, is_early_letter, is_last_letter}
-use Rattle.mm_spec.specs.CompressedProof.{groups, value}
-use Rattle.mm_spec.specs.CompressedProof.{starts_at, group_fault, group_faults, letter_faults}
-use Rattle.mm_spec.specs.CompressedProof.{compressed_faults}
+use Rattle.mm_spec.specs.CompressedProof.{groups, value, starts_at, group_fault, group_faults}
+use Rattle.mm_spec.specs.CompressedProof.{letter_faults, compressed_faults}
+use Rattle.mm_proof.proofs.LeastLaw.{all_of_weaker, earlier_is_before, first_is_least}
 use Rattle.mm_proof.specs.Letters.{AreInOrder}
 use Rattle.mm_proof.specs.Refused.{IsProofRefusal, StartsWith}
 use Rattle.mm_proof.specs.declared.refused.ProofRefused.{ProofRefused}
@@ -44,39 +41,26 @@ record IsRun (from to : ℕ) (fs : List Fault) : Type 0 where
 all_of_append : (P : Fault → Type 0) (xs ys : List Fault) → AllByRecursion P xs
     → AllByRecursion P ys
     → AllByRecursion P (xs ++ ys)
-all_of_append P [] ys xs_pass ys_pass = ys_pass
-all_of_append P (x ∷ xs) ys xs_pass ys_pass = (xs_pass.0, all_of_append P xs ys xs_pass.1 ys_pass)
-
--- what follows from a property of all faults holds of all faults
-all_of_weaker : (P Q : Fault → Type 0) (xs : List Fault) → ((x : Fault) → P x → Q x)
-    → AllByRecursion P xs → AllByRecursion Q xs
-all_of_weaker P Q [] p_gives_q xs_pass = tt
-all_of_weaker P Q (x ∷ xs) p_gives_q xs_pass =
-    (p_gives_q x xs_pass.0, all_of_weaker P Q xs p_gives_q xs_pass.1)
-
--- a fault that stands earlier comes before the other
-earlier_is_before : (f g : Fault) → f.at < g.at → is_before f g ≡ true
-earlier_is_before f g f_lt_g =
-    ap (λ b. b || ((f.at == g.at) && nat_le (code_number f.code) (code_number g.code)))
-    (lt-ltb f.at g.at f_lt_g)
+all_of_append P xs ys h1 h2 = grind (arith, common_steps)
 
 -- two runs of faults, one after the other, are one run
-joined_runs_are_run : (from mid to : ℕ) (xs ys : List Fault) → from ≤ mid → mid ≤ to
+joined_runs_are_run : {from mid to : ℕ} (xs ys : List Fault) → from ≤ mid → mid ≤ to
     → IsRun from mid xs
     → IsRun mid to ys → IsRun from to (xs ++ ys)
-joined_runs_are_run from mid to xs ys from_le_mid mid_le_to xs_are_run ys_are_run = record {
-  from_le_places =
-      all_of_append (λ f. from ≤ f.at) xs ys xs_are_run.from_le_places
-      (all_of_weaker (λ f. mid ≤ f.at) (λ f. from ≤ f.at) ys
-      (λ f place_le. omega (arith, from_le_mid, place_le))
-      ys_are_run.from_le_places);
-  places_lt_to =
-      all_of_append (λ f. f.at < to) xs ys
-      (all_of_weaker (λ f. f.at < mid) (λ f. f.at < to) xs
-      (λ f place_le. omega (arith, mid_le_to, place_le)) xs_are_run.places_lt_to)
-      ys_are_run.places_lt_to;
-  are_sorted = joined_is_sorted xs xs_are_run.places_lt_to xs_are_run.are_sorted;
-}
+joined_runs_are_run {from = from} {mid = mid} {to = to} xs ys from_le_mid mid_le_to xs_are_run
+    ys_are_run = record {
+      from_le_places =
+          all_of_append (λ f. from ≤ f.at) xs ys xs_are_run.from_le_places
+          (all_of_weaker (λ f. mid ≤ f.at) (λ f. from ≤ f.at) ys
+          (λ f place_le. omega (arith, from_le_mid, place_le))
+          ys_are_run.from_le_places);
+      places_lt_to =
+          all_of_append (λ f. f.at < to) xs ys
+          (all_of_weaker (λ f. f.at < mid) (λ f. f.at < to) xs
+          (λ f place_le. omega (arith, mid_le_to, place_le)) xs_are_run.places_lt_to)
+          ys_are_run.places_lt_to;
+      are_sorted = joined_is_sorted xs xs_are_run.places_lt_to xs_are_run.are_sorted;
+    }
   where
     joined_is_sorted : (xs : List Fault) → AllByRecursion (λ (f : Fault). f.at < mid) xs
         → AreSorted xs
@@ -85,8 +69,8 @@ joined_runs_are_run from mid to xs ys from_le_mid mid_le_to xs_are_run ys_are_ru
     joined_is_sorted (x ∷ xs) places_lt_mid xs_are_sorted = (
       all_of_append (λ g. is_before x g ≡ true) xs ys xs_are_sorted.0
           (all_of_weaker (λ f. mid ≤ f.at) (λ g. is_before x g ≡ true) ys
-          (λ g mid_le_place. earlier_is_before x g (let place_lt_mid = places_lt_mid.0 in
-          omega (arith, place_lt_mid, mid_le_place))) ys_are_run.from_le_places),
+          (λ g mid_le_place. earlier_is_before x g (omega (arith, places_lt_mid.0, mid_le_place)))
+          ys_are_run.from_le_places),
       joined_is_sorted xs places_lt_mid.1 xs_are_sorted.1,
     )
 
@@ -95,60 +79,19 @@ run_of_none : (from to : ℕ) → IsRun from to []
 run_of_none from to = record { from_le_places = tt; places_lt_to = tt; are_sorted = tt }
 
 -- one fault is a run
-run_of_one : (from to place : ℕ) (c : Code) → from ≤ place → place < to
+run_of_one : {from to place : ℕ} {c : Code} → from ≤ place → place < to
     → IsRun from to (fault place c ∷ [])
-run_of_one from to place c from_le_place place_lt_to =
-    record {
-      from_le_places = (from_le_place, tt);
-      places_lt_to = (place_lt_to, tt);
-      are_sorted =
-          (tt, tt);
-    }
+run_of_one from_le_place place_lt_to = grind (arith, common_steps)
 
 -- a fault that there may be is a run
 run_if : (from to place : ℕ) (b : Bool) (c : Code) → from ≤ place → place < to
     → IsRun from to (faults_at place (when b c))
-run_if from to place true c from_le_place place_lt_to =
-    run_of_one from to place c from_le_place place_lt_to
-run_if from to place false c from_le_place place_lt_to = run_of_none from to
+run_if from to place b c h1 h2 = grind (arith, common_steps, run_of_one, run_of_none)
 
 -- a run from a later place is one from an earlier place
 run_from_lower : (from low to : ℕ) (fs : List Fault) → from ≤ low → IsRun low to fs
     → IsRun from to fs
-run_from_lower from low to fs from_le_low is_run =
-    record {
-      from_le_places = all_of_weaker (λ f. low ≤ f.at) (λ f. from ≤ f.at) fs
-          (λ f low_le_place. omega (arith, from_le_low, low_le_place)) is_run.from_le_places;
-      places_lt_to = is_run.places_lt_to;
-      are_sorted = is_run.are_sorted;
-    }
-
--- the first of faults in order is the least
-first_sorted_is_least : (f : Fault) (fs : List Fault) → AreSorted (f ∷ fs) → least (f ∷ fs) ≡ Some f
-first_sorted_is_least f fs are_sorted = lesser_is_f (least fs) (before_least fs are_sorted.0)
-  where
-    IsBeforeLeast : Option Fault → Type 0
-    IsBeforeLeast None = Unit {0}
-    IsBeforeLeast (Some g) = is_before f g ≡ true
-
-    lesser_is_before : (g h : Fault) (b : Bool) → is_before f g ≡ true → is_before f h ≡ true
-        → IsBeforeLeast (elim b [ true ↦ Some g | false ↦ Some h ])
-    lesser_is_before g h true f_before_g f_before_h = f_before_g
-    lesser_is_before g h false f_before_g f_before_h = f_before_h
-
-    before_least : (fs : List Fault) → AllByRecursion (λ (g : Fault). is_before f g ≡ true) fs
-        → IsBeforeLeast (least fs)
-    before_least [] f_before_all = tt
-    before_least (g ∷ gs) f_before_all = before_lesser (least gs) (before_least gs f_before_all.1)
-      where
-        before_lesser : (o : Option Fault) → IsBeforeLeast o → IsBeforeLeast (lesser g o)
-        before_lesser None f_before_g = f_before_all.0
-        before_lesser (Some h) f_before_g =
-            lesser_is_before g h (is_before g h) f_before_all.0 f_before_g
-
-    lesser_is_f : (o : Option Fault) → IsBeforeLeast o → lesser f o ≡ Some f
-    lesser_is_f None f_before_g = refl
-    lesser_is_f (Some g) f_before_g = ap (λ b. elim b [ true ↦ Some f | false ↦ Some g ]) f_before_g
+run_from_lower from low to fs from_le_low is_run = grind (arith, common_steps, all_of_weaker)
 
 -- ---- letters
 
@@ -162,22 +105,21 @@ abbrev IsOpenAt : ℕ → List Letter → ℕ → Type 0
 IsOpenAt from [] now = from ≤ now
 IsOpenAt from (x ∷ xs) now = (from ≤ x.at) × (x.at < now)
 
+-- such a run begins no later than the place
+open_from_le : (from now : ℕ) (early : List Letter) → IsOpenAt from early now → from ≤ now
+open_from_le from now early h1 = grind (arith, common_steps)
+
 -- letters that rise from a later place rise from an earlier one
 rising_from_lower : (from to end : ℕ) (xs : List Letter) → from ≤ to → AreRising to xs end
     → AreRising from xs end
 rising_from_lower from to end [] from_le_to are_rising = omega (arith, from_le_to, are_rising)
-rising_from_lower from to end (x ∷ xs) from_le_to are_rising = (
-  let to_le_place = are_rising.0 in
-      omega (arith, from_le_to, to_le_place),
-  are_rising.1,
-)
+rising_from_lower from to end (x ∷ xs) from_le_to (to_le_place, are_rising) = search (rules, arith)
 
 -- the letters of a word rise
 word_letters_rise : (place end : ℕ) (w : Bytes) (rest : List Letter)
     → AreRising (place + length w) rest end
     → AreRising place (letters_from place w ++ rest) end
-word_letters_rise place end [] rest rest_rises =
-    rising_from_lower place (place + 0) end rest (omega arith) rest_rises
+word_letters_rise place end [] rest rest_rises = grind (arith, common_steps, rising_from_lower)
 word_letters_rise place end (b ∷ bs) rest rest_rises = (
   omega arith,
   word_letters_rise (place + 1) end bs rest
@@ -197,22 +139,7 @@ letters_rise from end (t ∷ ts) in_order =
 -- the faults of a mark are a run
 mark_faults_are_run : (from place : ℕ) (a b : Bool) → from ≤ place
     → IsRun from (place + 1) (faults_at place (when a OpenNumber ++ when b MarkBeforeStep))
-mark_faults_are_run from place true true from_le_place = record {
-  from_le_places = (from_le_place, (from_le_place, tt));
-  places_lt_to = (omega arith, (omega arith, tt));
-  are_sorted = (
-    (
-      ap (λ c. nat_lt place place || (c && true)) (eq-eqb place place refl)
-          ∙ or-true (nat_lt place place),
-      tt,
-    ),
-    (tt, tt),
-  );
-}
-mark_faults_are_run from place true false from_le_place =
-    run_of_one from (place + 1) place OpenNumber from_le_place (omega arith)
-mark_faults_are_run from place false b from_le_place =
-    run_if from (place + 1) place b MarkBeforeStep from_le_place (omega arith)
+mark_faults_are_run from place a b h1 = search (rules, arith, eq-eqb, or-true, run_of_one, run_if)
 
 module _ (labels end : ℕ) where
   -- the faults of a number are a run
@@ -229,23 +156,17 @@ module _ (labels end : ℕ) where
       g : Group
       g = record { early = early; last = record { at = place; byte = byte } }
 
-      from_le_start : (early : List Letter) → IsOpenAt from early now
-          → from ≤ starts_at (record { early = early; last = record { at = place; byte = byte } })
-      from_le_start [] is_open = omega (arith, is_open, now_le_place)
-      from_le_start (x ∷ xs) is_open = is_open.0
+      start_in_range : (early : List Letter) → IsOpenAt from early now
+          → (from ≤ starts_at (record { early = early; last = record { at = place; byte = byte } }))
+          × (starts_at (record { early = early; last = record { at = place; byte = byte } })
+          < place + 1)
+      start_in_range [] is_open = (omega (arith, is_open, now_le_place), omega arith)
+      start_in_range (x ∷ xs) (from_le_first, first_lt_now) =
+          (from_le_first, omega (arith, first_lt_now, now_le_place))
 
-      start_lt_next : (early : List Letter) → IsOpenAt from early now
-          → starts_at (record { early = early; last = record { at = place; byte = byte } })
-          < place + 1
-      start_lt_next [] is_open = omega arith
-      start_lt_next (x ∷ xs) is_open = let place_lt_now = is_open.1 in
-          omega (arith, place_lt_now, now_le_place)
-
-      letters_from_le_place : (early : List Letter) → IsOpenAt from early now → from ≤ place
-      letters_from_le_place [] is_open = omega (arith, is_open, now_le_place)
-      letters_from_le_place (x ∷ xs) is_open = let from_le_first = is_open.0 in
-          let first_lt_now = is_open.1 in
-          omega (arith, from_le_first, first_lt_now, now_le_place)
+      from_le_place : from ≤ place
+      from_le_place = let from_le_now = open_from_le from now early early_is_open in
+          omega (arith, from_le_now, now_le_place)
 
       faults_are_run : (a b c : Bool) → IsRun from (place + 1) (elim a [
         | true ↦ faults_at (starts_at g) (when (nat_lt (labels + marks) (value g)) NumberTooLarge)
@@ -258,17 +179,11 @@ module _ (labels end : ℕ) where
       ])
       faults_are_run true b c =
           run_if from (place + 1) (starts_at g) (nat_lt (labels + marks) (value g)) NumberTooLarge
-          (from_le_start early early_is_open) (start_lt_next early early_is_open)
+          (start_in_range early early_is_open).0 (start_in_range early early_is_open).1
       faults_are_run false true c =
-          mark_faults_are_run from place (nat_lt 0 (length early)) (count == 0)
-          (letters_from_le_place early early_is_open)
-      faults_are_run false false true =
-          run_of_one from (place + 1) place IncompleteProof
-          (letters_from_le_place early early_is_open)
-          (omega arith)
-      faults_are_run false false false = run_of_one from (place + 1) place BadLetter
-          (letters_from_le_place early early_is_open)
-          (omega arith)
+          mark_faults_are_run from place (nat_lt 0 (length early)) (count == 0) from_le_place
+      faults_are_run false false true = run_of_one from_le_place (omega arith)
+      faults_are_run false false false = run_of_one from_le_place (omega arith)
 
   -- the faults of the letters from an open run on
   abbrev remaining_faults : List Letter → ℕ → ℕ → List Letter → List Fault
@@ -276,19 +191,11 @@ module _ (labels end : ℕ) where
       group_faults labels marks count (groups early xs).0
       ++ faults_at end (when (nat_lt 0 (length (groups early xs).1)) OpenNumber)
 
-  -- the place where an open number stands isn't past the end
-  from_le_end : (from now : ℕ) (early : List Letter) → IsOpenAt from early now → now ≤ end
-      → from ≤ end
-  from_le_end from now [] is_open now_le_end = omega (arith, is_open, now_le_end)
-  from_le_end from now (x ∷ xs) is_open now_le_end = let from_le_first = is_open.0 in
-      let first_lt_now = is_open.1 in omega (arith, from_le_first, first_lt_now, now_le_end)
-
   -- letters that rise from a place begin no later than the end
   rising_from_le_end : (from : ℕ) (xs : List Letter) → AreRising from xs end → from ≤ end
   rising_from_le_end from [] are_rising = are_rising
-  rising_from_le_end from (x ∷ xs) are_rising =
-      let from_le_first = are_rising.0 in
-      let next_le_end = rising_from_le_end (x.at + 1) xs are_rising.1 in
+  rising_from_le_end from (x ∷ xs) (from_le_first, are_rising) =
+      let next_le_end = rising_from_le_end (x.at + 1) xs are_rising in
       omega (arith, from_le_first, next_le_end)
 
   -- the faults of the letters that are left are a run
@@ -297,7 +204,8 @@ module _ (labels end : ℕ) where
       → AreRising now xs end → IsRun from (end + 1) (remaining_faults early marks count xs)
   remaining_faults_are_run [] early from now marks count is_open_at are_rising =
       run_if from (end + 1) end (nat_lt 0 (length early)) OpenNumber
-      (from_le_end from now early is_open_at are_rising)
+      (let from_le_now = open_from_le from now early is_open_at in
+      omega (arith, from_le_now, are_rising))
       (omega arith)
   remaining_faults_are_run (x ∷ xs) early from now marks count early_is_open are_rising =
       groups_are_run (is_early_letter x.byte)
@@ -311,16 +219,11 @@ module _ (labels end : ℕ) where
     where
       open_with_letter : (early : List Letter) → IsOpenAt from early now
           → IsOpenAt from (early ++ x ∷ []) (x.at + 1)
-      open_with_letter [] is_open = (
-        let now_le_place = are_rising.0 in
-            omega (arith, is_open, now_le_place),
-        omega arith,
-      )
-      open_with_letter (e ∷ es) is_open = (
-        is_open.0,
-        let now_le_place = are_rising.0 in
-            let first_lt_now = is_open.1 in
-            omega (arith, now_le_place, first_lt_now),
+      open_with_letter [] is_open =
+          (let now_le_place = are_rising.0 in omega (arith, is_open, now_le_place), omega arith)
+      open_with_letter (e ∷ es) (from_le_first, first_lt_now) = (
+        from_le_first,
+        let now_le_place = are_rising.0 in omega (arith, now_le_place, first_lt_now),
       )
 
       g : Group
@@ -337,15 +240,8 @@ module _ (labels end : ℕ) where
           are_rising.0
 
       from_le_next : from ≤ x.at + 1
-      from_le_next = from_le_next_if_open early early_is_open
-        where
-          from_le_next_if_open : (early : List Letter) → IsOpenAt from early now → from ≤ x.at + 1
-          from_le_next_if_open [] is_open = let now_le_place = are_rising.0 in
-              omega (arith, is_open, now_le_place)
-          from_le_next_if_open (e ∷ es) is_open = let now_le_place = are_rising.0 in
-              let from_le_first = is_open.0 in
-              let first_lt_now = is_open.1 in
-              omega (arith, now_le_place, from_le_first, first_lt_now)
+      from_le_next = let from_le_now = open_from_le from now early early_is_open in
+          omega (arith, are_rising.0, from_le_now)
 
       next_le_end : x.at + 1 ≤ end + 1
       next_le_end = let next_le_end_of_letters = rising_from_le_end (x.at + 1) xs are_rising.1 in
@@ -365,17 +261,15 @@ module _ (labels end : ℕ) where
           → IsRun (x.at + 1) (end + 1) (remaining_faults [] marks (count + 1) xs)
           → IsRun from (end + 1) (faults_of_kind b)
       group_is_run true run_after_mark run_after_step =
-          subst (IsRun from (end + 1))
-          (sym (append_assoc (group_fault labels marks count g)
-          (group_faults labels (marks + 1) count later_groups) end_faults))
-          (joined_runs_are_run from (x.at
-          + 1) (end + 1) _ _ from_le_next next_le_end first_is_run run_after_mark)
+          rw (append_assoc (group_fault labels marks count g)
+          (group_faults labels (marks + 1) count later_groups) end_faults)
+          (joined_runs_are_run _ _ from_le_next next_le_end first_is_run
+          run_after_mark)
       group_is_run false run_after_mark run_after_step =
-          subst (IsRun from (end + 1))
-          (sym (append_assoc (group_fault labels marks count g)
-          (group_faults labels marks (count + 1) later_groups) end_faults))
-          (joined_runs_are_run from (x.at
-          + 1) (end + 1) _ _ from_le_next next_le_end first_is_run run_after_step)
+          rw (append_assoc (group_fault labels marks count g)
+          (group_faults labels marks (count + 1) later_groups) end_faults)
+          (joined_runs_are_run _ _ from_le_next next_le_end first_is_run
+          run_after_step)
 
       groups_of_kind : Bool → List Group × List Letter
       groups_of_kind a =
@@ -386,9 +280,8 @@ module _ (labels end : ℕ) where
 
       faults_of_groups : Bool → List Fault
       faults_of_groups a =
-          let are_rising = groups_of_kind a in
-          group_faults labels marks count are_rising.0 ++ faults_at end
-          (when (nat_lt 0 (length are_rising.1)) OpenNumber)
+          group_faults labels marks count (groups_of_kind a).0
+          ++ faults_at end (when (nat_lt 0 (length (groups_of_kind a).1)) OpenNumber)
 
       groups_are_run : (a : Bool)
           → IsRun from (end + 1) (remaining_faults (early ++ x ∷ []) marks count xs)
@@ -401,7 +294,7 @@ module _ (labels end : ℕ) where
   letter_faults_are_run : (from : ℕ) (xs : List Letter) → AreRising from xs end
       → IsRun from (end + 1) (letter_faults labels end xs)
   letter_faults_are_run from [] are_rising =
-      run_of_one from (end + 1) end EmptyProof are_rising (omega arith)
+      run_of_one are_rising (omega arith)
   letter_faults_are_run from (x ∷ xs) are_rising =
       remaining_faults_are_run (x ∷ xs) [] from from 0 0 (omega arith) are_rising
 
@@ -410,19 +303,13 @@ module _ (labels end : ℕ) where
 -- the faults of a label are a run
 label_faults_are_run : (db : List Statement) (k : ℕ) (t : Token)
     → IsRun t.at (t.at + 1) (proof_label_faults db k t)
-label_faults_are_run db k t = faults_are_run (usable db k t.word)
-  where
-    faults_are_run : (js : List ℕ)
-        → IsRun t.at (t.at + 1) (elim js [ [] ↦ fault t.at UnusableLabel ∷ [] | j ∷ js ↦ [] ])
-    faults_are_run [] = run_of_one t.at (t.at + 1) t.at UnusableLabel (omega arith) (omega arith)
-    faults_are_run (j ∷ js) = run_of_none t.at (t.at + 1)
+label_faults_are_run db k t = grind (arith, common_steps, run_of_one, run_of_none)
 
 -- words in order begin no later than they end
 in_order_from_le_end : (from end : ℕ) (ts : List Token) → AreInOrder from ts end → from ≤ end
 in_order_from_le_end from end [] in_order = in_order
-in_order_from_le_end from end (t ∷ ts) in_order =
-    let from_le_place = in_order.0 in
-    let next_le_end = in_order_from_le_end (t.at + length t.word) end ts in_order.2 in
+in_order_from_le_end from end (t ∷ ts) (from_le_place, has_bytes, in_order) =
+    let next_le_end = in_order_from_le_end (t.at + length t.word) end ts in_order in
     omega (arith, from_le_place, next_le_end)
 
 module _ (db : List Statement) (k end : ℕ) where
@@ -436,8 +323,7 @@ module _ (db : List Statement) (k end : ℕ) where
   -- the faults of the labels in brackets and of the letters are a run
   bracket_faults_are_run : (n from : ℕ) (ts : List Token) → AreInOrder from ts end
       → IsRun from (end + 1) (faults_of n (bracketed ts))
-  bracket_faults_are_run n from [] in_order =
-      run_of_one from (end + 1) end OpenBrackets in_order (omega arith)
+  bracket_faults_are_run n from [] in_order = run_of_one in_order (omega arith)
   bracket_faults_are_run n from (t ∷ ts) in_order =
       faults_are_run (bytes_eq t.word (codes ")"))
       (bracket_faults_are_run n (t.at + length t.word) ts in_order.2)
@@ -461,15 +347,14 @@ module _ (db : List Statement) (k end : ℕ) where
           (letters_rise (t.at + length t.word) end ts in_order.2))
       faults_are_run false rest_is_run =
           let from_le_place = in_order.0 in
-          let word_has_bytes = in_order.1 in
           subst (IsRun from (end + 1))
           (sym (append_assoc (proof_label_faults db k t)
           (flat_map (proof_label_faults db k) (bracketed ts).labels) _))
-          (joined_runs_are_run from (t.at + 1) (end + 1) _ _ (omega (arith, from_le_place))
+          (joined_runs_are_run _ _ (omega (arith, from_le_place))
           (omega (arith, label_end_le_end))
           (run_from_lower from t.at (t.at + 1) _ from_le_place (label_faults_are_run db k t))
           (run_from_lower (t.at + 1) (t.at + length t.word) (end + 1) _
-          (omega (arith, word_has_bytes)) rest_is_run))
+          (omega (arith, in_order.1)) rest_is_run))
 
   -- the first fault that is found is the first
   pub first_fault_is_refusal : (from : ℕ) (ts : List Token) (e : ProofRefused)
@@ -477,8 +362,8 @@ module _ (db : List Statement) (k end : ℕ) where
       → StartsWith (compressed_faults db k end (bracketed ts)) e
       → IsProofRefusal (compressed_faults db k end (bracketed ts)) e
   first_fault_is_refusal from ts Memory in_order starts_with_f = tt
-  first_fault_is_refusal from ts (Faulty f) in_order starts_with_f =
+  first_fault_is_refusal from ts (Faulty f) in_order (more, faults_are) =
       let numbered_count = length (mandatory_hypotheses db k) + length (bracketed ts).labels in
-      ap least starts_with_f.1 ∙ first_sorted_is_least f starts_with_f.0
-      (subst AreSorted starts_with_f.1
-      (bracket_faults_are_run numbered_count from ts in_order).are_sorted)
+      ap least faults_are ∙ first_is_least f more
+      (subst AreSorted faults_are
+      (bracket_faults_are_run numbered_count from ts in_order).are_sorted).0

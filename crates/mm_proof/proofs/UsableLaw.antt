@@ -1,6 +1,7 @@
 -- The statement of a usable label, by what is found.
-use Rattle.std.proofs.Common.{◌≡◌, ◌∙◌, ◌&&◌, ◌||◌, ℕ, ◌+◌, ◌<◌, Bool, true, false, List, [], ◌∷◌}
-use Rattle.std.proofs.Common.{nat_eq, refl, sym, ap, ap₂, arith, true≢false, eqb-true, eq-eqb}
+use Rattle.std.proofs.Common.{◌≡◌, ◌&&◌, ◌||◌, ℕ, ◌+◌, ◌<◌, Bool, true, false, List, [], ◌∷◌}
+use Rattle.std.proofs.Common.{nat_eq, sym, arith, true≢false, eqb-true}
+use Rattle.std.proofs.lemmas.Bool.Decides.{nat_tests}
 use Rattle.std.specs.List.{list_any}
 use Rattle.std.proofs.Math.Bool.{and-false}
 use Rattle.mm_spec.specs.Text.{Bytes}
@@ -30,29 +31,22 @@ module _ (db : List Statement) (k : ℕ) (w : Bytes) where
   -- a label that no statement has isn't usable
   pub undeclared_is_unusable : ((j : ℕ) → labelled j ≡ false) → usable db k w ≡ []
   undeclared_is_unusable none_is_labelled =
-      none_passes (λ j. ap (λ b. active_at db j k && b) (none_is_labelled j)
-      ∙ and-false (active_at db j k))
+      none_passes (λ j. rw (none_is_labelled j) (and-false (active_at db j k)))
 
   -- a label of a statement that isn't active isn't usable
   pub inactive_is_unusable : (j : ℕ) → ((i : ℕ) → labelled i ≡ true → i ≡ j)
       → active_at db j k ≡ false
       → usable db k w ≡ []
   inactive_is_unusable j only_j_is_labelled j_is_inactive =
-      none_passes (λ i. does_not_pass i (labelled i) refl)
-    where
-      does_not_pass : (i : ℕ) (b : Bool) → labelled i ≡ b → passes i ≡ false
-      does_not_pass i true label_of_i_is_b =
-          ap (λ x. active_at db x k && labelled i) (only_j_is_labelled i label_of_i_is_b)
-          ∙ ap (λ b. b && labelled i) j_is_inactive
-      does_not_pass i false label_of_i_is_b = ap (λ b. active_at db i k && b) label_of_i_is_b
-          ∙ and-false (active_at db i k)
+      none_passes (λ i. grind (arith, only_j_is_labelled i, j_is_inactive))
 
   -- a label of an active statement is usable
   pub active_is_usable : (j : ℕ) → ((i : ℕ) → labelled i ≡ true → i ≡ j) → labelled j ≡ true
       → active_at db j k ≡ true → usable db k w ≡ j ∷ []
   active_is_usable j only_j_is_labelled j_is_labelled active_at_k =
       filter_is passes k 0 (j ∷ []) ((omega arith), tt) member_lt_k
-      (λ i i_ge_0 i_lt_k. only_j_passes i (nat_eq i j) refl)
+      (λ i i_ge_0 i_lt_k. grind
+      (arith, nat_tests, only_j_is_labelled i, j_is_labelled, active_at_k))
     where
       member_lt_k : (i : ℕ) → (nat_eq i j || false) ≡ true → i < 0 + k
       member_lt_k i i_is_member =
@@ -60,14 +54,3 @@ module _ (db : List Statement) (k : ℕ) (w : Bytes) where
           (passes_alone (nat_eq i j) i_is_member) in let j_lt_k = active_lt_place db j k
           active_at_k in
           omega (arith, i_is_j, j_lt_k)
-
-      other_fails : (i : ℕ) → nat_eq i j ≡ false → (c : Bool) → labelled i ≡ c → passes i ≡ false
-      other_fails i i_ne_j true j_is_labelled =
-          absurd (true≢false (sym (eq-eqb i j (only_j_is_labelled i j_is_labelled)) ∙ i_ne_j))
-      other_fails i i_ne_j false j_is_labelled = ap (λ b. active_at db i k && b) j_is_labelled
-          ∙ and-false (active_at db i k)
-
-      only_j_passes : (i : ℕ) (b : Bool) → nat_eq i j ≡ b → passes i ≡ (b || false)
-      only_j_passes i true i_eq_j_is_b =
-          ap passes (eqb-true i j i_eq_j_is_b) ∙ ap₂ (λ x y. x && y) active_at_k j_is_labelled
-      only_j_passes i false i_eq_j_is_b = other_fails i i_eq_j_is_b (labelled i) refl

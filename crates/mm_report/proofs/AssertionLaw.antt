@@ -1,27 +1,42 @@
 -- The lines of assertions, one piece after the other.
-use Rattle.std.proofs.Common.{◌≡◌, ◌∙◌, ℕ, zero, suc, ◌+◌, ◌<◌, Bool, List, [], ◌∷◌, ◌++◌, length}
-use Rattle.std.proofs.Common.{take, get_or, map, sym, ap, arith, All, zero-add, true, false, cond}
-use Rattle.std.proofs.Common.{refl, ◌==◌, true≢false, append-nil, subst}
+use Rattle.std.proofs.lemmas.Grind.{common_steps}
+use Rattle.std.proofs.Common.{rules, Option, refl, ◌==◌, true≢false, append-nil, ◌≡◌, ◌∙◌, ℕ, suc}
+use Rattle.std.proofs.Common.{◌+◌, ◌<◌, Bool, List, [], ◌∷◌, ◌++◌, length, take, get_or, map, sym}
+use Rattle.std.proofs.Common.{ap, arith, All, zero-add, true, false, cond}
+use Rattle.mm_report.specs.Sent.{Pending, Sent}
+use Rattle.mm_report.proofs.SentLaw.{sent_both, sent_equal_text, range_append}
+use Rattle.std.proofs.lemmas.List.FromFn.{map-range_with_len_more, length-map-range_with_len}
+use Rattle.std.proofs.lemmas.List.FromFn.{get_or-map-range_with_len}
+use Rattle.mm_report.proofs.LabelLaw.{numbers_lt_bound}
 use Rattle.std.specs.Prelude.{flat_map, codes, slice_index_or}
 use Rattle.std.specs.List.{filter, range_with_len}
 use Rattle.std.proofs.lemmas.List.{flat_map_more, take_more}
-use Rattle.std.proofs.lemmas.List.Elements.{All-nil, All-append, All-map, All-filter, All-cons}
-use Rattle.std.proofs.lemmas.List.Elements.{All-weaker, filter-append}
-use Rattle.std.proofs.lemmas.List.FromFn.{length-map-range_with_len, get_or-map-range_with_len}
+use Rattle.std.proofs.lemmas.List.Elements.{All-nil, All-append, All-map, All-filter, All-weaker}
+use Rattle.std.proofs.lemmas.List.Elements.{filter-append}
 use Rattle.std.proofs.lemmas.Grind.{flat_map-append}
 use Rattle.mm_spec.specs.Derivation.{Pair, pair}
 use Rattle.mm_spec.specs.Frame.{pairs_below}
 use Rattle.mm_spec.specs.Statement.{Statement}
 use Rattle.mm_spec.specs.Assertion.{symbols_text, dummies_text, dummies, dummy_pairs}
-use Rattle.mm_tell.specs.Dummies.{Found, found_before}
-use Rattle.mm_report.proofs.SentLaw.{range_append}
+use Rattle.mm_tell.specs.Dummies.{DummyLists, dummies_before}
 
--- the texts of the first i elements, and then that of the next, are those of the first i + 1
-pub texts_push : {X : Type 0} (f : X → List ℕ) (xs : List X) (i : ℕ) (d : X) → i < length xs
-    → flat_map f (take i xs) ++ f (get_or xs i d) ≡ flat_map f (take (i + 1) xs)
-texts_push f xs i d i_lt_length =
-    flat_map_more f [] (take i xs) (get_or xs i d)
-    ∙ ap (flat_map f) (sym (take_more xs i d i_lt_length))
+-- after the texts of the first i elements that of the next was sent
+pub sent_next : {X : Type 0} {a b c : Option (List ℕ)} {r s t : Pending} {i : ℕ}
+    → (f : X → List ℕ) (xs : List X) (d : X) → i < length xs → Sent a b r s (flat_map f (take i xs))
+    → Sent b c s t (f (get_or xs i d)) → Sent a c r t (flat_map f (take (i + 1) xs))
+sent_next {i = i} f xs d i_lt_length sent sent_then =
+    grind (arith, common_steps, sent_equal_text, flat_map_more, take_more, sent_both)
+
+-- after the lines of the first i rows that of the next was sent
+pub sent_row : {X : Type 0} {a b c : Option (List ℕ)} {r s t : Pending} {i : ℕ}
+    → (line : X → List ℕ) (f : ℕ → X) → Sent a b r s (flat_map line (map f (range_with_len 0 i)))
+    → Sent b c s t (line (f i))
+    → Sent a c r t (flat_map line (map f (range_with_len 0 (i + 1))))
+sent_row {i = i} line f sent sent_then =
+    sent_equal_text _
+    (flat_map_more line [] (map f (range_with_len 0 i)) (f i)
+    ∙ ap (flat_map line) (sym (map-range_with_len_more f 0 i i (zero-add i))))
+    (sent_both sent sent_then)
 
 -- the texts of the selected numbers below n, and then that of n if it is selected, are those of the
 -- selected numbers up to n
@@ -29,67 +44,51 @@ pub selected_texts_push : (f : ℕ → List ℕ) (p : ℕ → Bool) (n : ℕ)
     → flat_map f (filter p (range_with_len 0 n)) ++ flat_map f (filter p (n ∷ []))
     ≡ flat_map f (filter p (range_with_len 0 (n + 1)))
 selected_texts_push f p n =
-    sym (flat_map-append f (filter p (range_with_len 0 n)) (filter p (n ∷ [])))
-    ∙ ap (flat_map f)
-    (sym (filter-append p (range_with_len 0 n) (n ∷ []))
-    ∙ ap (λ m. filter p (range_with_len 0 n ++ m ∷ [])) (sym (zero-add n))
-    ∙ ap (filter p) (sym (range_append 0 n 1)))
+    search (rules, arith, flat_map-append, filter-append, zero-add, range_append)
 
 -- the text of a number that is selected
 pub selected_text : (f : ℕ → List ℕ) (p : ℕ → Bool) (n : ℕ) → p n ≡ true
     → f n ≡ flat_map f (filter p (n ∷ []))
-selected_text f p n passes =
-    sym (append-nil (f n)) ∙ ap (λ (b : Bool). flat_map f (cond b (n ∷ []) [])) (sym passes)
+selected_text f p n passes = grind (arith, common_steps, append-nil)
 
 -- a number that isn't selected has no text
 pub no_text_unless_selected : (f : ℕ → List ℕ) (p : ℕ → Bool) (n : ℕ) → p n ≡ false
     → [] ≡ flat_map f (filter p (n ∷ []))
-no_text_unless_selected f p n fails =
-    ap (λ (b : Bool). flat_map f (cond b (n ∷ []) [])) (sym fails)
+no_text_unless_selected f p n fails = grind (arith, common_steps)
 
 -- ---- dummy variables
 
 -- the text of dummy variables, if there are some
 pub some_dummies_text : (db : List Statement) (xs : List ℕ) → (length xs == 0) ≡ false
     → (32 ∷ codes "$v") ++ symbols_text db xs ≡ dummies_text db xs
-some_dummies_text db [] is_some = absurd (true≢false is_some)
-some_dummies_text db (x ∷ xs) is_some = refl
+some_dummies_text db xs h1 = grind (arith, common_steps, true≢false)
 
 -- something was found of each statement
-pub found_of_each : (db : List Statement) (k : ℕ) (found : Found)
-    → found ≡ found_before db (length db) → k < length db
-    → (k < length found.variables) × (k < length found.pairs)
-found_of_each db k found are_found k_lt_length =
-    let variables = length-map-range_with_len (dummies db) 0 (length db) in
-    let pairs = length-map-range_with_len (dummy_pairs db) 0 (length db) in
-    subst (λ (f : Found). (k < length f.variables) × (k < length f.pairs)) (sym are_found)
-    (omega (arith, variables, k_lt_length), omega (arith, pairs, k_lt_length))
+pub lists_of_each : (db : List Statement) (k : ℕ) (dummy_lists : DummyLists)
+    → dummy_lists ≡ dummies_before db (length db) → k < length db
+    → (k < length dummy_lists.variables) × (k < length dummy_lists.pairs)
+lists_of_each db k dummy_lists are_dummies k_lt_length = search (
+  rules,
+  arith,
+  length-map-range_with_len,
+)
 
 -- what was found of a statement are its dummy variables
-pub found_variables : (db : List Statement) (k : ℕ) (found : Found)
-    → found ≡ found_before db (length db) → k < length db
-    → slice_index_or found.variables k [] ≡ dummies db k
-found_variables db k found are_found k_lt_length =
-    ap (λ (f : Found). slice_index_or f.variables k []) are_found
-    ∙ get_or-map-range_with_len (dummies db) 0 (length db) k k [] k_lt_length (omega arith)
+pub variables_are_dummies : (db : List Statement) (k : ℕ) (dummy_lists : DummyLists)
+    → dummy_lists ≡ dummies_before db (length db) → k < length db
+    → slice_index_or dummy_lists.variables k [] ≡ dummies db k
+variables_are_dummies db k dummy_lists are_dummies k_lt_length =
+    rw are_dummies
+    (get_or-map-range_with_len (dummies db) 0 (length db) k k [] k_lt_length (zero-add k))
 
 -- and its pairs with these
-pub found_pairs : (db : List Statement) (k : ℕ) (found : Found)
-    → found ≡ found_before db (length db) → k < length db
-    → slice_index_or found.pairs k [] ≡ dummy_pairs db k
-found_pairs db k found are_found k_lt_length =
-    ap (λ (f : Found). slice_index_or f.pairs k []) are_found
-    ∙ get_or-map-range_with_len (dummy_pairs db) 0 (length db) k k [] k_lt_length (omega arith)
+pub pairs_are_dummy_pairs : (db : List Statement) (k : ℕ) (dummy_lists : DummyLists)
+    → dummy_lists ≡ dummies_before db (length db) → k < length db
+    → slice_index_or dummy_lists.pairs k [] ≡ dummy_pairs db k
+pairs_are_dummy_pairs db k dummy_lists are_dummies k_lt_length =
+    grind (arith, common_steps, get_or-map-range_with_len, zero-add)
 
 -- ---- numbers of symbols
-
--- numbers from a on, and as many as n, are below their end
-range_is_below : (n a : ℕ) → All (λ k. k < a + n) (range_with_len a n)
-range_is_below zero a = All-nil (λ k. k < a + zero)
-range_is_below (suc n) a =
-    All-cons (λ k. k < a + suc n) a (range_with_len (a + 1) n) (omega arith)
-    (All-weaker (λ k. k < a + 1 + n) (λ k. k < a + suc n) (λ k k_lt_end. omega (arith, k_lt_end))
-    (range_with_len (a + 1) n) (range_is_below n (a + 1)))
 
 -- both numbers of a pair are below n
 abbrev pub AreBelow : ℕ → Pair → Type 0
@@ -102,8 +101,7 @@ selected_pairs_are_below keep n =
     All-filter keep (AreBelow n) (pairs_below n) (all_pairs (range_with_len 0 n) below)
   where
     below : All (λ k. k < n) (range_with_len 0 n)
-    below = All-weaker (λ k. k < 0 + n) (λ k. k < n) (λ k k_lt_end. omega (arith, k_lt_end))
-        (range_with_len 0 n) (range_is_below n 0)
+    below = numbers_lt_bound n
 
     with_low : (x : ℕ) → x < n → All (AreBelow n) (map (pair x) (range_with_len 0 n))
     with_low x x_lt_n =

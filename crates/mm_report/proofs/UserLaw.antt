@@ -1,17 +1,15 @@
 -- The theorems of a column, a run of neighbours at a time.
+use Rattle.std.proofs.Common.{rules, append_assoc, zero-add, add-zero, count_by, take, drop, get_or}
 use Rattle.std.proofs.Common.{◌≡◌, ℕ, zero, suc, ◌+◌, ◌-◌, ◌<◌, ◌≤◌, Bool, true, false, List, []}
 use Rattle.std.proofs.Common.{◌∷◌, ◌++◌, map, length, Option, Some, None, refl, sym, ap, ◌∙◌, arith}
-use Rattle.std.proofs.Common.{append_assoc, zero-add, add-zero, count_by, cond, take, drop, get_or}
 use Rattle.std.proofs.Common.{IfSome}
+use Rattle.std.proofs.lemmas.Grind.{common_steps, flat_map-append}
 use Rattle.std.specs.Prelude.{flat_map, slice_range}
-use Rattle.std.proofs.lemmas.List.{append-nil, take_more, length-take-le, map-id, length-append}
-use Rattle.std.proofs.lemmas.List.{map-append}
+use Rattle.std.proofs.lemmas.List.{append-nil, take_more, length-take-le, length-append, map-append}
 use Rattle.std.proofs.lemmas.List.Folds.{flat_map-map}
-use Rattle.std.proofs.lemmas.Grind.{flat_map-append}
 use Rattle.std.proofs.lemmas.Simd.{pick_l-range_with_len}
 use Rattle.std.specs.List.{range_with_len, filter}
 use Rattle.std.proofs.lemmas.List.Elements.{filter-append}
-use Rattle.std.proofs.lemmas.List.FromFn.{sum_by-map-range_with_len_more}
 use Rattle.mm_spec.specs.Text.{Bytes}
 use Rattle.mm_spec.specs.Report.{Row, separated, mark_at, users, usage_line, usage_lines}
 use Rattle.mm_rows.specs.Marks.{Marks, mark, IsAbove, first_after}
@@ -24,30 +22,26 @@ filter_of_passing : {X : Type 0} (p : X → Bool) (f : ℕ → X) (a n : ℕ)
     → ((k : ℕ) → a ≤ k → k < a + n → p (f k) ≡ true)
     → filter p (map f (range_with_len a n)) ≡ map f (range_with_len a n)
 filter_of_passing p f a zero test_passes = refl
-filter_of_passing {X} p f a (suc n) test_passes =
-    let rest : List X = filter p (map f (range_with_len (a + 1) n)) in
-    ap (λ (b : Bool). cond b (f a ∷ rest) rest) (test_passes a (omega arith) (omega arith))
-    ∙ ap (λ z. f a ∷ z)
+filter_of_passing p f a (suc n) test_passes =
+    rw (test_passes a (omega arith) (omega arith)) (ap (λ z. f a ∷ z)
     (filter_of_passing p f (a + 1) n
-    (λ k a_lt_k k_lt_end. test_passes k (omega arith) (omega arith)))
+    (λ k a_lt_k k_lt_end. test_passes k (omega arith) (omega arith))))
 
 -- if the test passes for no item, none is selected
 filter_of_failing : {X : Type 0} (p : X → Bool) (f : ℕ → X) (a n : ℕ)
     → ((k : ℕ) → a ≤ k → k < a + n → p (f k) ≡ false) → filter p (map f (range_with_len a n)) ≡ []
 filter_of_failing p f a zero test_fails = refl
-filter_of_failing {X} p f a (suc n) test_fails =
-    let rest : List X = filter p (map f (range_with_len (a + 1) n)) in
-    ap (λ (b : Bool). cond b (f a ∷ rest) rest) (test_fails a (omega arith) (omega arith))
-    ∙ filter_of_failing p f (a + 1) n
-    (λ k a_lt_k k_lt_end. test_fails k (omega arith) (omega arith))
+filter_of_failing p f a (suc n) test_fails =
+    rw (test_fails a (omega arith) (omega arith))
+    (filter_of_failing p f (a + 1) n
+    (λ k a_lt_k k_lt_end. test_fails k (omega arith) (omega arith)))
 
--- the next number counts if it passes the test
-count_in_range_push : (p : ℕ → Bool) (n : ℕ)
-    → count_by p (range_with_len 0 (n + 1)) ≡ count_by p (range_with_len 0 n) + cond (p n) 1 0
-count_in_range_push p n =
-    ap (count_by p) (sym (map-id (range_with_len 0 (n + 1))))
-    ∙ sum_by-map-range_with_len_more (λ x. cond (p x) 1 0) (λ x. x) 0 n n (zero-add n)
-    ∙ ap (λ xs. count_by p xs + cond (p n) 1 0) (map-id (range_with_len 0 n))
+-- items are counted by the numbers that they are of
+count_of_selected : {X : Type 0} (q : X → Bool) (f : ℕ → X) (p : ℕ → Bool)
+    → ((i : ℕ) → q (f i) ≡ p i) → (ns : List ℕ) → count_by p ns ≡ length (filter q (map f ns))
+count_of_selected q f p same [] = refl
+count_of_selected q f p same (n ∷ ns) =
+    grind (arith, common_steps, same n, count_of_selected q f p same ns)
 
 -- the mark at a place of a row of tests is the test of that number
 pub mark_at_range : (f : ℕ → Bool) (a k n : ℕ) → n < k
@@ -115,32 +109,20 @@ module _ (m : Marks) (labels : ℕ → Bytes) (j : ℕ) (j_lt_columns : j < m.co
   users_before_split : (n d : ℕ)
       → users_before m labels j (n + d)
       ≡ users_before m labels j n ++ users j (map (row m labels j) (range_with_len n d))
-  users_before_split n d =
-      ap (λ ns. users j (map (row m labels j) ns))
-      (range_append 0 n d ∙ ap (λ k. range_with_len 0 n ++ range_with_len k d) (zero-add n))
-      ∙ ap (users j) (map-append (row m labels j) (range_with_len 0 n) (range_with_len n d))
-      ∙ filter-append (λ r. mark_at j r.marks) (map (row m labels j) (range_with_len 0 n))
-      (map (row m labels j) (range_with_len n d))
+  users_before_split n d = rw (range_append, zero-add, map-append, filter-append) refl
 
   -- if all of the next d theorems are marked, all of them are added to the users
   users_before_run : (n d : ℕ) → ((k : ℕ) → n ≤ k → k < n + d → mark m k j ≡ true)
       → users_before m labels j (n + d)
       ≡ users_before m labels j n ++ map (row m labels j) (range_with_len n d)
   users_before_run n d all_marked =
-      users_before_split n d
-      ∙ ap (λ z. users_before m labels j n ++ z)
-      (filter_of_passing (λ r. mark_at j r.marks) (row m labels j) n d
-      (λ k n_le_k k_lt_end. row_has_mark k ∙ all_marked k n_le_k k_lt_end))
+      search (rules, arith, users_before_split, filter_of_passing, row_has_mark)
 
   -- if none of the next d theorems is marked, none is added to the users
   users_before_gap : (n d : ℕ) → ((k : ℕ) → n ≤ k → k < n + d → mark m k j ≡ false)
       → users_before m labels j (n + d) ≡ users_before m labels j n
   users_before_gap n d none_marked =
-      users_before_split n d
-      ∙ ap (λ z. users_before m labels j n ++ z)
-      (filter_of_failing (λ r. mark_at j r.marks) (row m labels j) n d
-      (λ k n_le_k k_lt_end. row_has_mark k ∙ none_marked k n_le_k k_lt_end))
-      ∙ append-nil (users_before m labels j n)
+      search (rules, arith, users_before_split, filter_of_failing, row_has_mark, append-nil)
 
   -- up to the next marked theorem nothing is added
   users_before_next_user : (last_sent : Option ℕ) (n : ℕ) → first_after last_sent ≤ n
@@ -157,13 +139,7 @@ module _ (m : Marks) (labels : ℕ → Bytes) (j : ℕ) (j_lt_columns : j < m.co
   users_exist_after_marked : (i : ℕ) → mark m i j ≡ true
       → 0 < length (users_before m labels j (i + 1))
   users_exist_after_marked i i_is_marked =
-      let one_more_user =
-      ap length
-      (users_before_run i 1
-      (λ k i_le_k k_lt_next. let k_is_i : k ≡ i = omega arith in
-      ap (λ n. mark m n j) k_is_i ∙ i_is_marked))
-      ∙ length-append (users_before m labels j i) (row m labels j i ∷ []) in
-      omega (arith, one_more_user)
+      search (rules, arith, users_before_run, length-append)
 
   -- the labels of a run of marked theorems are added to those that were sent
   pub users_with_run : (last_sent : Option ℕ) (first end : ℕ)
@@ -176,30 +152,25 @@ module _ (m : Marks) (labels : ℕ → Bytes) (j : ℕ) (j_lt_columns : j < m.co
       ≡ separated_rows (users_before m labels j end)
   users_with_run last_sent first end last_is_marked first_is_above first_le_end none_marked
       run_is_marked =
-      text_by_last last_sent last_is_marked (users_before_next_user last_sent first
-      (above_is_from_first last_sent first first_is_above) none_marked)
+      rw users_before_end (text_by_last last_sent last_is_marked)
     where
       users_before_end : users_before m labels j end
-          ≡ users_before m labels j first ++ run m labels j first end
+          ≡ users_before m labels j (first_after last_sent) ++ run m labels j first end
       users_before_end =
           let run_end_is_end : first + (end - first) ≡ end = omega arith in
           ap (users_before m labels j) (sym run_end_is_end)
           ∙ users_before_run first (end - first)
           (λ k first_le_k k_lt_run_end. run_is_marked k first_le_k (omega arith))
+          ∙ ap (λ z. z ++ run m labels j first end) (users_before_next_user last_sent first
+          (above_is_from_first last_sent first first_is_above) none_marked)
 
       text_by_last : (o : Option ℕ) → IfSome o (λ i. mark m i j ≡ true)
-          → users_before m labels j first ≡ users_before m labels j (first_after o)
           → separated_rows (users_before m labels j (first_after o))
           ++ after_label o (spaced (run m labels j first end))
-          ≡ separated_rows (users_before m labels j end)
-      text_by_last None last_is_marked no_users_between =
-          sym (ap separated_rows (users_before_end
-          ∙ ap (λ z. z ++ run m labels j first end) no_users_between)
-          ∙ separated_spaced (run m labels j first end))
-      text_by_last (Some i) last_is_marked no_users_between =
-          sym (ap separated_rows (users_before_end
-          ∙ ap (λ z. z ++ run m labels j first end) no_users_between)
-          ∙ separated_append (users_before m labels j (i + 1)) (run m labels j first end)
+          ≡ separated_rows (users_before m labels j (first_after o) ++ run m labels j first end)
+      text_by_last None last_is_marked = sym (separated_spaced (run m labels j first end))
+      text_by_last (Some i) last_is_marked =
+          sym (separated_append (users_before m labels j (i + 1)) (run m labels j first end)
           (users_exist_after_marked i last_is_marked))
 
   -- if no theorem after the last one that was sent is marked, all users were sent
@@ -210,53 +181,24 @@ module _ (m : Marks) (labels : ℕ → Bytes) (j : ℕ) (j_lt_columns : j < m.co
   users_complete last_sent n first_le_n none_marked =
       ap separated_rows (sym (users_before_next_user last_sent n first_le_n none_marked))
 
-  -- a row that is selected counts as one
-  length_of_selected_row : (r : Row) (b : Bool) → length {A = Row} (cond b (r ∷ []) []) ≡ cond b 1 0
-  length_of_selected_row r true = refl
-  length_of_selected_row r false = refl
-
   -- the count of a column
   pub users_counted : (n : ℕ)
       → count_by (λ i. mark m i j) (range_with_len 0 n)
       ≡ length (users_before m labels j n)
-  users_counted zero = refl
-  users_counted (suc n) =
-      let suc_is_plus_one : suc n ≡ n + 1 = omega arith in
-      let count_with_next = count_in_range_push (λ i. mark m i j) n in
-      let earlier_counted = users_counted n in
-      let length_with_next =
-      ap length (users_before_split n 1)
-      ∙ length-append (users_before m labels j n)
-      (filter (λ r. mark_at j r.marks) (row m labels j n ∷ [])) in
-      let next_length =
-      length_of_selected_row (row m labels j n) (mark_at j (row m labels j n).marks)
-      ∙ ap (λ b. cond b 1 0) (row_has_mark n) in
-      ap (λ k. count_by (λ i. mark m i j) (range_with_len 0 k))
-      suc_is_plus_one ∙ count_with_next
-      ∙ sym (length_with_next ∙ omega (arith, earlier_counted, next_length))
-      ∙ ap (λ k. length (users_before m labels j k)) (sym suc_is_plus_one)
+  users_counted n =
+      count_of_selected (λ r. mark_at j r.marks) (row m labels j) (λ i. mark m i j) row_has_mark
+      (range_with_len 0 n)
 
 -- the lines of the columns from number `a` on, with one more column at the end
 usage_lines_from_push : (rows : List Row) (a : ℕ) (ls : List Bytes) (l : Bytes)
     → usage_lines rows a (ls ++ l ∷ []) ≡ usage_lines rows a ls ++ usage_line rows (a + length ls) l
-usage_lines_from_push rows a [] l =
-    append-nil (usage_line rows a l) ∙ ap (λ n. usage_line rows n l) (sym (add-zero a))
+usage_lines_from_push rows a [] l = grind (arith, common_steps, append-nil, add-zero)
 usage_lines_from_push rows a (k ∷ ls) l =
-    let next_number_is_suc : a + 1 + length ls ≡ a + suc (length ls) = omega arith in
-    ap (λ z. usage_line rows a k ++ z)
-    (usage_lines_from_push rows (a + 1) ls l
-    ∙ ap (λ n. usage_lines rows (a + 1) ls ++ usage_line rows n l) next_number_is_suc)
-    ∙ sym (append_assoc (usage_line rows a k) (usage_lines rows (a + 1) ls)
-    (usage_line rows (a + suc (length ls)) l))
+    grind (arith, common_steps, append_assoc, (usage_lines_from_push rows (a + 1) ls l))
 
 -- the lines of the first j + 1 columns are those of the first j, and then that of column j
 pub usage_lines_push : (rows : List Row) (labels : List Bytes) (j : ℕ) → j < length labels
     → usage_lines rows 0 (take (j + 1) labels)
     ≡ usage_lines rows 0 (take j labels) ++ usage_line rows j (get_or labels j [])
 usage_lines_push rows labels j j_lt_length =
-    let taken_length = length-take-le j labels (omega arith) in
-    let next_number_is_j : 0 + length (take j labels) ≡ j = omega (arith, taken_length) in
-    ap (usage_lines rows 0) (take_more labels j [] j_lt_length)
-    ∙ usage_lines_from_push rows 0 (take j labels) (get_or labels j [])
-    ∙ ap (λ n. usage_lines rows 0 (take j labels) ++ usage_line rows n (get_or labels j []))
-    next_number_is_j
+    grind (arith, common_steps, length-take-le, take_more, usage_lines_from_push)

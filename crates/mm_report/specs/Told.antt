@@ -8,16 +8,17 @@ use Rattle.mm_spec.specs.Assertion.{statement_lines}
 use Rattle.mm_spec.specs.Output.{is_open_at}
 use Rattle.mm_spec.specs.Request.{Request}
 use Rattle.mm_database.specs.Database.{Contents}
-use Rattle.mm_tell.specs.Dummies.{Found, found_before}
+use Rattle.mm_tell.specs.Dummies.{DummyLists, dummies_before}
 
 -- the lines of the statements of a database, or of those with the typecode if one is chosen
 abbrev pub told_of : Contents → Option Bytes → List ℕ
 told_of d only = statement_lines d.statements (is_open_at d.read d.with_open) only
 
 -- where the statements are requested, these are their dummy variables
-abbrev pub AreFoundFor : Request → Contents → Found → Type 0
-AreFoundFor request d found =
-    request.sections.statements ≡ true → found ≡ found_before d.statements (length d.statements)
+abbrev pub AreDummiesFor : Request → Contents → DummyLists → Type 0
+AreDummiesFor request d dummy_lists =
+    request.sections.statements ≡ true
+    → dummy_lists ≡ dummies_before d.statements (length d.statements)
 
 -- the pairs are of symbols of the database
 abbrev pub ArePairsOf : List Statement → List Pair → Type 0

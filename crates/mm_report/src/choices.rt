@@ -1,7 +1,7 @@
 //! The choice of sections that `write_report` takes.
 
 ghost use Rattle.std.specs.Prelude.{◌≡◌};
-ghost use Rattle.mm_report.specs.Rows.{sections_of};
+ghost use Rattle.mm_report.specs.Reports.{sections_of};
 
 use mm_spec::Sections;
 

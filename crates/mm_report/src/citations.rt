@@ -4,10 +4,13 @@ ghost use Rattle.std.specs.Prelude.{◌≡◌, ℕ, length, take, flat_map, code
 ghost use Rattle.std.specs.Option.{option_copied};
 ghost use Rattle.std.specs.Io.KnownBytes.{Appends};
 ghost use Rattle.mm_spec.specs.Report.{citation_line, separated, list_line, section};
-ghost use Rattle.mm_report.specs.Rows.{AreAssertions, AreCitationsOf, citation_report_of};
-ghost use Rattle.mm_report.specs.Rows.{citing_rows, listed, listed_labels, next_label};
-ghost use Rattle.mm_report.specs.Rows.{citing_rows_of, unmarked_part, unmarked_report_of};
-ghost use Rattle.mm_report.specs.Told.{AreFoundFor};
+ghost use Rattle.mm_report.specs.CitingRows.{AreAssertions, AreCitationsOf};
+ghost use Rattle.mm_report.specs.Reports.{citation_report_of};
+ghost use Rattle.mm_report.specs.Rows.{next_label};
+ghost use Rattle.mm_report.specs.CitingRows.{citing_rows, listed, listed_labels};
+ghost use Rattle.mm_report.specs.CitingRows.{citing_rows_of};
+ghost use Rattle.mm_report.specs.Reports.{unmarked_part, unmarked_report_of};
+ghost use Rattle.mm_report.specs.Told.{AreDummiesFor};
 ghost use Rattle.mm_report.specs.Sent.{Sent};
 
 use crate::labels::{TheoremLabels, label_of};
@@ -16,8 +19,8 @@ use crate::sections::{send_head, send_line};
 use crate::sink::{Sink, WriteFailed};
 use crate::statements::send_statements_section;
 use mm_cites::Citations;
-use mm_database::Database;
-use mm_rows::{Columns, has_chosen_typecode};
+use mm_database::{Database, has_chosen_typecode};
+use mm_rows::Columns;
 use mm_spec::{Form, Request, Sections};
 use mm_tell::Dummies;
 use std::alloc::Allocator;
@@ -164,20 +167,20 @@ fn send_unmarked<W: Write, A: Allocator, C: Allocator, D: Allocator>(
 /// Writes the report requested of a database if it has no section of marks, for which no rows are
 /// needed: the first lines, the sections of the citations and of the statements if they are
 /// requested, and the last line. `chosen` has the columns of the typecode requested, `citations`
-/// are those of this database, and `found` its dummy variables if the statements are requested. If
-/// open theorems count as axioms, the report says how many columns they are. It allocates no
-/// memory. Returns `WriteFailed` if a write failed or accepted no byte of a piece that wasn't
-/// empty; then a prefix of the report has been written.
+/// are those of this database, and `dummy_lists` its dummy variables if the statements are
+/// requested. If open theorems count as axioms, the report says how many columns they are. It
+/// allocates no memory. Returns `WriteFailed` if a write failed or accepted no byte of a piece that
+/// wasn't empty; then a prefix of the report has been written.
 pub fn write_unmarked<'a, W: Write, A: Allocator, C: Allocator, V: Allocator, D: Allocator>(
     to: &mut W,
     request: &Request<'_>,
     database: &Database<'a, D>,
     chosen: &Columns<A>,
     citations: &Citations<C>,
-    found: &Dummies<V>,
+    dummy_lists: &Dummies<V>,
 ) -> Result<(), WriteFailed>
     requires are_citations { AreCitationsOf database.now.statements citations.now }
-    requires are_found { AreFoundFor request.now database.now found.now }
+    requires are_dummies { AreDummiesFor request.now database.now dummy_lists.now }
     ensures report_is_written { OnOk result
         (Appends (W.contents to.old) (W.contents to.new)
         (unmarked_report_of request.now database.now chosen.now
@@ -190,7 +193,7 @@ pub fn write_unmarked<'a, W: Write, A: Allocator, C: Allocator, V: Allocator, D:
 {
     let mut sink = Sink::new();
     send_unmarked(&mut sink, to, request, database, chosen, citations);
-    send_statements_section(&mut sink, to, request, database, found);
+    send_statements_section(&mut sink, to, request, database, dummy_lists);
     send_line(&mut sink, to, b"end");
     sink.finish(to)
 }

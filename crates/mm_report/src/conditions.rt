@@ -11,7 +11,7 @@ ghost use Rattle.mm_spec.specs.Frame.{symbol_names, mandatory_hypotheses, mandat
 ghost use Rattle.mm_spec.specs.Assertion.{symbols_text, hypothesis_keyword, hypothesis_text};
 ghost use Rattle.mm_spec.specs.Assertion.{pair_text, dummies_text, dummies, dummy_pairs};
 ghost use Rattle.mm_spec.specs.Assertion.{conditions_text};
-ghost use Rattle.mm_tell.specs.Dummies.{Found, found_before};
+ghost use Rattle.mm_tell.specs.Dummies.{DummyLists, dummies_before};
 ghost use Rattle.mm_report.specs.Sent.{Sent};
 ghost use Rattle.mm_report.specs.Told.{ArePairsOf};
 
@@ -161,18 +161,18 @@ pub(crate) fn send_conditions<W: Write, D: Allocator, V: Allocator>(
     sink: &mut Sink,
     to: &mut W,
     database: &Database<'_, D>,
-    found: &Dummies<V>,
+    dummy_lists: &Dummies<V>,
     assertion: u32,
 )
     requires assertion_lt_length { assertion < length database.now.statements }
     requires is_assertion { list_any is_assertion (statement_at database.now.statements assertion)
         ≡ true }
-    requires are_found { found.now
-        ≡ found_before database.now.statements (length database.now.statements) }
+    requires are_dummies { dummy_lists.now
+        ≡ dummies_before database.now.statements (length database.now.statements) }
     ensures { Sent (W.contents to.old) (W.contents to.new) sink.old sink.new
         (conditions_text database.now.statements assertion) }
 {
     send_frame(sink, to, database, assertion);
-    send_dummies(sink, to, database, found.variables(assertion));
-    send_pairs(sink, to, database, found.pairs(assertion));
+    send_dummies(sink, to, database, dummy_lists.variables(assertion));
+    send_pairs(sink, to, database, dummy_lists.pairs(assertion));
 }

@@ -14,7 +14,7 @@ use std::io::Write;
 /// How many words of marks are written at a time.
 const WORDS_AT_A_TIME: u32 = 32;
 
-/// How many digits these words have.
+/// How many digits these words have: a word has 64 marks, and each digit tells four of them.
 const DIGITS: usize = 16 * WORDS_AT_A_TIME as usize;
 
 /// Sends a theorem's digits, those of some words at a time.

@@ -4,7 +4,7 @@ ghost use Rattle.std.specs.Prelude.{◌≡◌, ◌&&◌, count_by, length};
 ghost use Rattle.std.specs.List.{list_any};
 ghost use Rattle.mm_spec.specs.Opened.{is_open_theorem};
 ghost use Rattle.mm_spec.specs.Scope.{statement_at};
-ghost use Rattle.mm_report.specs.Rows.{open_theorem_count as spec_open_theorem_count};
+ghost use Rattle.mm_report.specs.Reports.{open_theorem_count as spec_open_theorem_count};
 
 use mm_database::Database;
 use mm_rows::Columns;

@@ -8,16 +8,15 @@ ghost use Rattle.mm_spec.specs.Citation.{is_assertion};
 ghost use Rattle.mm_spec.specs.Report.{section};
 ghost use Rattle.mm_spec.specs.Assertion.{is_told, statement_lines, assertion_line};
 ghost use Rattle.mm_spec.specs.Output.{is_open_at};
-ghost use Rattle.mm_tell.specs.Dummies.{Found, found_before};
+ghost use Rattle.mm_tell.specs.Dummies.{DummyLists, dummies_before};
 ghost use Rattle.mm_report.specs.Sent.{Sent};
-ghost use Rattle.mm_report.specs.Told.{AreFoundFor, told_of};
+ghost use Rattle.mm_report.specs.Told.{AreDummiesFor, told_of};
 
 use crate::assertion::send_assertion;
 use crate::sections::send_line;
 use crate::sink::Sink;
-use mm_database::Database;
+use mm_database::{Database, has_chosen_typecode};
 use mm_outline::parts::Kind;
-use mm_rows::has_chosen_typecode;
 use mm_spec::Request;
 use mm_tell::Dummies;
 use std::alloc::Allocator;
@@ -48,13 +47,13 @@ fn send_if_told<W: Write, D: Allocator, V: Allocator>(
     sink: &mut Sink,
     to: &mut W,
     database: &Database<'_, D>,
-    found: &Dummies<V>,
+    dummy_lists: &Dummies<V>,
     only: Option<&[u8]>,
     statement: u32,
 )
     requires statement_lt_length { statement < length database.now.statements }
-    requires are_found { found.now
-        ≡ found_before database.now.statements (length database.now.statements) }
+    requires are_dummies { dummy_lists.now
+        ≡ dummies_before database.now.statements (length database.now.statements) }
     ensures { Sent (W.contents to.old) (W.contents to.new) sink.old sink.new
         (flat_map (λ k. assertion_line database.now.statements
         (is_open_at database.now.read database.now.with_open k) k)
@@ -62,7 +61,7 @@ fn send_if_told<W: Write, D: Allocator, V: Allocator>(
 {
     if is_told(database, only, statement) {
         let is_open = database.is_open(statement);
-        send_assertion(sink, to, database, found, is_open, statement);
+        send_assertion(sink, to, database, dummy_lists, is_open, statement);
     }
 }
 
@@ -71,35 +70,35 @@ fn send_statement_lines<W: Write, D: Allocator, V: Allocator>(
     sink: &mut Sink,
     to: &mut W,
     database: &Database<'_, D>,
-    found: &Dummies<V>,
+    dummy_lists: &Dummies<V>,
     only: Option<&[u8]>,
 )
-    requires { found.now
-        ≡ found_before database.now.statements (length database.now.statements) }
+    requires { dummy_lists.now
+        ≡ dummies_before database.now.statements (length database.now.statements) }
     ensures { Sent (W.contents to.old) (W.contents to.new) sink.old sink.new
         (told_of database.now (option_copied only.entry)) }
 {
     for statement in 0..database.len() {
-        send_if_told(sink, to, database, found, only, statement);
+        send_if_told(sink, to, database, dummy_lists, only, statement);
     }
 }
 
-/// Sends the section of the statements, if it is wanted. `found` are then the dummy variables of
-/// the database's statements.
+/// Sends the section of the statements, if it is wanted. `dummy_lists` are then the dummy variables
+/// of the database's statements.
 pub(crate) fn send_statements_section<W: Write, D: Allocator, V: Allocator>(
     sink: &mut Sink,
     to: &mut W,
     request: &Request<'_>,
     database: &Database<'_, D>,
-    found: &Dummies<V>,
+    dummy_lists: &Dummies<V>,
 )
-    requires { AreFoundFor request.now database.now found.now }
+    requires { AreDummiesFor request.now database.now dummy_lists.now }
     ensures { Sent (W.contents to.old) (W.contents to.new) sink.old sink.new
         (section request.now.sections.statements (codes "statements")
         (told_of database.now request.now.only)) }
 {
     if request.sections.statements {
         send_line(sink, to, b"statements");
-        send_statement_lines(sink, to, database, found, request.only);
+        send_statement_lines(sink, to, database, dummy_lists, request.only);
     }
 }

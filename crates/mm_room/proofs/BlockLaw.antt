@@ -1,14 +1,15 @@
 -- A `Block` as it lies in memory: a pointer, which is made of nothing, and a field of no bytes.
 -- Assumes `Logic`.
-use Rattle.std.proofs.Common.{◌≡◌, List, [], ◌∷◌, refl}
+use Rattle.std.proofs.Common.{arith, ◌≡◌, List, [], ◌∷◌, refl}
+use Rattle.std.proofs.lemmas.Grind.{common_steps}
 use seplogic.Ra.Ura.{Ura}
 use mir.Syntax.{ty_ptr, ty_struct, tcons, tnil}
 use mir.Val.{Val, vstruct, vcons, vnil}
 use types.Logic.{Logic}
 use denote.RattleType.{RattleType}
 use denote.Laws.{Is, Makes, Typed, Lawful}
-use denote.RawPtr.{Ptr, RawPtr, ptr_val, rawptr_vals, rawptr_pure, rawptr_Lawful, rawptr_Tells}
-use denote.Struct.Struct.{Struct, Shape, Struct-Makes, Struct-Pure, Struct-Lawful, Struct-Tells}
+use denote.RawPtr.{Ptr, RawPtr, ptr_val, rawptr_vals, rawptr_pure, rawptr_Lawful}
+use denote.Struct.Struct.{Struct, Shape, Struct-Makes, Struct-Pure, Struct-Lawful}
 
 abbrev no_field : Shape
 no_field = record { name = []; args = []; types = []; fields = [] }
@@ -38,6 +39,4 @@ pub block_typed : {M : Type 1} {𝓤 : Ura M} (𝓛 : Logic 𝓤) (p : Ptr)
 block_typed 𝓛 p = (fields_lawful 𝓛).typed (p, (tt, tt)) (block_val p ∷ []) (is_block p)
 
 pub block_is : (p : Ptr) (vs : List Val) → Is BlockFields (p, (tt, tt)) vs → vs ≡ block_val p ∷ []
-block_is p vs =
-    Struct-Tells two_fields (rawptr_vals, (λ _. vstruct vnil ∷ [], tt))
-    (rawptr_Tells, (Struct-Tells no_field tt tt, tt)) (p, (tt, tt)) vs
+block_is p vs h1 = grind (arith, common_steps)

@@ -1,4 +1,5 @@
--- Parameters of which nothing is had at exit: what stays of them, and that it goes. Assumes `Logic`.
+-- Parameters of which nothing is had at exit: what stays of them, and that it goes. Assumes
+-- `Logic`.
 use Rattle.std.proofs.Common.{ℕ, List, [], ◌∷◌}
 use seplogic.Ra.Ura.{Ura}
 use types.Logic.{Logic}

@@ -1,25 +1,24 @@
 -- Cells as digits, a word of them at a time.
-use Rattle.std.proofs.Common.{◌≡◌, ℕ, Bool, true, false, List, [], ◌∷◌, ◌++◌, ◌⊎◌, inl, inr}
-use Rattle.std.proofs.Common.{◌<◌, ◌≤◌, ◌+◌, ◌-◌, ◌*◌, ◌/◌, ◌%◌, ◌^◌, length, map, take, drop}
-use Rattle.std.proofs.Common.{get_or, bit_and, eqb, cond, subst, sym, ap, ap₂, refl, arith, ◌∙◌}
-use Rattle.std.proofs.Common.{eqb-true, w8}
+use Rattle.std.proofs.lemmas.Grind.{common_steps}
+use Rattle.std.proofs.Common.{◌≡◌, ℕ, Bool, true, false, List, [], ◌∷◌, ◌++◌, ◌<◌, ◌+◌, ◌-◌, ◌*◌}
+use Rattle.std.proofs.Common.{◌/◌, ◌%◌, ◌^◌, length, map, take, drop, get_or, bit_and, eqb, cond}
+use Rattle.std.proofs.Common.{sym, ap, ap₂, refl, arith, ◌∙◌, eqb-true, w8, rules}
 use Rattle.std.specs.Prelude.{replicate}
 use Rattle.std.specs.Int.{bit_at}
 use Rattle.std.specs.List.{range_with_len}
-use Rattle.std.proofs.lemmas.Bool.{cases_lt, agree_below_at}
+use Rattle.std.proofs.lemmas.Bool.{agree_below_at}
 use Rattle.std.proofs.lemmas.Nat.Bits.{bit_at_cat_low}
-use Rattle.std.proofs.lemmas.List.{ext_get_or, length-map, get_or-take, get_or-drop, get_or-map}
-use Rattle.std.proofs.lemmas.List.FromFn.{get_or-map-range_with_len, length-range_with_len}
-use Rattle.std.proofs.lemmas.Simd.{get_or-put_chunk_below, get_or-put_chunk_at, get_or_narrower}
-use Rattle.std.proofs.lemmas.Simd.{tops_compared, get_or-sel_l, get_or-zip2}
+use Rattle.std.proofs.lemmas.List.{get_or-take, get_or-drop, get_or-map}
+use Rattle.std.proofs.lemmas.Simd.{get_or_narrower, tops_compared, get_or-sel_l, get_or-zip2}
 use Rattle.std.proofs.lemmas.Simd.{get_or-replicate, pick_l_left}
 use Rattle.mm_spec.specs.Report.{digit_of, mark_at}
 use Rattle.mm_spec.proofs.BitLaw.{shifted}
-use Rattle.mm_rows.specs.Bits.{is_bit, words_for, IsTable}
-use Rattle.mm_rows.specs.BitRows.{marks, row_at}
+use Rattle.mm_rows.specs.Bits.{is_bit}
+use Rattle.mm_rows.specs.MarkBits.{AreBitsOfRow}
 use Rattle.mm_rows.specs.Marks.{Marks, row_marks}
 use Rattle.mm_rows.specs.declared.cells.TheConstants.{BYTES, BITS}
-use Rattle.mm_rows.proofs.DigitLaw.{row_bit_is_mark}
+use Rattle.mm_rows.proofs.BitLaw.{bit_of_word_at}
+use Rattle.mm_rows.proofs.DigitLaw.{next_chunk_is_written, row_bit_is_mark, written_are_values}
 use lib.Lanes.{put_chunk, number_l, digits_l, zip2, sel_l, pick_l, top}
 
 -- a word in each of eight lanes
@@ -78,12 +77,7 @@ power_of_256 j j_lt_8 =
 
 byte_bit_is_word_bit : (word k : ℕ) → k < 64
     → bit_at (word / 256 ^ (k / 8) % 256) (k % 8) ≡ bit_at word k
-byte_bit_is_word_bit word k k_lt_64 =
-    let index_is_k : 8 * (k / 8) + k % 8 ≡ k = omega arith in
-    low_byte_bit (word / 256 ^ (k / 8)) (k % 8) (omega arith)
-    ∙ ap (λ p. bit_at (word / p) (k % 8)) (power_of_256 (k / 8) (omega arith))
-    ∙ shifted word (8 * (k / 8)) (k % 8)
-    ∙ ap (bit_at word) index_is_k
+byte_bit_is_word_bit word k k_lt_64 = search (rules, arith, low_byte_bit, power_of_256, shifted)
 
 -- for each of 64 lanes the byte of the word that its cell is in
 abbrev pub spread : ℕ → List ℕ
@@ -106,8 +100,7 @@ spread_byte_is word k word_lt_2_64 k_lt_64 =
     ∙ byte_of_word word (k / 8) word_lt_2_64 (omega arith)
 
 digit_is_shown : (b : Bool) → cond b 49 48 ≡ digit_of b
-digit_is_shown true = refl
-digit_is_shown false = refl
+digit_is_shown b = grind (arith, common_steps)
 
 pub lane_is_digit : (word k : ℕ) → word < 2 ^ 64 → k < 64
     → get_or (lanes word) k 0 ≡ digit_of (eqb (bit_at word k) 1)
@@ -139,72 +132,31 @@ pub next_cells_are_written : (words into lanes : List ℕ) (w : ℕ) → w < len
     → ((k : ℕ) → k < 64 → get_or lanes k 0 ≡ digit_of (eqb (bit_at (get_or words w 0) k) 1))
     → AreCells words into w → AreCells words (put_chunk (64 * w) into lanes) (w + 1)
 next_cells_are_written words into lanes w w_lt_length into_has_size lanes_are_64 lanes_are_digits
-    cells_before i
-    i_lt_end = cell_is_written (cases_lt i (64 * w))
-  where
-    cell_is_written : (i < 64 * w) ⊎ (64 * w ≤ i)
-        → get_or (put_chunk (64 * w) into lanes) i 0 ≡ digit_of (is_bit words i)
-    cell_is_written (inl i_lt_block) =
-        get_or-put_chunk_below (64 * w) into lanes i 0 i_lt_block ∙ cells_before i i_lt_block
-    cell_is_written (inr block_le_i) =
-        let index_is_i : 64 * w + (i - 64 * w) ≡ i = omega arith in
-        let word_is : w ≡ i / 64 = omega arith in
-        let bit_is : i - 64 * w ≡ i % 64 = omega arith in
-        ap (λ n. get_or (put_chunk (64 * w) into lanes) n 0) (sym index_is_i)
-        ∙ get_or-put_chunk_at (64 * w) into lanes (i - 64 * w) 0 (omega (arith, lanes_are_64))
-        (omega (arith, lanes_are_64, into_has_size, w_lt_length))
-        ∙ lanes_are_digits (i - 64 * w) (omega arith)
-        ∙ ap₂ (λ a b. digit_of (eqb (bit_at (get_or words a 0) b) 1)) word_is bit_is
+    cells_before i i_lt_end =
+    next_chunk_is_written 64 (λ k. digit_of (is_bit words k)) into lanes (64 * w) lanes_are_64
+    (omega arith)
+    (λ k k_lt_64. lanes_are_digits k k_lt_64 ∙ sym (ap digit_of (bit_of_word_at words w k k_lt_64)))
+    cells_before i (omega arith)
 
-module _ (m : Marks) (rows columns : ℕ) (words : List ℕ)
-    (marks_are : m ≡ marks rows columns words) (is_table : IsTable rows columns words) where
-  -- the cells that were written from word `word` of a row on are those of its columns
-  pub written_are_row_cells : (i word : ℕ) (part into into_before : List ℕ) → i < m.rows
-      → part ≡ row_at words (words_for columns) i
-      → 64 * word + length into_before ≤ 64 * words_for m.columns → length into_before % 64 ≡ 0
-      → length into ≡ length into_before
-      → ((k : ℕ) → k < length into_before
-      → get_or into k 0
-      ≡ digit_of (is_bit (take (word + length into_before / 64 - word) (drop word part)) k))
-      → into ≡ map (λ j. digit_of (mark_at j (row_marks m i)))
-      (range_with_len (64 * word) (length into_before))
-  written_are_row_cells i word part into into_before row_lt_marks part_is_row cells_fit_marks
-      whole_words lengths_equal
-      digits_are =
-      ext_get_or 0 into (map cell (range_with_len (64 * word) (length into_before)))
-      (lengths_equal ∙ sym
-      (length-map (range_with_len (64 * word) (length into_before)) cell
-      ∙ length-range_with_len (64 * word) (length into_before)))
-      (λ k k_lt_length. cell_at_index k (omega (arith, lengths_equal, k_lt_length)))
-    where
-      cell : ℕ → ℕ
-      cell j = digit_of (mark_at j (row_marks m i))
-
-      mark : (j : ℕ) → j < 64 * words_for columns
-          → is_bit part j ≡ mark_at j (row_marks m i)
-      mark j j_in_row =
-          let row_lt_rows = subst (λ (x : Marks). i < x.rows) marks_are row_lt_marks in
-          ap (λ xs. is_bit xs j) part_is_row
-          ∙ row_bit_is_mark m rows columns words marks_are is_table i j row_lt_rows j_in_row
-          ∙ sym (ap (λ (x : Marks). mark_at j (row_marks x i)) marks_are)
-
-      cell_at_index : (k : ℕ) → k < length into_before
-          → get_or into k 0 ≡ get_or (map cell (range_with_len (64 * word) (length into_before))) k
-          0
-      cell_at_index k k_lt_length =
-          let cells_fit_row : 64 * word + length into_before ≤ 64 * words_for columns =
-          subst (λ (x : Marks). 64 * word + length into_before ≤ 64 * words_for x.columns) marks_are
-          cells_fit_marks in
-          let word_is : word + k / 64 ≡ (64 * word + k) / 64 = omega arith in
-          let bit_is : k % 64 ≡ (64 * word + k) % 64 = omega arith in
-          let word_in_part : k / 64 < word + length into_before / 64 - word =
-          omega (arith, k_lt_length, whole_words) in
-          digits_are k k_lt_length
-          ∙ ap (λ w. digit_of (eqb (bit_at w (k % 64)) 1))
-          (get_or-take (word + length into_before / 64 - word) (drop word part) (k / 64) 0
-          word_in_part
-          ∙ get_or-drop word part (k / 64) 0)
-          ∙ ap₂ (λ a b. digit_of (eqb (bit_at (get_or part a 0) b) 1)) word_is bit_is
-          ∙ ap digit_of (mark (64 * word + k) (omega (arith, cells_fit_row, k_lt_length)))
-          ∙ sym (get_or-map-range_with_len cell (64 * word) (length into_before) k
-          (64 * word + k) 0 k_lt_length refl)
+-- the cells that were written from word `word` of a row on are those of its columns
+pub written_are_row_cells : (m : Marks) (i : ℕ) (row : List ℕ) → AreBitsOfRow m i row
+    → (word : ℕ) (into into_before : List ℕ)
+    → length into_before % 64 ≡ 0 → length into ≡ length into_before
+    → ((k : ℕ) → k < length into_before
+    → get_or into k 0
+    ≡ digit_of (is_bit (take (word + length into_before / 64 - word) (drop word row)) k))
+    → into ≡ map (λ j. digit_of (mark_at j (row_marks m i)))
+    (range_with_len (64 * word) (length into_before))
+written_are_row_cells m i row are_bits word into into_before whole_words lengths_equal digits_are =
+    written_are_values (λ j. digit_of (mark_at j (row_marks m i))) (64 * word) into into_before
+    lengths_equal
+    (λ k k_lt_length.
+    let word_in_part : k / 64 < word + length into_before / 64 - word = omega arith in
+    let word_is : word + k / 64 ≡ (64 * word + k) / 64 = omega arith in
+    let bit_is : k % 64 ≡ (64 * word + k) % 64 = omega arith in
+    digits_are k k_lt_length
+    ∙ ap (λ n. digit_of (eqb (bit_at n (k % 64)) 1))
+    (get_or-take (word + length into_before / 64 - word) (drop word row) (k / 64) 0 word_in_part
+    ∙ get_or-drop word row (k / 64) 0)
+    ∙ ap₂ (λ a b. digit_of (eqb (bit_at (get_or row a 0) b) 1)) word_is bit_is
+    ∙ ap digit_of (row_bit_is_mark m i row are_bits (64 * word + k)))

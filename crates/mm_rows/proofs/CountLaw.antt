@@ -1,9 +1,8 @@
 -- How many bits of a row are set.
-use Rattle.std.proofs.Common.{◌≡◌, ℕ, zero, suc, Bool, true, false, List, min, ◌⊎◌, inl, inr, ◌<◌}
-use Rattle.std.proofs.Common.{◌≤◌, ◌+◌}
-use Rattle.std.proofs.Common.{◌*◌, ◌/◌, ◌%◌, ◌-◌, ◌^◌, length, sym, ap, ap₂, refl, arith, get_or}
-use Rattle.std.proofs.Common.{eqb, take, map, sum, cond, count_by, count_ones, ◌∙◌, zero-add}
-use Rattle.std.proofs.lemmas.Bool.{cases_eq}
+use Rattle.std.proofs.lemmas.Bool.Decides.{nat_tests}
+use Rattle.std.proofs.Common.{◌≡◌, ℕ, zero, suc, Bool, false, List, min, ◌<◌, ◌≤◌, ◌+◌, ◌*◌, ◌/◌}
+use Rattle.std.proofs.Common.{◌%◌, ◌-◌, ◌^◌, length, sym, ap, ap₂, refl, arith, get_or, eqb, take}
+use Rattle.std.proofs.Common.{map, sum, cond, count_by, count_ones, ◌∙◌, zero-add}
 use Rattle.std.proofs.lemmas.List.{map-id, take_all}
 use Rattle.std.proofs.lemmas.List.FromFn.{sum_by-map-range_with_len_more}
 use Rattle.std.proofs.lemmas.List.Sums.{sum-map, sum_by_more}
@@ -13,10 +12,9 @@ use Rattle.std.proofs.lemmas.Nat.Bits.{bit_at-lt}
 use Rattle.std.proofs.Math.Nat.{mod-eq_of_lt}
 use Rattle.std.specs.Int.{bit_at}
 use Rattle.std.specs.List.{range_with_len, sum_by}
-use Rattle.mm_rows.specs.Bits.{is_bit, bit_index}
-use Rattle.mm_rows.specs.BitRows.{row_at}
+use Rattle.std.proofs.lemmas.Grind.{common_steps}
+use Rattle.mm_rows.specs.Bits.{is_bit}
 use Rattle.mm_rows.proofs.BitLaw.{bit_of_word_at}
-use Rattle.mm_rows.proofs.TransposeLaw.{row_bit_is_table_bit, row_has_width_words}
 
 -- how many numbers below n pass
 abbrev pub tally : (ℕ → Bool) → ℕ → ℕ
@@ -48,10 +46,7 @@ nothing_passes_no_tally p (suc n) none_passes =
     (none_passes n (omega arith))
 
 tally_of_sum : (p : ℕ → Bool) (n m : ℕ) → tally p (n + m) ≡ tally p n + tally (λ k. p (n + k)) m
-tally_of_sum p n zero =
-    let sum_is : n + 0 ≡ n = omega arith in let plus_zero_is : tally p n + 0 ≡ tally p n =
-    omega arith in
-    ap (tally p) sum_is ∙ sym plus_zero_is
+tally_of_sum p n zero = grind arith
 tally_of_sum p n (suc m) =
     let sum_is : n + suc m ≡ suc (n + m) = omega arith in
     let earlier_sum = tally_of_sum p n m in
@@ -72,45 +67,19 @@ tally_of_passing_range p n m n_le_m none_passes_from_n =
 
 tally_le_range : (p : ℕ → Bool) (n : ℕ) → tally p n ≤ n
 tally_le_range p zero = omega arith
-tally_le_range p (suc n) =
-    let earlier_le = tally_le_range p n in let one_more = tally_with_one_more p n in
-    omega (arith, earlier_le, one_more, one_at_most (p n))
-  where
-    one_at_most : (b : Bool) → cond b 1 0 ≤ 1
-    one_at_most true = omega arith
-    one_at_most false = omega arith
+tally_le_range p (suc n) = grind (arith, common_steps, tally_with_one_more, (tally_le_range p n))
 
 -- a count below 2 ^ 64 isn't cut off
 pub saturated_count_is_tally : (p : ℕ → Bool) (n result : ℕ) → n < 2 ^ 64
     → result ≡ min (tally p n) (2 ^ 64 - 1)
     → result ≡ tally p n
-saturated_count_is_tally p n result n_lt_2_64 result_is =
-    let tally_le_n = tally_le_range p n in omega (arith, n_lt_2_64, result_is, tally_le_n)
-
-ones_of_zero : count_ones 0 ≡ 0
-ones_of_zero = let ones_le_number = ones_le_self 0 in omega (arith, ones_le_number)
-
-ones_of_one : (count_ones 1 ≡ 0) ⊎ (count_ones 1 ≡ 0 → ⊥) → count_ones 1 ≡ 1
-ones_of_one (inl ones_is_zero) =
-    let one_is_zero = zero_from_ones 1 ones_is_zero in absurd (omega (arith, one_is_zero))
-ones_of_one (inr ones_is_not_zero) =
-    let ones_le_number = ones_le_self 1 in omega (arith, ones_le_number, ones_is_not_zero)
+saturated_count_is_tally p n result n_lt_2_64 result_is = grind (arith, nat_tests, tally_le_range)
 
 ones_of_bit_value : (b : ℕ) → b < 2 → count_ones b ≡ cond (eqb b 1) 1 0
-ones_of_bit_value b b_lt_2 = ones_are_bit (cases_eq b 0)
-  where
-    ones_are_bit : (b ≡ 0) ⊎ (b ≡ 0 → ⊥) → count_ones b ≡ cond (eqb b 1) 1 0
-    ones_are_bit (inl b_is) =
-        ap count_ones b_is ∙ ones_of_zero ∙ sym (ap (λ x. cond (eqb x 1) 1 0) b_is)
-    ones_are_bit (inr b_is_not_zero) =
-        let b_is : b ≡ 1 = omega arith in
-        ap count_ones b_is ∙ ones_of_one (cases_eq (count_ones 1) 0)
-        ∙ sym (ap (λ x. cond (eqb x 1) 1 0) b_is)
+ones_of_bit_value b h1 = grind (arith, common_steps, ones_le_self, zero_from_ones)
 
 ones_are_low_bits : (w n : ℕ) → count_ones (w % 2 ^ n) ≡ tally (λ k. eqb (bit_at w k) 1) n
-ones_are_low_bits w zero =
-    let remainder_is_zero : w % 1 ≡ 0 = omega arith in
-    ap count_ones remainder_is_zero ∙ ones_of_zero
+ones_are_low_bits w zero = grind (arith, common_steps)
 ones_are_low_bits w (suc n) =
     let suc_is_plus_one : suc n ≡ 1 + n = omega arith in
     let earlier_ones = ones_are_low_bits w n in
@@ -148,27 +117,3 @@ ones_are_bits_set row words_lt_2_64 =
     let taken_is_row : take (length row) row ≡ row = take_all (length row) row (omega arith) in
     sum-map count_ones row ∙ ap (sum_by count_ones) (sym taken_is_row)
     ∙ ones_of_taken_words row words_lt_2_64 (length row) (omega arith)
-
--- the ones of a row of a table are its marks
-pub ones_of_row_are_marks : (words : List ℕ) (width i rows n : ℕ) → i < rows
-    → length words ≡ rows * width
-    → n ≤ 64 * width
-    → ((j : ℕ) → n ≤ j → j < 64 * width → is_bit words (bit_index width i j) ≡ false)
-    → tally (is_bit (row_at words width i)) (64 * length (row_at words width i))
-    ≡ tally (λ j. is_bit words (bit_index width i j)) n
-ones_of_row_are_marks words width i rows n i_lt_rows words_have_size n_le_row none_past_n =
-    let row = row_at words width i in
-    let row_has_width : length (row_at words width i)
-    ≡ width = row_has_width_words words width i rows i_lt_rows words_have_size in
-    let parts_are_row : n + (64 * width - n) ≡ 64 * width = omega arith in
-    let tallies_add = tally_of_sum (is_bit row) n (64 * width - n) in
-    let later_are_zero =
-    nothing_passes_no_tally (λ k. is_bit row (n + k)) (64 * width - n)
-    (λ k k_lt_part. row_bit_is_table_bit words width i (n + k) (omega arith)
-    ∙ none_past_n (n + k) (omega arith) (omega arith)) in
-    let earlier_agree =
-    equal_tests_equal_tallies (is_bit row) (λ j. is_bit words (bit_index width i j)) n
-    (λ k k_lt_part. row_bit_is_table_bit words width i k (omega arith)) in
-    ap (λ m. tally (is_bit row) (64 * m)) row_has_width
-    ∙ ap (tally (is_bit row)) (sym parts_are_row)
-    ∙ omega (arith, tallies_add, later_are_zero, earlier_agree)

@@ -1,6 +1,7 @@
 -- A count by lanes is the sum of the counts.
-use Rattle.std.proofs.Common.{◌≡◌, ◌≤◌, ℕ, ◌+◌, List, [], ◌∷◌, length}
-use Rattle.std.proofs.Common.{map, take, drop, count_ones, ap, refl, arith}
+use Rattle.std.proofs.lemmas.Grind.{common_steps}
+use Rattle.std.proofs.Common.{◌≡◌, ◌≤◌, ℕ, ◌+◌, List, length, map, take, drop, count_ones, ap}
+use Rattle.std.proofs.Common.{arith}
 use Rattle.std.proofs.lemmas.List.{drop-drop}
 use Rattle.std.proofs.lemmas.List.Sums.{sum_by-take-drop}
 use Rattle.std.specs.List.{fold, sum_by}
@@ -22,8 +23,7 @@ lanes_add_counts : (a : ℕ) (xs : List ℕ)
     (map (act1 (mircode.cast mircode.unsigned mircode.unsigned w64) (s_int w32) (s_int w64))
     (map (act1 mircode.count_ones (s_int w64) (s_int w32)) xs))
     ≡ fold (λ b x. b + count_ones x) a xs
-lanes_add_counts a [] = refl
-lanes_add_counts a (x ∷ xs) = lanes_add_counts (a + count_ones x) xs
+lanes_add_counts a xs = grind (arith, common_steps, count_ones)
 
 pub lanes_total_is_sum : (xs : List ℕ) → lanes_total xs ≡ sum_by count_ones xs
 lanes_total_is_sum xs = lanes_add_counts 0 xs

@@ -1,16 +1,12 @@
 //! The axioms that are columns.
 
 ghost use Rattle.std.specs.Prelude.{◌≡◌, ◌<◌, ◌&&◌, ℕ, List, Option, Some, None, IfOk, length};
-ghost use Rattle.std.specs.Prelude.{slice_index, true};
+ghost use Rattle.std.specs.Prelude.{slice_index};
 ghost use Rattle.std.specs.Option.{option_map};
-ghost use Rattle.std.specs.List.{list_any};
-ghost use Rattle.mm_spec.specs.Scope.{statement_at};
-ghost use Rattle.mm_spec.specs.Citation.{is_assertion};
-ghost use Rattle.mm_spec.specs.Assertion.{has_typecode};
 ghost use Rattle.mm_spec.specs.Output.{columns};
 ghost use Rattle.mm_cites.specs.Citing.{IsStatementList};
 
-use mm_database::Database;
+use mm_database::{Database, has_chosen_typecode};
 use std::alloc::{AllocError, Allocator};
 use std::marker::Model;
 
@@ -26,26 +22,6 @@ impl<A: Allocator> Model for Columns<A> {
     ghost view = { λ c. c.statements.items };
 
     ghost invariant = { λ c. IsStatementList c.statements.items };
-}
-
-/// Whether an assertion has the chosen typecode. True if `only` is `None`.
-pub fn has_chosen_typecode<'a, D: Allocator>(
-    database: &Database<'a, D>,
-    only: Option<&[u8]>,
-    statement: u32,
-) -> bool
-    requires { list_any is_assertion (statement_at database.now.statements statement) ≡ true }
-    ensures { result
-        ≡ list_any (has_typecode (option_map (λ w. w.now) only.entry))
-        (statement_at database.now.statements statement) }
-{
-    match only {
-        None => true,
-        Some(name) => match database.typecode(statement) {
-            Some(typecode) => database.name(typecode) == name,
-            None => false,
-        },
-    }
 }
 
 impl<A: Allocator + Copy> Columns<A> {

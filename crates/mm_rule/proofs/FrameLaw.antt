@@ -1,7 +1,7 @@
 -- The numbers of a frame are those of the database.
-use Rattle.std.proofs.Common.{cond, ◌≡◌, ℕ, suc, ◌<◌, ◌≤◌, Bool, true, false, ◌&&◌, ◌||◌}
-use Rattle.std.proofs.Common.{List, [], ◌∷◌, length, Option, None, Some, slice_get, flat_map}
-use Rattle.std.proofs.Common.{nat_lt, refl, sym, subst, All, arith, true≢false}
+use Rattle.std.proofs.Common.{cond, ◌≡◌, ℕ, suc, ◌<◌, ◌≤◌, Bool, true, false, ◌&&◌, ◌||◌, List, []}
+use Rattle.std.proofs.Common.{◌∷◌, length, Option, None, Some, slice_get, flat_map, nat_lt, refl}
+use Rattle.std.proofs.Common.{sym, subst, All, arith, true≢false}
 use Rattle.std.specs.List.{AllByRecursion, list_any, range_with_len, filter}
 use Rattle.std.proofs.lemmas.List.Elements.{All-from_recursion}
 use Rattle.mm_spec.specs.Text.{Bytes, is_in}

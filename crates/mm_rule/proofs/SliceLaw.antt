@@ -1,8 +1,7 @@
 -- Stretches of a list that grows.
 use Rattle.std.proofs.Common.{◌≡◌, ℕ, ◌-◌, ◌≤◌, List, ◌++◌, length, take, drop, slice_range, ap}
-use Rattle.std.proofs.Common.{◌∙◌, arith}
+use Rattle.std.proofs.Common.{◌∙◌, arith, length-drop}
 use Rattle.std.proofs.lemmas.List.{drop-append-le, take-append-le}
-use Rattle.std.proofs.Common.{length-drop}
 
 -- a stretch of a list is the same stretch of a longer list
 pub stretch_of_longer_list : {X : Type 0} (xs added : List X) (s t : ℕ) → s ≤ t → t ≤ length xs

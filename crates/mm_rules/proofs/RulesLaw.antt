@@ -1,6 +1,6 @@
 -- Rules in the lists of all rules.
-use Rattle.std.proofs.Common.{◌≡◌, ℕ, ◌-◌, List, [], ◌∷◌, ◌++◌, length, take, slice_range, refl, ap}
-use Rattle.std.proofs.Common.{ap₂, ◌∙◌, arith, All, length-append, get_or}
+use Rattle.std.proofs.Common.{◌≡◌, ℕ, List, [], ◌∷◌, ◌++◌, length, refl, ap}
+use Rattle.std.proofs.Common.{◌∙◌, arith, length-append}
 use Rattle.std.proofs.lemmas.List.{take_all, drop_at}
 use Rattle.std.proofs.lemmas.List.Elements.{All-push}
 use Rattle.mm_spec.specs.Statement.{Statement}
@@ -9,19 +9,16 @@ use Rattle.mm_rule.specs.declared.rule.Hypothesis.{Hypothesis}
 use Rattle.mm_rules.specs.declared.rules.RuleRanges.{RuleRanges}
 use Rattle.mm_rules.specs.declared.rules.IndexRange.{IndexRange}
 use Rattle.mm_rule.specs.Rule.{compiled_rule, IsCompiled}
-use Rattle.mm_rules.specs.Rules.{rule_lists, elements_in, IsIndexRange, HasRule}
-use Rattle.mm_rules.specs.Rules.{AreRules}
+use Rattle.mm_rules.specs.Rules.{rule_lists, elements_in, IsIndexRange, HasRule, AreRules}
 use Rattle.mm_rule.proofs.SliceLaw.{stretch_of_longer_list}
 
 -- a range of a list in the same list with more elements at its end
 module _ {X : Type 0} (xs added : List X) (s : IndexRange) where
   is_range_of_longer : IsIndexRange (length xs) s → IsIndexRange (length (xs ++ added)) s
-  is_range_of_longer is_range =
-      record {
-        start_le_end = is_range.start_le_end;
-        end_le_length = let end_le_length = is_range.end_le_length in
-            omega (arith, end_le_length, length-append xs added);
-      }
+  is_range_of_longer is_range = record {
+    start_le_end = is_range.start_le_end;
+    end_le_length = omega (arith, is_range.end_le_length, length-append xs added);
+  }
 
   elements_stay : IsIndexRange (length xs) s → elements_in (xs ++ added) s ≡ elements_in xs s
   elements_stay is_range = stretch_of_longer_list xs added s.start s.end is_range.start_le_end
@@ -29,17 +26,14 @@ module _ {X : Type 0} (xs added : List X) (s : IndexRange) where
 
   module _ (start_is : s.start ≡ length xs) (end_is : s.end ≡ length (xs ++ added)) where
     added_range_is_range : IsIndexRange (length (xs ++ added)) s
-    added_range_is_range =
-        record {
-          start_le_end = omega (arith, start_is, end_is, length-append xs added);
-          end_le_length = omega (arith, end_is);
-        }
+    added_range_is_range = record {
+      start_le_end = omega (arith, length-append xs added);
+      end_le_length = omega arith;
+    }
 
     elements_are_added : elements_in (xs ++ added) s ≡ added
-    elements_are_added =
-        ap₂ (λ a b. slice_range (xs ++ added) a b) start_is end_is
-        ∙ ap (take (length (xs ++ added) - length xs)) (drop_at xs added (length xs) refl)
-        ∙ take_all (length (xs ++ added) - length xs) added (omega (arith, length-append xs added))
+    elements_are_added = rw (start_is, end_is, drop_at xs added (length xs) refl)
+        (take_all _ added (omega (arith, length-append xs added)))
 
 module _ (db : List Statement) (ranges : List RuleRanges) (hypotheses a : List Hypothesis)
     (pairs p : List (ℕ × ℕ))
@@ -51,32 +45,21 @@ module _ (db : List Statement) (ranges : List RuleRanges) (hypotheses a : List H
   has_rule_still new s has_rule =
       let parts_range = is_range_of_longer parts q s.parts has_rule.parts_are_range in
       let formula_range = is_range_of_longer parts q s.formula has_rule.formula_is_range in
-      let hypotheses_are : elements_in (hypotheses ++ a) s.hypotheses
-      ≡ elements_in hypotheses s.hypotheses =
-      elements_stay hypotheses a s.hypotheses has_rule.hypotheses_are_range in
-      let pairs_are : elements_in (pairs ++ p) s.pairs ≡ elements_in pairs s.pairs =
-      elements_stay pairs p s.pairs has_rule.pairs_are_range in
-      let parts_are : elements_in ((parts ++ q) ++ f) s.parts ≡ elements_in parts s.parts =
-      elements_stay (parts ++ q) f s.parts parts_range
-      ∙ elements_stay parts q s.parts has_rule.parts_are_range in
-      let formula_are : elements_in ((parts ++ q) ++ f) s.formula ≡ elements_in parts s.formula =
-      elements_stay (parts ++ q) f s.formula formula_range
-      ∙ elements_stay parts q s.formula has_rule.formula_is_range in
       record {
-        hypotheses_are_range = is_range_of_longer hypotheses a s.hypotheses
-            has_rule.hypotheses_are_range;
+        hypotheses_are_range =
+            is_range_of_longer hypotheses a s.hypotheses has_rule.hypotheses_are_range;
         pairs_are_range = is_range_of_longer pairs p s.pairs has_rule.pairs_are_range;
         parts_are_range = is_range_of_longer (parts ++ q) f s.parts parts_range;
         formula_is_range = is_range_of_longer (parts ++ q) f s.formula formula_range;
-        is_compiled = rw (hypotheses_are, pairs_are, parts_are, formula_are) has_rule.is_compiled;
+        is_compiled = rw (
+          elements_stay hypotheses a s.hypotheses has_rule.hypotheses_are_range,
+          elements_stay pairs p s.pairs has_rule.pairs_are_range,
+          elements_stay (parts ++ q) f s.parts parts_range,
+          elements_stay parts q s.parts has_rule.parts_are_range,
+          elements_stay (parts ++ q) f s.formula formula_range,
+          elements_stay parts q s.formula has_rule.formula_is_range,
+        ) has_rule.is_compiled;
       }
-
-  have_rules_still : (new some_ranges : List RuleRanges) → All
-      (HasRule db (rule_lists ranges hypotheses pairs parts)) some_ranges
-      → All (HasRule db (rule_lists new (hypotheses ++ a) (pairs ++ p) ((parts ++ q) ++ f)))
-      some_ranges
-  have_rules_still new some_ranges h = λ i d l. has_rule_still new (get_or some_ranges i d)
-      (h i d l)
 
   -- and one more
   module _ (s : RuleRanges) (hypotheses_start : s.hypotheses.start ≡ length hypotheses)
@@ -91,33 +74,30 @@ module _ (db : List Statement) (ranges : List RuleRanges) (hypotheses a : List H
         → HasRule db (rule_lists new (hypotheses ++ a) (pairs ++ p) ((parts ++ q) ++ f)) s
     has_new_rule new =
         let parts_range = added_range_is_range parts q s.parts parts_start parts_end in
-        let hypotheses_are : elements_in (hypotheses ++ a) s.hypotheses ≡ a =
-        elements_are_added hypotheses a s.hypotheses hypotheses_start hypotheses_end in
-        let pairs_are : elements_in (pairs ++ p) s.pairs ≡ p =
-        elements_are_added pairs p s.pairs pairs_start pairs_end in
-        let parts_are : elements_in ((parts ++ q) ++ f) s.parts ≡ q =
-        elements_stay (parts ++ q) f s.parts parts_range
-        ∙ elements_are_added parts q s.parts parts_start parts_end in
-        let formula_are : elements_in ((parts ++ q) ++ f) s.formula ≡ f =
-        elements_are_added (parts ++ q) f s.formula formula_start formula_end in
         record {
-          hypotheses_are_range = added_range_is_range hypotheses a s.hypotheses hypotheses_start
-              hypotheses_end;
+          hypotheses_are_range =
+              added_range_is_range hypotheses a s.hypotheses hypotheses_start hypotheses_end;
           pairs_are_range = added_range_is_range pairs p s.pairs pairs_start pairs_end;
           parts_are_range = is_range_of_longer (parts ++ q) f s.parts parts_range;
-          formula_is_range = added_range_is_range (parts ++ q) f s.formula formula_start
-              formula_end;
-          is_compiled = rw (hypotheses_are, pairs_are, parts_are, formula_are) is_compiled;
+          formula_is_range =
+              added_range_is_range (parts ++ q) f s.formula formula_start formula_end;
+          is_compiled = rw (
+            elements_are_added hypotheses a s.hypotheses hypotheses_start hypotheses_end,
+            elements_are_added pairs p s.pairs pairs_start pairs_end,
+            elements_stay (parts ++ q) f s.parts parts_range,
+            elements_are_added parts q s.parts parts_start parts_end,
+            elements_are_added (parts ++ q) f s.formula formula_start formula_end,
+          ) is_compiled;
         }
 
     pub are_rules_with_one_more : AreRules db (rule_lists ranges hypotheses pairs parts)
         → AreRules db (rule_lists (ranges ++ s ∷ []) (hypotheses ++ a) (pairs ++ p) ((parts ++ q) ++
         f))
-    are_rules_with_one_more h =
-        All-push
-        (HasRule db
-        (rule_lists (ranges ++ s ∷ []) (hypotheses ++ a) (pairs ++ p) ((parts ++ q) ++ f)))
-        ranges s (have_rules_still (ranges ++ s ∷ []) ranges h) (has_new_rule (ranges ++ s ∷ []))
+    are_rules_with_one_more are_rules =
+        let new = ranges ++ s ∷ [] in
+        All-push (HasRule db (rule_lists new (hypotheses ++ a) (pairs ++ p) ((parts ++ q) ++ f)))
+        ranges s (λ i d i_lt_length. has_rule_still new _ (are_rules i d i_lt_length))
+        (has_new_rule new)
 
 -- the same by the values that the code has
 pub are_rules_with_one_more_at : (db : List Statement) (ranges ranges' : List RuleRanges)

@@ -1,11 +1,13 @@
 //! The rules of stretches of a database's statements, compiled side by side. A rule needs the
 //! database, and no other rule.
 
-ghost use Rattle.std.specs.Prelude.{◌≡◌, ◌<◌, ◌≤◌, ◌^◌, All, IfOk, length};
+ghost use Rattle.std.specs.Prelude.{◌≡◌, ◌<◌, All, IfOk, length};
+ghost use Rattle.mm_spec.specs.Laws.Complete.{AreComplete};
 ghost use Rattle.mm_rules.specs.Rules.{AreRules};
 
 use crate::rules::{Rules, element_limit};
 use mm_database::Database;
+use mm_stretches::Stretches;
 use rayon::prelude::*;
 use std::alloc::{AllocError, Allocator};
 use std::thread::Threads;
@@ -13,60 +15,44 @@ use std::thread::Threads;
 /// The greatest number of stretches. Each may hold its share of what all rules together may have.
 const MAX_STRETCHES: u32 = 8;
 
-/// Returns how many statements a stretch has if `count` statements are cut into one for each worker.
-/// It has no fewer than there are symbols, since a compiler begins with a list of all symbols.
-fn stretch_size(count: u32, symbol_count: u32, workers: u32) -> u32
-    requires count_lt_2_31 { count < 2 ^ 31 }
-    requires some_workers { 0 < workers }
-    ensures { 0 < result }
-{
-    (count / workers.min(MAX_STRETCHES) + 1).max(symbol_count)
-}
-
-/// Returns the number of the first statement of a stretch, or that of all statements if they end
-/// before it.
-fn stretch_start(size: u32, count: u32, index: u32) -> u32
-    ensures { result ≤ count }
-{
-    size.saturating_mul(index).min(count)
-}
-
-/// Returns the rules of one stretch of `size` statements, which hold at most `limit` elements, or
+/// Returns the rules of one stretch of the statements, which hold at most `limit` elements, or
 /// those of one rule more.
 fn rules_of_stretch<A: Allocator + Copy>(
     alloc: A,
     database: &Database<A>,
-    size: u32,
+    stretches: &Stretches,
     limit: usize,
     index: u32,
 ) -> Result<Rules<A>, AllocError>
+    requires are_complete { AreComplete database.now.statements }
+    requires all_are_cut { stretches.now.count ≡ length database.now.statements }
     ensures { IfOk result (AreRules database.now.statements) }
 {
-    let count = database.len();
-    let from = stretch_start(size, count, index);
-    let to = stretch_start(size, count, index.saturating_add(1));
+    let (from, to) = stretches.range(index);
     Rules::of_stretch(alloc, database, from, to, limit)
 }
 
-/// Returns the rules of each of so many stretches of `size` statements, in order. They are compiled
-/// in parallel.
+/// Returns the rules of each stretch of the statements, in order. They are compiled in parallel.
 fn rules_by_stretch<R: Threads + Sync, A: Allocator + Copy + Send + Sync>(
     rt: &R,
     alloc: A,
     database: &Database<A>,
-    size: u32,
+    stretches: &Stretches,
     limit: usize,
-    stretch_count: u32,
 ) -> Result<Vec<Result<Rules<A>, AllocError>, A>, AllocError>
+    requires are_complete { AreComplete database.now.statements }
+    requires all_are_cut { stretches.now.count ≡ length database.now.statements }
     ensures { IfOk result
         (λ v. All (λ r. IfOk r (AreRules database.now.statements)) v.items) }
 {
-    (0..stretch_count)
+    (0..stretches.len())
         .into_par_iter()
         .map(
             |index: u32| -> Result<Rules<A>, AllocError>
+                requires are_complete { AreComplete database.now.statements }
+                requires all_are_cut { stretches.now.count ≡ length database.now.statements }
                 ensures { IfOk result (AreRules database.entry.now.statements) }
-            { rules_of_stretch(alloc, database, size, limit, index) },
+            { rules_of_stretch(alloc, database, stretches, limit, index) },
         )
         .with_min_len(1)
         .collect(rt, alloc)
@@ -76,13 +62,13 @@ fn rules_by_stretch<R: Threads + Sync, A: Allocator + Copy + Send + Sync>(
 fn joined_rules<A: Allocator + Copy>(
     alloc: A,
     database: &Database<A>,
-    stretches: Vec<Result<Rules<A>, AllocError>, A>,
+    made: Vec<Result<Rules<A>, AllocError>, A>,
 ) -> Result<Rules<A>, AllocError>
-    requires { All (λ r. IfOk r (AreRules database.now.statements)) stretches.items }
+    requires { All (λ r. IfOk r (AreRules database.now.statements)) made.items }
     ensures { IfOk result (AreRules database.now.statements) }
 {
-    let mut rules = Rules::with_room_for(alloc, database, &stretches)?;
-    let mut unjoined = stretches;
+    let mut rules = Rules::with_room_for(alloc, database, &made)?;
+    let mut unjoined = made;
     'joining: while !unjoined.is_empty() {
         let next = unjoined.remove(0)?;
         rules.append(database, next)?;
@@ -105,10 +91,13 @@ pub fn rules_of<R: Threads + Sync, A: Allocator + Copy + Send + Sync>(
     if workers == 1 {
         return Rules::new(alloc, database);
     }
-    let count = database.len();
-    let size = stretch_size(count, database.symbol_count(), workers);
-    let stretch_count = count / size + 1;
-    let limit = element_limit(database) / stretch_count as usize;
-    let stretches = rules_by_stretch(rt, alloc, database, size, limit, stretch_count)?;
-    joined_rules(alloc, database, stretches)
+    // A compiler begins with a list of all symbols.
+    let stretches = Stretches::new(
+        database.len(),
+        workers.min(MAX_STRETCHES),
+        database.symbol_count(),
+    );
+    let limit = element_limit(database) / stretches.len() as usize;
+    let made = rules_by_stretch(rt, alloc, database, &stretches, limit)?;
+    joined_rules(alloc, database, made)
 }

@@ -1,6 +1,6 @@
 -- The rows of citations that are written are those of the definitions.
-use Rattle.std.proofs.Common.{ℕ, ◌<◌, Bool, List, []}
-use Rattle.std.proofs.Common.{length, map, get_or, refl, sym, ap, subst, arith}
+use Rattle.std.proofs.Common.{ℕ, ◌<◌, Bool, List, [], length, map, get_or, refl, sym, ap, subst}
+use Rattle.std.proofs.Common.{arith}
 use Rattle.std.specs.List.{AllZip, list_any}
 use Rattle.std.proofs.lemmas.List.Kept.{IsStrictlyIncreasing-filter}
 use Rattle.std.proofs.lemmas.List.{get_or-map}
@@ -15,8 +15,8 @@ use Rattle.mm_spec.proofs.FindsLaw.{member_filter, filter_member}
 use Rattle.mm_spec.proofs.ListLaw.{element_is_member}
 use Rattle.mm_work.specs.Citing.{Citing, theorem_at, list_at}
 use Rattle.mm_work.specs.Judged.{AllHaveCitations}
-use Rattle.mm_report.specs.Rows.{listed, citing_row, citing_rows, AreCitationsOf}
-use Rattle.mm_run.proofs.ZipLaw.{zip_of_related}
+use Rattle.mm_report.specs.CitingRows.{listed, citing_row, citing_rows, AreCitationsOf}
+use Rattle.mm_run.proofs.ListLaw.{zip_by_index}
 
 module _ (db : List Statement) (request : Request) (c : Citing)
     (have_citations : AllHaveCitations db request.essential c) where
@@ -55,7 +55,7 @@ module _ (db : List Statement) (request : Request) (c : Citing)
       let f = λ (i : ℕ). citing_row db request.only c (get_or names i []) i in
       let counts_equal = ap (λ (ts : List ℕ). length ts) have_citations.theorems_are in
       let row_count_is = length-map-range_with_len f 0 (length c.theorems) in
-      zip_of_related (IsCitingRowOf db request) (theorems db) (citing_rows db request.only c names)
+      zip_by_index (IsCitingRowOf db request) (theorems db) (citing_rows db request.only c names)
       0 (f 0)
       (omega (arith, row_count_is, counts_equal))
       (λ i i_lt_theorem_count.

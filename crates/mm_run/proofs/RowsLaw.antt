@@ -12,8 +12,7 @@ use Rattle.mm_spec.specs.Text.{Bytes}
 use Rattle.mm_spec.specs.Report.{Row, CitingRow, report, head, section, citation_line, line}
 use Rattle.mm_spec.specs.Request.{Request, has_marks}
 use Rattle.mm_spec.specs.Assertion.{label_at}
-use Rattle.mm_spec.specs.Output.{IsRowOf, theorems, columns, IsReportOf}
-use Rattle.mm_spec.specs.Output.{IsOutput, AllAreValid}
+use Rattle.mm_spec.specs.Output.{IsRowOf, theorems, columns, IsReportOf, IsOutput, AllAreValid}
 use Rattle.mm_spec.specs.Laws.Complete.{AreComplete}
 use Rattle.mm_database.specs.Database.{Contents}
 use Rattle.mm_spec.proofs.ChainsLaw.{alike_relations_have_alike_chains}
@@ -22,13 +21,15 @@ use Rattle.mm_spec.proofs.OpenedLaw.{counted_complete}
 use Rattle.mm_spec.proofs.RestsLaw.{rows_of as rows_of_theorems}
 use Rattle.mm_work.specs.Citing.{Citing, HasCitation, theorem_at}
 use Rattle.mm_rows.specs.Marks.{Marks, mark, IsMatrix}
-use Rattle.mm_report.specs.Rows.{row_of, rows_of, marks_of, open_theorem_count, report_of}
-use Rattle.mm_report.specs.Rows.{citing_rows, citing_rows_of, unmarked_report_of}
+use Rattle.mm_report.specs.Rows.{row_of, rows_of, marks_of}
+use Rattle.mm_report.specs.Reports.{open_theorem_count, report_of}
+use Rattle.mm_report.specs.CitingRows.{citing_rows, citing_rows_of}
+use Rattle.mm_report.specs.Reports.{unmarked_report_of}
 use Rattle.mm_report.specs.Told.{told_of}
-use Rattle.mm_run.specs.Counted.{IsJudged}
-use Rattle.mm_run.proofs.CountedLaw.{is_output}
+use Rattle.mm_run.specs.Judging.{IsJudged}
+use Rattle.mm_run.proofs.OutputLaw.{is_output}
 use Rattle.mm_run.proofs.CitationsLaw.{citing_rows_are}
-use Rattle.mm_run.proofs.ZipLaw.{zip_of_related}
+use Rattle.mm_run.proofs.ListLaw.{zip_by_index}
 use Rattle.mm_work.specs.Judged.{AllHaveCitations, CitesAsDatabase}
 
 -- a Boolean that decides a statement decides each equivalent one
@@ -50,7 +51,7 @@ module _ (db : List Statement) (request : Request) (c : Citing) (m : Marks)
   marks_decide i i_lt_theorem_count =
       let mark_count_is = length-map-range_with_len (mark m i) 0 m.columns in
       let column_count_is = is_matrix.columns_are in
-      zip_of_related
+      zip_by_index
       (λ a b. Decides b (proof.RestsOn db request.essential (get_or (theorems db) i 0) a))
       (columns db request.only) (marks_of m i) 0 false (omega (
         arith,
@@ -86,7 +87,7 @@ module _ (db : List Statement) (request : Request) (c : Citing) (m : Marks)
       let row_count_is = is_matrix.rows_are in
       let counts_equal = ap (λ (ts : List ℕ). length ts) theorems_are in
       let rows_length_is = length-map-range_with_len f 0 m.rows in
-      zip_of_related (IsRowOf db request) (theorems db) (rows_of m names) 0 (f 0)
+      zip_by_index (IsRowOf db request) (theorems db) (rows_of m names) 0 (f 0)
       (omega (arith, rows_length_is, row_count_is, counts_equal))
       (λ i i_lt_length.
       subst (λ (x : Row). IsRowOf db request (get_or (theorems db) i 0) x)

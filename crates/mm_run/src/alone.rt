@@ -2,7 +2,7 @@
 
 ghost use Rattle.std.specs.Prelude.{◌≤◌, IfOk, length};
 ghost use Rattle.mm_spec.specs.Ends.{reading_limit};
-ghost use Rattle.mm_run.specs.Counted.{IsJudgedText};
+ghost use Rattle.mm_run.specs.Judging.{IsJudgedText};
 
 use crate::judged_text::{JudgedText, judged_text};
 use mm_lex::lex_alone;

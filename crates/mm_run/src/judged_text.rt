@@ -2,7 +2,7 @@
 
 ghost use Rattle.std.specs.Prelude.{Bool, List, ℕ};
 ghost use Rattle.mm_work.specs.Judged.{IsJudgement};
-ghost use Rattle.mm_run.specs.Counted.{IsJudgedText, IsReadFrom};
+ghost use Rattle.mm_run.specs.Judging.{IsJudgedText, IsReadFrom};
 
 use mm_database::Database;
 use mm_spec::Fault;

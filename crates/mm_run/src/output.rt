@@ -4,11 +4,11 @@ ghost use Rattle.std.specs.Prelude.{◌≡◌, ◌<◌, ◌≤◌, ◌^◌, ℕ,
 ghost use Rattle.mm_spec.specs.Request.{Request, has_marks};
 ghost use Rattle.mm_spec.specs.Lexed.{lexed_of};
 ghost use Rattle.mm_spec.specs.Output.{FirstFault, columns};
-ghost use Rattle.mm_spec.specs.Ends.{Answers, reading_limit};
+ghost use Rattle.mm_spec.specs.Ends.{Wrote, reading_limit};
 ghost use Rattle.mm_work.specs.Judged.{IsJudgement};
 ghost use Rattle.mm_rows.specs.Marks.{IsMatrix};
-ghost use Rattle.mm_report.specs.Told.{AreFoundFor};
-ghost use Rattle.mm_run.specs.Counted.{IsJudged, IsJudgedText, IsReadFrom};
+ghost use Rattle.mm_report.specs.Told.{AreDummiesFor};
+ghost use Rattle.mm_run.specs.Judging.{IsJudged, IsJudgedText, IsReadFrom};
 ghost use Rattle.mm_plan.specs.Plans.{IsLawfulPlan, request_of};
 
 use crate::RunEnd;
@@ -32,7 +32,7 @@ use std::thread::Threads;
 fn refuse<W: Write>(text: &[u8], fault: Fault, to: &mut W) -> RunEnd
     ensures { (request : Request) → FirstFault (length text.now) (lexed_of text.now)
         request.with_open fault
-        → Answers result text.now request (W.contents to.old) (W.contents to.new) }
+        → Wrote result text.now request (W.contents to.old) (W.contents to.new) }
 {
     match write_refusal(to, text, &fault) {
         Ok(()) => RunEnd::Refused(fault),
@@ -47,18 +47,18 @@ fn report_unmarked<'a, A: Allocator, W: Write>(
     database: &Database<'a, A>,
     citations: &Citations<A>,
     chosen: &Columns<A>,
-    found: &Dummies<A>,
+    dummy_lists: &Dummies<A>,
     to: &mut W,
 ) -> RunEnd
     requires is_judged { IsJudged request.now.essential request.now.with_open database.now
         citations.now }
     requires columns_are { chosen.now ≡ columns database.now.statements request.now.only }
     requires no_marks { has_marks request.now.sections ≡ false }
-    requires are_found { AreFoundFor request.now database.now found.now }
-    ensures { Answers result database.now.text request.now (W.contents to.old)
+    requires are_dummies { AreDummiesFor request.now database.now dummy_lists.now }
+    ensures { Wrote result database.now.text request.now (W.contents to.old)
         (W.contents to.new) }
 {
-    match write_unmarked(to, request, database, chosen, citations, found) {
+    match write_unmarked(to, request, database, chosen, citations, dummy_lists) {
         Ok(()) => RunEnd::Accepted,
         Err(_) => RunEnd::WriteFailed,
     }
@@ -71,18 +71,26 @@ fn report_usage<'a, A: Allocator, W: Write>(
     citations: &Citations<A>,
     chosen: &Columns<A>,
     matrix: &Matrix<A>,
-    found: &Dummies<A>,
+    dummy_lists: &Dummies<A>,
     to: &mut W,
 ) -> RunEnd
     requires is_judged { IsJudged request.now.essential request.now.with_open database.now
         citations.now }
     requires columns_are { chosen.now ≡ columns database.now.statements request.now.only }
     requires is_matrix { IsMatrix citations.now chosen.now matrix.now }
-    requires are_found { AreFoundFor request.now database.now found.now }
-    ensures { Answers result database.now.text request.now (W.contents to.old)
+    requires are_dummies { AreDummiesFor request.now database.now dummy_lists.now }
+    ensures { Wrote result database.now.text request.now (W.contents to.old)
         (W.contents to.new) }
 {
-    match write_requested_report(to, request, database, chosen, matrix, citations, found) {
+    match write_requested_report(
+        to,
+        request,
+        database,
+        chosen,
+        matrix,
+        citations,
+        dummy_lists,
+    ) {
         Ok(()) => RunEnd::Accepted,
         Err(_) => RunEnd::WriteFailed,
     }
@@ -95,7 +103,7 @@ fn report_rows<'a, A: Allocator, W: Write>(
     citations: &Citations<A>,
     chosen: &Columns<A>,
     marked: &MarkedRows<A>,
-    found: &Dummies<A>,
+    dummy_lists: &Dummies<A>,
     to: &mut W,
 ) -> RunEnd
     requires is_judged { IsJudged request.now.essential request.now.with_open database.now
@@ -103,11 +111,19 @@ fn report_rows<'a, A: Allocator, W: Write>(
     requires columns_are { chosen.now ≡ columns database.now.statements request.now.only }
     requires is_matrix { IsMatrix citations.now chosen.now marked.now }
     requires no_usage { request.now.sections.usage ≡ false }
-    requires are_found { AreFoundFor request.now database.now found.now }
-    ensures { Answers result database.now.text request.now (W.contents to.old)
+    requires are_dummies { AreDummiesFor request.now database.now dummy_lists.now }
+    ensures { Wrote result database.now.text request.now (W.contents to.old)
         (W.contents to.new) }
 {
-    match write_rows(to, request, database, chosen, marked, citations, found) {
+    match write_rows(
+        to,
+        request,
+        database,
+        chosen,
+        marked,
+        citations,
+        dummy_lists,
+    ) {
         Ok(()) => RunEnd::Accepted,
         Err(_) => RunEnd::WriteFailed,
     }
@@ -120,25 +136,41 @@ fn report_marked<'a, A: Allocator + Copy, W: Write>(
     database: &Database<'a, A>,
     citations: &Citations<A>,
     chosen: &Columns<A>,
-    found: &Dummies<A>,
+    dummy_lists: &Dummies<A>,
     to: &mut W,
 ) -> RunEnd
     requires is_judged { IsJudged request.now.essential request.now.with_open database.now
         citations.now }
     requires columns_are { chosen.now ≡ columns database.now.statements request.now.only }
-    requires are_found { AreFoundFor request.now database.now found.now }
-    ensures { Answers result database.now.text request.now (W.contents to.old)
+    requires are_dummies { AreDummiesFor request.now database.now dummy_lists.now }
+    ensures { Wrote result database.now.text request.now (W.contents to.old)
         (W.contents to.new) }
 {
     if request.sections.usage {
         // The rows are made on the calling thread, and so no runtime is lent.
         match matrix(&(), alloc, citations, chosen) {
-            Ok(matrix) => report_usage(request, database, citations, chosen, &matrix, found, to),
+            Ok(matrix) => report_usage(
+                request,
+                database,
+                citations,
+                chosen,
+                &matrix,
+                dummy_lists,
+                to,
+            ),
             Err(_) => RunEnd::NoMemory,
         }
     } else {
         match marked_rows(alloc, citations, chosen) {
-            Ok(marked) => report_rows(request, database, citations, chosen, &marked, found, to),
+            Ok(marked) => report_rows(
+                request,
+                database,
+                citations,
+                chosen,
+                &marked,
+                dummy_lists,
+                to,
+            ),
             Err(_) => RunEnd::NoMemory,
         }
     }
@@ -146,12 +178,12 @@ fn report_marked<'a, A: Allocator + Copy, W: Write>(
 
 /// Finds the dummy variables of a database's theorems, if the statements are requested, which tell
 /// them. Fails only if out of memory, or if there are 2^32 of them or more.
-fn found_for<'a, A: Allocator + Copy>(
+fn dummies_for<'a, A: Allocator + Copy>(
     alloc: A,
     request: &Request<'_>,
     database: &Database<'a, A>,
 ) -> Result<Dummies<A>, AllocError>
-    ensures { IfOk result (AreFoundFor request.now database.now) }
+    ensures { IfOk result (AreDummiesFor request.now database.now) }
 {
     if request.sections.statements {
         Dummies::new(alloc, database)
@@ -170,19 +202,27 @@ fn report<'a, A: Allocator + Copy, W: Write>(
 ) -> RunEnd
     requires is_judged { IsJudged request.now.essential request.now.with_open database.now
         citations.now }
-    ensures { Answers result database.now.text request.now (W.contents to.old)
+    ensures { Wrote result database.now.text request.now (W.contents to.old)
         (W.contents to.new) }
 {
     let Ok(chosen) = Columns::new(alloc, database, request.only) else {
         return RunEnd::NoMemory;
     };
-    let Ok(found) = found_for(alloc, request, database) else {
+    let Ok(dummy_lists) = dummies_for(alloc, request, database) else {
         return RunEnd::NoMemory;
     };
     if request.sections.has_marks() {
-        report_marked(alloc, request, database, citations, &chosen, &found, to)
+        report_marked(
+            alloc,
+            request,
+            database,
+            citations,
+            &chosen,
+            &dummy_lists,
+            to,
+        )
     } else {
-        report_unmarked(request, database, citations, &chosen, &found, to)
+        report_unmarked(request, database, citations, &chosen, &dummy_lists, to)
     }
 }
 
@@ -198,7 +238,7 @@ pub fn write_judged<'a, A: Allocator + Copy, W: Write>(
 ) -> RunEnd
     requires is_judged { IsJudgedText text.now request.now.essential request.now.with_open
         judged.now }
-    ensures { Answers result text.now request.now (W.contents to.old) (W.contents to.new) }
+    ensures { Wrote result text.now request.now (W.contents to.old) (W.contents to.new) }
 {
     match judged {
         JudgedText::Faulty(fault) => refuse(text, *fault, to),
@@ -254,7 +294,7 @@ pub fn answer<R: Threads + Wait + Sync, A: Allocator + Copy + Send + Sync, W: Wr
 ) -> RunEnd
     requires length_le_limit { length text.now ≤ reading_limit }
     requires is_lawful { IsLawfulPlan plan.now }
-    ensures { Answers result text.now (request_of plan.now) (W.contents to.old)
+    ensures { Wrote result text.now (request_of plan.now) (W.contents to.old)
         (W.contents to.new) }
 {
     let Ok(database) = database_of(rt, alloc, text, plan) else {

@@ -1,8 +1,8 @@
 -- The least of faults, symbol by symbol.
-use Rattle.std.proofs.Common.{◌≡◌, ◌≢◌, ℕ, suc, ◌+◌, ◌-◌, ◌<◌, ◌≤◌, false, ◌||◌, List, [], ◌∷◌}
-use Rattle.std.proofs.Common.{◌++◌, length, Option, None, Some, refl, ap, ap₂, sym, ◌∙◌, arith}
-use Rattle.std.proofs.Common.{append-nil, append_assoc, bytes_eq, map, if◌then◌else◌, is_some, take}
-use Rattle.std.proofs.Common.{drop, drop-cons, add-one, length-drop, nat_eq}
+use Rattle.std.proofs.Common.{◌≡◌, ◌≢◌, ℕ, ◌+◌, ◌-◌, ◌<◌, ◌≤◌, false, ◌||◌, List, [], ◌∷◌, ◌++◌}
+use Rattle.std.proofs.Common.{length, Option, None, Some, refl, ap, ap₂, sym, ◌∙◌, arith}
+use Rattle.std.proofs.Common.{append-nil, append_assoc, bytes_eq, map, if◌then◌else◌, is_some}
+use Rattle.std.proofs.Common.{drop-cons, add-one, length-drop, nat_eq}
 use Rattle.std.proofs.lemmas.List.{length-take-le, length-map, map-append}
 use Rattle.std.proofs.lemmas.List.Folds.{list_any-append}
 use Rattle.std.proofs.Math.Bool.{or-false}
@@ -15,7 +15,7 @@ use Rattle.mm_spec.specs.Scope.{Names}
 use Rattle.mm_spec.specs.Lawful.{faults_at, faults_at_each, floating_faults, is_empty, least}
 use Rattle.mm_spec.specs.Lawful.{lesser}
 use Rattle.mm_spec.specs.declared.Word as spec
-use Rattle.mm_outline.specs.Parts.{between, token_at, token_of, nth_word}
+use Rattle.mm_outline.specs.Parts.{between, token_at}
 use Rattle.mm_outline.proofs.TurnsLaw.{between_with_one_more, nothing_between_place_and_itself}
 use Rattle.mm_spec.specs.declared.Code.{Code}
 use Rattle.mm_spec.specs.declared.Code.TheVariants.{BadFloating}
@@ -119,12 +119,7 @@ module _ (text : List ℕ) (ws : List spec.Word) (from i : ℕ) where
 -- the tokens from i on begin with the one at i
 pub between_first : (text : List ℕ) (ws : List spec.Word) (i j : ℕ) → i < j → j ≤ length ws
     → between text ws i j ≡ token_at text ws i ∷ between text ws (i + 1) j
-between_first text ws i j i_lt_j j_le_length =
-    let i_lt_length : i < length ws = omega arith in
-    let drop_begins_at_i : drop i ws ≡ nth_word ws i ∷ drop (i + 1) ws =
-    rw (add-one, drop-cons ws i (record { start = 0; end = 0 })) refl in
-    let width_is_suc : j - i ≡ suc (j - (i + 1)) = omega arith in
-    ap₂ (λ m ys. map (token_of text) (take m ys)) width_is_suc drop_begins_at_i
+between_first text ws i j i_lt_j j_le_length = grind (arith, nat_tests, add-one, drop-cons)
 
 -- a `$f` that has not two words between its keyword and its end has a fault at its keyword
 pub not_two_is_faulty : (n : Names) (keyword : ℕ) (xs : List Token) → length xs ≢ 2
@@ -135,8 +130,7 @@ not_two_is_faulty n keyword xs length_ne_2 = grind (arith, common_steps)
 pub length_between : (text : List ℕ) (ws : List spec.Word) (i j : ℕ) → i ≤ j → j ≤ length ws
     → length (between text ws i j) ≡ j - i
 length_between text ws i j i_le_j j_le_length =
-    length-map (take (j - i) (drop i ws)) (token_of text)
-    ∙ length-take-le (j - i) (drop i ws) (omega (arith, length-drop i ws))
+    grind (arith, common_steps, length-map, length-take-le, length-drop)
 
 -- the same for the tokens between a keyword and the end of a statement
 pub not_two_between_is_faulty : (n : Names) (keyword : ℕ) (text : List ℕ) (ws : List spec.Word)
@@ -145,34 +139,22 @@ pub not_two_between_is_faulty : (n : Names) (keyword : ℕ) (text : List ℕ) (w
     → Some (fault keyword BadFloating)
     ≡ least (floating_faults n keyword (between text ws (k + 1) j))
 not_two_between_is_faulty n keyword text ws k j k_lt_j j_le_length width_ne_3 =
-    not_two_is_faulty n keyword (between text ws (k + 1) j)
-    (λ length_is_2. width_ne_3 (let between_length =
-    length_between text ws (k + 1) j (omega arith) j_le_length in
-    omega (arith, between_length, length_is_2, k_lt_j)))
+    grind (arith, common_steps, not_two_is_faulty, length_between)
 
 -- where the end is three tokens after the keyword, there are two between
 pub between_is_two_tokens : (text : List ℕ) (ws : List spec.Word) (k j : ℕ) → j ≤ length ws
     → j - k ≡ 3
     → between text ws (k + 1) j ≡ token_at text ws (k + 1) ∷ token_at text ws (k + 2) ∷ []
 between_is_two_tokens text ws k j j_le_length width_is_3 =
-    grind (
-      arith,
-      between_first text ws (k + 1) j,
-      between_first text ws (k + 2) j,
-      nothing_between_place_and_itself text ws j,
-    )
+    grind (arith, common_steps, between_first, nothing_between_place_and_itself)
 
 -- a list without length is empty
 no_length_is_empty : (xs : List Token) → nat_eq (length xs) 0 ≡ is_empty xs
-no_length_is_empty [] = refl
-no_length_is_empty (x ∷ xs) = grind arith
+no_length_is_empty xs = grind (arith, common_steps)
 
 -- whether there are no words
 pub nothing_between_is_empty : (text : List ℕ) (ws : List spec.Word) (k j : ℕ) → k < j
     → j ≤ length ws
     → nat_eq (j - k - 1) 0 ≡ is_empty (between text ws (k + 1) j)
 nothing_between_is_empty text ws k j k_lt_j j_le_length =
-    let between_length = length_between text ws (k + 1) j (omega arith) j_le_length in
-    let count_is_length : j - k - 1 ≡ length (between text ws (k + 1) j) =
-    omega (arith, between_length) in
-    rw count_is_length (no_length_is_empty (between text ws (k + 1) j))
+    grind (arith, common_steps, length_between, no_length_is_empty)

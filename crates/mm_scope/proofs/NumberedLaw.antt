@@ -1,23 +1,23 @@
 -- Symbols keep their numbers when statements are added.
-use Rattle.std.proofs.Common.{◌≡◌, ℕ, suc, ◌+◌, ◌<◌, ◌≤◌, Bool, true, false, ◌||◌, List, [], ◌∷◌}
-use Rattle.std.proofs.Common.{◌++◌, length, map, flat_map, get_or, slice_get, None, Some, bytes_eq}
-use Rattle.std.proofs.Common.{if◌then◌else◌, refl, sym, ap, ap₂, ◌∙◌, subst, arith, true≢false}
-use Rattle.std.proofs.Common.{append_assoc, append-nil, length-append}
+use Rattle.std.proofs.Common.{rules, ◌≡◌, ℕ, suc, ◌+◌, ◌<◌, ◌≤◌, true, ◌||◌, List, [], ◌∷◌, ◌++◌}
+use Rattle.std.proofs.Common.{length, map, flat_map, slice_get, None, Some, bytes_eq, refl, sym, ap}
+use Rattle.std.proofs.Common.{ap₂, ◌∙◌, arith, true≢false, append_assoc, append-nil, length-append}
+use Rattle.std.proofs.lemmas.Grind.{common_steps, flat_map-append}
+use Rattle.std.proofs.lemmas.Bool.Decides.{nat_tests}
 use Rattle.std.proofs.lemmas.List.{map-append, length-map}
-use Rattle.std.proofs.lemmas.Grind.{flat_map-append}
 use Rattle.std.proofs.lemmas.Option.{slice_get_within, slice_get-get_or}
-use Rattle.mm_spec.specs.Text.{Bytes, Token, is_in, words}
+use Rattle.mm_spec.specs.Text.{Bytes, is_in, words}
 use Rattle.std.proofs.Math.Bool.{or-true}
-use Rattle.mm_spec.specs.Statement.{Statement, symbols_of, constants, variables, disjoint, floating}
-use Rattle.mm_spec.specs.Statement.{essential, axiomatic, provable, opening, closing}
+use Rattle.mm_spec.specs.Statement.{Statement, symbols_of, opening}
 use Rattle.mm_spec.specs.Scope.{constants_of, variables_of}
 use Rattle.mm_spec.specs.Lawful.{scope_fault}
 use Rattle.mm_spec.specs.Frame.{first_occurrences, symbol_names, index_of, formula_of}
 use Rattle.mm_spec.specs.declared.Word as spec
 use Rattle.mm_database.specs.Numbered.{AreNumbered}
 use Rattle.mm_outline.specs.Parts.{between, token_at}
+use Rattle.mm_spec.proofs.FindsLaw.{formula_at_place}
 use Rattle.mm_outline.proofs.TurnsLaw.{between_with_one_more, nothing_between_place_and_itself}
-use Rattle.mm_lists.specs.Lists.{AreJoined, with_end}
+use Rattle.mm_lists.specs.Lists.{with_end}
 use Rattle.mm_database.specs.Names.{with_name}
 use Rattle.mm_lists.proofs.ListsLaw.{joined_with_one_more}
 use Rattle.mm_outline.proofs.StatementsLaw.{element_of_mapped}
@@ -30,13 +30,7 @@ use Rattle.mm_scope.proofs.BoundsLaw.{symbol_is_declared_name}
 -- the names of what is declared, with one word more
 pub names_declared : (d : List Bytes) (w : Bytes)
     → with_name w (first_occurrences [] d) ≡ first_occurrences [] (d ++ w ∷ [])
-names_declared d w = adds_new (is_in w (first_occurrences [] d)) ∙ sym (first_occurrences_push d w)
-  where
-    adds_new : (b : Bool)
-        → (if b then first_occurrences [] d else (first_occurrences [] d ++ w ∷ []))
-        ≡ first_occurrences [] d ++ if_new b w
-    adds_new true = sym (append-nil (first_occurrences [] d))
-    adds_new false = refl
+names_declared d w = grind (arith, common_steps, first_occurrences_push, append-nil)
 
 -- ---- more names after
 
@@ -44,29 +38,20 @@ names_declared d w = adds_new (is_in w (first_occurrences [] d)) ∙ sym (first_
 pub index_of_in_front : (w : Bytes) (ns added : List Bytes) → is_in w ns ≡ true
     → index_of w (ns ++ added) ≡ index_of w ns
 index_of_in_front w [] added w_in_ns = absurd (true≢false (sym w_in_ns))
-index_of_in_front w (n ∷ ns) added w_in_ns =
-    index_stays (bytes_eq w n) refl (index_of_in_front w ns added)
-  where
-    index_stays : (b : Bool) → bytes_eq w n ≡ b
-        → (is_in w ns ≡ true → index_of w (ns ++ added) ≡ index_of w ns)
-        → ◌≡◌ {A = ℕ} (elim b [ true ↦ 0 | false ↦ suc (index_of w (ns ++ added)) ])
-        (elim b [ true ↦ 0 | false ↦ suc (index_of w ns) ])
-    index_stays true w_eq_n index_in_rest_unchanged = refl
-    index_stays false w_eq_n index_in_rest_unchanged =
-        ap suc (index_in_rest_unchanged (sym (ap (λ b. b || is_in w ns) w_eq_n) ∙ w_in_ns))
+index_of_in_front w (n ∷ ns) added w_in_ns = grind (arith, index_of_in_front w ns added)
 
 -- further words add names after those that there are, and change none of them
 first_occurrences_grow : (d ws : List Bytes)
     → (added : List Bytes) × (first_occurrences [] (d ++ ws) ≡ first_occurrences [] d ++ added)
-first_occurrences_grow d [] =
-    ([], ap (first_occurrences []) (append-nil d) ∙ sym (append-nil (first_occurrences [] d)))
+first_occurrences_grow d [] = grind (arith, common_steps, append-nil)
 first_occurrences_grow d (w ∷ ws) =
-    let grown = first_occurrences_grow (d ++ w ∷ []) ws in
-    let w_is_in_names = is_in w (first_occurrences [] d) in (
-      if_new w_is_in_names w ++ grown.0,
-      ap (first_occurrences []) (sym (append_assoc d (w ∷ []) ws)) ∙ grown.1
-          ∙ ap (λ l. l ++ grown.0) (first_occurrences_push d w)
-          ∙ append_assoc (first_occurrences [] d) (if_new w_is_in_names w) grown.0,
+    grind (
+      arith,
+      common_steps,
+      if_new,
+      append_assoc,
+      first_occurrences_push,
+      (first_occurrences_grow (d ++ w ∷ []) ws),
     )
 
 abbrev pub declared : List Statement → List Bytes
@@ -75,16 +60,13 @@ declared db = flat_map (λ s. constants_of s ++ variables_of s) db
 -- what statements declare is followed by what one statement more declares
 declared_push : (db : List Statement) (s : Statement)
     → declared (db ++ s ∷ []) ≡ declared db ++ (constants_of s ++ variables_of s)
-declared_push db s =
-    flat_map-append (λ s. constants_of s ++ variables_of s) db (s ∷ [])
-    ∙ ap (λ l. declared db ++ l) (append-nil (constants_of s ++ variables_of s))
+declared_push db s = grind (arith, common_steps, flat_map-append, append-nil)
 
 -- the names after a statement, by what it declares
 pub declared_names_are_symbol_names : (db : List Statement) (s : Statement) (ns : List Bytes)
     → ns ≡ first_occurrences [] (declared db ++ (constants_of s ++ variables_of s))
     → ns ≡ symbol_names (db ++ s ∷ [])
-declared_names_are_symbol_names db s ns ns_are_declared =
-    ns_are_declared ∙ ap (first_occurrences []) (sym (declared_push db s))
+declared_names_are_symbol_names db s ns ns_are_declared = grind (arith, common_steps, declared_push)
 
 -- a statement adds names after those that there are
 symbol_names_grow : (db : List Statement) (s : Statement)
@@ -97,9 +79,7 @@ symbol_names_grow db s =
 pub symbol_names_unchanged : (db : List Statement) (s : Statement)
     → constants_of s ++ variables_of s ≡ []
     → symbol_names (db ++ s ∷ []) ≡ symbol_names db
-symbol_names_unchanged db s declares_nothing =
-    ap (first_occurrences [])
-    (declared_push db s ∙ ap (λ l. declared db ++ l) declares_nothing ∙ append-nil (declared db))
+symbol_names_unchanged db s declares_nothing = grind (arith, nat_tests, declared_push, append-nil)
 
 -- ---- formulas keep their numbers
 
@@ -110,8 +90,7 @@ indices_equal : (ns ms : List Bytes) (ws : List Bytes)
 indices_equal ns ms [] index_equal = refl
 indices_equal ns ms (w ∷ ws) index_equal =
     ap₂ (λ n l. n ∷ l) (index_equal w (ap (λ b. b || is_in w ws) (bytes_eq_itself w)))
-    (indices_equal ns ms ws (λ v v_in_ws. index_equal v (ap (λ b. bytes_eq v w || b) v_in_ws
-    ∙ or-true (bytes_eq v w))))
+    (indices_equal ns ms ws (λ v v_in_ws. index_equal v (rw v_in_ws (or-true (bytes_eq v w)))))
 
 -- functions that are equal at each statement give equal lists
 maps_equal : (f g : Statement → List ℕ) (xs : List Statement)
@@ -142,10 +121,11 @@ module _ (db : List Statement) (lawful : (k : ℕ) → k < length db → scope_f
   formulas_push : map (formula_of db) db ++ formula_of longer_db s ∷ []
       ≡ map (formula_of longer_db) longer_db
   formulas_push =
-      ap (λ fs. fs ++ formula_of longer_db s ∷ [])
-      (maps_equal (formula_of db) (formula_of longer_db) db
-      (λ k t t_is_statement_k. sym (formula_is_unchanged k t t_is_statement_k)))
-      ∙ sym (map-append (formula_of longer_db) db (s ∷ []))
+      rw (
+        map-append (formula_of longer_db) db (s ∷ []),
+        maps_equal (formula_of db) (formula_of longer_db) db
+            (λ k t t_is_statement_k. sym (formula_is_unchanged k t t_is_statement_k)),
+      ) refl
 
   -- formulas of statements stay such with that of one statement more
   pub formulas_with_statement : (numbers places : List ℕ) → AreFormulas db numbers places
@@ -153,11 +133,9 @@ module _ (db : List Statement) (lawful : (k : ℕ) → k < length db → scope_f
       → added ≡ numbers ++ formula_of longer_db s
       → AreFormulas longer_db added (with_end places (length added))
   formulas_with_statement numbers places are_formulas added symbols_are_appended =
-      rw symbols_are_appended
-      (subst (λ fs. AreJoined fs (numbers ++ formula_of longer_db s)
-      (with_end places (length (numbers ++ formula_of longer_db s)))) formulas_push
+      rw (symbols_are_appended, sym formulas_push)
       (joined_with_one_more (map (formula_of db) db)
-      (formula_of longer_db s) numbers places are_formulas))
+      (formula_of longer_db s) numbers places are_formulas)
 
 -- ---- the formulas one by one
 
@@ -167,31 +145,10 @@ formulas_numbered db = record {
   count = length-map db (formula_of db);
   formula = λ k k_lt_length.
       element_of_mapped (formula_of db) db k (opening 0) [] k_lt_length
-      ∙ sym (ap (λ o. flat_map (formula_of db) (elim o [ None ↦ [] | Some s ↦ s ∷ [] ]))
-      (slice_get-get_or db k (opening 0) k_lt_length)
-      ∙ append-nil (formula_of db (get_or db k (opening 0))));
+      ∙ sym (search (rules, arith, formula_at_place, slice_get-get_or));
 }
 
 -- ---- words numbered one by one
-
--- the numbers of the words up to i + 1 are those up to i and that of the next word
-pub numbers_between_push : (text : List ℕ) (ws : List spec.Word) (ns : List Bytes) (from i : ℕ)
-    → from ≤ i
-    → i < length ws
-    → numbers_in ns (between text ws from (i + 1))
-    ≡ numbers_in ns (between text ws from i) ++ index_of (token_at text ws i).word ns ∷ []
-numbers_between_push text ws ns from i from_le_i i_lt_length =
-    ap (numbers_in ns) (between_with_one_more text ws from i from_le_i i_lt_length)
-    ∙ ap (map (λ w. index_of w ns))
-    (map-append (λ (t : Token). t.word) (between text ws from i) (token_at text ws i ∷ []))
-    ∙ map-append (λ (w : Bytes). index_of w ns) (words (between text ws from i))
-    ((token_at text ws i).word ∷ [])
-
--- there are no numbers of no words
-pub numbers_between_nothing : (text : List ℕ) (ws : List spec.Word) (ns : List Bytes) (from : ℕ)
-    → [] ≡ numbers_in ns (between text ws from from)
-numbers_between_nothing text ws ns from = ap (numbers_in ns)
-    (nothing_between_place_and_itself text ws from)
 
 -- the words up to i + 1 are those up to i and the next word
 pub words_between_push : (text : List ℕ) (ws : List spec.Word) (from i : ℕ) → from ≤ i
@@ -199,8 +156,34 @@ pub words_between_push : (text : List ℕ) (ws : List spec.Word) (from i : ℕ) 
     → words (between text ws from i) ++ (token_at text ws i).word ∷ []
     ≡ words (between text ws from (i + 1))
 words_between_push text ws from i from_le_i i_lt_length =
-    sym (ap words (between_with_one_more text ws from i from_le_i i_lt_length)
-    ∙ map-append (λ (t : Token). t.word) (between text ws from i) (token_at text ws i ∷ []))
+    grind (arith, common_steps, between_with_one_more, map-append)
+
+-- the numbers of the words up to i + 1 are those up to i and that of the next word
+numbers_between_push : (text : List ℕ) (ws : List spec.Word) (ns : List Bytes) (from i : ℕ)
+    → from ≤ i
+    → i < length ws
+    → numbers_in ns (between text ws from (i + 1))
+    ≡ numbers_in ns (between text ws from i) ++ index_of (token_at text ws i).word ns ∷ []
+numbers_between_push text ws ns from i from_le_i i_lt_length =
+    rw (
+      sym (words_between_push text ws from i from_le_i i_lt_length),
+      map-append (λ (w : Bytes). index_of w ns) (words (between text ws from i))
+          ((token_at text ws i).word ∷ []),
+    ) refl
+
+-- numbers that were appended up to i, and then that of the next word
+pub numbers_with_next : (text : List ℕ) (ws : List spec.Word) (ns : List Bytes) (from i : ℕ)
+    → from ≤ i → i < length ws → (old : List ℕ) {mid new : List ℕ} {x : ℕ}
+    → new ≡ mid ++ x ∷ [] → mid ≡ old ++ numbers_in ns (between text ws from i)
+    → x ≡ index_of (token_at text ws i).word ns
+    → new ≡ old ++ numbers_in ns (between text ws from (i + 1))
+numbers_with_next text ws ns from i from_le_i i_lt_length old new_is mid_is x_is =
+    grind (arith, common_steps, numbers_between_push, append_assoc)
+
+-- there are no numbers of no words
+pub numbers_between_nothing : (text : List ℕ) (ws : List spec.Word) (ns : List Bytes) (from : ℕ)
+    → [] ≡ numbers_in ns (between text ws from from)
+numbers_between_nothing text ws ns from = grind (arith, nat_tests, nothing_between_place_and_itself)
 
 -- the names after the words up to i + 1 are those up to i with the next word
 pub names_with_word : (text : List ℕ) (ws : List spec.Word) (from i : ℕ) → from ≤ i → i < length ws
@@ -209,12 +192,7 @@ pub names_with_word : (text : List ℕ) (ws : List spec.Word) (from i : ℕ) →
     (first_occurrences [] (d ++ words (between text ws from i)))
     ≡ first_occurrences [] (d ++ words (between text ws from (i + 1)))
 names_with_word text ws from i from_le_i i_lt_length d =
-    let xs = words (between text ws from i) in
-    let w = (token_at text ws i).word in
-    names_declared (d ++ xs) w
-    ∙ ap (first_occurrences [])
-    (append_assoc d xs (w ∷ [])
-    ∙ ap (λ l. d ++ l) (words_between_push text ws from i from_le_i i_lt_length))
+    grind (arith, common_steps, names_declared, append_assoc, words_between_push)
 
 -- ---- a statement's symbols: those of a formula as they are judged, the others once declared
 
@@ -222,29 +200,13 @@ names_with_word text ws from i from_le_i i_lt_length d =
 pub formula_split : (db : List Statement) (s : Statement)
     → judged (symbol_names db) s ++ unjudged (symbol_names (db ++ s ∷ [])) s
     ≡ formula_of (db ++ s ∷ []) s
-formula_split db (constants k xs d) = refl
-formula_split db (variables k xs d) = refl
-formula_split db (disjoint k xs d) = refl
-formula_split db (floating l k xs d) = refl
-formula_split db (essential l k xs d) =
-    append-nil _ ∙ ap (λ ns. numbers_in ns xs)
-    (sym (symbol_names_unchanged db (essential l k xs d) refl))
-formula_split db (axiomatic l k xs d) =
-    append-nil _ ∙ ap (λ ns. numbers_in ns xs)
-    (sym (symbol_names_unchanged db (axiomatic l k xs d) refl))
-formula_split db (provable l k xs e ps d) =
-    append-nil _ ∙ ap (λ ns. numbers_in ns xs)
-    (sym (symbol_names_unchanged db (provable l k xs e ps d) refl))
-formula_split db (opening k) = refl
-formula_split db (closing k) = refl
+formula_split db s = grind (arith, common_steps, append-nil, symbol_names_unchanged)
 
 -- a statement leaves no fewer names
 pub symbol_names_no_shorter : (db : List Statement) (s : Statement)
     → length (symbol_names db) ≤ length (symbol_names (db ++ s ∷ []))
 symbol_names_no_shorter db s =
-    let names_grow = symbol_names_grow db s in let grown_length = ap length names_grow.1 in
-    let append_length = length-append (symbol_names db) names_grow.0 in
-    omega (arith, grown_length, append_length)
+    let names_grow = symbol_names_grow db s in search (rules, arith, length-append)
 
 -- numbers to which a statement's are added in the two steps are followed by its formula
 pub taken_numbers : (db : List Statement) (s : Statement) (numbers mid added : List ℕ)
@@ -253,7 +215,4 @@ pub taken_numbers : (db : List Statement) (s : Statement) (numbers mid added : L
     → mid ≡ numbers ++ judged before s → added ≡ mid ++ unjudged after s
     → added ≡ numbers ++ formula_of (db ++ s ∷ []) s
 taken_numbers db s numbers mid added before after before_is after_is mid_is more_is =
-    more_is ∙ ap (λ l. l ++ unjudged after s) mid_is
-    ∙ append_assoc numbers (judged before s) (unjudged after s)
-    ∙ ap (λ l. numbers ++ l) (ap₂ (λ x y. judged x s ++ unjudged y s) before_is after_is
-    ∙ formula_split db s)
+    grind (arith, common_steps, append_assoc, formula_split)

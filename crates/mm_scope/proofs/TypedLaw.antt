@@ -1,6 +1,7 @@
 -- The variable of a `$f` has its type.
-use Rattle.std.proofs.Common.{◌≡◌, ◌≢◌, ℕ, ◌+◌, ◌-◌, ◌<◌, ◌≤◌, Bool, true, false, List, [], ◌∷◌}
-use Rattle.std.proofs.Common.{length, Option, bytes_eq, if◌then◌else◌, refl, sym, ap, ◌∙◌, arith}
+use Rattle.std.proofs.lemmas.Grind.{common_steps}
+use Rattle.std.proofs.Common.{◌≡◌, ◌≢◌, ℕ, ◌+◌, ◌-◌, ◌<◌, ◌≤◌, Bool, true, false, List, length}
+use Rattle.std.proofs.Common.{Option, bytes_eq, if◌then◌else◌, refl, ap, arith}
 use Rattle.std.proofs.lemmas.Slice.Eq.{bytes_eq-Decides}
 use Rattle.mm_spec.specs.Text.{Token}
 use Rattle.mm_spec.specs.declared.Word.{Word}
@@ -13,10 +14,7 @@ use Rattle.mm_scope.proofs.JudgeLaw.{between_is_two_tokens, length_between}
 typed_after_other_length : (n : ℕ) (xs : List Token) (w : List ℕ) (x : Option WordEntry)
     → length xs ≢ 2
     → typed_after n xs w x ≡ x
-typed_after_other_length n [] w x length_ne_2 = refl
-typed_after_other_length n (a ∷ []) w x length_ne_2 = refl
-typed_after_other_length n (a ∷ b ∷ []) w x length_ne_2 = absurd (length_ne_2 refl)
-typed_after_other_length n (a ∷ b ∷ c ∷ xs) w x length_ne_2 = refl
+typed_after_other_length n xs w x h1 = grind (arith, common_steps)
 
 module _ (text : List ℕ) (ws : List Word) (k j : ℕ) (j_le_length : j ≤ length ws) where
   -- no two symbols
@@ -39,20 +37,23 @@ module _ (text : List ℕ) (ws : List Word) (k j : ℕ) (j_le_length : j ≤ len
       → (w : List ℕ)
       → entry_of (new w) ≡ typed_after n (between text ws (k + 1) j) w (entry_of (old w))
   typed_after_two_symbols width_is_3 n old mid new mid_is_old new_adds_type w =
-      let second_is_k_plus_2 : k + 1 + 1 ≡ k + 2 = omega arith in
-      new_adds_type w ∙ entry_is_typed (bytes_eq (token_at text ws (k + 1 + 1)).word w) refl
-      ∙ ap (λ m. if bytes_eq (token_at text ws m).word w then typed_entry n
-      (token_at text ws (k + 1)).word (entry_of (old w)) else entry_of (old w)) second_is_k_plus_2
-      ∙ ap (λ xs. typed_after n xs w (entry_of (old w)))
-      (sym (between_is_two_tokens text ws k j j_le_length width_is_3))
+      rw (
+        between_is_two_tokens text ws k j j_le_length width_is_3,
+        new_adds_type w,
+        mid_is_old w,
+        mid_is_old (token_at text ws (k + 1 + 1)).word,
+        k_plus_2,
+      ) (entry_is_typed (bytes_eq (token_at text ws (k + 2)).word w) refl)
     where
-      entry_is_typed : (b : Bool) → bytes_eq (token_at text ws (k + 1 + 1)).word w ≡ b
+      k_plus_2 : k + 1 + 1 ≡ k + 2
+      k_plus_2 = omega arith
+
+      entry_is_typed : (b : Bool) → bytes_eq (token_at text ws (k + 2)).word w ≡ b
           → (if b then typed_entry n (token_at text ws (k + 1)).word
-          (entry_of (mid (token_at text ws (k + 1 + 1)).word)) else entry_of (mid w))
+          (entry_of (old (token_at text ws (k + 2)).word)) else entry_of (old w))
           ≡ (if b then typed_entry n (token_at text ws (k + 1)).word
           (entry_of (old w)) else entry_of (old w))
       entry_is_typed true variable_eq_w =
-          ap (λ v. typed_entry n (token_at text ws (k + 1)).word (entry_of (mid v)))
-          ((bytes_eq-Decides (token_at text ws (k + 1 + 1)).word w).0 variable_eq_w)
-          ∙ ap (λ o. typed_entry n (token_at text ws (k + 1)).word (entry_of o)) (mid_is_old w)
-      entry_is_typed false variable_eq_w = ap entry_of (mid_is_old w)
+          ap (λ v. typed_entry n (token_at text ws (k + 1)).word (entry_of (old v)))
+          ((bytes_eq-Decides (token_at text ws (k + 2)).word w).0 variable_eq_w)
+      entry_is_typed false variable_eq_w = refl

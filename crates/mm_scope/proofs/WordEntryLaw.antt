@@ -1,7 +1,7 @@
 -- What is known of a word after one statement more.
-use Rattle.std.proofs.Common.{◌≡◌, ℕ, ◌<◌, Bool, true, false, ◌&&◌, ◌||◌, not, List, [], ◌∷◌, ◌++◌}
+use Rattle.std.proofs.Common.{◌≡◌, ℕ, ◌<◌, true, false, ◌&&◌, ◌||◌, not, List, [], ◌∷◌, ◌++◌}
 use Rattle.std.proofs.Common.{length, flat_map, map, bytes_eq, nat_eq, Option, None, Some, refl}
-use Rattle.std.proofs.Common.{sym, ap, ap₂, ◌∙◌, subst, arith, true≢false}
+use Rattle.std.proofs.Common.{sym, ◌∙◌, arith, true≢false}
 use Rattle.std.proofs.lemmas.List.Folds.{list_any-append}
 use Rattle.std.proofs.lemmas.Grind.{flat_map-append}
 use Rattle.std.proofs.lemmas.Bool.{ne_eqb}
@@ -13,8 +13,8 @@ use Rattle.mm_spec.specs.Statement.{Statement}
 use Rattle.mm_spec.specs.Scope.{Typing, active_statements, variables_of, constants_of, typings_of}
 use Rattle.mm_outline.specs.Blocks.{never}
 use Rattle.mm_scope.specs.WordEntry.{WordEntry, entry, declared_entry, typed_entry, IsEntryOf}
-use Rattle.mm_scope.specs.WordEntry.{Latest, typed_by, typecode_by, declared_by}
-use Rattle.mm_scope.specs.WordEntry.{gives_other_typecode, is_constant_entry, is_variable_entry}
+use Rattle.mm_scope.specs.WordEntry.{typed_by, typecode_by, declared_by, gives_other_typecode}
+use Rattle.mm_scope.specs.WordEntry.{is_constant_entry, is_variable_entry}
 use Rattle.mm_outline.specs.Typed.{typed_words}
 use Rattle.mm_scope.proofs.LatestLaw.{latest_unchanged, latest_is_new}
 
@@ -24,24 +24,15 @@ no_typing_no_other_typecode : (c w : Bytes) (ts : List Typing)
     → list_any (gives_other_typecode c w) (ts ++ []) ≡ false
 no_typing_no_other_typecode c w [] w_not_typed = refl
 no_typing_no_other_typecode c w (t ∷ ts) w_not_typed =
-    has_no_other (bytes_eq w t.variable) w_not_typed (no_typing_no_other_typecode c w ts)
-  where
-    has_no_other : (b : Bool) → (b || is_in w (map (λ t. t.variable) ts ++ [])) ≡ false
-        → (is_in w (map (λ t. t.variable) ts ++ []) ≡ false
-        → list_any (gives_other_typecode c w) (ts ++ []) ≡ false)
-        → ((b && not (bytes_eq c t.typecode)) || list_any (gives_other_typecode c w) (ts ++ []))
-        ≡ false
-    has_no_other true w_not_typed rest_has_no_other_typecode = absurd (true≢false w_not_typed)
-    has_no_other false w_not_typed rest_has_no_other_typecode =
-        rest_has_no_other_typecode w_not_typed
+    grind (arith, no_typing_no_other_typecode c w ts)
 
 module _ (db : List Statement) (s : Statement) (w : Bytes) where
   -- a word is in a list of all statements if it is in that of the earlier ones or of the last
   pub in_flat_map_push : (f : Statement → List Bytes)
       → is_in w (flat_map f (db ++ s ∷ [])) ≡ (is_in w (flat_map f db) || is_in w (f s ++ []))
   in_flat_map_push f =
-      ap (is_in w) (flat_map-append f db (s ∷ []))
-      ∙ list_any-append (bytes_eq w) (flat_map f db) (f s ++ [])
+      rw (flat_map-append f db (s ∷ []))
+      (list_any-append (bytes_eq w) (flat_map f db) (f s ++ []))
 
   -- another typecode is given by an earlier statement or by the last
   other_typecode_push : (c : Bytes)
@@ -49,32 +40,30 @@ module _ (db : List Statement) (s : Statement) (w : Bytes) where
       ≡ (list_any (gives_other_typecode c w) (flat_map typings_of db)
       || list_any (gives_other_typecode c w) (typings_of s ++ []))
   other_typecode_push c =
-      ap (list_any (gives_other_typecode c w)) (flat_map-append typings_of db (s ∷ []))
-      ∙ list_any-append (gives_other_typecode c w) (flat_map typings_of db) (typings_of s ++ [])
+      rw (flat_map-append typings_of db (s ∷ []))
+      (list_any-append (gives_other_typecode c w) (flat_map typings_of db) (typings_of s ++ []))
 
   -- the statement has not the word among these
   pub in_flat_map_unchanged : (f : Statement → List Bytes) → is_in w (f s ++ []) ≡ false
       → is_in w (flat_map f (db ++ s ∷ [])) ≡ is_in w (flat_map f db)
   in_flat_map_unchanged f s_has_not_w =
-      in_flat_map_push f ∙ ap (λ b. is_in w (flat_map f db) || b) s_has_not_w
-      ∙ or-false (is_in w (flat_map f db))
+      rw (in_flat_map_push f, s_has_not_w) (or-false (is_in w (flat_map f db)))
 
   -- the statement has the word among these
   in_flat_map_of_last : (f : Statement → List Bytes) → is_in w (f s ++ []) ≡ true
       → is_in w (flat_map f (db ++ s ∷ [])) ≡ true
   in_flat_map_of_last f s_has_w =
-      in_flat_map_push f ∙ ap (λ b. is_in w (flat_map f db) || b) s_has_w
-      ∙ or-true (is_in w (flat_map f db))
+      rw (in_flat_map_push f, s_has_w) (or-true (is_in w (flat_map f db)))
 
   -- the statement doesn't type the word
   other_typecode_unchanged : (c : Bytes) → is_in w (typed_words s ++ []) ≡ false
       → list_any (gives_other_typecode c w) (flat_map typings_of (db ++ s ∷ []))
       ≡ list_any (gives_other_typecode c w) (flat_map typings_of db)
   other_typecode_unchanged c s_types_not_w =
-      other_typecode_push c
-      ∙ ap (λ b. list_any (gives_other_typecode c w) (flat_map typings_of db) || b)
-      (no_typing_no_other_typecode c w (typings_of s) s_types_not_w)
-      ∙ or-false (list_any (gives_other_typecode c w) (flat_map typings_of db))
+      rw (
+        other_typecode_push c,
+        no_typing_no_other_typecode c w (typings_of s) s_types_not_w,
+      ) (or-false (list_any (gives_other_typecode c w) (flat_map typings_of db)))
 
   -- the statement says nothing of the word
   pub entry_is_unchanged : (x : Option WordEntry) → IsEntryOf db w x
@@ -110,27 +99,18 @@ module _ (db : List Statement) (s : Statement) (w : Bytes) where
         ∙ w_has_no_entry.other_typecode c;
   }
 
-  -- a declaration leaves the `$f` of a word as it was
-  declaring_keeps_typed_by : (x : Option WordEntry) → typed_by (declared_entry true (length db) w x)
-      ≡ typed_by x
-  declaring_keeps_typed_by None = refl
-  declaring_keeps_typed_by (Some e) = refl
-
-  -- a declaration leaves the typecode of a word as it was
-  other_declared : (c : Bytes) (x : Option WordEntry)
-      → (not (nat_eq (typed_by x) never) && not (bytes_eq c (typecode_by x)))
-      ≡ (not (nat_eq (typed_by (declared_entry true (length db) w x)) never)
-      && not (bytes_eq c (typecode_by (declared_entry true (length db) w x))))
-  other_declared c None = refl
-  other_declared c (Some e) = refl
-
-  -- the entry after a declaration is that of a variable, with this statement
+  -- the entry after a declaration is that of a variable, with this statement; what is known of its
+  -- typing stays
   is_declared : (x : Option WordEntry)
       → (is_constant_entry (declared_entry true (length db) w x) ≡ false)
       × (is_variable_entry (declared_entry true (length db) w x) ≡ true)
       × (declared_by (declared_entry true (length db) w x) ≡ length db)
-  is_declared None = (refl, refl, refl)
-  is_declared (Some e) = (refl, refl, refl)
+      × (typed_by (declared_entry true (length db) w x) ≡ typed_by x)
+      × ((c : Bytes) → (not (nat_eq (typed_by x) never) && not (bytes_eq c (typecode_by x)))
+      ≡ (not (nat_eq (typed_by (declared_entry true (length db) w x)) never)
+      && not (bytes_eq c (typecode_by (declared_entry true (length db) w x)))))
+  is_declared None = (refl, refl, refl, refl, λ c. refl)
+  is_declared (Some e) = (refl, refl, refl, refl, λ c. refl)
 
   -- what is known of a word after a statement that declares it as a variable
   pub entry_of_new_variable : (x : Option WordEntry) → IsEntryOf db w x
@@ -141,27 +121,22 @@ module _ (db : List Statement) (s : Statement) (w : Bytes) where
       → IsEntryOf (db ++ s ∷ []) w (declared_entry true (length db) w x)
   entry_of_new_variable x x_is_entry x_is_no_constant w_is_inactive s_is_no_constant s_is_variable
       s_types_not_w =
-      let declared_is_variable = is_declared x in
+      let x_is_declared = is_declared x in
+      let same_typing = x_is_declared.3 in
       record {
         constant_is_known = in_flat_map_unchanged constants_of s_is_no_constant
-            ∙ x_is_entry.constant_is_known
-            ∙ x_is_no_constant ∙ sym declared_is_variable.0;
-        variable_is_known = in_flat_map_of_last variables_of s_is_variable
-            ∙ sym declared_is_variable.1;
-        declaration_is_latest =
-            λ is_variable. subst (Latest (db ++ s ∷ []) variables_of w) (sym declared_is_variable.2)
+            ∙ x_is_entry.constant_is_known ∙ x_is_no_constant ∙ sym x_is_declared.0;
+        variable_is_known = in_flat_map_of_last variables_of s_is_variable ∙ sym x_is_declared.1;
+        declaration_is_latest = λ is_variable. rw x_is_declared.2
             (latest_is_new db s variables_of w s_is_variable w_is_inactive);
-        typing_is_latest =
-            λ is_typed. subst (Latest (db ++ s ∷ []) typed_words w)
-            (sym (declaring_keeps_typed_by x))
+        typing_is_latest = λ is_typed. rw same_typing
             (latest_unchanged db s typed_words w (typed_by x)
             (x_is_entry.typing_is_latest
-            (λ typed_is_never. is_typed (declaring_keeps_typed_by x ∙ typed_is_never)))
-            s_types_not_w);
+            (λ typed_is_never. is_typed (same_typing ∙ typed_is_never))) s_types_not_w);
         untyped_has_no_typing = λ typed_is_never. in_flat_map_unchanged typed_words s_types_not_w
-            ∙ x_is_entry.untyped_has_no_typing (sym (declaring_keeps_typed_by x) ∙ typed_is_never);
+            ∙ x_is_entry.untyped_has_no_typing (sym same_typing ∙ typed_is_never);
         other_typecode = λ c. other_typecode_unchanged c s_types_not_w ∙ x_is_entry.other_typecode c
-            ∙ other_declared c x;
+            ∙ x_is_declared.4 c;
       }
 
   -- what is known of a word after a `$f` that types it
@@ -191,39 +166,7 @@ module _ (db : List Statement) (s : Statement) (w : Bytes) where
       w_is_w = (bytes_eq-Decides w w).1 refl
 
       s_has_typing : is_in w (typed_words s ++ []) ≡ true
-      s_has_typing = ap (λ ts. is_in w (map (λ t. t.variable) ts ++ [])) s_types_w
-          ∙ ap (λ b. b || false) w_is_w
-
-      other_in_s : (d : Bytes) → list_any (gives_other_typecode d w) (typings_of s ++ [])
-          ≡ not (bytes_eq d c)
-      other_in_s d =
-          ap (λ ts. list_any (gives_other_typecode d w) (ts ++ [])) s_types_w
-          ∙ ap (λ b. (b && not (bytes_eq d c)) || false) w_is_w ∙ or-false (not (bytes_eq d c))
-
-      or_absorbs : (a b y : Bool) → (a && b) ≡ false → ((a && y) || y) ≡ y
-      or_absorbs true b true a_and_b_is_false = refl
-      or_absorbs true b false a_and_b_is_false = refl
-      or_absorbs false b y a_and_b_is_false = refl
-
-      -- the typecode that an earlier `$f` gave is this one
-      earlier_typecode_is_c : (d : Bytes) → (t : Bool) → nat_eq e.typing never ≡ t
-          → (not t && not (bytes_eq c e.typecode)) ≡ false
-          → ((not t && not (bytes_eq d e.typecode)) || not (bytes_eq d c)) ≡ not (bytes_eq d c)
-      earlier_typecode_is_c d true typed_is_t typecode_is_same = refl
-      earlier_typecode_is_c d false typed_is_t typecode_is_same =
-          tests_agree (bytes_eq c e.typecode) refl typecode_is_same
-        where
-          tests_agree : (b : Bool) → bytes_eq c e.typecode ≡ b → not b ≡ false
-              → (not (bytes_eq d e.typecode) || not (bytes_eq d c)) ≡ not (bytes_eq d c)
-          tests_agree true equality_is_b typecode_is_same =
-              ap (λ y. not (bytes_eq d y) || not (bytes_eq d c))
-              (sym ((bytes_eq-Decides c e.typecode).0 equality_is_b))
-              ∙ or_with_itself (not (bytes_eq d c))
-            where
-              or_with_itself : (y : Bool) → (y || y) ≡ y
-              or_with_itself true = refl
-              or_with_itself false = refl
-          tests_agree false equality_is_b typecode_is_same = absurd (true≢false typecode_is_same)
+      s_has_typing = rw (s_types_w, w_is_w) refl
 
       other_typecode_after : (d : Bytes)
           → list_any (gives_other_typecode d w) (flat_map typings_of (db ++ s ∷ []))
@@ -232,7 +175,11 @@ module _ (db : List Statement) (s : Statement) (w : Bytes) where
           let length_ne_never : nat_eq (length db) never ≡ false =
           ne_eqb (length db) never
           (λ length_is_never. omega (arith, length_is_never, db_lt_never)) in
-          other_typecode_push d ∙ ap₂ (λ a b. a || b) (e_is_entry.other_typecode d) (other_in_s d)
-          ∙ earlier_typecode_is_c d (nat_eq e.typing never) refl (sym (e_is_entry.other_typecode c)
-          ∙ no_other_typecode_before)
-          ∙ sym (ap (λ b. not b && not (bytes_eq d c)) length_ne_never)
+          let typecode_is_same = sym (e_is_entry.other_typecode c) ∙ no_other_typecode_before in
+          rw (
+            other_typecode_push d,
+            e_is_entry.other_typecode d,
+            s_types_w,
+            w_is_w,
+            length_ne_never,
+          ) (grind (arith, bytes_eq-Decides, typecode_is_same))

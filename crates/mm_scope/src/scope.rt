@@ -36,14 +36,14 @@ impl<'a, A: Allocator + Copy> Scope<'a, A> {
     fn is_active(&self, symbol: Symbol<'a>) -> bool
         ensures { result ≡ is_active_symbol (is_open_in self.now.blocks) symbol.entry }
     {
-        symbol.is_variable && self.blocks.is_open(symbol.declaration)
+        symbol.is_variable && self.blocks.is_still_open(symbol.declaration)
     }
 
     /// Whether the symbol has an active `$f`.
     fn is_typed(&self, symbol: Symbol<'a>) -> bool
         ensures { result ≡ is_open_in self.now.blocks symbol.entry.typing }
     {
-        self.blocks.is_open(symbol.typing)
+        self.blocks.is_still_open(symbol.typing)
     }
 
     /// Returns what is wrong with a word as a symbol of a formula after the typecode. `word_symbol`

@@ -1,6 +1,6 @@
 -- Labels are those of one forest of derivations at most, and steps have one expansion.
-use Rattle.std.proofs.Common.{◌≡◌, ℕ, List, [], ◌∷◌, ◌++◌, sym, ap, ◌∙◌, subst, unwrap_or}
-use Rattle.std.proofs.Common.{append-nil, append_assoc}
+use Rattle.std.proofs.Common.{rules, arith, ◌≡◌, ℕ, List, [], ◌∷◌, ◌++◌, sym, ◌∙◌, append-nil}
+use Rattle.std.proofs.Common.{append_assoc}
 use Rattle.mm_spec.specs.Derivation.{Context, Trees, none, more, postfix, AreDerivations}
 use Rattle.mm_spec.specs.Steps.{Step, label, marked}
 use Rattle.mm_spec.specs.Valid.{IsLastTree, Adds, Expands}
@@ -19,12 +19,8 @@ module _ (c : Context) where
       → Expands c lists labels steps all_labels → (added : List ℕ) × (all_labels ≡ labels ++ added)
   expansion_grows [] lists labels all_labels expands = ([], expands ∙ sym (append-nil labels))
   expansion_grows (s ∷ steps) lists labels all_labels expands =
-      let extended = adds_at_end lists labels s expands.0 expands.1 in
-      let rest = expansion_grows steps (lists ++ expands.0 ∷ []) expands.0 all_labels expands.2 in (
-        extended.0 ++ rest.0,
-        rest.1 ∙ ap (λ z. z ++ rest.0) extended.1
-            ∙ append_assoc labels extended.0 rest.0,
-      )
+      let rest = expansion_grows steps (lists ++ expands.0 ∷ []) expands.0 all_labels expands.2 in
+      search (rules, arith, adds_at_end, append_assoc, rest)
 
 module _ (c : Context) (all_complete : (l : ℕ) → HasCompleteFrame c (c.referent l)) where
   -- forests with the same labels are one forest
@@ -32,8 +28,7 @@ module _ (c : Context) (all_complete : (l : ℕ) → HasCompleteFrame c (c.refer
       → postfix r ≡ postfix s
       → r ≡ s
   same_labels_same_forest r s r_derives s_derives labels_equal =
-      same_labels_same_derivations c r s r_derives s_derives
-      (forest_labels_are_good c all_complete r r_derives) labels_equal
+      search (rules, arith, same_labels_same_derivations, forest_labels_are_good)
 
   last_trees_are_equal : (forest : Trees) (x y : List ℕ) → IsLastTree forest x → IsLastTree forest y
       → x ≡ y
@@ -45,14 +40,11 @@ module _ (c : Context) (all_complete : (l : ℕ) → HasCompleteFrame c (c.refer
   added_lists_are_equal lists before (label l) a b adds_a adds_b = adds_a ∙ sym adds_b
   added_lists_are_equal lists before (marked j) a b adds_a adds_b =
       let marked_lists_equal : adds_a.0 ≡ adds_b.0 =
-      ap (λ o. unwrap_or o []) (sym adds_a.2 ∙ adds_b.2) in
+      cc in
       let forests_equal =
       same_labels_same_forest adds_a.3.0 adds_b.3.0 adds_a.3.1 adds_b.3.1
       (adds_a.3.2 ∙ marked_lists_equal ∙ sym adds_b.3.2) in
-      let last_trees_equal : adds_a.1 ≡ adds_b.1 =
-      last_trees_are_equal adds_b.3.0 adds_a.1 adds_b.1
-      (subst (λ r. IsLastTree r adds_a.1) forests_equal adds_a.3.3) adds_b.3.3 in
-      adds_a.4 ∙ ap (λ z. before ++ z) last_trees_equal ∙ sym adds_b.4
+      search (rules, arith, last_trees_are_equal)
 
   pub expansions_are_equal : (steps : List Step) (lists : List (List ℕ)) (before a b : List ℕ)
       → Expands c lists before steps a → Expands c lists before steps b → a ≡ b
@@ -61,4 +53,4 @@ module _ (c : Context) (all_complete : (l : ℕ) → HasCompleteFrame c (c.refer
       let next_lists_equal =
       added_lists_are_equal lists before s a_expands.0 b_expands.0 a_expands.1 b_expands.1 in
       expansions_are_equal steps (lists ++ b_expands.0 ∷ []) b_expands.0 a b
-      (subst (λ z. Expands c (lists ++ z ∷ []) z steps a) next_lists_equal a_expands.2) b_expands.2
+      (search (rules, arith)) b_expands.2

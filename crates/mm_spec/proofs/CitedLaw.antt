@@ -1,13 +1,11 @@
 -- What a proof cites is earlier than its theorem, and a theorem has one proof at most.
+use Rattle.std.proofs.Common.{rules, ◌≡◌, ℕ, ◌==◌, ◌<◌, Bool, true, false, ◌||◌, ◌⊎◌, inl, inr}
+use Rattle.std.proofs.Common.{List, [], ◌∷◌, ◌++◌, None, arith, eqb-true, length-append}
 use Rattle.std.proofs.lemmas.Grind.{common_steps}
-use Rattle.std.proofs.Common.{◌≡◌, ℕ, ◌==◌, ◌<◌, Bool, true, false, ◌||◌, ◌⊎◌, inl, inr, List, []}
-use Rattle.std.proofs.Common.{◌∷◌, ◌++◌, Option, None, sym, ap}
-use Rattle.std.proofs.Common.{◌∙◌, subst, arith, true≢false, eqb-true, length-append}
 use Rattle.std.proofs.lemmas.Bool.{or_cases}
 use Rattle.std.proofs.lemmas.List.Folds.{list_any-append}
 use Rattle.mm_spec.specs.Statement.{Statement}
-use Rattle.mm_spec.specs.Derivation.{Context, Referent, Trees, none, more, postfix, formulas}
-use Rattle.mm_spec.specs.Derivation.{AreDerivations, Follows, is_member}
+use Rattle.mm_spec.specs.Derivation.{Context, Trees, none, more, postfix, AreDerivations, is_member}
 use Rattle.mm_spec.specs.Citation.{steps_at, IsProof, Cites}
 use Rattle.mm_spec.specs.Laws.Complete.{AreComplete}
 use Rattle.mm_spec.specs.Output.{is_theorem_at}
@@ -23,12 +21,10 @@ member_append xs ys a = list_any-append (λ y. a == y) xs ys
 -- a label of a derivation refers to something
 no_label_without_referent : (c : Context) (a : ℕ) (forest : Trees) → AreDerivations c forest
     → is_member (postfix forest) a ≡ true → c.referent a ≡ None → ⊥
-no_label_without_referent c a none are_derivations a_is_label no_referent = true≢false
-    (sym a_is_label)
+no_label_without_referent c a none are_derivations a_is_label no_referent = cc
 no_label_without_referent c a (more ts l f cs) are_derivations a_is_label no_referent =
     not_in_earlier_nor_last
-    (or_cases (is_member (postfix ts) a) (is_member (postfix cs ++ l ∷ []) a)
-    (sym (member_append (postfix ts) (postfix cs ++ l ∷ []) a) ∙ a_is_label))
+    (search (rules, arith, or_cases, member_append))
     (λ is_label_there. no_label_without_referent c a ts are_derivations.0 is_label_there
     no_referent)
     (λ is_label_there. no_label_without_referent c a cs are_derivations.1 is_label_there
@@ -36,8 +32,7 @@ no_label_without_referent c a (more ts l f cs) are_derivations a_is_label no_ref
   where
     not_the_root : (a == l) ≡ true → ⊥
     not_the_root is_root =
-        subst (λ (r : Option Referent). Follows c r (formulas cs) f)
-        (ap c.referent (sym (eqb-true a l is_root)) ∙ no_referent) are_derivations.2
+        search (rules, arith, eqb-true)
 
     not_in_children_nor_root : (is_member (postfix cs) a ≡ true) ⊎ (((a == l) || false) ≡ true)
         → (is_member (postfix cs) a ≡ true → ⊥) → ⊥
@@ -50,8 +45,7 @@ no_label_without_referent c a (more ts l f cs) are_derivations a_is_label no_ref
         → (is_member (postfix ts) a ≡ true → ⊥) → (is_member (postfix cs) a ≡ true → ⊥) → ⊥
     not_in_earlier_nor_last (inl is_in_place) not_earlier not_in_children = not_earlier is_in_place
     not_in_earlier_nor_last (inr is_in_place) not_earlier not_in_children =
-        not_in_children_nor_root (or_cases (is_member (postfix cs) a) (is_member (l ∷ []) a)
-        (sym (member_append (postfix cs) (l ∷ []) a) ∙ is_in_place)) not_in_children
+        search (rules, arith, not_in_children_nor_root, or_cases, member_append)
 
 module _ (db : List Statement) where
   -- a label of a theorem's proof is that of an earlier statement
@@ -63,7 +57,7 @@ module _ (db : List Statement) where
   -- what a theorem cites is earlier
   pub cited_lt_theorem : (by_essential : Bool) (t a : ℕ) → Cites db by_essential t a → a < t
   cited_lt_theorem by_essential t a cites =
-      label_lt_theorem t a cites.1 cites.2 (node_label_is_member db by_essential cites.1 a cites.3)
+      search (rules, arith, label_lt_theorem, node_label_is_member)
 
   no_proof_without_steps : (t : ℕ) (d : Trees) → steps_at db t ≡ [] → IsProof db t d → ⊥
   no_proof_without_steps t d steps_are_empty is_proof = grind (arith, common_steps, length-append)

@@ -1,10 +1,9 @@
 -- What tests of lists find among active statements and names.
+use Rattle.std.proofs.Common.{rules, ◌≡◌, ℕ, zero, suc, ◌+◌, ◌==◌, ◌<◌, ◌≤◌, Bool, true, ◌&&◌, ◌||◌}
+use Rattle.std.proofs.Common.{inl, inr, List, [], ◌∷◌, map, take, length, flat_map, Some, None}
+use Rattle.std.proofs.Common.{slice_get, refl, sym, ap, ◌∙◌, true≢false, append-nil, arith}
+use Rattle.std.proofs.Common.{bytes_eq, ltb-true, eqb-true, eq-eqb, eq-or-lt_of_le}
 use Rattle.std.proofs.lemmas.Grind.{common_steps}
-use Rattle.std.proofs.Common.{◌≡◌, ℕ, zero, suc, ◌+◌, ◌==◌, ◌<◌, ◌≤◌, Bool, true, false, ◌&&◌}
-use Rattle.std.proofs.Common.{◌||◌, ◌⊎◌, inl, inr, List, [], ◌∷◌, map, take, length, flat_map}
-use Rattle.std.proofs.Common.{Some, None, slice_get, refl, sym, ap, ◌∙◌, subst, true≢false}
-use Rattle.std.proofs.Common.{append-nil, arith, bytes_eq, ltb-true, eqb-true, eq-eqb}
-use Rattle.std.proofs.Common.{eq-or-lt_of_le}
 use Rattle.std.specs.List.{list_any, range_with_len, AllByRecursion, filter}
 use Rattle.std.proofs.lemmas.Bool.{or_cases, or_left, or_right, and_parts, and_from}
 use Rattle.std.proofs.lemmas.List.Folds.{list_any-append}
@@ -21,8 +20,7 @@ use Rattle.mm_spec.proofs.BoolLaw.{passes_alone}
 pub any_flat_map : {X Y : Type 0} (p : Y → Bool) (f : X → List Y) (xs : List X)
     → list_any p (flat_map f xs) ≡ list_any (λ x. list_any p (f x)) xs
 any_flat_map p f [] = refl
-any_flat_map p f (x ∷ xs) =
-    list_any-append p (f x) (flat_map f xs) ∙ ap (λ b. list_any p (f x) || b) (any_flat_map p f xs)
+any_flat_map p f (x ∷ xs) = grind (arith, common_steps, list_any-append, (any_flat_map p f xs))
 
 pub any_map : {X Y : Type 0} (p : Y → Bool) (f : X → Y) (xs : List X)
     → list_any p (map f xs) ≡ list_any (λ x. p (f x)) xs
@@ -38,57 +36,34 @@ any_range : (p : ℕ → Bool) (n a : ℕ) → list_any p (range_with_len a n) �
     → (i : ℕ) × (p i ≡ true)
 any_range p zero a some_passes = absurd (true≢false (sym some_passes))
 any_range p (suc n) a some_passes =
-    passing_if_there (or_cases (p a) (list_any p (range_with_len (a + 1) n)) some_passes)
-    (λ later_passes_there. any_range p n (a + 1) later_passes_there)
-  where
-    passing_if_there : (p a ≡ true) ⊎ (list_any p (range_with_len (a + 1) n) ≡ true)
-        → (list_any p (range_with_len (a + 1) n) ≡ true → (i : ℕ) × (p i ≡ true))
-        → (i : ℕ) × (p i ≡ true)
-    passing_if_there (inl passes_there) later_passes = (a, passes_there)
-    passing_if_there (inr passes_there) later_passes = later_passes passes_there
+    elim (or_cases (p a) (list_any p (range_with_len (a + 1) n)) some_passes) [
+      | inl passes ↦ (a, passes)
+      | inr later ↦ any_range p n (a + 1) later
+    ]
 
 pub range_any : (p : ℕ → Bool) (n a i : ℕ) → a ≤ i → i < a + n → p i ≡ true
     → list_any p (range_with_len a n) ≡ true
 range_any p zero a i a_le_i i_lt_end i_passes = absurd (omega arith)
 range_any p (suc n) a i a_le_i i_lt_end i_passes =
-    passes_if_there (eq-or-lt_of_le a_le_i)
-    (λ a_lt_i. range_any p n (a + 1) i (omega (arith, a_lt_i)) (omega arith) i_passes)
-  where
-    passes_if_there : (a ≡ i) ⊎ (a < i) → (a < i → list_any p (range_with_len (a + 1) n) ≡ true)
-        → (p a || list_any p (range_with_len (a + 1) n)) ≡ true
-    passes_if_there (inl a_is_i) later_passes =
-        or_left (p a) (list_any p (range_with_len (a + 1) n))
-        (subst (λ x. p x ≡ true) (sym a_is_i) i_passes)
-    passes_if_there (inr a_lt_i) later_passes =
-        or_right (p a) (list_any p (range_with_len (a + 1) n)) (later_passes a_lt_i)
+    elim (eq-or-lt_of_le a_le_i) [
+      | inl a_is_i ↦ cc
+      | inr a_lt_i ↦ or_right (p a) (list_any p (range_with_len (a + 1) n))
+          (range_any p n (a + 1) i (omega arith) (omega arith) i_passes)
+    ]
 
 -- ---- members
 
 pub member_filter : (t : ℕ → Bool) (xs : List ℕ) (x : ℕ) → is_member (filter t xs) x ≡ true
     → (t x ≡ true) × (is_member xs x ≡ true)
-member_filter t xs x is_member_x =
-    passes_and_is_member xs (sym (any_filter t (λ y. x == y) xs) ∙ is_member_x)
-  where
-    passes_and_is_member : (ys : List ℕ) → list_any (λ y. t y && (x == y)) ys ≡ true
-        → (t x ≡ true) × (is_member ys x ≡ true)
-    passes_and_is_member [] some_passes = absurd (true≢false (sym some_passes))
-    passes_and_is_member (y ∷ ys) some_passes =
-        passes_if_there
-        (or_cases (t y && (x == y)) (list_any (λ y. t y && (x == y)) ys) some_passes)
-        (λ later_passes. passes_and_is_member ys later_passes)
-      where
-        passes_if_there : ((t y && (x == y)) ≡ true) ⊎ (list_any (λ y. t y && (x == y)) ys ≡ true)
-            → (list_any (λ y. t y && (x == y)) ys ≡ true → (t x ≡ true) × (is_member ys x ≡ true))
-            → (t x ≡ true) × (((x == y) || is_member ys x) ≡ true)
-        passes_if_there (inl passes_there) later_holds =
-            let both_hold = and_parts (t y) (x == y) passes_there in (
-              subst (λ z. t z ≡ true) (sym (eqb-true x y both_hold.1)) both_hold.0,
-              or_left (x == y)
-                  (is_member ys x) both_hold.1,
-            )
-        passes_if_there (inr passes_there) later_holds =
-            let later_both = later_holds passes_there in
-            (later_both.0, or_right (x == y) (is_member ys x) later_both.1)
+member_filter t [] x is_member_x = absurd (cc)
+member_filter t (y ∷ ys) x is_member_x =
+    elim (or_cases (t y && (x == y)) (list_any (λ y. t y && (x == y)) ys)
+    (sym (any_filter t (λ y. x == y) (y ∷ ys)) ∙ is_member_x)) [
+      | inl passes ↦ search (rules, arith, and_parts, eqb-true, or_left)
+      | inr later ↦
+          let both = member_filter t ys x (any_filter t (λ y. x == y) ys ∙ later) in
+          (both.0, or_right (x == y) (is_member ys x) both.1)
+    ]
 
 pub filter_member : (t : ℕ → Bool) (xs : List ℕ) (x : ℕ) → t x ≡ true → is_member xs x ≡ true
     → is_member (filter t xs) x ≡ true
@@ -101,15 +76,8 @@ pub each_member : (P : ℕ → Type 0) (xs : List ℕ) → ((x : ℕ) → is_mem
     → AllByRecursion P xs
 each_member P [] holds_of_members = tt
 each_member P (x ∷ xs) holds_of_members =
-    grind (
-      arith,
-      common_steps,
-      eq-eqb,
-      or_left,
-      or_right,
-      each_member P xs
-          (λ y y_is_member. holds_of_members y (or_right (y == x) (is_member xs y) y_is_member)),
-    )
+    let later = each_member P xs (search (rules, arith, or_right)) in
+    grind (arith, common_steps, eq-eqb, or_left, or_right)
 
 pub each_map : {X Y : Type 0} (P : Y → Type 0) (f : X → Y) (xs : List X)
     → AllByRecursion (λ x. P (f x)) xs → AllByRecursion P (map f xs)
@@ -123,8 +91,7 @@ each_any P (x ∷ xs) all_hold = (all_hold x, each_any P xs all_hold)
 pub each_filter : {X : Type 0} (P : X → Type 0) (t : X → Bool) (xs : List X)
     → AllByRecursion (λ x. t x ≡ true → P x) xs → AllByRecursion P (filter t xs)
 each_filter P t [] each_holds = tt
-each_filter {X} P t (x ∷ xs) each_holds =
-    grind (arith, common_steps, each_filter P t xs each_holds.1)
+each_filter {X} P t (x ∷ xs) each_holds = search (rules, arith, (each_filter P t xs each_holds.1))
 
 -- ---- statements
 
@@ -133,8 +100,7 @@ pub got_lt_length : (db : List Statement) (i : ℕ) (s : Statement) → slice_ge
 got_lt_length [] zero s s_at_i = absurd (cc)
 got_lt_length [] (suc i) s s_at_i = absurd (cc)
 got_lt_length (x ∷ db) zero s s_at_i = omega arith
-got_lt_length (x ∷ db) (suc i) s s_at_i =
-    let i_lt_length : i < length db = got_lt_length db i s s_at_i in omega arith
+got_lt_length (x ∷ db) (suc i) s s_at_i = grind (arith, common_steps, (got_lt_length db i s s_at_i))
 
 pub statement_at_place : (db : List Statement) (i : ℕ) (s : Statement) → slice_get db i ≡ Some s
     → statement_at db i ≡ s ∷ []
@@ -142,8 +108,7 @@ statement_at_place db i s s_at_i = ap (λ o. elim o [ None ↦ [] | Some s ↦ s
 
 pub formula_at_place : (db : List Statement) (i : ℕ) (s : Statement) → slice_get db i ≡ Some s
     → formula_at db i ≡ formula_of db s
-formula_at_place db i s s_at_i =
-    ap (flat_map (formula_of db)) (statement_at_place db i s s_at_i) ∙ append-nil (formula_of db s)
+formula_at_place db i s s_at_i = grind (arith, common_steps, statement_at_place, append-nil)
 
 pub passing_statement : (db : List Statement) (q : Statement → Bool) (i : ℕ)
     → list_any q (statement_at db i) ≡ true
@@ -152,8 +117,7 @@ passing_statement db q i some_passes = grind (arith, common_steps, passes_alone)
 
 pub statement_passes : (db : List Statement) (q : Statement → Bool) (i : ℕ) (s : Statement)
     → slice_get db i ≡ Some s → q s ≡ true → list_any q (statement_at db i) ≡ true
-statement_passes db q i s s_at_i s_passes =
-    ap (list_any q) (statement_at_place db i s s_at_i) ∙ or_left (q s) false s_passes
+statement_passes db q i s s_at_i s_passes = grind (arith, common_steps, statement_at_place, or_left)
 
 pub active_lt_place : (db : List Statement) (i k : ℕ) → active_at db i k ≡ true → i < k
 active_lt_place db i k i_is_active = ltb-true i k (and_parts _ _ i_is_active).0
@@ -182,18 +146,13 @@ pub declaring_statement : (f : Statement → List Bytes) (db : List Statement) (
     → (i : ℕ) × (s : Statement) × (slice_get db i ≡ Some s) × (is_in w (f s) ≡ true)
 declaring_statement f [] w some_declares = absurd (true≢false (sym some_declares))
 declaring_statement f (x ∷ db) w some_declares =
-    declaring_if_there (or_cases (is_in w (f x)) (is_in w (flat_map f db))
-    (sym (list_any-append (bytes_eq w) (f x) (flat_map f db)) ∙ some_declares))
-    (λ later_declares_w. declaring_statement f db w later_declares_w)
-  where
-    declaring_if_there : (is_in w (f x) ≡ true) ⊎ (is_in w (flat_map f db) ≡ true)
-        → (is_in w (flat_map f db) ≡ true
-        → (i : ℕ) × (s : Statement) × (slice_get db i ≡ Some s) × (is_in w (f s) ≡ true))
-        → (i : ℕ) × (s : Statement) × (slice_get (x ∷ db) i ≡ Some s) × (is_in w (f s) ≡ true)
-    declaring_if_there (inl declared_there) later_declares = (0, x, refl, declared_there)
-    declaring_if_there (inr declared_there) later_declares =
-        let later_declaring = later_declares declared_there in
-        (suc later_declaring.0, later_declaring.1, later_declaring.2, later_declaring.3)
+    elim (or_cases (is_in w (f x)) (is_in w (flat_map f db))
+    (sym (list_any-append (bytes_eq w) (f x) (flat_map f db)) ∙ some_declares)) [
+      | inl declares ↦ (0, x, refl, declares)
+      | inr later ↦
+          let (i, s, s_at_i, s_declares) = declaring_statement f db w later in
+          (suc i, s, s_at_i, s_declares)
+    ]
 
 -- a word that statement i declares is declared before each later statement
 pub later_place_knows_declared : (f : Statement → List Bytes) (db : List Statement) (k i : ℕ)
@@ -207,33 +166,20 @@ later_place_knows_declared f (x ∷ db) zero i s w s_at_i i_lt_k s_declares_w = 
 later_place_knows_declared f (x ∷ db) (suc k) zero s w s_at_i i_lt_k s_declares_w =
     grind (arith, common_steps, list_any-append, or_left)
 later_place_knows_declared f (x ∷ db) (suc k) (suc i) s w s_at_i i_lt_k s_declares_w =
-    grind (
-      arith,
-      common_steps,
-      list_any-append,
-      or_right,
-      later_place_knows_declared f db k i s w
-          s_at_i
-          (omega arith) s_declares_w,
-    )
+    let later = later_place_knows_declared f db k i s w s_at_i (omega arith) s_declares_w in
+    grind (arith, common_steps, list_any-append, or_right)
 
 pub declared_before_is_declared : (f : Statement → List Bytes) (db : List Statement) (k : ℕ)
     (w : Bytes)
     → is_in w (flat_map f (take k db)) ≡ true → is_in w (flat_map f db) ≡ true
 declared_before_is_declared f [] zero w declared_in_front = declared_in_front
 declared_before_is_declared f [] (suc k) w declared_in_front = declared_in_front
-declared_before_is_declared f (x ∷ db) zero w declared_in_front =
-    absurd (true≢false (sym declared_in_front))
+declared_before_is_declared f (x ∷ db) zero w declared_in_front = search (rules, arith, true≢false)
 declared_before_is_declared f (x ∷ db) (suc k) w declared_in_front =
     list_any-append (bytes_eq w) (f x) (flat_map f db)
-    ∙ declared_if_there (or_cases (is_in w (f x)) (is_in w (flat_map f (take k db)))
-    (sym (list_any-append (bytes_eq w) (f x) (flat_map f (take k db))) ∙ declared_in_front))
-    (λ later_front_declares. declared_before_is_declared f db k w later_front_declares)
-  where
-    declared_if_there : (is_in w (f x) ≡ true) ⊎ (is_in w (flat_map f (take k db)) ≡ true)
-        → (is_in w (flat_map f (take k db)) ≡ true → is_in w (flat_map f db) ≡ true)
-        → (is_in w (f x) || is_in w (flat_map f db)) ≡ true
-    declared_if_there (inl declared_there) later_declared =
-        or_left (is_in w (f x)) (is_in w (flat_map f db)) declared_there
-    declared_if_there (inr declared_there) later_declared =
-        or_right (is_in w (f x)) (is_in w (flat_map f db)) (later_declared declared_there)
+    ∙ elim (or_cases (is_in w (f x)) (is_in w (flat_map f (take k db)))
+    (sym (list_any-append (bytes_eq w) (f x) (flat_map f (take k db))) ∙ declared_in_front)) [
+      | inl declared ↦ or_left (is_in w (f x)) (is_in w (flat_map f db)) declared
+      | inr later ↦ or_right (is_in w (f x)) (is_in w (flat_map f db))
+          (declared_before_is_declared f db k w later)
+    ]

@@ -1,17 +1,15 @@
 -- Each step of a proof without reading faults is a label that refers to something, or a mark of an
 -- earlier step.
-use Rattle.std.proofs.lemmas.Grind.{common_steps}
-use Rattle.std.proofs.Common.{◌≡◌, ℕ, zero, suc, ◌+◌, ◌-◌, ◌*◌, ◌<◌, ◌≤◌, Bool, true, false}
+use Rattle.std.proofs.Common.{rules, ◌≡◌, ℕ, zero, suc, ◌+◌, ◌-◌, ◌*◌, ◌<◌, ◌≤◌, Bool, true, false}
 use Rattle.std.proofs.Common.{◌&&◌, ◌⊎◌, inl, inr, List, [], ◌∷◌, ◌++◌, map, length, flat_map}
-use Rattle.std.proofs.Common.{Option, Some, None, slice_get, nat_le, nat_lt, bytes_eq, codes, refl}
-use Rattle.std.proofs.Common.{sym, subst, true≢false, arith, leb-true}
-use Rattle.std.proofs.Common.{length-append}
-use Rattle.std.specs.List.{list_any, range_with_len, AllByRecursion}
+use Rattle.std.proofs.Common.{Option, Some, None, slice_get, nat_le, bytes_eq, codes, refl}
+use Rattle.std.proofs.Common.{true≢false, arith, leb-true, length-append}
+use Rattle.std.proofs.lemmas.Grind.{common_steps}
+use Rattle.std.specs.List.{list_any, AllByRecursion}
 use Rattle.std.proofs.lemmas.Bool.{or_cases, and_parts}
 use Rattle.mm_spec.specs.Text.{Bytes, Token, Fault, fault}
 use Rattle.mm_spec.specs.Statement.{Statement, floating, essential, axiomatic, provable}
 use Rattle.mm_spec.specs.Scope.{active_at, active, statement_at}
-use Rattle.mm_spec.specs.Lawful.{when, faults_at}
 use Rattle.mm_spec.specs.Frame.{formula_at, is_floating, is_essential, mandatory_variables}
 use Rattle.mm_spec.specs.Frame.{mandatory_hypotheses}
 use Rattle.mm_spec.specs.Derivation.{is_member}
@@ -19,14 +17,13 @@ use Rattle.mm_spec.specs.Steps.{Step, PlacedStep, placed, label, marked}
 use Rattle.mm_spec.specs.NormalProof.{is_labelled, usable, normal_steps, normal_faults}
 use Rattle.mm_spec.specs.NormalProof.{proof_label_faults}
 use Rattle.mm_spec.specs.CompressedProof.{Compressed, bracketed, Letter, letters_of, Group}
-use Rattle.mm_spec.specs.CompressedProof.{is_last_letter}
-use Rattle.mm_spec.specs.CompressedProof.{groups, value, starts_at, step_of, group_steps}
-use Rattle.mm_spec.specs.CompressedProof.{group_faults, letter_faults, compressed_faults}
+use Rattle.mm_spec.specs.CompressedProof.{is_last_letter, groups, value, starts_at, step_of}
+use Rattle.mm_spec.specs.CompressedProof.{group_steps, letter_faults, compressed_faults}
 use Rattle.mm_spec.specs.CompressedProof.{compressed_steps}
 use Rattle.mm_spec.specs.Proof.{steps, reading_faults}
 use Rattle.mm_spec.specs.Citation.{referent_at, context_at, steps_at, reading_faults_at}
 use Rattle.mm_spec.specs.Laws.Complete.{HasCompleteFrame}
-use Rattle.mm_spec.specs.declared.Code.TheVariants.{OpenBrackets, OpenNumber}
+use Rattle.mm_spec.specs.declared.Code.TheVariants.{OpenBrackets}
 use Rattle.mm_spec.specs.Laws.Stack.{IsCompleteReferent, AreGoodSteps, IsGoodStep}
 use Rattle.mm_spec.proofs.CompleteLaw.{is_mandatory}
 use Rattle.mm_spec.proofs.FindsLaw.{each_any, each_filter, passing_statement}
@@ -41,9 +38,7 @@ steps_of ps = map (λ p. p.step) ps
 
 each_of_appended : {X : Type 0} (P : X → Type 0) (xs ys : List X) → AllByRecursion P xs
     → AllByRecursion P ys → AllByRecursion P (xs ++ ys)
-each_of_appended P [] ys each_of_xs each_of_ys = each_of_ys
-each_of_appended P (x ∷ xs) ys each_of_xs each_of_ys =
-    (each_of_xs.0, each_of_appended P xs ys each_of_xs.1 each_of_ys)
+each_of_appended P xs ys h1 h2 = grind (arith, common_steps)
 
 each_of_flat : {X Y : Type 0} (P : Y → Type 0) (f : X → List Y) (xs : List X)
     → ((x : X) → AllByRecursion P (f x)) → AllByRecursion P (flat_map f xs)
@@ -55,8 +50,7 @@ each_of_got : {X : Type 0} (P : X → Type 0) (xs : List X) (n : ℕ) (x : X) �
     → slice_get xs n ≡ Some x → P x
 each_of_got P [] zero x each_of_xs got_x = absurd (cc)
 each_of_got P [] (suc n) x each_of_xs got_x = absurd (cc)
-each_of_got P (y ∷ xs) zero x each_of_xs got_x =
-    let y_is_x : y ≡ x = cc in subst P y_is_x each_of_xs.0
+each_of_got P (y ∷ xs) zero x each_of_xs got_x = grind (arith, common_steps)
 each_of_got P (y ∷ xs) (suc n) x each_of_xs got_x = each_of_got P xs n x each_of_xs.1 got_x
 
 -- ---- labels
@@ -69,19 +63,13 @@ has_referent (provable l k xs e ps d) = true
 has_referent _ = false
 
 labelled_has_referent : (w : Bytes) (s : Statement) → is_labelled w s ≡ true → has_referent s ≡ true
-labelled_has_referent w (floating l k xs d) is_labelled_s = refl
-labelled_has_referent w (essential l k xs d) is_labelled_s = refl
-labelled_has_referent w (axiomatic l k xs d) is_labelled_s = refl
-labelled_has_referent w (provable l k xs e ps d) is_labelled_s = refl
-labelled_has_referent w _ is_labelled_s = absurd (true≢false (sym is_labelled_s))
+labelled_has_referent w s h1 = grind (arith, common_steps, true≢false)
 
 floating_has_referent : (s : Statement) → is_floating s ≡ true → has_referent s ≡ true
-floating_has_referent (floating l k xs d) is_floating_s = refl
-floating_has_referent _ is_floating_s = absurd (true≢false (sym is_floating_s))
+floating_has_referent s h1 = grind (arith, common_steps, true≢false)
 
 essential_has_referent : (s : Statement) → is_essential s ≡ true → has_referent s ≡ true
-essential_has_referent (essential l k xs d) is_essential_s = refl
-essential_has_referent _ is_essential_s = absurd (true≢false (sym is_essential_s))
+essential_has_referent s h1 = grind (arith, common_steps, true≢false)
 
 pub group_value_is_positive : (n b : ℕ) → 65 ≤ b → 0 < n * 20 + (b - 64)
 group_value_is_positive n b letter_le_b = omega arith
@@ -92,15 +80,9 @@ faultless_labels_are_usable : (db : List Statement) (k : ℕ) (ts : List Token)
     → length ts ≤ length (flat_map (λ t. usable db k t.word) ts)
 faultless_labels_are_usable db k [] no_faults = omega arith
 faultless_labels_are_usable db k (t ∷ ts) no_faults =
-    grind (
-      arith,
-      common_steps,
-      both_are_empty,
-      length-append,
-      faultless_labels_are_usable db k ts
-          (both_are_empty (proof_label_faults db k t) (flat_map (proof_label_faults db k) ts)
-          no_faults).1,
-    )
+    let later = faultless_labels_are_usable db k ts (both_are_empty (proof_label_faults db k t)
+    (flat_map (proof_label_faults db k) ts) no_faults).1 in
+    grind (arith, common_steps, both_are_empty, length-append)
 
 module _ (db : List Statement) (k : ℕ)
     (all_complete : (l : ℕ) → HasCompleteFrame (context_at db k) (referent_at db k l)) where
@@ -127,17 +109,12 @@ module _ (db : List Statement) (k : ℕ)
   mandatory_labels_are_good : AllByRecursion IsGoodLabel (mandatory_hypotheses db k)
   mandatory_labels_are_good =
       each_filter IsGoodLabel (is_mandatory db k) (active db k)
-      (each_filter (λ j. is_mandatory db k j ≡ true → IsGoodLabel j) (λ j. active_at db j k)
-      (range_with_len 0 k)
-      (each_any (λ j. active_at db j k ≡ true → is_mandatory db k j ≡ true → IsGoodLabel j)
-      (range_with_len 0 k) active_mandatory_good))
+      (grind (arith, common_steps, each_filter, is_mandatory, each_any, active_mandatory_good))
     where
       active_mandatory_good : (j : ℕ) → active_at db j k ≡ true → is_mandatory db k j ≡ true
           → IsGoodLabel j
       active_mandatory_good j j_is_active j_is_mandatory =
-          good_by_kind (or_cases (list_any is_essential (statement_at db j))
-          (list_any is_floating (statement_at db j)
-          && list_any (is_member (mandatory_variables db k)) (formula_at db j)) j_is_mandatory)
+          search (rules, arith, good_by_kind, or_cases)
         where
           good_by_kind : (list_any is_essential (statement_at db j) ≡ true)
               ⊎ ((list_any is_floating (statement_at db j)
@@ -145,16 +122,10 @@ module _ (db : List Statement) (k : ℕ)
               ≡ true)
               → IsGoodLabel j
           good_by_kind (inl j_is_kind) =
-              let statement_at_j = passing_statement db is_essential j j_is_kind in
-              active_label_is_good j statement_at_j.0 j_is_active statement_at_j.1
-              (essential_has_referent statement_at_j.0 statement_at_j.2)
+              search (rules, arith, passing_statement, active_label_is_good, essential_has_referent)
           good_by_kind (inr j_is_kind) =
-              let statement_at_j =
-              passing_statement db is_floating j
-              (and_parts (list_any is_floating (statement_at db j))
-              (list_any (is_member (mandatory_variables db k)) (formula_at db j)) j_is_kind).0 in
-              active_label_is_good j statement_at_j.0 j_is_active statement_at_j.1
-              (floating_has_referent statement_at_j.0 statement_at_j.2)
+              let (is_kind, _) = and_parts (list_any is_floating (statement_at db j)) _ j_is_kind in
+              search (rules, arith, passing_statement, active_label_is_good, floating_has_referent)
 
   -- ---- normal proofs
 
@@ -198,18 +169,14 @@ module _ (db : List Statement) (k : ℕ)
           → slice_get marks (n - length labels) ≡ b
           → (s : Step) × (steps_of_number a b ≡ s ∷ []) × IsGoodStep (context_at db k) count s
       good_by_label_or_mark (Some j) label_is b mark_is =
-          (label j, refl, each_of_got IsGoodLabel labels n j labels_are_good label_is)
+          (label j, refl, search (rules, arith, each_of_got))
       good_by_label_or_mark None label_is (Some i) mark_is = (
         marked i,
         refl,
-        each_of_got (λ i. i < count) marks (n - length labels) i
-            marks_are_earlier
-            mark_is,
+        search (rules, arith, each_of_got),
       )
       good_by_label_or_mark None label_is None mark_is =
-          let labels_le_n = got_none_is_past_end labels n label_is in
-          let marks_le_n = got_none_is_past_end marks (n - length labels) mark_is in
-          absurd (omega arith)
+          search (rules, arith, got_none_is_past_end)
 
   group_steps_are_good : (gs : List Group) (labels marks : List ℕ) (label_count count : ℕ)
       → AllByRecursion IsGoodLabel labels → AllByRecursion (λ i. i < count) marks
@@ -227,13 +194,9 @@ module _ (db : List Statement) (k : ℕ)
       (λ count_is_positive rest_is_faultless. group_steps_are_good gs labels
       (marks ++ (count - 1) ∷ [])
       label_count count labels_are_good
-      (each_of_appended (λ i. i < count) marks ((count - 1) ∷ []) marks_are_earlier
-      (omega arith, tt))
+      (search (rules, arith, each_of_appended))
       enough_labels
-      (let mark_count_is : length marks + 1
-      ≡ length (marks ++ (count - 1) ∷ []) = omega
-      (arith, length-append marks ((count - 1) ∷ [])) in
-      subst (λ z. AreFaultless label_count z count gs) mark_count_is rest_is_faultless))
+      (search (rules, arith, length-append)))
     where
       marks_still_earlier : (xs : List ℕ) → AllByRecursion (λ i. i < count) xs
           → AllByRecursion (λ i. i < count + 1) xs
@@ -267,18 +230,7 @@ module _ (db : List Statement) (k : ℕ)
           number_is_good_step labels marks count label_count (value g) labels_are_good
           marks_are_earlier
           enough_labels (group_value_is_positive _ g.last.byte letter_ge_65) value_is_within in
-          let suc_is_plus_one : suc count ≡ count + 1 = omega arith in
-          subst (λ b. AreGoodSteps (context_at db k) count (steps_of (steps_from_group b)))
-          (sym is_number)
-          (subst (λ ss. AreGoodSteps (context_at db k) count
-          (steps_of (map (placed (starts_at g)) ss ++ group_steps labels marks (count + 1) gs)))
-          (sym number_is_good.1) (
-            number_is_good.2,
-            subst
-                (λ n. AreGoodSteps (context_at db k) n
-                (steps_of (group_steps labels marks (count + 1) gs))) (sym suc_is_plus_one)
-                (after_number rest_is_faultless),
-          ))
+          search (rules, arith, steps_from_group)
       good_number_or_mark (inr (
         is_no_number,
         is_mark,
@@ -286,8 +238,7 @@ module _ (db : List Statement) (k : ℕ)
         count_is_positive,
         rest_is_faultless,
       )) after_number after_mark =
-          subst (λ b. AreGoodSteps (context_at db k) count (steps_of (steps_from_group b)))
-          (sym is_no_number) (after_mark count_is_positive rest_is_faultless)
+          search (rules, arith, steps_from_group)
 
   compressed_steps_are_good : (end : ℕ) (p : Compressed) → compressed_faults db k end p ≡ []
       → AreGoodSteps (context_at db k) 0 (steps_of (compressed_steps db k p))
@@ -315,21 +266,17 @@ module _ (db : List Statement) (k : ℕ)
 
       labels_are_good : AllByRecursion IsGoodLabel labels
       labels_are_good =
-          each_of_appended IsGoodLabel (mandatory_hypotheses db k)
-          (flat_map (λ t. usable db k t.word) p.labels) mandatory_labels_are_good
-          (each_of_flat IsGoodLabel (λ t. usable db k t.word) p.labels
-          (λ t. usable_labels_are_good t.word))
+          let mandatory_are_good = mandatory_labels_are_good in
+          search (rules, arith, each_of_appended, each_of_flat, usable_labels_are_good)
 
       enough_labels : label_count ≤ length labels
       enough_labels =
-          omega (
-            arith,
-            length-append (mandatory_hypotheses db k)
-                (flat_map (λ t. usable db k t.word) p.labels),
-            faultless_labels_are_usable db k p.labels
-                (both_are_empty (flat_map (proof_label_faults db k) p.labels)
-                (faults_of_letters p.letters) no_compressed_faults).0,
-          )
+          let count = length-append (mandatory_hypotheses db k) (flat_map (λ t. usable db k
+          t.word) p.labels) in
+          let usable = faultless_labels_are_usable db k p.labels (both_are_empty (flat_map
+          (proof_label_faults db k) p.labels) (faults_of_letters p.letters)
+          no_compressed_faults).0 in
+          omega arith
 
       letters_good : (xs : List Letter) → letter_faults label_count end xs ≡ []
           → AreGoodSteps (context_at db k) 0 (steps_of (group_steps labels [] 0 (groups [] xs).0))
@@ -337,9 +284,7 @@ module _ (db : List Statement) (k : ℕ)
       letters_good (x ∷ xs) no_faults =
           group_steps_are_good
           (groups [] (x ∷ xs)).0 labels [] label_count 0 labels_are_good tt enough_labels
-          (groups_are_faultless (groups [] (x ∷ xs)).0 label_count 0 0
-          (both_are_empty (group_faults label_count 0 0 (groups [] (x ∷ xs)).0)
-          (faults_at end (when (nat_lt 0 (length (groups [] (x ∷ xs)).1)) OpenNumber)) no_faults).0)
+          (search (rules, arith, groups_are_faultless, label_count, both_are_empty))
 
       good_by_letters : (o : Option (List Token)) → faults_of_letters o ≡ []
           → AreGoodSteps (context_at db k) 0 (steps_of (steps_of_letters o))

@@ -1,8 +1,8 @@
 -- Groups of letters of which none has a fault: each is a number that means something, or a mark of
 -- a step.
-use Rattle.std.proofs.Common.{◌≡◌, ℕ, ◌+◌, ◌==◌, ◌<◌, ◌≤◌, Bool, true, false, ◌⊎◌, inl, inr}
-use Rattle.std.proofs.Common.{List, [], ◌∷◌, ◌++◌, length, nat_le, nat_lt, refl, arith, leb-true}
-use Rattle.std.proofs.Common.{ltb-false, eqb-true}
+use Rattle.std.proofs.Common.{rules, ◌≡◌, ℕ, ◌+◌, ◌==◌, ◌<◌, ◌≤◌, Bool, true, false, ◌⊎◌, List, []}
+use Rattle.std.proofs.Common.{◌∷◌, ◌++◌, length, nat_lt, refl, arith, leb-true, ltb-false, eqb-true}
+use Rattle.std.proofs.lemmas.Grind.{common_steps}
 use Rattle.std.proofs.lemmas.Bool.{and_parts, eqb-false}
 use Rattle.mm_spec.specs.declared.Fault.{Fault}
 use Rattle.mm_spec.specs.Lawful.{when, faults_at}
@@ -22,9 +22,7 @@ AreFaultless label_count marks count (g ∷ gs) =
     × AreFaultless label_count (marks + 1) count gs)
 
 pub nil_if_not_positive : (xs : List Letter) → nat_lt 0 (length xs) ≡ false → xs ≡ []
-nil_if_not_positive [] not_positive = refl
-nil_if_not_positive (x ∷ xs) not_positive = absurd (let length_le_0 = ltb-false 0 (length (x ∷ xs))
-    not_positive in omega arith)
+nil_if_not_positive xs h1 = grind (arith, common_steps, ltb-false)
 
 pub groups_are_faultless : (gs : List Group) (label_count marks count : ℕ)
     → group_faults label_count marks count gs ≡ []
@@ -69,47 +67,18 @@ groups_are_faultless (g ∷ gs) label_count marks count no_faults =
         → AreFaultless label_count (marks + 1) count gs)
         → AreFaultless label_count marks count (g ∷ gs)
     faultless_by_letter true ends_number true is_mark no_faults after_number after_mark =
-        let byte_le_84 =
-        leb-true g.last.byte 84 (and_parts (nat_le 65 g.last.byte) (nat_le g.last.byte 84)
-        ends_number).1 in
-        let byte_is_90 = eqb-true g.last.byte 90 is_mark in
-        absurd (omega arith)
+        search (rules, arith, leb-true, and_parts, eqb-true)
     faultless_by_letter true ends_number false not_mark no_faults after_number after_mark =
-        let not_too_large =
-        no_code_if_false (nat_lt (label_count + marks) (value g)) NumberTooLarge
-        (no_faults_no_codes (starts_at g) (when
-        (nat_lt (label_count + marks) (value g)) NumberTooLarge)
-        (both_are_empty (faults_of_group true false) (faults_of_later_groups false) no_faults).0) in
-        inl (
-          ends_number,
-          ltb-false (label_count + marks) (value g) not_too_large,
-          after_number
-              (both_are_empty (faults_of_group true false)
-              (faults_of_later_groups false) no_faults).1,
-        )
+        let both = both_are_empty (faults_of_group true false) (faults_of_later_groups false)
+        no_faults in
+        search (rules, arith, no_code_if_false, no_faults_no_codes, both_are_empty, ltb-false)
     faultless_by_letter false not_last_letter true is_mark no_faults after_number after_mark =
-        let no_faults_of_letter =
-        no_faults_no_codes g.last.at
-        (when (nat_lt 0 (length g.early)) OpenNumber ++ when (count == 0) MarkBeforeStep)
-        (both_are_empty (faults_of_group false true) (faults_of_later_groups true) no_faults).0 in
-        let no_open_number =
-        no_code_if_false (nat_lt 0 (length g.early)) OpenNumber
-        (both_are_empty (when (nat_lt 0 (length g.early)) OpenNumber)
-        (when (count == 0) MarkBeforeStep) no_faults_of_letter).0 in
-        let count_is_not_0 =
-        eqb-false count 0
-        (no_code_if_false (count == 0) MarkBeforeStep
-        (both_are_empty (when (nat_lt 0 (length g.early)) OpenNumber)
-        (when (count == 0) MarkBeforeStep) no_faults_of_letter).1) in
-        inr (
-          not_last_letter,
-          eqb-true g.last.byte 90 is_mark,
-          nil_if_not_positive g.early no_open_number,
-          omega arith,
-          after_mark
-              (both_are_empty (faults_of_group false true)
-              (faults_of_later_groups true) no_faults).1,
-        )
+        let both = both_are_empty (faults_of_group false true) (faults_of_later_groups true)
+        no_faults in
+        let codes = both_are_empty (when (nat_lt 0 (length g.early)) OpenNumber)
+        (when (count == 0) MarkBeforeStep) (no_faults_no_codes g.last.at _ both.0) in
+        search (rules, arith, no_code_if_false, eqb-false, eqb-true, nil_if_not_positive)
     faultless_by_letter false not_last_letter false not_mark no_faults after_number after_mark =
-        absurd (other_byte_is_fault (g.last.byte == 63)
-        (both_are_empty (faults_of_group false false) (faults_of_later_groups false) no_faults).0)
+        let both = both_are_empty (faults_of_group false false) (faults_of_later_groups false)
+        no_faults in
+        absurd (other_byte_is_fault (g.last.byte == 63) both.0)

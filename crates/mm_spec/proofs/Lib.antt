@@ -9,13 +9,12 @@ pub mod CitedLaw
 pub mod CompleteLaw
 pub mod FaultlessLaw
 pub mod FindsLaw
-pub mod FollowedLaw
 pub mod GoodStepsLaw
 pub mod GroupsLaw
 pub mod LexedLaw
 pub mod ListLaw
 pub mod LocalLaw
-pub mod MachineLaw
+pub mod StackStepsLaw
 pub mod MemberLaw
 pub mod NodesLaw
 pub mod OpenedLaw
@@ -30,5 +29,5 @@ pub mod StopsLaw
 pub mod SymbolLaw
 pub mod UnifyLaw
 pub mod UniqueLaw
-pub mod WordRunsLaw
+pub mod WordsBetweenLaw
 pub mod WordsLaw

@@ -1,8 +1,9 @@
--- Lists: their later elements, their ends, and what they have as members.
-use Rattle.std.proofs.Common.{◌≡◌, ℕ, zero, suc, ◌==◌, ◌<◌, ◌≤◌, true, List, [], ◌∷◌, length}
-use Rattle.std.proofs.Common.{get_or, slice_get, None, nat_eq, eqb-true, eq-eqb, sym, ap}
-use Rattle.std.proofs.Common.{◌∙◌, subst, arith}
-use Rattle.std.specs.List.{All, AllPairs, Contains, dedup}
+-- Lists: their later elements, their ends, what they have as members, and ranges of numbers.
+use Rattle.std.proofs.Common.{ap₂, refl, ◌+◌, ◌||◌, Bool, false, rules, ◌≡◌, ℕ, zero, suc, ◌<◌, ◌≤◌}
+use Rattle.std.proofs.Common.{true, List, [], ◌∷◌, length, get_or, slice_get, None, nat_eq}
+use Rattle.std.proofs.Common.{eqb-true, eq-eqb, ap, ◌∙◌, arith}
+use Rattle.std.specs.List.{list_any, range_with_len, All, AllPairs, Contains, dedup}
+use Rattle.std.proofs.lemmas.Grind.{common_steps}
 use Rattle.std.specs.List.Sorted.{IsPermutation}
 use Rattle.std.proofs.lemmas.List.Elements.{Contains-get_or}
 use Rattle.std.proofs.lemmas.List.Folds.{Any-from_list_any, list_any_at}
@@ -32,20 +33,14 @@ got_none_is_past_end (x ∷ xs) (suc n) got_none =
 -- ---- members
 
 member_is_contained : (xs : List ℕ) (a : ℕ) → is_member xs a ≡ true → Contains xs a
-member_is_contained xs a is_found =
-    let witness = Any-from_list_any (λ y. a == y) xs is_found in
-    let a_is_witness : a ≡ witness.1 = eqb-true a witness.1 witness.4 in
-    (witness.0, witness.2, subst (λ z. get_or xs witness.0 z ≡ z) (sym a_is_witness) witness.3)
+member_is_contained xs a is_found = grind (arith, common_steps, Any-from_list_any, eqb-true)
 
 contained_is_member : (xs : List ℕ) (a : ℕ) → Contains xs a → is_member xs a ≡ true
-contained_is_member xs a contained =
-    list_any_at (λ y. a == y) xs contained.0 a contained.1
-    (eq-eqb a (get_or xs contained.0 a) (sym contained.2))
+contained_is_member xs a contained = grind (arith, common_steps, list_any_at, eq-eqb)
 
 pub element_is_member : (xs : List ℕ) (i d : ℕ) → i < length xs
     → is_member xs (get_or xs i d) ≡ true
-element_is_member xs i d i_lt_length =
-    contained_is_member xs (get_or xs i d) (Contains-get_or xs i d i_lt_length)
+element_is_member xs i d i_lt_length = search (rules, arith, contained_is_member, Contains-get_or)
 
 -- sorting and dropping repeated numbers changes no membership
 pub sort_and_dedup_keeps_members : (xs ys zs : List ℕ) → IsPermutation xs ys → zs ≡ dedup nat_eq ys
@@ -60,3 +55,11 @@ sort_and_dedup_keeps_members xs ys zs is_permutation zs_are_deduped a =
     (λ is_found. contained_is_member (dedup nat_eq ys) a
     (Contains-dedup_nat ys a
     (Contains-permutation xs ys a is_permutation (member_is_contained xs a is_found))))
+
+-- if no number below the end of a range passes a test, none of the range does
+pub none_passes_no_any : (q : ℕ → Bool) (n a : ℕ) → ((j : ℕ) → j < a + n → q j ≡ false)
+    → list_any q (range_with_len a n) ≡ false
+none_passes_no_any q zero a none_passes = refl
+none_passes_no_any q (suc n) a none_passes =
+    ap₂ (λ x y. x || y) (none_passes a (omega arith))
+    (none_passes_no_any q n (a + 1) (λ j j_lt_end. none_passes j (omega arith)))

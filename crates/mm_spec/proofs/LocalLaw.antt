@@ -1,13 +1,11 @@
 -- What is before a statement does not depend on what comes after it.
+use Rattle.std.proofs.Common.{rules, ◌≡◌, ℕ, zero, suc, ◌+◌, ◌-◌, ◌≤◌, ◌<◌, Bool, List, [], ◌∷◌}
+use Rattle.std.proofs.Common.{◌++◌, length, Some, flat_map, slice_get, nat_le, refl, arith}
 use Rattle.std.proofs.lemmas.Grind.{common_steps}
-use Rattle.std.proofs.Common.{◌≡◌, ℕ, zero, suc, ◌+◌, ◌-◌, ◌≤◌, ◌<◌, Bool, ◌&&◌}
-use Rattle.std.proofs.Common.{List, [], ◌∷◌, ◌++◌, length, Some, flat_map}
-use Rattle.std.proofs.Common.{slice_get, nat_le, nat_lt, refl, ap₂, arith}
 use Rattle.std.proofs.lemmas.List.{take-append-le}
 use Rattle.std.specs.List.{list_all, range_with_len, filter}
 use Rattle.mm_spec.specs.Statement.{Statement}
-use Rattle.mm_spec.specs.Scope.{names_before, depth, is_block_open, active_at}
-use Rattle.mm_spec.specs.Scope.{is_some_still_active, active_statements}
+use Rattle.mm_spec.specs.Scope.{names_before, depth, is_block_open, active_at, active_statements}
 use Rattle.mm_spec.specs.Lawful.{scope_fault, scope_faults, least}
 
 pub get_front : {X : Type 0} (xs ys : List X) (i : ℕ) → i < length xs
@@ -26,24 +24,17 @@ list_all_alike : (d e : ℕ) (f g : ℕ → ℕ) (n a : ℕ) → d ≡ e → ((i
     ≡ list_all (λ i. nat_le e (g i)) (range_with_len a n)
 list_all_alike d e f g zero a d_eq_e values_equal = refl
 list_all_alike d e f g (suc n) a d_eq_e values_equal =
-    grind (
-      arith,
-      common_steps,
-      list_all_alike d e f g n (a + 1) d_eq_e
-          (λ i i_lt_end. values_equal i (omega arith)),
-    )
+    let equal_later = λ (i : ℕ) (lt : i < (a + 1) + n). values_equal i (omega arith) in
+    grind (arith, list_all_alike d e f g n (a + 1) d_eq_e equal_later)
 
 filter_alike : {X : Type 0} (p q : ℕ → Bool) (f g : ℕ → List X) (n a : ℕ)
     → ((i : ℕ) → i < a + n → p i ≡ q i) → ((i : ℕ) → i < a + n → f i ≡ g i)
     → flat_map f (filter p (range_with_len a n)) ≡ flat_map g (filter q (range_with_len a n))
 filter_alike p q f g zero a tests_equal values_equal = refl
 filter_alike p q f g (suc n) a tests_equal values_equal =
-    grind (
-      arith,
-      common_steps,
-      filter_alike p q f g n (a + 1) (λ i i_lt_end. tests_equal i (omega arith))
-          (λ i i_lt_end. values_equal i (omega arith)),
-    )
+    let same_tests = λ (i : ℕ) (lt : i < (a + 1) + n). tests_equal i (omega arith) in
+    let same_values = λ (i : ℕ) (lt : i < (a + 1) + n). values_equal i (omega arith) in
+    grind (arith, filter_alike p q f g n (a + 1) same_tests same_values)
 
 module _ (db later : List Statement) where
   pub depth_front : (i : ℕ) → i ≤ length db → depth (db ++ later) i ≡ depth db i
@@ -59,8 +50,7 @@ module _ (db later : List Statement) where
   is_active_front : (j k : ℕ) → j < k → k ≤ length db
       → active_at (db ++ later) j k ≡ active_at db j k
   is_active_front j k j_lt_k k_le_length =
-      ap₂ (λ o b. nat_lt j k && is_some_still_active o b) (get_front db later j (omega arith))
-      (is_block_open_front j k j_lt_k k_le_length)
+      search (rules, arith, get_front, is_block_open_front)
 
   active_front : (k : ℕ) → k ≤ length db
       → active_statements (db ++ later) k ≡ active_statements db k

@@ -1,31 +1,26 @@
 -- Members of lists, of filtered lists and of ranges; and which statements of a kind are active.
+use Rattle.std.proofs.Common.{rules, ◌≡◌, ◌≢◌, ℕ, zero, suc, ◌+◌, ◌≤◌, Bool, true, ◌&&◌, ◌||◌, List}
+use Rattle.std.proofs.Common.{[], ◌∷◌, ◌++◌, flat_map, nat_eq, nat_lt, refl, sym, arith, ◌⊎◌, inl}
+use Rattle.std.proofs.Common.{inr, true≢false, eqb-true}
 use Rattle.std.proofs.lemmas.Grind.{common_steps}
-use Rattle.std.proofs.Common.{◌≡◌, ◌≢◌, ℕ, zero, suc, ◌+◌, ◌≤◌, Bool, true, ◌&&◌, ◌||◌}
-use Rattle.std.proofs.Common.{List, [], ◌∷◌, ◌++◌, flat_map, nat_eq, nat_lt}
-use Rattle.std.proofs.Common.{refl, sym, ap, ◌∙◌, arith, ◌⊎◌, inl, inr, true≢false}
-use Rattle.std.proofs.Common.{eqb-true}
 use Rattle.std.proofs.lemmas.Bool.{cases_eq, lt-ltb, le-ltb, eq-eqb, ne_eqb}
 use Rattle.std.proofs.lemmas.List.Folds.{list_any-append}
 use Rattle.std.proofs.Math.Bool.{and-false, and-true, or-false, or-true}
 use Rattle.std.specs.List.{list_any, range_with_len, filter}
-use Rattle.mm_spec.specs.Statement.{Statement, constants, variables, disjoint, floating, essential}
-use Rattle.mm_spec.specs.Statement.{axiomatic, provable, opening, closing}
-use Rattle.mm_spec.specs.Scope.{statement_at, is_still_active}
-use Rattle.mm_spec.specs.Scope.{is_block_open}
+use Rattle.mm_spec.specs.Statement.{Statement}
+use Rattle.mm_spec.specs.Scope.{statement_at, is_still_active, is_block_open}
 use Rattle.mm_spec.specs.Derivation.{is_member}
 use Rattle.mm_spec.specs.Frame.{active_of, is_essential, is_disjoint_statement}
 use Rattle.mm_spec.proofs.BoolLaw.{same_tests}
 
 pub member_push : (xs : List ℕ) (y i : ℕ)
     → is_member (xs ++ y ∷ []) i ≡ (is_member xs i || nat_eq i y)
-member_push xs y i =
-    list_any-append (nat_eq i) xs (y ∷ []) ∙ ap (λ b. is_member xs i || b) (or-false (nat_eq i y))
+member_push xs y i = grind (arith, common_steps, list_any-append, or-false)
 
 pub member_filter : (p : ℕ → Bool) (xs : List ℕ) (i : ℕ)
     → is_member (filter p xs) i ≡ (p i && is_member xs i)
 member_filter p [] i = sym (and-false (p i))
-member_filter p (x ∷ xs) i =
-    grind (arith, common_steps, cases_eq, eq-eqb, ne_eqb, member_filter p xs i)
+member_filter p (x ∷ xs) i = search (rules, arith, cases_eq, eq-eqb, ne_eqb, (member_filter p xs i))
 
 pub member_range : (n a i : ℕ) → a ≤ i → is_member (range_with_len a n) i ≡ nat_lt i (a + n)
 member_range zero a i a_le_i = sym (le-ltb i (a + 0) (omega arith))
@@ -36,12 +31,9 @@ member_range (suc n) a i a_le_i =
         → (a + 1 ≤ i → is_member (range_with_len (a + 1) n) i ≡ nat_lt i (a + 1 + n))
         → (nat_eq i a || is_member (range_with_len (a + 1) n) i) ≡ nat_lt i (a + suc n)
     at_first_or_later (inl at_first) later_members =
-        ap (λ b. b || is_member (range_with_len (a + 1) n) i) (eq-eqb i a at_first)
-        ∙ sym (lt-ltb i (a + suc n) (omega arith))
+        search (rules, arith, eq-eqb, lt-ltb)
     at_first_or_later (inr at_first) later_members =
-        ap (λ b. b || is_member (range_with_len (a + 1) n) i) (ne_eqb i a at_first)
-        ∙ later_members (omega arith)
-        ∙ (let same_end : a + 1 + n ≡ a + suc n = omega arith in ap (nat_lt i) same_end)
+        search (rules, arith, ne_eqb)
 
 pub passing_has_witness : (q : ℕ → Bool) (xs : List ℕ) → list_any q xs ≡ true
     → (v : ℕ) × (is_member xs v ≡ true) × (q v ≡ true)
@@ -80,24 +72,8 @@ module _ (test : Statement → Bool) (db : List Statement) where
       grind (arith, common_steps, and-false, and-true, member_filter, member_range)
 
 pub essential_local : (s : Statement) (b : Bool) → is_essential s ≡ true → is_still_active s b ≡ b
-essential_local (essential l k xs d) b is_kind = refl
-essential_local (constants k xs d) b is_kind = absurd (true≢false (sym is_kind))
-essential_local (variables k xs d) b is_kind = absurd (true≢false (sym is_kind))
-essential_local (disjoint k xs d) b is_kind = absurd (true≢false (sym is_kind))
-essential_local (floating l k xs d) b is_kind = absurd (true≢false (sym is_kind))
-essential_local (axiomatic l k xs d) b is_kind = absurd (true≢false (sym is_kind))
-essential_local (provable l k xs e ps d) b is_kind = absurd (true≢false (sym is_kind))
-essential_local (opening k) b is_kind = absurd (true≢false (sym is_kind))
-essential_local (closing k) b is_kind = absurd (true≢false (sym is_kind))
+essential_local s b h1 = grind (arith, common_steps, true≢false)
 
 pub disjoint_local : (s : Statement) (b : Bool) → is_disjoint_statement s ≡ true
     → is_still_active s b ≡ b
-disjoint_local (disjoint k xs d) b is_kind = refl
-disjoint_local (constants k xs d) b is_kind = absurd (true≢false (sym is_kind))
-disjoint_local (variables k xs d) b is_kind = absurd (true≢false (sym is_kind))
-disjoint_local (essential l k xs d) b is_kind = absurd (true≢false (sym is_kind))
-disjoint_local (floating l k xs d) b is_kind = absurd (true≢false (sym is_kind))
-disjoint_local (axiomatic l k xs d) b is_kind = absurd (true≢false (sym is_kind))
-disjoint_local (provable l k xs e ps d) b is_kind = absurd (true≢false (sym is_kind))
-disjoint_local (opening k) b is_kind = absurd (true≢false (sym is_kind))
-disjoint_local (closing k) b is_kind = absurd (true≢false (sym is_kind))
+disjoint_local s b h1 = grind (arith, common_steps, true≢false)

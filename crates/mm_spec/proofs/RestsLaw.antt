@@ -1,21 +1,21 @@
 -- Where all theorems are valid, it is decided on what each of them rests.
-use Rattle.std.proofs.Common.{◌≡◌, ℕ, zero, suc, ◌<◌, Bool, true, false, ◌||◌, ◌&&◌, ◌⊎◌, inl, inr}
-use Rattle.std.proofs.Common.{List, [], ◌∷◌, length, refl, sym, ◌∙◌, subst, arith, true≢false}
+use Rattle.std.proofs.Common.{rules, ◌≡◌, ℕ, zero, suc, ◌<◌, Bool, true, false, ◌&&◌, ◌⊎◌, inl, inr}
+use Rattle.std.proofs.Common.{List, [], ◌∷◌, length, refl, subst, arith, true≢false}
+use Rattle.std.proofs.lemmas.Grind.{common_steps}
 use Rattle.std.specs.Prelude.{Decides, IsTrue, Option, map}
 use Rattle.std.specs.List.{list_any, AllZip}
-use Rattle.std.proofs.lemmas.Bool.{and_parts, and_from, cases_eq}
+use Rattle.std.proofs.lemmas.Bool.{and_parts, cases_eq}
 use Rattle.std.proofs.lemmas.Bool.Decides.{Decides-and, Decides-or, Decides-like}
 use Rattle.mm_spec.specs.Statement.{Statement}
 use Rattle.mm_spec.specs.Scope.{statement_at}
 use Rattle.mm_spec.specs.Derivation.{is_member}
-use Rattle.mm_spec.specs.Nodes.{child_counts, each_root, IsNodeLabel}
+use Rattle.mm_spec.specs.Nodes.{child_counts, each_root}
 use Rattle.mm_spec.specs.Request.{Request}
-use Rattle.mm_spec.specs.Citation.{is_theorem, is_assertion, IsValid, Cites, RestsOn}
+use Rattle.mm_spec.specs.Citation.{is_assertion, IsValid, Cites, RestsOn}
 use Rattle.mm_spec.specs.Laws.Complete.{AreComplete}
 use Rattle.mm_spec.specs.Report.{Row, CitingRow}
 use Rattle.mm_spec.specs.Assertion.{has_typecode, label_at}
-use Rattle.mm_spec.specs.Output.{is_theorem_at, AreValid, columns, IsRowOf}
-use Rattle.mm_spec.specs.Output.{IsCitingRowOf}
+use Rattle.mm_spec.specs.Output.{is_theorem_at, AreValid, columns, IsRowOf, IsCitingRowOf}
 use Rattle.mm_spec.specs.Text.{Bytes}
 use Rattle.std.specs.List.Sorted.{IsStrictlyIncreasing}
 use Rattle.mm_spec.proofs.RisingListsLaw.{list_of}
@@ -28,51 +28,30 @@ use Rattle.mm_spec.proofs.NodesLaw.{node_labels, node_iff_listed}
 -- ---- what is decided
 
 and_is_decided : (P Q : Type 0) → IsDecided P → IsDecided Q → IsDecided (P × Q)
-and_is_decided P Q P_is_decided Q_is_decided = (
-  P_is_decided.0 && Q_is_decided.0,
-  Decides-and
-      P_is_decided.0 Q_is_decided.0 P_is_decided.1 Q_is_decided.1,
-)
+and_is_decided P Q P_is_decided Q_is_decided = grind (arith, common_steps, Decides-and)
 
 or_is_decided : (P Q : Type 0) → IsDecided P → IsDecided Q → IsDecided (P ⊎ Q)
-or_is_decided P Q P_is_decided Q_is_decided = (
-  P_is_decided.0 || Q_is_decided.0,
-  Decides-or
-      P_is_decided.0 Q_is_decided.0 P_is_decided.1 Q_is_decided.1,
-)
+or_is_decided P Q P_is_decided Q_is_decided = grind (arith, common_steps, Decides-or)
 
 equivalent_is_decided : (P Q : Type 0) → (P → Q) → (Q → P) → IsDecided P → IsDecided Q
-equivalent_is_decided P Q Q_if_P P_if_Q P_is_decided = (
-  P_is_decided.0,
-  Decides-like P_is_decided.0
-      Q_if_P P_if_Q P_is_decided.1,
-)
+equivalent_is_decided P Q Q_if_P P_if_Q P_is_decided = grind (arith, common_steps, Decides-like)
 
 -- whether a number below n has it
 exists_below_is_decided : (P : ℕ → Type 0) (n : ℕ) → ((b : ℕ) → b < n → IsDecided (P b))
     → IsDecided ((b : ℕ) × (b < n) × P b)
-exists_below_is_decided P zero each_is_decided = (
-  false,
-  (
-    (λ is_true. absurd (true≢false (sym is_true))),
-    λ exists. let b_lt_0 = exists.1 in
-        absurd (omega (arith, b_lt_0)),
-  ),
-)
+exists_below_is_decided P zero each_is_decided = grind (arith, common_steps, true≢false)
 exists_below_is_decided P (suc n) each_is_decided =
-    equivalent_is_decided (P n ⊎ ((b : ℕ) × (b < n) × P b)) ((b : ℕ) × (b < suc n) × P b) below_next
-    (λ exists. last_or_below exists.0 exists.1 exists.2 (cases_eq exists.0 n))
+    equivalent_is_decided (P n ⊎ ((b : ℕ) × (b < n) × P b)) ((b : ℕ) × (b < suc n) × P b)
+    (λ last_or_below. elim last_or_below [
+      | inl holds_at_n ↦ (n, omega arith, holds_at_n)
+      | inr exists ↦ let b_lt_n = exists.1 in (exists.0, omega arith, exists.2)
+    ])
+    (λ exists. let b_lt_suc_n = exists.1 in elim (cases_eq exists.0 n) [
+      | inl b_is_n ↦ inl (subst P b_is_n exists.2)
+      | inr b_is_not_n ↦ inr (exists.0, omega arith, exists.2)
+    ])
     (or_is_decided (P n) ((b : ℕ) × (b < n) × P b) (each_is_decided n (omega arith))
     (exists_below_is_decided P n (λ b b_lt_n. each_is_decided b (omega arith))))
-  where
-    below_next : P n ⊎ ((b : ℕ) × (b < n) × P b) → (b : ℕ) × (b < suc n) × P b
-    below_next (inl holds_at_n) = (n, omega arith, holds_at_n)
-    below_next (inr exists) = let b_lt_n = exists.1 in (exists.0, omega (arith, b_lt_n), exists.2)
-
-    last_or_below : (b : ℕ) → b < suc n → P b → (b ≡ n) ⊎ (b ≡ n → ⊥)
-        → P n ⊎ ((b : ℕ) × (b < n) × P b)
-    last_or_below b b_lt_suc_n holds_at_b (inl b_is_n) = inl (subst P b_is_n holds_at_b)
-    last_or_below b b_lt_suc_n holds_at_b (inr b_is_not_n) = inr (b, omega arith, holds_at_b)
 
 module _ (db : List Statement) (by_essential : Bool) (all_complete : AreComplete db)
     (are_valid : AreValid db (length db)) where
@@ -81,43 +60,43 @@ module _ (db : List Statement) (by_essential : Bool) (all_complete : AreComplete
     where
       if_valid : IsValid db t → IsDecided (Cites db by_essential t a)
       if_valid is_valid =
-          let is_listed = is_member (node_labels (child_counts db by_essential) each_root
-          is_valid.1) a in
-          let labels_are = node_iff_listed (child_counts db by_essential) each_root is_valid.1 a in (
+          let counts = child_counts db by_essential in
+          let is_listed = is_member (node_labels counts each_root is_valid.1) a in
+          let labels_are = node_iff_listed counts each_root is_valid.1 a in (
             list_any is_assertion (statement_at db a) && is_listed,
             (
-              (λ is_cited. let parts = and_parts (list_any is_assertion (statement_at db a))
-                  is_listed is_cited in
-                  (parts.0, is_valid.1, is_valid.2, labels_are.1 parts.1)),
-              λ cites_a. and_from (list_any is_assertion (statement_at db a)) is_listed cites_a.0
-                  (labels_are.0 (subst (λ d. IsNodeLabel db by_essential d a)
-                  (two_proofs_are_equal db all_complete t cites_a.1 is_valid.1 cites_a.2 is_valid.2)
-                  cites_a.3)),
+              (search (rules, arith, and_parts)),
+              λ cites_a.
+                  let same = two_proofs_are_equal db all_complete t cites_a.1 is_valid.1 cites_a.2
+                  is_valid.2 in
+                  grind (arith, common_steps),
             ),
           )
 
       decided_by_is_theorem : (b : Bool) → is_theorem_at db t ≡ b
           → IsDecided (Cites db by_essential t a)
       decided_by_is_theorem true is_theorem_t =
-          let found = passing_statement db is_theorem t is_theorem_t in
-          if_valid (are_valid t (got_lt_length db t found.0 found.1) is_theorem_t)
-      decided_by_is_theorem false not_theorem_t = (
-        false,
-        (
-          (λ is_true. absurd (true≢false (sym is_true))),
-          λ cites_a. absurd
-              (true≢false (sym (proved_is_theorem db t cites_a.1 cites_a.2) ∙ not_theorem_t)),
-        ),
-      )
+          search (rules, arith, passing_statement, if_valid, got_lt_length)
+      decided_by_is_theorem false not_theorem_t =
+          grind (arith, common_steps, true≢false, proved_is_theorem)
 
   -- citations go to what is earlier, so chains are decided from the first theorem on
   rests_on_is_decided_below : (n t : ℕ) → t < n → (a : ℕ) → IsDecided (RestsOn db by_essential t a)
   rests_on_is_decided_below zero t t_lt_0 a = absurd (omega arith)
   rests_on_is_decided_below (suc n) t t_lt_suc_n a =
+      let by_one_step = rests_by_one_step (Cites db by_essential) t a in
       equivalent_is_decided (Cites db by_essential t a
       ⊎ ((b : ℕ) × (b < t) × (Cites db by_essential t b × RestsOn db by_essential b a)))
-      (RestsOn db by_essential t a) rests_if_below
-      (λ rests_on. below_if_cited ((rests_by_one_step (Cites db by_essential) t a).0 rests_on))
+      (RestsOn db by_essential t a)
+      (λ cites. elim cites [
+        | inl cites_a ↦ by_one_step.1 (inl cites_a)
+        | inr (b, b_lt_t, between) ↦ by_one_step.1 (inr (b, between.0, between.1))
+      ])
+      (λ rests_on. elim (by_one_step.0 rests_on) [
+        | inl cites_a ↦ inl cites_a
+        | inr (b, cites_b, rests) ↦
+            inr (b, cited_lt_theorem db by_essential t b cites_b, (cites_b, rests))
+      ])
       (or_is_decided (Cites db by_essential t a)
       ((b : ℕ) × (b < t) × (Cites db by_essential t b × RestsOn db by_essential b a))
       (cites_is_decided t a)
@@ -125,25 +104,6 @@ module _ (db : List Statement) (by_essential : Bool) (all_complete : AreComplete
       (λ b b_lt_t. and_is_decided (Cites db by_essential t b) (RestsOn db by_essential b a)
       (cites_is_decided t b)
       (rests_on_is_decided_below n b (omega arith) a))))
-    where
-      rests_if_below : Cites db by_essential t a
-          ⊎ ((b : ℕ) × (b < t) × (Cites db by_essential t b × RestsOn db by_essential b a))
-          → RestsOn db by_essential t a
-      rests_if_below (inl cites_a) = (rests_by_one_step (Cites db by_essential) t a).1 (inl cites_a)
-      rests_if_below (inr cites_between) = (rests_by_one_step (Cites db by_essential) t a).1 (inr
-          (cites_between.0, cites_between.2.0, cites_between.2.1))
-
-      below_if_cited : Cites db by_essential t a
-          ⊎ ((b : ℕ) × Cites db by_essential t b × RestsOn db by_essential b a)
-          → Cites db by_essential t a
-          ⊎ ((b : ℕ) × (b < t) × (Cites db by_essential t b × RestsOn db by_essential b a))
-      below_if_cited (inl cites_a) = inl cites_a
-      below_if_cited (inr cites_between) = inr (
-        cites_between.0,
-        cited_lt_theorem db by_essential t
-            cites_between.0 cites_between.1,
-        (cites_between.1, cites_between.2),
-      )
 
   pub rests_on_is_decided : (t a : ℕ) → IsDecided (RestsOn db by_essential t a)
   rests_on_is_decided t a = rests_on_is_decided_below (suc t) t (omega arith) a
@@ -169,14 +129,8 @@ module _ (db : List Statement) (by_essential : Bool) (all_complete : AreComplete
   listed_is_decided typecode t a =
       and_is_decided (Cites db by_essential t a)
       (IsTrue (list_any (has_typecode typecode) (statement_at db a)))
-      (cites_is_decided t a) (
-        list_any (has_typecode typecode) (statement_at db a),
-        (
-          (λ e. e),
-          λ e.
-              e,
-        ),
-      )
+      (cites_is_decided t a)
+      (list_any (has_typecode typecode) (statement_at db a), (λ e. e, λ e. e))
 
   list_of_cited : (typecode : Option Bytes) (t : ℕ)
       → (list : List ℕ) × IsStrictlyIncreasing list
@@ -187,12 +141,9 @@ module _ (db : List Statement) (by_essential : Bool) (all_complete : AreComplete
         list.1.0,
         λ a. (
           (λ is_member_a. ((list.1.1 a).0 is_member_a).2),
-          λ is_listed. (list.1.1 a).1 (
-            omega arith,
-            (let a_lt_t = cited_lt_theorem db by_essential t a is_listed.0 in omega
-                (arith, a_lt_t)),
-            is_listed,
-          ),
+          λ is_listed.
+              let a_lt_t = cited_lt_theorem db by_essential t a is_listed.0 in
+              grind (arith, common_steps),
         ),
       )
 
@@ -203,9 +154,8 @@ citing_rows_of db request all_complete are_valid [] = ([], tt)
 citing_rows_of db request all_complete are_valid (t ∷ ts) =
     let list = list_of_cited db request.essential all_complete are_valid request.only t in
     let later_rows = citing_rows_of db request all_complete are_valid ts in (
-      record { label = label_at db t; cited = map (label_at db) list.0 }
-          ∷ later_rows.0,
-      ((refl, (list.0, record { rising = list.1; cited = list.2 }, refl)), later_rows.1),
+      record { label = label_at db t; cited = map (label_at db) list.0 } ∷ later_rows.0,
+      grind (arith, common_steps),
     )
 
 pub rows_of : (db : List Statement) (request : Request) → AreComplete db → AreValid db (length db)
@@ -216,8 +166,5 @@ rows_of db request all_complete are_valid (t ∷ ts) =
     request.only) in
     let later_rows = rows_of db request all_complete are_valid ts in (
       record { label = label_at db t; marks = marks.0 } ∷ later_rows.0,
-      (
-        (refl, marks.1),
-        later_rows.1,
-      ),
+      ((refl, marks.1), later_rows.1),
     )

@@ -1,20 +1,18 @@
 -- Steps with marks: a stack of formulas, and the formula after each step, are exact too.
+use Rattle.std.proofs.Common.{rules, ◌≡◌, ℕ, zero, suc, ◌<◌, List, [], ◌∷◌, ◌++◌, length, Option}
+use Rattle.std.proofs.Common.{Some, None, Result, Ok, Err, refl, sym, ap, arith, length-append}
+use Rattle.std.proofs.Common.{slice_get}
 use Rattle.std.proofs.lemmas.Grind.{common_steps}
-use Rattle.std.proofs.Common.{◌≡◌, ℕ, zero, suc, ◌<◌, List, [], ◌∷◌, ◌++◌, length, Option, Some}
-use Rattle.std.proofs.Common.{None, Result, Ok, Err, refl, sym, ap, subst, arith}
-use Rattle.std.proofs.Common.{length-append, slice_get}
 use Rattle.std.specs.List.{AllZip}
 use Rattle.mm_spec.specs.Derivation.{Formula, Referent, hypothesis, assertion, Context, Follows}
-use Rattle.mm_spec.specs.Derivation.{Trees}
-use Rattle.mm_spec.specs.Derivation.{none, more, formulas, postfix, AreDerivations}
+use Rattle.mm_spec.specs.Derivation.{Trees, none, more, formulas, postfix, AreDerivations}
 use Rattle.mm_spec.specs.Steps.{Step, label, marked}
 use Rattle.mm_spec.specs.Valid.{Reason, StepFails, Adds, Expands}
 use Rattle.mm_spec.specs.Laws.Complete.{HasCompleteFrame}
-use Rattle.mm_spec.proofs.MachineLaw.{RunFailure, proceed, AreGood, StepOutcome, step_has_outcome}
-use Rattle.mm_spec.proofs.MachineLaw.{step_grows_forest}
+use Rattle.mm_spec.proofs.StackStepsLaw.{StepFailure, proceed, AreGood, StepOutcome, step_has_outcome}
+use Rattle.mm_spec.proofs.StackStepsLaw.{step_grows_forest}
 use Rattle.mm_spec.specs.Laws.Stack.{IsCompleteReferent, top, IsLastFormula, EndsInFormula}
-use Rattle.mm_spec.specs.Laws.Stack.{step_entries, IsGoodStep}
-use Rattle.mm_spec.specs.Laws.Stack.{AreGoodSteps}
+use Rattle.mm_spec.specs.Laws.Stack.{step_entries, IsGoodStep, AreGoodSteps}
 
 pub top_of_appended : (fs : List Formula) (f : Formula) → top (fs ++ f ∷ []) ≡ f
 top_of_appended [] f = refl
@@ -41,14 +39,9 @@ module _ (c : Context) where
       → AreGood c (postfix forest)
   forest_labels_are_good all_complete none are_derivations = tt
   forest_labels_are_good all_complete (more ts l f cs) are_derivations =
-      grind (
-        arith,
-        common_steps,
-        followed_referent_is_complete,
-        appended_are_good,
-        forest_labels_are_good all_complete ts are_derivations.0,
-        forest_labels_are_good all_complete cs are_derivations.1,
-      )
+      let earlier_are_good = forest_labels_are_good all_complete ts are_derivations.0 in
+      let children_are_good = forest_labels_are_good all_complete cs are_derivations.1 in
+      grind (arith, common_steps, followed_referent_is_complete, appended_are_good)
 
   end_after_step : (lists : List (List ℕ)) (last_formulas : List Formula) (j : ℕ)
       → AllZip (EndsInFormula c) lists last_formulas
@@ -72,12 +65,13 @@ module _ (c : Context) where
   ends_after_one_more (y ∷ ys) (g ∷ gs) x f each_ends ends_in_f =
       (each_ends.0, ends_after_one_more ys gs x f each_ends.1 ends_in_f)
 
-  -- the run over steps; ends are the formulas after the steps so far
-  abbrev pub run_steps : List Formula → List Step → List Formula → Result (List Formula) RunFailure
-  run_steps last_formulas [] es = Ok es
-  run_steps last_formulas (s ∷ steps) es =
+  -- the entries after steps; `last_formulas` has the last entry after each step so far
+  abbrev pub perform_steps : List Formula → List Step → List Formula → Result (List Formula)
+      StepFailure
+  perform_steps last_formulas [] es = Ok es
+  perform_steps last_formulas (s ∷ steps) es =
       proceed (step_entries c s last_formulas es) (length last_formulas)
-      (λ out. run_steps (last_formulas ++ top out ∷ []) steps out)
+      (λ out. perform_steps (last_formulas ++ top out ∷ []) steps out)
 
   -- a step that fails after a forest
   pub record StoppedSteps (lists : List (List ℕ)) (labels_before : List ℕ) (steps : List Step)
@@ -93,7 +87,7 @@ module _ (c : Context) where
     pub labels_are : postfix forest ≡ labels
     pub fails : StepFails c failing (formulas forest) reason
 
-  abbrev pub StepsOutcome : List (List ℕ) → List ℕ → List Step → Result (List Formula) RunFailure
+  abbrev pub StepsOutcome : List (List ℕ) → List ℕ → List Step → Result (List Formula) StepFailure
       → Type 0
   StepsOutcome lists labels_before steps (Ok out) =
       (all : List ℕ) × Expands c lists labels_before steps all × (forest : Trees) × AreDerivations c
@@ -131,11 +125,7 @@ module _ (c : Context) where
       → GrownForest lists forest (marked j)
       (step_entries c (marked j) last_formulas (formulas forest))
   marked_step_grows_forest lists last_formulas forest j are_derivations each_ends j_lt_length =
-      let earlier = end_after_step lists last_formulas j each_ends j_lt_length in
-      subst (λ o. GrownForest lists forest (marked j)
-      (elim o [ None ↦ Ok (formulas forest) | Some f ↦ Ok (formulas forest ++ f ∷ []) ]))
-      (sym earlier.3)
-      (copied_tree_grows earlier.4.0 earlier.4.1 earlier.4.2 earlier.4.3)
+      search (rules, arith, end_after_step, copied_tree_grows)
     where
       copied_tree_grows : (earlier_forest : Trees) → AreDerivations c earlier_forest
           → postfix earlier_forest ≡ (end_after_step lists last_formulas j each_ends j_lt_length).0
@@ -150,17 +140,16 @@ module _ (c : Context) where
           let formulas_equal : formulas forest ++ f ∷ [] ≡ formulas forest ++ earlier.1 ∷ [] =
           ap (λ x. formulas forest ++ x ∷ []) last_formula in (
             more forest l f cs,
-            (are_derivations, are_derivations_there.1, are_derivations_there.2),
+            search (rules, arith),
             (
               earlier.0,
               postfix cs ++ l ∷ [],
               earlier.2,
-              (more ts l f cs, are_derivations_there, labels_there, refl),
+              search (rules, arith),
               refl,
             ),
             formulas_equal,
-            subst (λ x. IsLastFormula (more forest l f cs) (top x)) formulas_equal
-                (sym (top_of_appended (formulas forest) f)),
+            search (rules, arith, top_of_appended),
           )
 
   pub good_step_grows_forest : (lists : List (List ℕ)) (last_formulas : List Formula)
@@ -171,49 +160,42 @@ module _ (c : Context) where
   good_step_grows_forest lists last_formulas forest (label l) are_derivations each_ends is_good =
       grind (arith, common_steps, label_grows_forest, step_has_outcome)
   good_step_grows_forest lists last_formulas forest (marked j) are_derivations each_ends is_good =
-      marked_step_grows_forest lists last_formulas forest j are_derivations each_ends is_good
+      search (rules, arith, marked_step_grows_forest)
 
-  -- what a run over steps means
+  -- what the entries after steps mean
   pub steps_have_outcome : (steps : List Step) (lists : List (List ℕ))
       (last_formulas : List Formula)
       (forest : Trees)
       → AreDerivations c forest → AllZip (EndsInFormula c) lists last_formulas
       → AreGoodSteps c (length last_formulas) steps
-      → StepsOutcome lists (postfix forest) steps (run_steps last_formulas steps (formulas forest))
+      → StepsOutcome lists (postfix forest) steps (perform_steps last_formulas steps (formulas
+      forest))
   steps_have_outcome [] lists last_formulas forest are_derivations each_ends are_good =
-      (postfix forest, refl, forest, are_derivations, refl, refl)
+      search (rules, arith)
   steps_have_outcome (s ∷ steps) lists last_formulas forest are_derivations each_ends are_good =
       outcome_by_result (step_entries c s last_formulas (formulas forest))
-      (good_step_grows_forest lists last_formulas forest s are_derivations each_ends are_good.0)
+      (search (rules, arith, good_step_grows_forest))
       (λ next f next_derivations is_last_formula. steps_have_outcome steps
       (lists ++ postfix next ∷ [])
       (last_formulas ++ f ∷ []) next next_derivations
-      (ends_after_one_more lists last_formulas (postfix next) f each_ends
-      (next, next_derivations, refl, is_last_formula))
-      (subst (λ n. AreGoodSteps c n steps) (one_more_end f) are_good.1))
+      (search (rules, arith, ends_after_one_more))
+      (search (rules, arith, one_more_end)))
     where
       one_more_end : (f : Formula) → suc (length last_formulas) ≡ length (last_formulas ++ f ∷ [])
       one_more_end f = omega (arith, length-append last_formulas (f ∷ []))
 
       outcome_of_rest : (labels_after : List ℕ) → Adds c lists (postfix forest) s labels_after
-          → (r : Result (List Formula) RunFailure)
+          → (r : Result (List Formula) StepFailure)
           → StepsOutcome (lists ++ labels_after ∷ []) labels_after steps r
           → StepsOutcome lists (postfix forest) (s ∷ steps) r
-      outcome_of_rest labels_after adds_labels (Ok out) later_outcome = (
-        later_outcome.0,
-        (labels_after, adds_labels, later_outcome.1),
-        later_outcome.2,
-        later_outcome.3,
-        later_outcome.4,
-        later_outcome.5,
-      )
+      outcome_of_rest labels_after adds_labels (Ok out) later_outcome = search (rules, arith)
       outcome_of_rest labels_after adds_labels (Err e) later_outcome = record {
         before = s ∷ later_outcome.before;
         failing = later_outcome.failing;
         after = later_outcome.after;
         splits = ap (λ x. s ∷ x) later_outcome.splits;
         labels = later_outcome.labels;
-        expansion = (labels_after, adds_labels, later_outcome.expansion);
+        expansion = search (rules, arith);
         forest = later_outcome.forest;
         derivations = later_outcome.derivations;
         labels_are = later_outcome.labels_are;
@@ -223,10 +205,10 @@ module _ (c : Context) where
       outcome_by_result : (r : Result (List Formula) Reason) → GrownForest lists forest s r
           → ((next : Trees) (f : Formula) → AreDerivations c next → IsLastFormula next f
           → StepsOutcome (lists ++ postfix next ∷ []) (postfix next) steps
-          (run_steps (last_formulas ++ f ∷ []) steps (formulas next)))
+          (perform_steps (last_formulas ++ f ∷ []) steps (formulas next)))
           → StepsOutcome lists (postfix forest) (s ∷ steps)
           (proceed r (length last_formulas)
-          (λ out. run_steps (last_formulas ++ top out ∷ []) steps out))
+          (λ out. perform_steps (last_formulas ++ top out ∷ []) steps out))
       outcome_by_result (Err reason) forest_grown rest_has_outcome =
           record {
             before = [];
@@ -241,9 +223,4 @@ module _ (c : Context) where
             fails = forest_grown;
           }
       outcome_by_result (Ok out) forest_grown rest_has_outcome =
-          outcome_of_rest (postfix forest_grown.0) forest_grown.2
-          (run_steps (last_formulas ++ top out ∷ []) steps out)
-          (subst (λ x. StepsOutcome (lists ++ postfix forest_grown.0 ∷ []) (postfix forest_grown.0)
-          steps
-          (run_steps (last_formulas ++ top out ∷ []) steps x)) forest_grown.3
-          (rest_has_outcome forest_grown.0 (top out) forest_grown.1 forest_grown.4))
+          search (rules, arith, outcome_of_rest)

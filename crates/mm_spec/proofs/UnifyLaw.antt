@@ -1,9 +1,7 @@
 -- A substitution is found from the `$f` hypotheses, if there is one.
-use Rattle.std.proofs.Common.{arith}
+use Rattle.std.proofs.Common.{rules, arith, ◌≡◌, ℕ, true, List, [], ◌∷◌, map, IsTrue, refl, sym}
+use Rattle.std.proofs.Common.{true≢false, append-nil, bytes_eq, eqb-true}
 use Rattle.std.proofs.lemmas.Grind.{common_steps}
-use Rattle.std.proofs.Common.{◌≡◌, ℕ, true, ◌&&◌, List, [], ◌∷◌, map}
-use Rattle.std.proofs.Common.{IsTrue, refl, sym, ap₂, subst, true≢false}
-use Rattle.std.proofs.Common.{append-nil, bytes_eq, eqb-true}
 use Rattle.std.proofs.lemmas.Slice.Eq.{bytes_eq-Decides}
 use Rattle.std.specs.List.{list_all, AllByRecursion}
 use Rattle.std.proofs.lemmas.Bool.{and_from, and_parts, not-true}
@@ -17,18 +15,13 @@ tested_equal_are_equal [] [] tested_equal = refl
 tested_equal_are_equal [] (q ∷ qs) tested_equal = absurd (true≢false (sym tested_equal))
 tested_equal_are_equal (p ∷ ps) [] tested_equal = absurd (true≢false (sym tested_equal))
 tested_equal_are_equal (p ∷ ps) (q ∷ qs) tested_equal =
-    grind (
-      arith,
-      common_steps,
-      and_parts,
-      bytes_eq-Decides,
-      tested_equal_are_equal ps qs
-          (and_parts (bytes_eq p q) (are_equal ps qs) tested_equal).1,
-    )
+    let later = tested_equal_are_equal ps qs (and_parts (bytes_eq p q) (are_equal ps qs)
+    tested_equal).1 in
+    grind (arith, common_steps, and_parts, bytes_eq-Decides)
 
 pub equal_are_tested_equal : (ps qs : List Formula) → ps ≡ qs → are_equal ps qs ≡ true
 equal_are_tested_equal ps qs lists_equal =
-    subst (λ z. are_equal ps z ≡ true) lists_equal (equal_to_itself ps)
+    cc (equal_to_itself ps)
   where
     equal_to_itself : (xs : List Formula) → are_equal xs xs ≡ true
     equal_to_itself [] = refl
@@ -66,11 +59,8 @@ module _ (c : Context) where
     bound_have_same_values : (f : Formula) → AreBound c hs f
         → AllByRecursion (λ x. IsTrue (c.is_variable x) → σ x ≡ τ x) f
     bound_have_same_values [] is_bound = tt
-    bound_have_same_values (x ∷ f) is_bound = (
-      λ is_variable. found_has_value hs τ x (is_bound.0 is_variable),
-      bound_have_same_values f
-          is_bound.1,
-    )
+    bound_have_same_values (x ∷ f) is_bound =
+        search (rules, arith, found_has_value, bound_have_same_values f is_bound.1)
 
     pub found_gives_formula : (f : Formula) → AreBound c hs f → substitute c σ f ≡ substitute c τ f
     found_gives_formula f is_bound =
@@ -80,8 +70,7 @@ module _ (c : Context) where
         → map (substitute c τ) fs ≡ map (substitute c σ) fs
     found_gives_formulas [] are_bound = refl
     found_gives_formulas (f ∷ fs) are_bound =
-        ap₂ (λ x xs. x ∷ xs) (sym (found_gives_formula f are_bound.0))
-        (found_gives_formulas fs are_bound.1)
+        search (rules, arith, found_gives_formula, (found_gives_formulas fs are_bound.1))
 
     pub found_keeps_disjoint : (ps : List Pair)
         → AllByRecursion (λ p. IsBound c hs p.low × IsBound c hs p.high) ps
@@ -89,7 +78,4 @@ module _ (c : Context) where
         ≡ list_all (λ p. are_all_disjoint c (τ p.low) (τ p.high)) ps
     found_keeps_disjoint [] are_bound = refl
     found_keeps_disjoint (p ∷ ps) are_bound =
-        ap₂ (λ x y. x && y)
-        (ap₂ (are_all_disjoint c) (found_has_value hs τ p.low are_bound.0.0)
-        (found_has_value hs τ p.high are_bound.0.1))
-        (found_keeps_disjoint ps are_bound.1)
+        search (rules, arith, found_has_value, (found_keeps_disjoint ps are_bound.1))

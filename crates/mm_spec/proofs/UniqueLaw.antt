@@ -1,13 +1,14 @@
 -- The labels in postfix order determine the whole forest of derivations.
-use Rattle.std.proofs.Common.{◌≡◌, ℕ, zero, suc, List, [], ◌∷◌, ◌++◌, length, Option, Some, None}
-use Rattle.std.proofs.Common.{refl, sym, ap, ◌∙◌, subst, append_assoc, length-append, arith}
+use Rattle.std.proofs.Common.{rules, ◌≡◌, ℕ, zero, suc, List, [], ◌∷◌, ◌++◌, length, Option, Some}
+use Rattle.std.proofs.Common.{None, refl, sym, ap, append_assoc, length-append, arith}
+use Rattle.std.proofs.lemmas.Grind.{common_steps}
 use Rattle.std.proofs.lemmas.List.{length-map}
 use Rattle.mm_spec.specs.Nodes.{tree_count}
 use Rattle.mm_spec.specs.Derivation.{Formula, Referent, hypothesis, assertion, Context, substitute}
 use Rattle.mm_spec.specs.Derivation.{Follows, Trees, none, more, formulas, postfix, AreDerivations}
 use Rattle.mm_spec.proofs.UnifyLaw.{found_gives_formula}
 use Rattle.mm_spec.specs.Laws.Stack.{substitution_from, IsCompleteReferent}
-use Rattle.mm_spec.proofs.MachineLaw.{AreGood, good_append_is_good_parts}
+use Rattle.mm_spec.proofs.StackStepsLaw.{AreGood, good_append_is_good_parts}
 
 -- two forests, one after the other
 infixl 40 ◌⧺◌
@@ -23,8 +24,7 @@ split_last (suc n) (more ts l f cs) = let p = split_last n ts in (p.0, more p.1 
 
 split_last_join : (ts cs : Trees) → split_last (tree_count cs) (ts ⧺ cs) ≡ (ts, cs)
 split_last_join ts none = refl
-split_last_join ts (more cs l f ds) =
-    ap {A = Trees × Trees} {B = Trees × Trees} (λ p. (p.0, more p.1 l f ds)) (split_last_join ts cs)
+split_last_join ts (more cs l f ds) = grind (arith, common_steps, (split_last_join ts cs))
 
 pub tree_count_formulas : (cs : Trees) → length (formulas cs) ≡ tree_count cs
 tree_count_formulas none = refl
@@ -48,7 +48,7 @@ module _ (c : Context) where
   follows_arity None ps f follows = absurd follows
   follows_arity (Some (hypothesis g)) ps f follows = ap length follows.0
   follows_arity (Some (assertion a)) ps f follows =
-      ap length follows.1 ∙ length-map a.hypotheses (substitute c follows.0)
+      search (rules, arith, length-map)
 
   follows_result : (r : Option Referent) (ps : List Formula) (f : Formula) → IsCompleteReferent c r
       → Follows c r ps f → result r ps ≡ f
@@ -56,8 +56,7 @@ module _ (c : Context) where
   follows_result None ps f is_complete follows = absurd follows
   follows_result (Some (hypothesis g)) ps f is_complete follows = sym follows.1
   follows_result (Some (assertion a)) ps f is_complete follows =
-      ap (λ x. substitute c (substitution_from c a.hypotheses x) a.formula) follows.1
-      ∙ found_gives_formula c a.hypotheses follows.0 a.formula is_complete.formula ∙ sym follows.3
+      search (rules, arith, found_gives_formula)
 
   -- the forest that the labels make of a forest
   abbrev grow : ℕ → Trees × Trees → Trees
@@ -76,21 +75,12 @@ module _ (c : Context) where
       let split_at_children =
       good_append_is_good_parts c early_labels (child_labels ++ l ∷ []) are_good in
       let split_at_label = good_append_is_good_parts c child_labels (l ∷ []) split_at_children.1 in
-      let regroup : (early_labels ++ (child_labels ++ l ∷ [])) ++ ls
-      ≡ early_labels ++ (child_labels ++ l ∷ ls) =
-      append_assoc early_labels (child_labels ++ l ∷ []) ls
-      ∙ ap (λ x. early_labels ++ x) (append_assoc child_labels (l ∷ []) ls) in
-      let arity_is_tree_count : arity (c.referent l) ≡ tree_count cs =
-      sym (follows_arity (c.referent l) (formulas cs) f are_derivations.2)
-      ∙ tree_count_formulas cs in
-      ap (λ x. build x base) regroup
-      ∙ labels_build_forest ts are_derivations.0 split_at_children.0 (child_labels ++ l ∷ ls) base
-      ∙ labels_build_forest cs are_derivations.1 split_at_label.0 (l ∷ ls) (base ⧺ ts)
-      ∙ ap (λ x. build ls (grow l x))
-      (ap (λ k. split_last k ((base ⧺ ts) ⧺ cs)) arity_is_tree_count
-      ∙ split_last_join (base ⧺ ts) cs)
-      ∙ ap (λ g. build ls (more (base ⧺ ts) l g cs))
-      (follows_result (c.referent l) (formulas cs) f split_at_label.1.0 are_derivations.2)
+      let earlier = labels_build_forest ts are_derivations.0 split_at_children.0
+      (child_labels ++ l ∷ ls) base in
+      let inner = labels_build_forest cs are_derivations.1 split_at_label.0 (l ∷ ls)
+      (base ⧺ ts) in
+      let count = tree_count_formulas cs in
+      search (rules, append_assoc, follows_arity, split_last_join, follows_result, earlier, inner)
 
   -- after no trees stands the forest itself
   none_before_is_itself : (forest : Trees) → none ⧺ forest ≡ forest
@@ -101,10 +91,9 @@ module _ (c : Context) where
       → AreGood c (postfix r)
       → postfix r ≡ postfix s → r ≡ s
   same_labels_same_derivations r s r_derives s_derives are_good labels_equal =
-      sym (is_built r r_derives are_good) ∙ ap (λ x. build (x ++ []) none) labels_equal
-      ∙ is_built s s_derives (subst (AreGood c) labels_equal are_good)
+      search (rules, arith, is_built)
     where
       is_built : (forest : Trees) → AreDerivations c forest → AreGood c (postfix forest)
           → build (postfix forest ++ []) none ≡ forest
       is_built forest are_derivations are_good =
-          labels_build_forest forest are_derivations are_good [] none ∙ none_before_is_itself forest
+          search (rules, arith, labels_build_forest, none_before_is_itself)

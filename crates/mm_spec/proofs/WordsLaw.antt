@@ -1,19 +1,18 @@
 -- The words of a text, as a set: each longest run of bytes that aren't white, once, in order.
-use Rattle.std.proofs.lemmas.Grind.{common_steps}
-use Rattle.std.proofs.Common.{◌≡◌, ℕ, zero, suc, ◌+◌, ◌-◌, ◌<◌, ◌≤◌, ◌==◌, ◌⊎◌, Bool, true, false}
+use Rattle.std.proofs.Common.{rules, ◌≡◌, ℕ, zero, suc, ◌+◌, ◌-◌, ◌<◌, ◌≤◌, ◌⊎◌, Bool, true, false}
 use Rattle.std.proofs.Common.{not, List, [], ◌∷◌, length, drop, get_or, refl, sym, ap, subst, ◌∙◌}
-use Rattle.std.proofs.Common.{arith, inl, inr, ⊎_elim, length-drop, get_or-drop, true≢false}
-use Rattle.std.proofs.Common.{eqb-true}
-use Rattle.std.specs.List.{prefix_len, All, AllPairs, Contains}
+use Rattle.std.proofs.Common.{arith, ⊎_elim, length-drop, get_or-drop, true≢false, eqb-true}
+use Rattle.std.proofs.lemmas.Grind.{common_steps}
+use Rattle.std.specs.List.{All, AllPairs, Contains}
 use Rattle.std.proofs.lemmas.List.Sums.{prefix_len_is}
-use Rattle.std.proofs.lemmas.List.Elements.{All-nil, All-cons, All-weaker, All-tail, All-contains}
+use Rattle.std.proofs.lemmas.List.Elements.{All-nil, All-weaker, All-tail, All-contains}
 use Rattle.std.proofs.lemmas.List.Kept.{AllPairs-cons}
 use Rattle.std.proofs.lemmas.Bool.{and_parts, or_cases, cases_lt, cases_eq, not-true}
 use Rattle.mm_spec.specs.declared.Word.{Word}
 use Rattle.mm_spec.specs.Bytes.{is_white}
 use Rattle.mm_spec.specs.Words.{white_at, begins_word, word_at, words_between, words_of}
-use Rattle.mm_spec.proofs.WordRunsLaw.{IsBoundary, words_between_skip, words_between_take}
-use Rattle.mm_spec.proofs.WordRunsLaw.{words_between_none, IsWord_word_at, boundary_begins_word}
+use Rattle.mm_spec.proofs.WordsBetweenLaw.{IsBoundary, words_between_skip, words_between_take}
+use Rattle.mm_spec.proofs.WordsBetweenLaw.{words_between_none, word_at_is_word, boundary_begins_word}
 use Rattle.mm_spec.specs.Laws.Words.{AreWords, IsWord}
 use Rattle.mm_spec.proofs.ListLaw.{pairs_tail}
 
@@ -26,18 +25,11 @@ begins_word_not_white text i begins = not-true _ (and_parts (not (white_at text 
 pub begins_word_boundary : (text : List ℕ) (i : ℕ) → begins_word text i ≡ true → IsBoundary text i
 unfolding begins_word
 begins_word_boundary text i begins j is_place_before _ _ =
-    ⊎_elim {C = white_at text j ≡ true}
-    (λ i_is_zero. let i_eq_zero : i ≡ 0 = eqb-true i 0 i_is_zero in absurd (omega arith))
-    (λ white_before. let pred_is_j : i - 1 ≡ j = omega arith in
-    subst (λ (k : ℕ). white_at text k ≡ true) pred_is_j white_before)
-    (or_cases (i == 0) (white_at text (i - 1)) (and_parts (not (white_at text i)) _ begins).1)
+    search (rules, arith, ⊎_elim, eqb-true, or_cases, and_parts)
 
 -- a word begins at its start, and is the word there
 pub IsWord_begins : {text : List ℕ} {w : Word} → IsWord text w → begins_word text w.start ≡ true
-IsWord_begins {text} {w} is_word =
-    boundary_begins_word text w.start (omega (arith, is_word.within, is_word.nonempty))
-    (is_word.no_white w.start (omega arith) (omega (arith, is_word.nonempty)))
-    (λ i is_place_before _ _. is_word.white_before i is_place_before)
+IsWord_begins h1 = grind (arith, common_steps, boundary_begins_word)
 
 pub word_at_start_is_word : {text : List ℕ} {w : Word} → IsWord text w → word_at text w.start ≡ w
 unfolding word_at white_at
@@ -49,24 +41,16 @@ word_at_start_is_word {text} {w} is_word =
     let end_is : w.start + (w.end - w.start) ≡ w.end = omega (arith, is_word.nonempty) in
     let byte_is : (k : ℕ)
     → not (is_white (get_or (drop w.start text) k 0))
-    ≡ not (is_white (get_or text (w.start + k) 0)) = λ k. ap (λ (b : ℕ). not (is_white b))
-    (get_or-drop w.start text k 0) in
+    ≡ not (is_white (get_or text (w.start + k) 0)) = search (rules, arith, get_or-drop) in
     let not_white : (k : ℕ) → k < w.end - w.start
     → not (is_white (get_or (drop w.start text) k 0)) ≡ true =
-    λ k k_lt_word. byte_is k
-    ∙ ap not (is_word.no_white (w.start + k) (omega arith) (omega arith)) in
+    search (rules, arith) in
     let white_after : w.end - w.start < length (drop w.start text)
     → not (is_white (get_or (drop w.start text) (w.end - w.start) 0)) ≡ false =
-    λ word_lt_length. byte_is (w.end - w.start)
-    ∙ ap not
-    (subst (λ (k : ℕ). is_white (get_or text k 0) ≡ true) (sym end_is)
-    (is_word.white_after (omega arith))) in
-    let prefix_is_word : prefix_len is_not_white (drop w.start text) ≡ w.end - w.start =
-    prefix_len_is is_not_white (drop w.start text) (w.end - w.start) 0
+    search (rules, arith) in
+    let prefix_is_word = prefix_len_is is_not_white (drop w.start text) (w.end - w.start) 0
     (omega (arith, is_word.within)) not_white white_after in
-    let place_is_end : w.start + prefix_len is_not_white (drop w.start text) ≡ w.end =
-    omega (arith, is_word.nonempty) in
-    ap (λ (x : ℕ). let v : Word = record { start = w.start; end = x } in v) place_is_end
+    grind (arith, common_steps)
 
 word_at_start : (text : List ℕ) (i : ℕ) → (word_at text i).start ≡ i
 unfolding word_at
@@ -102,7 +86,7 @@ words_between_cases text i to i_lt_to =
 begun_word_is_word : (text : List ℕ) (i : ℕ) → i < length text → begins_word text i ≡ true
     → IsWord text (word_at text i)
 begun_word_is_word text i i_lt_length begins =
-    IsWord_word_at text i i_lt_length (begins_word_not_white text i begins)
+    word_at_is_word text i i_lt_length (begins_word_not_white text i begins)
     (begins_word_boundary text i begins)
 
 abbrev IsWordFrom : List ℕ → ℕ → Word → Type 0
@@ -113,18 +97,11 @@ pub each_between_is_word : (text : List ℕ) (low n i to : ℕ) → i + n ≡ to
     → low ≤ i
     → All (IsWordFrom text low) (words_between text i to)
 each_between_is_word text low zero i to i_plus_n to_le_length low_le_i =
-    subst (All (IsWordFrom text low)) (sym (words_between_none text i to (omega arith)))
-    (All-nil (IsWordFrom text low))
+    grind (arith, common_steps, words_between_none, All-nil)
 each_between_is_word text low (suc n) i to i_plus_n to_le_length low_le_i =
-    let each_later : All (IsWordFrom text low) (words_between text (i + 1) to) =
+    let later =
     each_between_is_word text low n (i + 1) to (omega arith) to_le_length (omega arith) in
-    ⊎_elim {C = All (IsWordFrom text low) (words_between text i to)}
-    (λ is_taken. subst (All (IsWordFrom text low)) (sym is_taken.1)
-    (All-cons (IsWordFrom text low) _ _
-    (begun_word_is_word text i (omega arith) is_taken.0, (omega (arith, word_at_start text i)))
-    each_later))
-    (λ is_skipped. subst (All (IsWordFrom text low)) (sym is_skipped.1) each_later)
-    (words_between_cases text i to (omega arith))
+    search (rules, ⊎_elim, begun_word_is_word, word_at_start, words_between_cases, arith, later)
 
 -- none is left out
 pub words_between_have_each : (text : List ℕ) (n i to : ℕ) → i + n ≡ to → (w : Word) → IsWord text w
@@ -135,16 +112,14 @@ words_between_have_each text (suc n) i to i_plus_n w is_word i_le_start start_lt
     ⊎_elim {C = Contains (words_between text i to) w}
     (λ start_is_i. subst (λ (ws : List Word). Contains ws w)
     (sym (words_between_take text i to (omega arith)
-    (ap (begins_word text) (sym start_is_i) ∙ IsWord_begins is_word)))
-    (subst (λ (v : Word). Contains (v ∷ words_between text (i + 1) to) w)
-    (sym (word_at_start_is_word is_word) ∙ ap (word_at text) start_is_i) (Contains_head w _)))
+    (cc (IsWord_begins is_word))))
+    (search (rules, arith, word_at_start_is_word)))
     (λ start_is_not_i.
     let contained_later : Contains (words_between text (i + 1) to) w =
     words_between_have_each text n (i + 1) to (omega arith) w is_word (omega arith) start_lt_to in
     ⊎_elim {C = Contains (words_between text i to) w}
-    (λ is_taken. subst (λ (ws : List Word). Contains ws w) (sym is_taken.1)
-    (Contains_tail (word_at text i) w _ contained_later))
-    (λ is_skipped. subst (λ (ws : List Word). Contains ws w) (sym is_skipped.1) contained_later)
+    (grind (arith, common_steps, List Word, Contains_tail (word_at text i) w _ contained_later))
+    (search (rules, arith))
     (words_between_cases text i to (omega arith)))
     (cases_eq w.start i)
 
@@ -153,9 +128,7 @@ EndsBefore v w = v.end ≤ w.start
 
 pub words_between_rise : (text : List ℕ) (n i to : ℕ) → i + n ≡ to → to ≤ length text
     → AllPairs EndsBefore (words_between text i to)
-words_between_rise text zero i to i_plus_n to_le_length =
-    subst (AllPairs EndsBefore) (sym (words_between_none text i to (omega arith)))
-    (λ j k d j_lt_k k_lt_length. absurd (omega arith))
+words_between_rise text zero i to i_plus_n to_le_length = search (rules, arith, words_between_none)
 words_between_rise text (suc n) i to i_plus_n to_le_length =
     let later_rise : AllPairs EndsBefore (words_between text (i + 1) to) =
     words_between_rise text n (i + 1) to (omega arith) to_le_length in
@@ -169,16 +142,16 @@ words_between_rise text (suc n) i to i_plus_n to_le_length =
     is_word_from.0
     (omega (arith, is_word_from.1, word_at_start text i))) _ each_later)
     later_rise))
-    (λ is_skipped. subst (AllPairs EndsBefore) (sym is_skipped.1) later_rise)
+    (search (rules, arith))
     (words_between_cases text i to (omega arith))
 
 pub words_of_are_words : (text : List ℕ) → AreWords text (words_of text)
 words_of_are_words text = record {
   rising = words_between_rise text (length text) 0 (length text) (omega arith) (omega arith);
   each =
-      All-weaker (IsWordFrom text 0) (IsWord text) (λ w is_word_from. is_word_from.0) _
-      (each_between_is_word text 0 (length text) 0 (length text) (omega arith) (omega arith)
-      (omega arith));
+      let each_is_word = each_between_is_word text 0 (length text) 0 (length text) (omega arith)
+      (omega arith) (omega arith) in
+      grind (arith, common_steps);
   all =
       λ w is_word. words_between_have_each text (length text) 0 (length text) (omega arith) w
       is_word
@@ -189,8 +162,7 @@ words_of_are_words text = record {
 
 contained_is_head_or_later : {X : Type 0} (x : X) (xs : List X) (y : X) → Contains (x ∷ xs) y
     → (x ≡ y) ⊎ Contains xs y
-contained_is_head_or_later x xs y (zero, k_lt_length, got_y) = inl got_y
-contained_is_head_or_later x xs y (suc k, k_lt_length, got_y) = inr (k, (omega arith), got_y)
+contained_is_head_or_later x xs y h1 = grind (arith, common_steps)
 
 -- in a list of words that follow each other, each one after the first begins after the end of the
 -- first
@@ -206,8 +178,7 @@ AreIn ws vs = (w : Word) → Contains ws w → Contains vs w
 contained_is_nonempty : (text : List ℕ) (ws : List Word) → All (IsWord text) ws → (w : Word)
     → Contains ws w
     → w.start < w.end
-contained_is_nonempty text ws are_words w contains_w =
-    (All-contains (IsWord text) ws w are_words contains_w).nonempty
+contained_is_nonempty text ws are_words w contains_w = grind (arith, common_steps, All-contains)
 
 equal_words_equal_heads : (text : List ℕ) (w v : Word) (ws vs : List Word)
     → All (IsWord text) (w ∷ ws)
@@ -235,16 +206,10 @@ equal_words_equal_tails : (text : List ℕ) (w : Word) (ws vs : List Word)
     → All (IsWord text) (w ∷ ws)
     → AllPairs EndsBefore (w ∷ ws) → AreIn (w ∷ ws) (w ∷ vs) → AreIn ws vs
 equal_words_equal_tails text w ws vs are_words words_rise in_vs u contains_u =
-    ⊎_elim {C = Contains vs u}
-    (λ w_is_u.
-    let w_end_le_u : w.end ≤ u.start = later_begins_after_head w ws words_rise u contains_u in
-    let w_end_le_w : w.end ≤ w.start =
-    subst (λ (x : Word). w.end ≤ x.start) (sym w_is_u) w_end_le_u in
-    let w_is_nonempty : w.start < w.end =
-    contained_is_nonempty text (w ∷ ws) are_words w (Contains_head w ws) in
-    absurd (omega arith))
-    (λ u_in_vs. u_in_vs)
-    (contained_is_head_or_later w vs u (in_vs u (Contains_tail w u ws contains_u)))
+    let w_before_u = later_begins_after_head w ws words_rise u contains_u in
+    let w_is_nonempty = contained_is_nonempty text (w ∷ ws) are_words w (Contains_head w ws) in
+    let cases = contained_is_head_or_later w vs u (in_vs u (Contains_tail w u ws contains_u)) in
+    grind (arith, common_steps)
 
 empty_contains_none : (w : Word) → Contains {X = Word} [] w → ⊥
 empty_contains_none w (k, k_lt_zero, got_w) = omega arith
@@ -259,15 +224,15 @@ equal_words_equal_lists text (w ∷ ws) [] are_w are_v rise_w rise_v in_vs in_ws
     absurd (empty_contains_none w (in_vs w (Contains_head w ws)))
 equal_words_equal_lists text (w ∷ ws) (v ∷ vs) are_w are_v rise_w rise_v in_vs in_ws =
     let heads_equal : w ≡ v =
-    equal_words_equal_heads text w v ws vs are_w are_v rise_w rise_v in_vs in_ws in
+    search (rules, arith, equal_words_equal_heads) in
     let in_vs' : AreIn (w ∷ ws) (w ∷ vs) =
     subst (λ (x : Word). AreIn (w ∷ ws) (x ∷ vs)) (sym heads_equal) in_vs in
     let in_ws' : AreIn (w ∷ vs) (w ∷ ws) =
-    subst (λ (x : Word). AreIn (x ∷ vs) (w ∷ ws)) (sym heads_equal) in_ws in
+    search (rules, arith) in
     let are_v' : All (IsWord text) (w ∷ vs) =
-    subst (λ (x : Word). All (IsWord text) (x ∷ vs)) (sym heads_equal) are_v in
+    search (rules, arith) in
     let rise_v' : AllPairs EndsBefore (w ∷ vs) =
-    subst (λ (x : Word). AllPairs EndsBefore (x ∷ vs)) (sym heads_equal) rise_v in
+    search (rules, arith) in
     ap (λ (us : List Word). w ∷ us)
     (equal_words_equal_lists text ws vs (All-tail (IsWord text) w ws are_w)
     (All-tail (IsWord text) w vs are_v')
@@ -281,6 +246,5 @@ words_are_words_of text ws are_words =
     let read_words = words_of_are_words text in
     equal_words_equal_lists text ws (words_of text) are_words.each read_words.each are_words.rising
     read_words.rising
-    (λ w contains_w. read_words.all w (All-contains (IsWord text) ws w are_words.each contains_w))
-    (λ w contains_w. are_words.all w
-    (All-contains (IsWord text) (words_of text) w read_words.each contains_w))
+    (search (rules, arith))
+    (search (rules, arith))

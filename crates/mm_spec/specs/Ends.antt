@@ -26,19 +26,19 @@ Gave unread_before unread_after text =
 -- written. `Refused`: the fault is its first one, and the refusal for it was written.
 -- `WriteFailed`: a prefix of its output was written. `NoMemory`: nothing was written. `ReadFailed`
 -- isn't an answer for such a text. What the writer had taken before and after is known or not.
-abbrev pub Answers : RunEnd → List ℕ → Request → (written_before written_after : Option (List ℕ))
+abbrev pub Wrote : RunEnd → List ℕ → Request → (written_before written_after : Option (List ℕ))
     → Type 0
-Answers Accepted text request written_before written_after =
+Wrote Accepted text request written_before written_after =
     ((db : List Statement) × HasNoFault (length text) (lexed_of text) request.with_open db)
     × ((bytes : List ℕ) × IsOutput text request bytes × Appends written_before written_after bytes)
-Answers (Refused f) text request written_before written_after =
+Wrote (Refused f) text request written_before written_after =
     FirstFault (length text) (lexed_of text) request.with_open f
     × IsOutput text request (refusal text f) × Appends written_before written_after (refusal text f)
-Answers WriteFailed text request written_before written_after =
+Wrote WriteFailed text request written_before written_after =
     (bytes : List ℕ) × (k : ℕ) × IsOutput text request bytes
     × Appends written_before written_after (take k bytes)
-Answers ReadFailed text request written_before written_after = ⊥
-Answers NoMemory text request written_before written_after = Keeps written_before written_after
+Wrote ReadFailed text request written_before written_after = ⊥
+Wrote NoMemory text request written_before written_after = Keeps written_before written_after
 
 -- The bytes written are those for the text that was read. If reading failed or memory ran out,
 -- nothing was written.
@@ -50,4 +50,4 @@ Ends NoMemory request unread_before unread_after written_before written_after =
     Keeps written_before written_after
 Ends end request unread_before unread_after written_before written_after =
     (text : List ℕ) × Gave unread_before unread_after text
-    × Answers end text request written_before written_after
+    × Wrote end text request written_before written_after

@@ -24,6 +24,6 @@ as_axiom s = s
 
 -- the statements as they count: with the flag open theorems count as axioms, without it each
 -- statement counts as what it is
-abbrev pub counted : (with_open : Bool) → List Statement → List Statement
-counted true db = map as_axiom db
-counted false db = db
+abbrev pub open_as_axioms : (with_open : Bool) → List Statement → List Statement
+open_as_axioms true db = map as_axiom db
+open_as_axioms false db = db

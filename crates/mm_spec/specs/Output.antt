@@ -8,7 +8,7 @@ use Rattle.mm_spec.specs.Lexed.{LexedText, lexed_of}
 use Rattle.mm_spec.specs.Statement.{Statement, axiomatic, provable, AreLongestStatements}
 use Rattle.mm_spec.specs.Statement.{ShapeFault}
 use Rattle.mm_spec.specs.Statement.{FileEndFault}
-use Rattle.mm_spec.specs.Opened.{is_open_theorem, counted}
+use Rattle.mm_spec.specs.Opened.{is_open_theorem, open_as_axioms}
 use Rattle.mm_spec.specs.Scope.{statement_at}
 use Rattle.mm_spec.specs.Lawful.{least, scope_fault, IsLawful}
 use Rattle.mm_spec.specs.Frame.{formula_at}
@@ -89,12 +89,13 @@ FirstProofFault db k f =
 abbrev pub FirstFault : ℕ → LexedText → (with_open : Bool) → Fault → Type 0
 FirstFault len lexed with_open f =
     (db : List Statement) × (fault : Option Fault) × IsRead len lexed db fault
-    × (((k : ℕ) × FirstProofFault (counted with_open db) k f)
-    ⊎ (AllAreValid (counted with_open db) × (fault ≡ Some f)))
+    × (((k : ℕ) × FirstProofFault (open_as_axioms with_open db) k f)
+    ⊎ (AllAreValid (open_as_axioms with_open db) × (fault ≡ Some f)))
 
 -- the whole text is read without a fault, as the statements db, and all theorems are valid
 abbrev pub HasNoFault : ℕ → LexedText → (with_open : Bool) → List Statement → Type 0
-HasNoFault len lexed with_open db = IsRead len lexed db None × AllAreValid (counted with_open db)
+HasNoFault len lexed with_open db =
+    IsRead len lexed db None × AllAreValid (open_as_axioms with_open db)
 
 -- the numbers of the theorems
 abbrev pub theorems : List Statement → List ℕ
@@ -137,7 +138,7 @@ abbrev pub open_theorem_count : List Statement → Request → Option ℕ
 open_theorem_count db request =
     if request.with_open then Some
     (count_by (λ a. list_any is_open_theorem (statement_at db a))
-    (columns (counted true db) request.only))
+    (columns (open_as_axioms true db) request.only))
     else None
 
 -- whether statement j is an open theorem that counts as an axiom
@@ -147,7 +148,8 @@ is_open_at db with_open j = with_open && list_any is_open_theorem (statement_at 
 -- the lines of the statements, as these count
 abbrev pub told : List Statement → Request → List ℕ
 told db request =
-    statement_lines (counted request.with_open db) (is_open_at db request.with_open) request.only
+    statement_lines (open_as_axioms request.with_open db) (is_open_at db request.with_open)
+    request.only
 
 -- The report on a database: the theorems have these rows, by what they rest on and by what they
 -- cite, and these are its bytes. `open_theorems` says how many columns are open theorems, if these
@@ -168,5 +170,6 @@ IsOutput text request bytes =
     ((f : Fault) × FirstFault (length text) (lexed_of text) request.with_open f
     × (bytes ≡ refusal text f))
     ⊎ ((db : List Statement) × HasNoFault (length text) (lexed_of text) request.with_open db
-    × IsReportOf (counted request.with_open db) (open_theorem_count db request) (told db request)
+    × IsReportOf (open_as_axioms request.with_open db) (open_theorem_count db request)
+    (told db request)
     request bytes)

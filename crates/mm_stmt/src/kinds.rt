@@ -2,7 +2,7 @@
 //! and any other statement as what it is.
 
 ghost use Rattle.std.specs.Prelude.{◌≡◌, ◌<◌, ◌≤◌, ◌^◌, All, IfOk, bytes_eq, length, map};
-ghost use Rattle.mm_spec.specs.Opened.{counted, is_open_proof as spec_is_open_proof};
+ghost use Rattle.mm_spec.specs.Opened.{open_as_axioms, is_open_proof as spec_is_open_proof};
 ghost use Rattle.mm_outline.specs.Parts.{AreWithin, IsOutline, statement_of, token_of, as_tokens};
 ghost use Rattle.mm_outline.specs.Statements.{statements};
 ghost use Rattle.mm_database.specs.Database.{kind_of};
@@ -69,7 +69,7 @@ pub(crate) fn kinds_of<A: Allocator + Copy>(
     requires are_outlines { All (λ o. IsOutline o × (o.end < length tokens.now)) outlines.now }
     ensures { IfOk result
         (λ kinds. kinds.items
-        ≡ map kind_of (counted with_open (statements text.now tokens.now outlines.now))) }
+        ≡ map kind_of (open_as_axioms with_open (statements text.now tokens.now outlines.now))) }
 {
     let mut kinds = Vec::with_capacity(alloc, outlines.len())?;
     for outline in outlines {

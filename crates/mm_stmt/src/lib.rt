@@ -1,7 +1,7 @@
 //! Reading: from the tokens of a text to its database. This layer has the statements judged by
 //! `mm_scope` and their frames made by `mm_frame`, and finds out what else is kept of them.
-//! [`read`] borrows the tokens; [`read_owned`] takes them, frees them before it makes the frames, and
-//! makes the frames by several threads; [`read_alone`] does the same on the calling thread. The
+//! [`read`] borrows the tokens; [`read_owned`] takes them, frees them before it makes the frames,
+//! and makes the frames by several threads; [`read_alone`] does the same on the calling thread. The
 //! layer promises that the statements are those before the first malformed or unlawful one, and
 //! that the fault is the fault there (`Rattle.mm_spec.specs.Output.IsRead`).
 #![tactic(auto)]

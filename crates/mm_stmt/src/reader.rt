@@ -2,7 +2,7 @@
 
 ghost use Rattle.std.specs.Prelude.{◌≡◌, ◌<◌, IfOk, length};
 ghost use Rattle.mm_spec.specs.Lexed.{tokens_of, lexical_fault, lexed_of};
-ghost use Rattle.mm_spec.specs.Opened.{counted};
+ghost use Rattle.mm_spec.specs.Opened.{open_as_axioms};
 ghost use Rattle.mm_spec.specs.Output.{IsRead};
 
 use crate::unframed::{database_of, read_statements};
@@ -30,7 +30,7 @@ pub fn read<'a, A: Allocator + Copy>(
     ensures is_read { IfOk result
         (λ database. IsRead (length text.now) (lexed_of text.now) database.read database.fault) }
     ensures are_counted { IfOk result
-        (λ database. database.statements ≡ counted with_open database.read) }
+        (λ database. database.statements ≡ open_as_axioms with_open database.read) }
 {
     let tokens = lexed.tokens.to_vec(alloc)?;
     let copy = Lexed {
@@ -55,15 +55,15 @@ pub fn read_alone<'a, A: Allocator + Copy>(
     ensures is_read { IfOk result
         (λ database. IsRead (length text.now) (lexed_of text.now) database.read database.fault) }
     ensures are_counted { IfOk result
-        (λ database. database.statements ≡ counted with_open database.read) }
+        (λ database. database.statements ≡ open_as_axioms with_open database.read) }
 {
     let unframed = read_statements(alloc, text, lexed, with_open)?;
     let frame_tables = frame_tables_alone(alloc, &unframed.reading.statements)?;
     Ok(database_of(text, with_open, unframed, frame_tables))
 }
 
-/// The same as [`read_alone`], but the frames are made by as many threads as there are workers. With
-/// one worker no thread is started.
+/// The same as [`read_alone`], but the frames are made by as many threads as there are workers.
+/// With one worker no thread is started.
 pub fn read_owned<'a, R: Threads + Sync, A: Allocator + Copy + Send + Sync>(
     rt: &R,
     alloc: A,
@@ -80,7 +80,7 @@ pub fn read_owned<'a, R: Threads + Sync, A: Allocator + Copy + Send + Sync>(
     ensures is_read { IfOk result
         (λ database. IsRead (length text.now) (lexed_of text.now) database.read database.fault) }
     ensures are_counted { IfOk result
-        (λ database. database.statements ≡ counted with_open database.read) }
+        (λ database. database.statements ≡ open_as_axioms with_open database.read) }
 {
     let unframed = read_statements(alloc, text, lexed, with_open)?;
     let frame_tables = frame_tables_of(rt, alloc, &unframed.reading.statements, workers)?;

@@ -1,7 +1,7 @@
 //! The statements as they count, in lists: the kind of each, the theorems and the axioms.
 
 ghost use Rattle.std.specs.Prelude.{◌<◌, ◌^◌, All, IfOk, length};
-ghost use Rattle.mm_spec.specs.Opened.{counted};
+ghost use Rattle.mm_spec.specs.Opened.{open_as_axioms};
 ghost use Rattle.mm_outline.specs.Parts.{AreWithin, IsOutline};
 ghost use Rattle.mm_outline.specs.Statements.{statements};
 ghost use Rattle.mm_database.specs.Database.{AreStatementLists};
@@ -27,7 +27,7 @@ pub(crate) fn list_statements<A: Allocator + Copy>(
     requires few_outlines { length outlines.now < 2 ^ 31 }
     ensures { IfOk result
         (λ l. AreStatementLists
-        (counted with_open (statements text.now tokens.now outlines.now)) l) }
+        (open_as_axioms with_open (statements text.now tokens.now outlines.now)) l) }
 {
     let kinds = kinds_of(alloc, text, tokens, outlines, with_open)?;
     let (theorems, axioms) = assertions_of(alloc, &kinds)?;

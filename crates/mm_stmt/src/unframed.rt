@@ -2,7 +2,7 @@
 
 ghost use Rattle.std.specs.Prelude.{◌≡◌, IfOk, length};
 ghost use Rattle.mm_spec.specs.Lexed.{tokens_of, lexical_fault, lexed_of};
-ghost use Rattle.mm_spec.specs.Opened.{counted};
+ghost use Rattle.mm_spec.specs.Opened.{open_as_axioms};
 ghost use Rattle.mm_spec.specs.Output.{IsRead};
 ghost use Rattle.mm_database.specs.FrameTables.{AreFrameTables};
 ghost use Rattle.mm_stmt.specs.Unframed.{IsUnframed};
@@ -67,7 +67,7 @@ pub(crate) fn database_of<'a, A: Allocator>(
     ensures text_is { result.text ≡ text.now }
     ensures flag_is { result.with_open ≡ with_open }
     ensures is_read { IsRead (length text.now) (lexed_of text.now) result.read result.fault }
-    ensures are_counted { result.statements ≡ counted with_open result.read }
+    ensures are_counted { result.statements ≡ open_as_axioms with_open result.read }
 {
     let Unframed {
         reading,

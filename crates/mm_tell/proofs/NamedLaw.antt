@@ -1,42 +1,32 @@
 -- Which variables the labels of a proof name.
-use Rattle.std.proofs.Common.{◌≡◌, ◌∙◌, ℕ, Bool, true, false, ◌&&◌, ◌||◌, List, [], ◌∷◌, refl, ap, sym}
-use Rattle.std.proofs.Common.{ap₂, arith, true≢false, eq-eqb, ◌==◌}
-use Rattle.std.proofs.Common.{◌++◌, nat_lt, length, Option, Some, None, option_map, slice_get}
+use Rattle.std.proofs.Math.Bool.{and_assoc, and-false, and-true}
+use Rattle.std.proofs.lemmas.List.Folds.{list_any_none, list_any-append}
+use Rattle.std.proofs.lemmas.Bool.Decides.{nat_tests}
+use Rattle.std.proofs.Common.{◌≡◌, ◌∙◌, ℕ, Bool, true, false, ◌&&◌, ◌||◌, List, [], ◌∷◌, refl, ap}
+use Rattle.std.proofs.Common.{sym, arith, true≢false, eq-eqb, ◌++◌, length, Some, option_map}
+use Rattle.std.proofs.Common.{slice_get}
 use Rattle.std.proofs.lemmas.Bool.{ne_eqb}
-use Rattle.std.proofs.lemmas.List.Folds.{list_any-append}
-use Rattle.std.proofs.Math.Bool.{and-false, and-true}
-use Rattle.std.specs.Prelude.{not, flat_map, unwrap_or}
+use Rattle.std.specs.Prelude.{not, flat_map}
 use Rattle.std.specs.List.{list_any, filter, range_with_len}
 use Rattle.std.proofs.lemmas.Grind.{common_steps}
 use Rattle.mm_spec.specs.Text.{Bytes}
-use Rattle.mm_spec.specs.Statement.{Statement, constants, variables, disjoint, floating, essential}
-use Rattle.mm_spec.specs.Statement.{axiomatic, provable, opening, closing, proof_of}
+use Rattle.mm_spec.specs.Statement.{Statement}
 use Rattle.mm_spec.specs.Scope.{statement_at, active_at}
 use Rattle.mm_spec.specs.Derivation.{is_member, Pair}
 use Rattle.mm_spec.specs.Frame.{active_of, is_floating, mandatory_hypotheses, symbol_names}
-use Rattle.mm_spec.specs.Frame.{pairs_below, disjoint_at}
+use Rattle.mm_spec.specs.Frame.{pairs_below}
 use Rattle.mm_database.specs.Database.{kind_of}
 use Rattle.mm_outline.specs.declared.parts.Kind.{Kind}
 use Rattle.mm_outline.specs.declared.parts.Kind.TheVariants.{Theorem}
-use Rattle.mm_spec.specs.Assertion.{has_label, variable_of, is_named_in, dummy_floats, is_variable_of}
-use Rattle.mm_spec.specs.Assertion.{proof_labels, proof_at, is_used, mandatory_floats, dummies}
-use Rattle.mm_spec.specs.Assertion.{dummy_pairs, is_with_dummy, is_dummy_pair}
+use Rattle.mm_spec.specs.Assertion.{has_label, variable_of, is_named_in, dummy_floats}
+use Rattle.mm_spec.specs.Assertion.{is_variable_of, proof_labels, proof_at, is_used, dummies}
+use Rattle.mm_spec.specs.Assertion.{dummy_pairs, is_dummy_pair}
 use Rattle.mm_spec.proofs.MemberLaw.{member_flat, member_filter, member_range}
 use Rattle.mm_spec.proofs.FindsLaw.{any_filter}
 use Rattle.mm_tell.specs.Named.{names_dummy, float_variable}
 
 absorbed : (a b : Bool) → (a || (b && a)) ≡ a
-absorbed true b = refl
-absorbed false true = refl
-absorbed false false = refl
-
-and_assoc : (a b c : Bool) → (a && (b && c)) ≡ ((a && b) && c)
-and_assoc true b c = refl
-and_assoc false b c = refl
-
-any_of_none : {X : Type 0} (xs : List X) → list_any (λ _. false) xs ≡ false
-any_of_none [] = refl
-any_of_none (x ∷ xs) = any_of_none xs
+absorbed a b = grind (arith, common_steps)
 
 any_of_both : {X Y : Type 0} (p : X → Y → Bool) (q : Y → Bool) (xs : List X) (y : Y)
     → list_any (λ x. p x y && q y) xs ≡ (list_any (λ x. p x y) xs && q y)
@@ -50,7 +40,7 @@ any_or p q (x ∷ xs) = grind (arith, common_steps, any_or p q xs)
 
 any_swapped : {X Y : Type 0} (p : X → Y → Bool) (xs : List X) (ys : List Y)
     → list_any (λ y. list_any (λ x. p x y) xs) ys ≡ list_any (λ x. list_any (p x) ys) xs
-any_swapped p [] ys = any_of_none ys
+any_swapped p [] ys = list_any_none (λ y. false) ys (λ k y k_lt_length. refl)
 any_swapped p (x ∷ xs) ys =
     any_or (p x) (λ y. list_any (λ x. p x y) xs) ys
     ∙ ap (λ b. list_any (p x) ys || b) (any_swapped p xs ys)
@@ -60,18 +50,15 @@ any_alone : (h q : ℕ → Bool) (xs : List ℕ) (j : ℕ) → h j ≡ true → 
     → list_any (λ i. h i && q i) xs ≡ (is_member xs j && q j)
 any_alone h q [] j j_passes only_j = refl
 any_alone h q (x ∷ xs) j j_passes only_j =
-    by_first (h x) refl (any_alone h q xs j j_passes only_j)
-  where
-    by_first : (b : Bool) → h x ≡ b → list_any (λ i. h i && q i) xs ≡ (is_member xs j && q j)
-        → list_any (λ i. h i && q i) (x ∷ xs) ≡ (is_member (x ∷ xs) j && q j)
-    by_first true passes rest_is =
-        let x_is_j = only_j x passes in
-        let is_found : (j == x) ≡ true = eq-eqb j x (sym x_is_j) in
-        rw (passes, is_found, rest_is, x_is_j) (absorbed (q j) (is_member xs j))
-    by_first false fails rest_is =
-        let other : (j == x) ≡ false =
-        ne_eqb j x (λ j_is_x. true≢false (sym j_passes ∙ ap h j_is_x ∙ fails)) in
-        rw (fails, other) rest_is
+    grind (
+      arith,
+      common_steps,
+      eq-eqb,
+      absorbed,
+      ne_eqb,
+      true≢false,
+      (any_alone h q xs j j_passes only_j),
+    )
 
 module _ (db : List Statement) (k : ℕ) where
   -- the active `$f`
@@ -84,14 +71,8 @@ module _ (db : List Statement) (k : ℕ) where
     -- no statement has the label
     pub named_by_none : ((j : ℕ) → has_label db label j ≡ false)
         → names_dummy db k label x ≡ false
-    named_by_none none_has_label = without_label (active_of is_floating db k)
-      where
-        without_label : (js : List ℕ)
-            → list_any (λ j. has_label db label j
-            && (not (is_member (mandatory_hypotheses db k) j) && is_member (variable_of db j) x)) js
-            ≡ false
-        without_label [] = refl
-        without_label (j ∷ js) = rw (none_has_label j) (without_label js)
+    named_by_none none_has_label = list_any_none _ (active_of is_floating db k)
+        (λ i j i_lt_length. rw (none_has_label _) refl)
 
     -- statement j alone has the label
     pub named_alone : (j : ℕ) → has_label db label j ≡ true
@@ -99,13 +80,9 @@ module _ (db : List Statement) (k : ℕ) where
         → names_dummy db k label x
         ≡ ((list_any is_floating (statement_at db j) && active_at db j k)
         && (not (is_member (mandatory_hypotheses db k) j) && is_member (variable_of db j) x))
-    named_alone j j_has_label only_j =
-        any_alone (has_label db label)
+    named_alone j j_has_label only_j = rw (← float_member j) (any_alone (has_label db label)
         (λ i. not (is_member (mandatory_hypotheses db k) i) && is_member (variable_of db i) x)
-        (active_of is_floating db k) j j_has_label only_j
-        ∙ ap (λ b. b
-        && (not (is_member (mandatory_hypotheses db k) j) && is_member (variable_of db j) x))
-        (float_member j)
+        (active_of is_floating db k) j j_has_label only_j)
 
   -- the variables that the labels of the proof name are those of the dummy `$f`
   pub named_by_labels : (x : ℕ)
@@ -129,10 +106,11 @@ module _ (db : List Statement) (k : ℕ) where
           && is_member (variable_of db j) x) js
       each_any_is [] = refl
       each_any_is (j ∷ js) =
-          ap₂ (λ (a b : Bool). a || b)
-          (any_of_both (λ label i. has_label db label i) rest (proof_labels (proof_at db k)) j
-          ∙ and_assoc (is_named_in db k j) (not (is_member (mandatory_hypotheses db k) j)) _)
-          (each_any_is js)
+          rw (
+            any_of_both (λ label i. has_label db label i) rest (proof_labels (proof_at db k)) j,
+            each_any_is js,
+            and_assoc (is_named_in db k j),
+          ) refl
 
 -- the variables of the `$f` among statements
 floats_filtered : (db : List Statement) (js : List ℕ) (x : ℕ)
@@ -140,22 +118,7 @@ floats_filtered : (db : List Statement) (js : List ℕ) (x : ℕ)
     ≡ is_member (flat_map (variable_of db)
     (filter (λ j. list_any is_floating (statement_at db j)) js)) x
 floats_filtered db [] x = refl
-floats_filtered db (j ∷ js) x =
-    by_kind (list_any is_floating (statement_at db j)) refl (floats_filtered db js x)
-  where
-    by_kind : (b : Bool) → list_any is_floating (statement_at db j) ≡ b
-        → is_member (flat_map (float_variable db) js) x
-        ≡ is_member (flat_map (variable_of db)
-        (filter (λ j. list_any is_floating (statement_at db j)) js)) x
-        → is_member (flat_map (float_variable db) (j ∷ js)) x
-        ≡ is_member (flat_map (variable_of db)
-        (filter (λ j. list_any is_floating (statement_at db j)) (j ∷ js))) x
-    by_kind true floats rest_is =
-        rw floats
-        (list_any-append (λ y. x == y) (variable_of db j) _
-        ∙ ap (λ b. is_member (variable_of db j) x || b) rest_is
-        ∙ sym (list_any-append (λ y. x == y) (variable_of db j) _))
-    by_kind false floats_not rest_is = rw floats_not rest_is
+floats_filtered db (j ∷ js) x = grind (arith, nat_tests, list_any-append, (floats_filtered db js x))
 
 -- what a statement uses are the variables of its mandatory `$f` and its dummy variables
 pub used_members : (db : List Statement) (k x : ℕ) (listed : List ℕ)
@@ -163,33 +126,15 @@ pub used_members : (db : List Statement) (k x : ℕ) (listed : List ℕ)
     → is_member (flat_map (float_variable db) (mandatory_hypotheses db k) ++ listed) x
     ≡ is_used db k x
 used_members db k x listed listed_are =
-    let floats = mandatory_floats db k in
-    let dummy = dummy_floats db k in
-    list_any-append (λ y. x == y) (flat_map (float_variable db) (mandatory_hypotheses db k)) listed
-    ∙ ap₂ (λ (a b : Bool). a || b)
-    (floats_filtered db (mandatory_hypotheses db k) x ∙ member_flat (variable_of db) floats x)
-    (listed_are ∙ member_flat (variable_of db) dummy x)
-    ∙ sym (member_flat (variable_of db) (floats ++ dummy) x
-    ∙ list_any-append (λ j. is_member (variable_of db j) x) floats dummy)
+    grind (arith, common_steps, list_any-append, floats_filtered, member_flat)
 
 -- without dummy variables there are no pairs with one
 pub no_pairs : (db : List Statement) (k : ℕ) → dummies db k ≡ [] → dummy_pairs db k ≡ []
 no_pairs db k no_dummies = none_kept (pairs_below (length (symbol_names db)))
   where
-    not_with_dummy : (p : Pair) → is_with_dummy db k p ≡ false
-    not_with_dummy p =
-        ap (λ ds. nat_lt p.low p.high
-        && ((is_member ds p.low || is_member ds p.high) && disjoint_at db k p.low p.high)) no_dummies
-        ∙ and-false (nat_lt p.low p.high)
-
     none_kept : (ps : List Pair) → filter (is_dummy_pair db k) ps ≡ []
     none_kept [] = refl
-    none_kept (p ∷ ps) =
-        let dropped : is_dummy_pair db k p ≡ false =
-        ap (λ b. is_used db k p.low && (is_used db k p.high && b)) (not_with_dummy p)
-        ∙ ap (λ b. is_used db k p.low && b) (and-false (is_used db k p.high))
-        ∙ and-false (is_used db k p.low) in
-        rw dropped (none_kept ps)
+    none_kept (p ∷ ps) = rw (no_dummies, and-false, and-false, and-false) (none_kept ps)
 
 -- without a proof there are no dummy variables
 pub no_dummies : (db : List Statement) (k : ℕ) → proof_at db k ≡ [] → dummies db k ≡ []
@@ -214,23 +159,4 @@ no_dummies db k no_proof =
 -- only a theorem has a proof
 pub no_proof_unless_theorem : (db : List Statement) (k : ℕ) (x : Kind)
     → option_map kind_of (slice_get db k) ≡ Some x → (x ≡ Theorem → ⊥) → proof_at db k ≡ []
-no_proof_unless_theorem db k x kind_is not_theorem = by_statement (slice_get db k) refl
-  where
-    by_kind : (s : Statement) → kind_of s ≡ x → proof_of s ≡ []
-    by_kind (provable l p xs e ps d) is_kind = absurd (not_theorem (sym is_kind))
-    by_kind (constants p xs d) is_kind = refl
-    by_kind (variables p xs d) is_kind = refl
-    by_kind (disjoint p xs d) is_kind = refl
-    by_kind (floating l p xs d) is_kind = refl
-    by_kind (essential l p xs d) is_kind = refl
-    by_kind (axiomatic l p xs d) is_kind = refl
-    by_kind (opening p) is_kind = refl
-    by_kind (closing p) is_kind = refl
-
-    by_statement : (o : Option Statement) → slice_get db k ≡ o → proof_at db k ≡ []
-    by_statement None got = ap (λ o. unwrap_or (option_map proof_of o) []) got
-    by_statement (Some s) got =
-        let kind_of_s : Some (kind_of s) ≡ Some x =
-        ap (option_map kind_of) (sym got) ∙ kind_is in
-        let kinds_equal : kind_of s ≡ x = cc in
-        ap (λ o. unwrap_or (option_map proof_of o) []) got ∙ by_kind s kinds_equal
+no_proof_unless_theorem db k x kind_is not_theorem = grind (arith, nat_tests, slice_get, option_map)

@@ -1,8 +1,8 @@
 -- What a binary search says of membership.
-use Rattle.std.proofs.Common.{◌≡◌, ℕ, suc, ◌<◌, ◌≤◌, ◌⊎◌, inl, inr, true, false}
-use Rattle.std.proofs.Common.{List, [], ◌∷◌, ◌||◌, length, get_or, ap, sym, ◌∙◌, subst, refl, arith}
+use Rattle.std.proofs.lemmas.Bool.Decides.{nat_tests}
+use Rattle.std.proofs.Common.{◌≡◌, ℕ, suc, ◌<◌, ◌≤◌, inl, inr, true, false, List, [], ◌∷◌, ◌||◌}
+use Rattle.std.proofs.Common.{length, get_or, ap, sym, ◌∙◌, subst, refl, arith, nat_cmp}
 use Rattle.std.specs.Prelude.{Result, Ok, Err, is_ok}
-use Rattle.std.proofs.Common.{nat_cmp}
 use Rattle.std.specs.List.Sorted.{IsBinarySearchResult, IsStrictlyIncreasing}
 use Rattle.std.proofs.lemmas.List.Sorted.{searched}
 use Rattle.std.proofs.lemmas.List.Kept.{AllPairs-from_increasing}
@@ -19,12 +19,8 @@ absent_is_no_member (y ∷ ys) x absent =
 
 rising_far : (xs : List ℕ) → IsStrictlyIncreasing xs → (i j : ℕ) → i ≤ j → j < length xs
     → get_or xs i 0 ≤ get_or xs j 0
-rising_far xs rise i j i_le_j j_lt_length = by_order (cases_lt i j)
-  where
-    by_order : (i < j) ⊎ (j ≤ i) → get_or xs i 0 ≤ get_or xs j 0
-    by_order (inl i_lt_j) =
-        let below = AllPairs-from_increasing xs rise i j 0 i_lt_j j_lt_length in omega (arith, below)
-    by_order (inr j_le_i) = let i_is_j : i ≡ j = omega (arith, i_le_j, j_le_i) in rw i_is_j (omega arith)
+rising_far xs rise i j i_le_j j_lt_length =
+    grind (arith, nat_tests, cases_lt, AllPairs-from_increasing)
 
 pub found_is_member : (xs : List ℕ) (x : ℕ) (r : Result ℕ ℕ)
     → IsBinarySearchResult (λ y. nat_cmp y x) xs r → IsStrictlyIncreasing xs
@@ -34,13 +30,7 @@ found_is_member xs x (Ok i) is_result rise =
     sym (subst (λ y. is_member xs y ≡ true) found.1 (element_is_member xs i 0 found.0))
 found_is_member xs x (Err i) is_result rise =
     let between = searched xs x (Err i) is_result (rising_far xs rise) in
-    sym (absent_is_no_member xs x (λ k k_lt_length x_is. by_place k k_lt_length x_is
-    (cases_lt k i)))
-  where
-    by_place : (k : ℕ) → k < length xs → x ≡ get_or xs k 0 → (k < i) ⊎ (i ≤ k) → ⊥
-    by_place k k_lt_length x_is (inl k_lt_i) =
-        let lower = (searched xs x (Err i) is_result (rising_far xs rise)).1 k k_lt_i in
-        omega (arith, lower, x_is)
-    by_place k k_lt_length x_is (inr i_le_k) =
-        let higher = (searched xs x (Err i) is_result (rising_far xs rise)).2 k i_le_k k_lt_length in
-        omega (arith, higher, x_is)
+    sym (absent_is_no_member xs x (λ k k_lt_length x_is. elim (cases_lt k i) [
+      | inl k_lt_i ↦ omega (arith, between.1 k k_lt_i)
+      | inr i_le_k ↦ omega (arith, between.2 k i_le_k k_lt_length)
+    ]))

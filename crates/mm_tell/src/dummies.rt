@@ -7,7 +7,7 @@ ghost use Rattle.mm_spec.specs.Scope.{statement_at};
 ghost use Rattle.mm_spec.specs.Citation.{is_assertion};
 ghost use Rattle.mm_spec.specs.Derivation.{pair};
 ghost use Rattle.mm_spec.specs.Assertion.{dummies, dummy_pairs};
-ghost use Rattle.mm_tell.specs.Dummies.{Found, found_before};
+ghost use Rattle.mm_tell.specs.Dummies.{DummyLists, dummies_before};
 
 use crate::pairs::list_pairs;
 use crate::variables::{list_dummies, list_used};
@@ -38,9 +38,9 @@ impl<A: Allocator> Drop for Dummies<A> {
 impl<A: Allocator> Model for Dummies<A> {
     ghost use Rattle.std.specs.Prelude.{map};
     ghost use Rattle.mm_spec.specs.Derivation.{pair};
-    ghost use Rattle.mm_tell.specs.Dummies.{Found};
+    ghost use Rattle.mm_tell.specs.Dummies.{DummyLists};
 
-    ghost Value = { Found };
+    ghost Value = { DummyLists };
 
     ghost view = { λ d. record {
       variables = d.variables;
@@ -123,7 +123,7 @@ impl<A: Allocator> Scratch<A> {
 impl<A: Allocator + Copy> Dummies<A> {
     /// Those of no statement.
     pub fn none(alloc: A) -> Dummies<A>
-        ensures { result ≡ found_before [] 0 }
+        ensures { result ≡ dummies_before [] 0 }
     {
         Dummies {
             variables: Lists::new(alloc),
@@ -135,7 +135,7 @@ impl<A: Allocator + Copy> Dummies<A> {
     /// only if out of memory, or if there are 2^32 of them or more.
     pub fn new<D: Allocator>(alloc: A, database: &Database<'_, D>) -> Result<Dummies<A>, AllocError>
         ensures { IfOk result (λ d. d
-            ≡ found_before database.now.statements (length database.now.statements)) }
+            ≡ dummies_before database.now.statements (length database.now.statements)) }
     {
         let mut dummies = Dummies {
             variables: Lists::new(alloc),

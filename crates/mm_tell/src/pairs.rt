@@ -70,8 +70,8 @@ fn partners<'v>(dummy_variables: &'v [u32], used_variables: &'v [u32], variable:
 }
 
 /// Lists the pairs of variables that a theorem uses and of which one is a dummy, if an active `$d`
-/// has both: the lower first, in ascending order. Replaces what `into` has. An active `$d` is looked
-/// for at most twice for each dummy and each variable that is used.
+/// has both: the lower first, in ascending order. Replaces what `into` has. An active `$d` is
+/// looked for at most twice for each dummy and each variable that is used.
 pub(crate) fn list_pairs<A: Allocator, D: Allocator>(
     database: &Database<'_, D>,
     theorem: u32,

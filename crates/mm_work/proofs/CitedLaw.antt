@@ -1,7 +1,7 @@
 -- The citations of valid theorems are the database's.
 use Rattle.std.proofs.Common.{◌≡◌, ℕ, zero, suc, ◌+◌, ◌==◌, ◌<◌, ◌≤◌, ◌^◌, Bool, true, ◌⊎◌, inl}
-use Rattle.std.proofs.Common.{inr, List, [], ◌∷◌, length, get_or, sym, ap, subst, arith}
-use Rattle.std.proofs.Common.{true≢false, eqb-true}
+use Rattle.std.proofs.Common.{inr, List, [], ◌∷◌, length, get_or, sym, ap, subst, arith, true≢false}
+use Rattle.std.proofs.Common.{eqb-true}
 use Rattle.std.specs.List.{list_any, range_with_len}
 use Rattle.std.proofs.lemmas.Bool.{or_cases, or_left, or_right, cases_lt, eq-eqb}
 use Rattle.mm_spec.specs.Statement.{Statement}
@@ -29,11 +29,8 @@ index_of_member (y ∷ xs) x x_is_member = index_of_x (or_cases (x == y) (is_mem
         → (is_member xs x ≡ true → (i : ℕ) × (i < length xs) × (get_or xs i 0 ≡ x))
         → (i : ℕ) × (i < suc (length xs)) × (get_or (y ∷ xs) i 0 ≡ x)
     index_of_x (inl x_is_y) index_in_tail = (0, omega arith, sym (eqb-true x y x_is_y))
-    index_of_x (inr x_in_tail) index_in_tail = let in_tail = index_in_tail x_in_tail in (
-      suc in_tail.0,
-      (let index_lt_length = in_tail.1 in omega (arith, index_lt_length)),
-      in_tail.2,
-    )
+    index_of_x (inr x_in_tail) index_in_tail = let in_tail = index_in_tail x_in_tail in
+        (suc in_tail.0, (omega (arith, in_tail.1)), in_tail.2)
 
 member_of_range : (n a x : ℕ) → a ≤ x → x < a + n → is_member (range_with_len a n) x ≡ true
 member_of_range zero a x a_le_x x_lt_end = absurd (omega arith)
@@ -53,11 +50,9 @@ index_of_theorem : (db : List Statement) (t : ℕ) → is_theorem_at db t ≡ tr
     → (i : ℕ) × (i < length (theorems db)) × (get_or (theorems db) i 0 ≡ t)
 index_of_theorem db t t_is_theorem =
     let passing = passing_statement db is_theorem t t_is_theorem in
-    index_of_member (theorems db) t
-    (filter_member (λ j. list_any is_theorem (statement_at db j))
-    (range_with_len 0 (length db)) t t_is_theorem
-    (member_of_range (length db) 0 t (omega arith)
-    (let t_lt_length = got_lt_length db t passing.0 passing.1 in omega (arith, t_lt_length))))
+    index_of_member (theorems db) t (filter_member (λ j. list_any is_theorem (statement_at db j))
+    (range_with_len 0 (length db)) t t_is_theorem (member_of_range (length db) 0 t (omega arith)
+    (omega (arith, got_lt_length db t passing.0 passing.1))))
 
 -- a theorem with citations is valid
 pub valid_if_has_citations : (db : List Statement) (by_essential : Bool) (t : ℕ) (cites : List ℕ)
@@ -82,20 +77,22 @@ module _ (db : List Statement) (length_lt_limit : length db < 2 ^ 31) (are_compl
       theorem_is_valid indexed.0 indexed.1 indexed.2 (cases_lt indexed.0 i)
     where
       theorem_is_valid : (n : ℕ) → n < length (theorems db) → get_or (theorems db) n 0 ≡ j
-          → (n < i) ⊎ (i ≤ n)
-          → IsValid db j
+          → (n < i) ⊎ (i ≤ n) → IsValid db j
       theorem_is_valid n n_lt_count n_is_index_of_j (inl n_lt_i) = subst (λ t. IsValid db t)
           n_is_index_of_j (valid_before_i n n_lt_i)
-      theorem_is_valid n n_lt_count n_is_index_of_j (inr i_le_n) = absurd (not_later (cases_lt i n))
-        where
-          not_later : (i < n) ⊎ (n ≤ i) → ⊥
-          not_later (inl i_lt_n) = let theorem_rises = theorems_rise.rises i n i_lt_n n_lt_count in
-              omega (arith, theorem_rises, n_is_index_of_j, j_lt_theorem_i)
-          not_later (inr n_le_i) =
-              let theorems_equal : get_or (theorems db) n 0
-              ≡ get_or (theorems db) i 0 = ap (λ x. get_or (theorems db) x 0)
-              (let n_is_i : n ≡ i = omega (arith, i_le_n, n_le_i) in n_is_i) in
-              omega (arith, theorems_equal, n_is_index_of_j, j_lt_theorem_i)
+      theorem_is_valid n n_lt_count n_is_index_of_j (inr i_le_n) = absurd (elim (cases_lt i n) [
+        | inl i_lt_n ↦
+            omega (
+              arith,
+              theorems_rise.rises i n i_lt_n n_lt_count,
+              n_is_index_of_j,
+              j_lt_theorem_i,
+            )
+        | inr n_le_i ↦
+            let n_is_i : n ≡ i = omega (arith, i_le_n, n_le_i) in
+            let theorem_is = ap (λ x. get_or (theorems db) x 0) n_is_i in
+            omega (arith, theorem_is, n_is_index_of_j, j_lt_theorem_i)
+      ])
 
   -- all theorems are valid
   pub all_valid : (by_essential : Bool) (lists : List (List ℕ))
@@ -121,16 +118,12 @@ module _ (db : List Statement) (length_lt_limit : length db < 2 ^ 31) (are_compl
             λ i k i_lt_count k_lt_length. cited_lt_theorem db by_essential
             (get_or (theorems db) i 0) _
             (((have_citations.each_has_citations i i_lt_count).is_checked.cites_are_exact (get_or
-            (get_or lists i []) k 0)).0
-            (element_is_member (get_or lists i []) k 0 k_lt_length));
+            (get_or lists i []) k 0)).0 (element_is_member (get_or lists i []) k 0 k_lt_length));
       }
 
       pub cites_as_database : CitesAsDatabase db by_essential c
       cites_as_database = record {
-        citations_agree = λ t a. (
-          (cites_if_has_citation t a),
-          (has_citation_if_cites t a),
-        );
+        citations_agree = λ t a. ((cites_if_has_citation t a), (has_citation_if_cites t a));
       }
         where
           cites_if_has_citation : (t a : ℕ) → HasCitation c t a → proof.Cites db by_essential t a
@@ -146,12 +139,9 @@ module _ (db : List Statement) (length_lt_limit : length db < 2 ^ 31) (are_compl
           has_citation_if_cites : (t a : ℕ) → proof.Cites db by_essential t a → HasCitation c t a
           has_citation_if_cites t a cites_a =
               let indexed = index_of_theorem db t (proved_is_theorem db t cites_a.1 cites_a.2) in
-              let l = get_or lists indexed.0 [] in
-              let a_is_member : is_member l a ≡ true =
-              ((have_citations.each_has_citations indexed.0 indexed.1).is_checked.cites_are_exact
-              a).1
-              (subst (λ y. proof.Cites db by_essential y a) (sym indexed.2) cites_a) in
-              let member_index = index_of_member l a a_is_member in
+              let member_index = index_of_member (get_or lists indexed.0 []) a
+              (((have_citations.each_has_citations indexed.0 indexed.1).is_checked.cites_are_exact
+              a).1 (subst (λ y. proof.Cites db by_essential y a) (sym indexed.2) cites_a)) in
               record {
                 row = indexed.0;
                 list_index = member_index.0;

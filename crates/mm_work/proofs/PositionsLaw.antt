@@ -32,8 +32,7 @@ others_unchanged (y ∷ xs) (suc i) (suc j) x indices_differ = others_unchanged 
 
 -- if a theorem's position is as it was, its citations are with the same worker
 pub still_with_worker : (positions positions' : List ListPosition) (worker : ℕ) (valid : List ℕ) (i
-    : ℕ)
-    → slice_get positions' i ≡ slice_get positions i → IsWithWorker positions worker valid i
+    : ℕ) → slice_get positions' i ≡ slice_get positions i → IsWithWorker positions worker valid i
     → IsWithWorker positions' worker valid i
 still_with_worker positions positions' worker valid i position_stays is_with_worker =
     record {
@@ -45,9 +44,8 @@ still_with_worker positions positions' worker valid i position_stays is_with_wor
     }
 
 module _ (first_positions positions : List ListPosition) (worker : ℕ) (valid : List ℕ) (k x : ℕ)
-    (position : ListPosition)
-    (x_is_at_k : get_or valid k 0 ≡ x) (x_lt_length : x < length positions) (k_lt_length : k <
-    length valid)
+    (position : ListPosition) (x_is_at_k : get_or valid k 0 ≡ x) (x_lt_length : x < length
+    positions) (k_lt_length : k < length valid)
     (worker_is : position.worker ≡ worker) (list_is : position.list ≡ k) where
   abbrev positions' : List ListPosition
   positions' = slice_set positions x position
@@ -63,63 +61,45 @@ module _ (first_positions positions : List ListPosition) (worker : ℕ) (valid :
       }
 
   pub with_worker_before_next : ((q : ℕ) → q < k → IsWithWorker positions worker valid (get_or valid
-      q 0))
-      → (q : ℕ)
-      → q < k + 1 → IsWithWorker positions' worker valid (get_or valid q 0)
-  with_worker_before_next with_worker_before q q_lt_suc_k = is_with (cases_eq (get_or valid q 0) x)
-    where
-      is_with : (get_or valid q 0 ≡ x) ⊎ (get_or valid q 0 ≡ x → ⊥)
-          → IsWithWorker positions' worker valid (get_or valid q 0)
-      is_with (inl index_is_x) = subst (λ i. IsWithWorker positions' worker valid i) (sym
-          index_is_x) is_with_worker_at_index
-      is_with (inr index_is_not_x) = still_with (cases_lt q k)
-        where
-          still_with : (q < k) ⊎ (k ≤ q) → IsWithWorker positions' worker valid (get_or valid q 0)
-          still_with (inl q_lt_k) =
-              still_with_worker positions positions' worker valid (get_or valid q 0)
-              (others_unchanged positions x (get_or valid q 0) position index_is_not_x)
-              (with_worker_before q q_lt_k)
-          still_with (inr k_le_q) =
-              absurd (index_is_not_x (ap (λ j. get_or valid j 0) (let q_is_k : q
-              ≡ k = omega arith in q_is_k) ∙ x_is_at_k))
+      q 0)) → (q : ℕ) → q < k + 1 → IsWithWorker positions' worker valid (get_or valid q 0)
+  with_worker_before_next with_worker_before q q_lt_suc_k = elim (cases_eq (get_or valid q 0) x) [
+    | inl index_is_x ↦ subst (λ i. IsWithWorker positions' worker valid i) (sym
+        index_is_x) is_with_worker_at_index
+    | inr index_is_not_x ↦ elim (cases_lt q k) [
+      | inl q_lt_k ↦ still_with_worker positions positions' worker valid (get_or valid q 0)
+          (others_unchanged positions x (get_or valid q 0) position index_is_not_x)
+          (with_worker_before q q_lt_k)
+      | inr k_le_q ↦
+          absurd (index_is_not_x (ap (λ j. get_or valid j 0) ((omega arith)) ∙ x_is_at_k))
+    ]
+  ]
 
   pub others_stay_or_with_worker : ((i : ℕ) → IsWithWorker positions worker valid i
       ⊎ (slice_get positions i ≡ slice_get first_positions i))
       → (i : ℕ) → IsWithWorker positions' worker valid i ⊎ (slice_get positions' i
       ≡ slice_get first_positions i)
-  others_stay_or_with_worker others_stay i = stays_or_with (cases_eq i x)
-    where
-      stays_or_with : (i ≡ x) ⊎ (i ≡ x → ⊥)
-          → IsWithWorker positions' worker valid i ⊎ (slice_get positions' i
-          ≡ slice_get first_positions i)
-      stays_or_with (inl i_is_x) =
-          inl (subst (λ j. IsWithWorker positions' worker valid j) (sym i_is_x)
-          is_with_worker_at_index)
-      stays_or_with (inr i_is_not_x) = other_stays (others_stay i)
-        where
-          other_stays : IsWithWorker positions worker valid i ⊎ (slice_get positions i
-              ≡ slice_get first_positions i)
-              → IsWithWorker positions' worker valid i ⊎ (slice_get positions' i
-              ≡ slice_get first_positions i)
-          other_stays (inl was_with_worker) =
-              inl (still_with_worker positions positions' worker valid i (others_unchanged positions
-              x i position i_is_not_x) was_with_worker)
-          other_stays (inr position_stays) = inr (others_unchanged positions x i position i_is_not_x
-              ∙ position_stays)
+  others_stay_or_with_worker others_stay i = elim (cases_eq i x) [
+    | inl i_is_x ↦ inl (subst (λ j. IsWithWorker positions' worker valid j) (sym i_is_x)
+        is_with_worker_at_index)
+    | inr i_is_not_x ↦ elim (others_stay i) [
+      | inl was_with_worker ↦
+          inl (still_with_worker positions positions' worker valid i (others_unchanged positions
+          x i position i_is_not_x) was_with_worker)
+      | inr position_stays ↦ inr (others_unchanged positions x i position i_is_not_x
+          ∙ position_stays)
+    ]
+  ]
 
 module _ {A : Type 0} (fs : List (Findings A)) where
   -- after the positions of worker w were set, everything that the workers up to w found
   -- valid has a position
   pub has_position_up_to_next : (positions positions' : List ListPosition) (w : ℕ) (findings :
-      Findings A)
-      → slice_get fs w ≡ Some findings
+      Findings A) → slice_get fs w ≡ Some findings
       → ((i : ℕ) → Contains findings.valid.items i → IsWithWorker positions' w findings.valid.items
-      i)
-      → ((i : ℕ) → IsWithWorker positions' w findings.valid.items i ⊎ (slice_get positions' i
+      i) → ((i : ℕ) → IsWithWorker positions' w findings.valid.items i ⊎ (slice_get positions' i
       ≡ slice_get positions i))
       → ((v : ℕ) (f : Findings A) (i : ℕ) → v < w → slice_get fs v ≡ Some f → Contains
-      f.valid.items i
-      → HasPosition positions fs i)
+      f.valid.items i → HasPosition positions fs i)
       → (v : ℕ) (f : Findings A) (i : ℕ) → v < w + 1 → slice_get fs v ≡ Some f
       → Contains f.valid.items i → HasPosition positions' fs i
   has_position_up_to_next positions positions' w findings findings_are is_with_worker others_stay
@@ -130,8 +110,7 @@ module _ {A : Type 0} (fs : List (Findings A)) where
       has_position_here with_this = record {
         worker = w;
         findings = findings;
-        findings_are =
-            findings_are;
+        findings_are = findings_are;
         is_with_worker = with_this;
       }
 
@@ -141,8 +120,7 @@ module _ {A : Type 0} (fs : List (Findings A)) where
         where
           still_positioned : HasPosition positions fs i
               → IsWithWorker positions' w findings.valid.items i ⊎ (slice_get positions' i
-              ≡ slice_get positions i)
-              → HasPosition positions' fs i
+              ≡ slice_get positions i) → HasPosition positions' fs i
           still_positioned has_position (inl with_this) = has_position_here with_this
           still_positioned has_position (inr position_stays) =
               record {
@@ -156,12 +134,9 @@ module _ {A : Type 0} (fs : List (Findings A)) where
               }
       is_positioned (inr w_le_v) =
           let v_is_w : v ≡ w = omega arith in
-          let f_is : f ≡ findings =
-          sym (get_or_from_slice_get fs v f findings f_is_at_v)
-          ∙ ap (λ n. get_or fs n findings) v_is_w
-          ∙ get_or_from_slice_get fs w findings findings findings_are in
-          has_position_here (is_with_worker i (subst
-          (λ (g : Findings A). Contains g.valid.items i) f_is is_in_f))
+          has_position_here (is_with_worker i (subst (λ (g : Findings A). Contains g.valid.items i)
+          (sym (get_or_from_slice_get fs v f findings f_is_at_v) ∙ ap (λ n. get_or fs n findings)
+          v_is_w ∙ get_or_from_slice_get fs w findings findings findings_are) is_in_f))
 
   -- what was found valid has a position
   pub every_valid_has_position : (positions : List ListPosition)
@@ -182,8 +157,7 @@ written_back len new_list old_list length_is =
 
 module _ {A : Type 0} (db : List Statement) (by_essential : Bool) (fs : List (Findings A))
     (each_are_findings : All (AreFindings db by_essential) fs) (ps qs : List ListPosition) (k : ℕ)
-    (d : ListPosition)
-    (lists_equal : qs ≡ ps) (has_position : HasPosition ps fs k) where
+    (d : ListPosition) (lists_equal : qs ≡ ps) (has_position : HasPosition ps fs k) where
   -- the place that is read
   abbrev position : ListPosition
   position = get_or qs k d
@@ -205,9 +179,8 @@ module _ {A : Type 0} (db : List Statement) (by_essential : Bool) (fs : List (Fi
 
   pub findings_at_worker : (e : Findings A) → get_or fs position.worker e ≡ has_position.findings
   findings_at_worker e =
-      ap (λ n. get_or fs n e) worker_is
-      ∙ get_or_from_slice_get fs has_position.worker has_position.findings e
-      has_position.findings_are
+      ap (λ n. get_or fs n e) worker_is ∙ get_or_from_slice_get fs has_position.worker
+      has_position.findings e has_position.findings_are
 
   has_findings : AreFindings db by_essential has_position.findings
   has_findings =
@@ -217,9 +190,8 @@ module _ {A : Type 0} (db : List Statement) (by_essential : Bool) (fs : List (Fi
 
   list_lt_valid_length : position.list < length has_position.findings.valid.items
   list_lt_valid_length =
-      subst (λ (q : ListPosition). q.list < length has_position.findings.valid.items) (sym
-      position_is)
-      has_position.is_with_worker.list_lt_length
+      subst (λ (q : ListPosition). q.list < length has_position.findings.valid.items)
+      (sym position_is) has_position.is_with_worker.list_lt_length
 
   pub list_lt_cites_length : (f : Findings A) → f ≡ has_position.findings
       → position.list < length f.cites
@@ -228,18 +200,14 @@ module _ {A : Type 0} (db : List Statement) (by_essential : Bool) (fs : List (Fi
       (subst (λ n. position.list < n) (sym has_findings.list_count_is) list_lt_valid_length)
 
   pub list_has_citations : (f : Findings A) (list : List ℕ) → f ≡ has_position.findings → list
-      ≡ get_or f.cites position.list []
-      → HasCitations db by_essential (theorem_of db k) list
+      ≡ get_or f.cites position.list [] → HasCitations db by_essential (theorem_of db k) list
   list_has_citations f list f_is list_is =
-      let index_is : get_or has_position.findings.valid.items position.list 0 ≡ k =
-      ap (λ (q : ListPosition). get_or has_position.findings.valid.items q.list 0) position_is
-      ∙ has_position.is_with_worker.index_is in
-      let has_citations =
-      subst (λ i. HasCitations db by_essential (theorem_of db i)
-      (get_or has_position.findings.cites position.list [])) index_is
-      (has_findings.each_has_citations position.list list_lt_valid_length) in
-      subst (λ (xs : List ℕ). HasCitations db by_essential (theorem_of db k) xs)
-      (sym (list_is ∙ ap (λ (g : Findings A). get_or g.cites position.list []) f_is)) has_citations
+      subst (λ (xs : List ℕ). HasCitations db by_essential (theorem_of db k) xs) (sym (list_is
+      ∙ ap (λ (g : Findings A). get_or g.cites position.list []) f_is)) (subst (λ i. HasCitations db
+      by_essential (theorem_of db i) (get_or has_position.findings.cites position.list []))
+      (ap (λ (q : ListPosition). get_or has_position.findings.valid.items q.list 0) position_is
+      ∙ has_position.is_with_worker.index_is) (has_findings.each_has_citations position.list
+      list_lt_valid_length))
 
 pub le_of_lt : {m n : ℕ} → m < n → m ≤ n
 le_of_lt m_lt_n = omega (arith, m_lt_n)

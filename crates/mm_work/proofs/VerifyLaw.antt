@@ -19,31 +19,24 @@ use Rattle.mm_work.proofs.CitedLaw.{cites_as_database}
 pub citations_push : (db : List Statement) (by_essential : Bool) (ts : List ℕ) (n : ℕ)
     → (lists : List (List ℕ)) (cites : List ℕ)
     → HaveCitationsUpTo db by_essential ts n lists → HasCitations db by_essential (get_or ts n 0)
-    cites
-    → HaveCitationsUpTo db by_essential ts (n + 1) (lists ++ cites ∷ [])
+    cites → HaveCitationsUpTo db by_essential ts (n + 1) (lists ++ cites ∷ [])
 citations_push db by_essential ts n lists cites have_citations has_citations = record {
-  list_count_is = (let length_is = length-append lists (cites ∷ []) in let count_is =
-      have_citations.list_count_is in
-      omega (arith, length_is, count_is));
+  list_count_is = (omega (arith, length-append lists (cites ∷ []), have_citations.list_count_is));
   each_has_citations = λ i i_lt_suc_n. has_citations_at i (cases_lt i n) i_lt_suc_n;
 }
   where
     has_citations_at : (i : ℕ) → (i < n) ⊎ (n ≤ i) → i < n + 1
         → HasCitations db by_essential (get_or ts i 0) (get_or (lists ++ cites ∷ []) i [])
     has_citations_at i (inl i_lt_n) i_lt_suc_n =
-        let list_count_is = have_citations.list_count_is in
-        subst (λ ys. HasCitations db by_essential (get_or ts i 0) ys)
-        (sym (get_or_append_left lists (cites ∷ []) [] i (omega (arith, i_lt_n, list_count_is))))
+        subst (λ ys. HasCitations db by_essential (get_or ts i 0) ys) (sym (get_or_append_left lists
+        (cites ∷ []) [] i (omega (arith, i_lt_n, have_citations.list_count_is))))
         (have_citations.each_has_citations i i_lt_n)
     has_citations_at i (inr n_le_i) i_lt_suc_n =
         let i_is_n : i ≡ n = omega (arith, n_le_i, i_lt_suc_n) in
-        let cites_at_n : get_or (lists ++ cites ∷ []) n [] ≡ cites =
-        get_or-append_right lists (cites ∷ []) n n [] have_citations.list_count_is (omega arith)
-        ∙ ap (λ j. get_or (cites ∷ []) j []) (difference_is_0 n) in
         subst (λ j. HasCitations db by_essential (get_or ts j 0) (get_or (lists ++ cites ∷ []) j
-        []))
-        (sym i_is_n) (subst (λ ys. HasCitations db by_essential (get_or ts n 0) ys)
-        (sym cites_at_n) has_citations)
+        [])) (sym i_is_n) (subst (λ ys. HasCitations db by_essential (get_or ts n 0) ys)
+        (sym (get_or-append_right lists (cites ∷ []) n n [] have_citations.list_count_is
+        (omega arith) ∙ ap (λ j. get_or (cites ∷ []) j []) (difference_is_0 n))) has_citations)
       where
         difference_is_0 : (k : ℕ) → k - k ≡ 0
         difference_is_0 k = omega arith
@@ -71,8 +64,7 @@ module _ (db : List Statement) (length_lt_limit : length db < 2 ^ 31) (are_compl
       by_essential _ _ (have_citations.each_has_citations n n_lt_i)
 
   pub all_have_citations : (by_essential : Bool) (ts : List ℕ) (lists : List (List ℕ)) → ts
-      ≡ theorems db
-      → HaveCitationsUpTo db by_essential (theorems db) (length (theorems db)) lists
+      ≡ theorems db → HaveCitationsUpTo db by_essential (theorems db) (length (theorems db)) lists
       → IsFileOrder (citing ts lists) × AllHaveCitations db by_essential (citing ts lists)
   all_have_citations by_essential ts lists ts_is have_citations =
       subst (λ (us : List ℕ). IsFileOrder (citing us lists)

@@ -19,11 +19,9 @@ use Rattle.mm_board.specs.Events.{open_after_look}
 use Rattle.mm_board.specs.Models.{SeatValue, IsSeatOf}
 use Rattle.mm_board.proofs.SumsLaw.{times_in_append, counted_is_equal, equal_is_counted}
 use Rattle.mm_work.specs.Judged.{HasCitations}
-use Rattle.mm_work.specs.Workers.{theorem_of, AreFindings, FindsValid, FindsFault}
-use Rattle.mm_work.specs.Workers.{SeatTellsFindings, HasDrawn}
-use Rattle.mm_work.specs.Workers.{IsBetweenTheorems, IsDone, AreGathered, IsFoundValid}
-use Rattle.mm_work.specs.Workers.{IsFoundFaulty, IsFaultFound, IsOfDatabase, IsFreshSeat}
-use Rattle.mm_work.specs.Workers.{faulty_index}
+use Rattle.mm_work.specs.Workers.{IsBetweenTheorems, SeatTellsFindings, IsFoundFaulty, IsFaultFound}
+use Rattle.mm_work.specs.Workers.{IsOfDatabase, faulty_index, AreFindings, AreGathered, IsFreshSeat}
+use Rattle.mm_work.specs.Workers.{FindsFault, FindsValid, theorem_of, HasDrawn, IsDone}
 use Rattle.mm_work.specs.declared.job.Job.{Job}
 use Rattle.mm_work.specs.declared.worker.IndexedFault.{IndexedFault}
 use Rattle.mm_work.specs.declared.worker.Findings.{Findings}
@@ -32,12 +30,10 @@ use Rattle.mm_work.specs.declared.worker.WorkerState.{WorkerState}
 -- a number of two lists is one of either
 times_in_either : (x : ℕ) (l m : List ℕ) → 0 < times_in x (l ++ m)
     → (0 < times_in x l) ⊎ (0 < times_in x m)
-times_in_either x l m x_is_counted = counted_in_either (cases_lt 0 (times_in x l))
-  where
-    counted_in_either : (0 < times_in x l) ⊎ (times_in x l ≤ 0) → (0 < times_in x l)
-        ⊎ (0 < times_in x m)
-    counted_in_either (inl x_in_part) = inl x_in_part
-    counted_in_either (inr x_in_part) = let counts_add = times_in_append x l m in inr (omega arith)
+times_in_either x l m x_is_counted = elim (cases_lt 0 (times_in x l)) [
+  | inl x_in_part ↦ inl x_in_part
+  | inr x_in_part ↦ let counts_add = times_in_append x l m in inr (omega arith)
+]
 
 -- a number that stands in a list is an element of it
 times_contains : (x : ℕ) (l : List ℕ) → 0 < times_in x l → Contains l x
@@ -46,11 +42,8 @@ times_contains x (y ∷ l) x_is_counted = contains_x (cases_lt 0 (times_in x l))
   where
     contains_x : (0 < times_in x l) ⊎ (times_in x l ≤ 0) → (0 < times_in x l → Contains l x)
         → Contains (y ∷ l) x
-    contains_x (inl x_in_tail) tail_contains = let in_tail = tail_contains x_in_tail in (
-      suc in_tail.0,
-      (let index_lt_length = in_tail.1 in omega (arith, index_lt_length)),
-      in_tail.2,
-    )
+    contains_x (inl x_in_tail) tail_contains = let in_tail = tail_contains x_in_tail in
+        (suc in_tail.0, (omega (arith, in_tail.1)), in_tail.2)
     contains_x (inr x_not_in_tail) tail_contains = (
       0,
       omega arith,
@@ -76,10 +69,8 @@ module _ {A : Type 0} (db : List Statement) (by_essential : Bool) where
             (All-push (λ j. j < length (theorems db)) f.valid.items i are_findings.indices_lt_count
             i_lt_count);
         each_has_citations =
-            λ k k_lt_length. rw (valid_is, cites_is)
-            (has_citations_at k (subst (λ n. k < n) (ap length valid_is
-            ∙ length-append f.valid.items (i ∷ []))
-            k_lt_length)
+            λ k k_lt_length. rw (valid_is, cites_is) (has_citations_at k (subst (λ n. k < n)
+            (ap length valid_is ∙ length-append f.valid.items (i ∷ [])) k_lt_length)
             (cases_lt k (length f.valid.items)));
         fault_is_found = subst (λ (o : Option IndexedFault). IsFaultFound db o)
             (sym faulty_is) are_findings.fault_is_found;
@@ -93,28 +84,20 @@ module _ {A : Type 0} (db : List Statement) (by_essential : Bool) where
           rw (
             get_or_append_left f.valid.items (i ∷ []) 0 k k_is_before,
             get_or_append_left f.cites
-                (cites ∷ []) [] k (let list_count_is = are_findings.list_count_is in omega (
-                  arith,
-                  list_count_is,
-                  k_is_before,
-                )),
+                (cites ∷ []) [] k (omega (arith, are_findings.list_count_is, k_is_before)),
           ) (are_findings.each_has_citations k k_is_before)
       has_citations_at k k_lt_suc (inr k_is_at_end) =
           let list_count_is = are_findings.list_count_is in
           let index_is_0 : k - length f.valid.items ≡ 0 = omega (arith, k_lt_suc, k_is_at_end) in
-          let list_index_is_0 : k - length f.cites ≡ 0 = omega (
-            arith,
-            k_lt_suc,
-            k_is_at_end,
-            list_count_is,
-          ) in
-          let index_at_k : get_or (f.valid.items ++ i ∷ []) k 0 ≡ i =
-          get_or-append_right f.valid.items (i ∷ []) k 0 k_is_at_end
-          ∙ ap (λ j. get_or (i ∷ []) j 0) index_is_0 in
-          let cites_at_k : get_or (f.cites ++ cites ∷ []) k [] ≡ cites =
-          get_or-append_right f.cites (cites ∷ []) k [] (omega (arith, list_count_is, k_is_at_end))
-          ∙ ap (λ j. get_or (cites ∷ []) j []) list_index_is_0 in
-          rw (index_at_k, cites_at_k) has_citations
+          let list_index_is_0 : k - length f.cites ≡ 0 =
+          omega (arith, k_lt_suc, k_is_at_end, list_count_is) in
+          rw (
+            get_or-append_right f.valid.items (i ∷ []) k 0 k_is_at_end ∙ ap (λ j. get_or (i ∷ [])
+                j 0) index_is_0,
+            get_or-append_right f.cites (cites ∷ []) k []
+                (omega (arith, list_count_is, k_is_at_end)) ∙ ap (λ j. get_or (cites ∷ []) j [])
+                list_index_is_0,
+          ) has_citations
 
 module _ {A : Type 0} (job : Job A) where
   abbrev db : List Statement
@@ -129,9 +112,8 @@ module _ {A : Type 0} (job : Job A) where
         subst (λ (xs : List ℕ). All (λ j. j < length (theorems db)) xs) (sym none_valid)
         (λ k d k_lt_0. absurd (omega arith));
     each_has_citations =
-        λ k k_lt_length. absurd
-        (let k_lt_0 : k < 0 = subst (λ (xs : List ℕ). k < length xs) none_valid k_lt_length in omega
-        (arith, k_lt_0));
+        λ k k_lt_length. absurd (omega
+        (arith, subst (λ (xs : List ℕ). k < length xs) none_valid k_lt_length));
     fault_is_found = subst (λ (o : Option IndexedFault). IsFaultFound db o) (sym no_fault) tt;
   }
 
@@ -183,9 +165,11 @@ module _ {A : Type 0} (job : Job A) where
           settled_are_valid = is_fresh.none_settled ∙ sym none_valid;
           reported_is_faulty =
               λ i i_is_reported. absurd
-              (let zero_lt_zero : 0 < times_in i [] =
-              subst (λ (l : List ℕ). 0 < times_in i l) is_fresh.none_reported i_is_reported in
-              omega (arith, zero_lt_zero));
+              (omega (
+                arith,
+                subst (λ (l : List ℕ). 0 < times_in i l) is_fresh.none_reported
+                    i_is_reported,
+              ));
         };
   }
 
@@ -204,8 +188,7 @@ module _ {A : Type 0} (job : Job A) where
 
   -- a worker that claimed number i
   pub drawn_after_claim : (i : ℕ) (w : WorkerState A) (s : SeatValue) → IsOfDatabase job
-      → IsBetweenTheorems job w
-      → i < job.board.now.count → IsSeatOf job.board.now s
+      → IsBetweenTheorems job w → i < job.board.now.count → IsSeatOf job.board.now s
       → s.view ≡ record w.seat.view { open_number = Some i }
       → ((x : ℕ) → 0 < times_recorded x w.seat.view → x < i)
       → HasDrawn job i (record { seat = s; findings = w.findings })
@@ -215,8 +198,7 @@ module _ {A : Type 0} (job : Job A) where
         is_of_board = is_seat;
         is_open = ap (λ (v : View). v.open_number) view_is;
         index_above_reported =
-            λ x x_is_reported. i_above_recorded x
-            (x_is_recorded x
+            λ x x_is_reported. i_above_recorded x (x_is_recorded x
             (subst (λ (l : List ℕ). 0 < times_in x l) (ap (λ (v : View). v.reported) view_is)
             x_is_reported));
         seat_tells =
@@ -259,8 +241,7 @@ module _ {A : Type 0} (job : Job A) where
     pub number_stays_open : is_some s.view.open_number ≡ true → s.view.open_number ≡ Some i
     number_stays_open is_open =
         open_number_is
-        ∙ stays_open (nat_lt f i) (sym (ap (λ (o : Option ℕ). is_some o) open_number_is)
-        ∙ is_open)
+        ∙ stays_open (nat_lt f i) (sym (ap (λ (o : Option ℕ). is_some o) open_number_is) ∙ is_open)
       where
         stays_open : (b : Bool) → is_some (cond b None (Some i)) ≡ true
             → cond b None (Some i) ≡ Some i
@@ -289,8 +270,7 @@ module _ {A : Type 0} (job : Job A) where
                   ∙ sym valid_found.valid_are;
               reported_is_faulty =
                   λ y y_is_reported. ap faulty_index valid_found.faulty_is
-                  ∙ seat_tells.reported_is_faulty y
-                  (subst (λ (l : List ℕ). 0 < times_in y l)
+                  ∙ seat_tells.reported_is_faulty y (subst (λ (l : List ℕ). 0 < times_in y l)
                   (ap (λ (v : View). v.reported) view_is ∙ reported_stays) y_is_reported);
             };
       }
@@ -313,34 +293,26 @@ module _ {A : Type 0} (job : Job A) where
                   ap (λ (v : View). v.settled) view_is ∙ settled_stays
                   ∙ seat_tells.settled_are_valid ∙ sym fault_found.valid_are;
               reported_is_faulty =
-                  λ y y_is_reported. ap faulty_index fault_found.faulty_is
-                  ∙ ap Some
-                  (reported_is_i y
-                  (times_in_either y w.seat.view.reported (i ∷ [])
-                  (subst (λ (l : List ℕ). 0 < times_in y l)
-                  (ap (λ (v : View). v.reported) view_is
+                  λ y y_is_reported. ap faulty_index fault_found.faulty_is ∙ ap Some
+                  (elim (times_in_either y w.seat.view.reported (i ∷ [])
+                  (subst (λ (l : List ℕ). 0 < times_in y l) (ap (λ (v : View). v.reported) view_is
                   ∙ ap₂ (λ (l : List ℕ) (o : Option ℕ). l ++ open_list o) reported_stays
-                  (number_stays_open is_open)) y_is_reported)));
+                  (number_stays_open is_open)) y_is_reported)) [
+                    | inl y_was_reported ↦
+                        absurd (let none_is_some : None ≡ Some i =
+                        sym (open_number_is ∙ ap (λ b. cond b None (Some i)) (lt-ltb f i
+                        (omega (
+                          arith,
+                          floor_le_reported y y_was_reported,
+                          has_drawn.index_above_reported y y_was_reported,
+                        )))) ∙ number_stays_open is_open in cc)
+                    | inr y_is_i ↦ counted_is_equal y i
+                        (let count_is : times_in y (i ∷ []) ≡ cond (i == y) 1 0 + times_in y [] =
+                        refl in
+                        omega (arith, count_is, y_is_i))
+                  ]);
             };
       }
-        where
-          reported_is_i : (y : ℕ) → (0 < times_in y w.seat.view.reported)
-              ⊎ (0 < times_in y (i ∷ [])) → i ≡ y
-          reported_is_i y (inl y_was_reported) =
-              let floor_le_y = floor_le_reported y y_was_reported in
-              let y_lt_i = has_drawn.index_above_reported y y_was_reported in
-              let is_closed : s.view.open_number ≡ None =
-              open_number_is ∙ ap (λ b. cond b None (Some i)) (lt-ltb f i (omega (
-                arith,
-                floor_le_y,
-                y_lt_i,
-              ))) in
-              absurd (let none_is_some : None ≡ Some i = sym is_closed
-              ∙ number_stays_open is_open in cc)
-          reported_is_i y (inr y_is_i) =
-              counted_is_equal y i
-              (let count_is : times_in y (i ∷ []) ≡ cond (i == y) 1 0 + times_in y [] = refl in
-              omega (arith, count_is, y_is_i))
 
 -- how many of the numbers below n stand in no part of the record
 abbrev pub unrecorded : ℕ → View → ℕ
@@ -355,9 +327,12 @@ unrecorded_falls : (n : ℕ) (v w : View) → ((x : ℕ) → times_recorded x v 
     → unrecorded n w ≤ unrecorded n v
 unrecorded_falls zero v w recorded_rises = omega arith
 unrecorded_falls (suc n) v w recorded_rises =
-    let rest_falls = unrecorded_falls n v w recorded_rises in
-    let test_falls = zero_test_falls (times_recorded n v) (times_recorded n w) (recorded_rises n) in
-    omega (arith, rest_falls, test_falls)
+    omega (
+      arith,
+      unrecorded_falls n v w recorded_rises,
+      zero_test_falls (times_recorded n v)
+          (times_recorded n w) (recorded_rises n),
+    )
 
 zero_test_drops : (a b : ℕ) → a ≡ 0 → 0 < b → cond (b == 0) 1 0 < cond (a == 0) 1 0
 zero_test_drops a b = grind (arith, nat_tests)
@@ -373,23 +348,26 @@ unrecorded_drops (suc n) i v w recorded_rises i_below_n i_unrecorded_before i_re
     unrecorded_lt : (i < n) ⊎ (n ≤ i) → (i < n → unrecorded n w < unrecorded n v)
         → unrecorded (suc n) w < unrecorded (suc n) v
     unrecorded_lt (inl i_lt_n) drops_if_lt =
-        let rest_drops = drops_if_lt i_lt_n in let test_falls = zero_test_falls (times_recorded n v)
-        (times_recorded n w) (recorded_rises n) in
-        omega (arith, rest_drops, test_falls)
+        omega (
+          arith,
+          drops_if_lt i_lt_n,
+          zero_test_falls (times_recorded n v) (times_recorded n w)
+              (recorded_rises n),
+        )
     unrecorded_lt (inr n_le_i) drops_if_lt =
         let i_is_n : i ≡ n = omega (arith, i_below_n, n_le_i) in
-        let rest_falls = unrecorded_falls n v w recorded_rises in
-        let test_drops =
-        zero_test_drops (times_recorded n v) (times_recorded n w)
-        (subst (λ k. times_recorded k v ≡ 0) i_is_n i_unrecorded_before) (subst (λ k. 0 <
-        times_recorded k w) i_is_n i_recorded_after) in
-        omega (arith, rest_falls, test_drops)
+        omega (
+          arith,
+          unrecorded_falls n v w recorded_rises,
+          zero_test_drops (times_recorded n v)
+              (times_recorded n w) (subst (λ k. times_recorded k v ≡ 0) i_is_n i_unrecorded_before)
+              (subst (λ k. 0 < times_recorded k w) i_is_n i_recorded_after),
+        )
 
 module _ {A : Type 0} (job : Job A) where
   -- one worker's seat
   pub gathered_of_first : (w : WorkerState A) (gs : List (Findings A)) → gs ≡ w.findings
-      ∷ [] → IsDone job w
-      → w.findings.short_of_memory ≡ false → AreGathered job w.seat gs
+      ∷ [] → IsDone job w → w.findings.short_of_memory ≡ false → AreGathered job w.seat gs
   gathered_of_first w gs gs_are is_done not_short =
       let seat_tells = is_done.is_between.seat_tells not_short in
       subst (λ (l : List (Findings A)). AreGathered job w.seat l) (sym gs_are) (record {
@@ -419,10 +397,8 @@ module _ {A : Type 0} (job : Job A) where
   pub gathered_with_next : (s u : SeatValue) (fs gs : List (Findings A)) (w : WorkerState A)
       → gs ≡ fs ++ w.findings ∷ [] → AreGathered job s fs → IsDone job w
       → w.findings.short_of_memory ≡ false
-      → IsSeatOf job.board.now u → u.view ≡ after_join s.view w.seat.view
-      → AreGathered job u gs
+      → IsSeatOf job.board.now u → u.view ≡ after_join s.view w.seat.view → AreGathered job u gs
   gathered_with_next s u fs gs w gs_are are_gathered is_done not_short is_seat view_is =
-      let seat_tells = is_done.is_between.seat_tells not_short in
       subst (λ (l : List (Findings A)). AreGathered job u l) (sym gs_are) (record {
         is_of_board = is_seat;
         no_number_open = ap (λ (v : View). v.open_number) view_is ∙ are_gathered.no_number_open;
@@ -431,12 +407,27 @@ module _ {A : Type 0} (job : Job A) where
         are_findings =
             All-push (AreFindings job.database.now.statements job.essential) fs w.findings
             are_gathered.are_findings
-            seat_tells.are_findings;
+            (is_done.is_between.seat_tells not_short).are_findings;
         settled_are_valid =
-            λ i i_is_settled. settled_is_valid i
-            (times_in_either i s.view.settled w.seat.view.settled
+            λ i i_is_settled. elim (times_in_either i s.view.settled w.seat.view.settled
             (subst (λ (l : List ℕ). 0 < times_in i l) (ap (λ (v : View). v.settled) view_is)
-            i_is_settled));
+            i_is_settled)) [
+              | inl i_is_settled ↦
+                  let found = are_gathered.settled_are_valid i i_is_settled in record {
+                    findings = found.findings;
+                    are_listed = Contains-append_left fs (w.findings ∷ []) found.findings
+                        found.are_listed;
+                    has_index = found.has_index;
+                  }
+              | inr i_is_settled ↦ record {
+                findings = w.findings;
+                are_listed = Contains-push fs w.findings;
+                has_index =
+                    times_contains i w.findings.valid.items (subst (λ (l : List ℕ). 0 < times_in i
+                    l) (is_done.is_between.seat_tells not_short).settled_are_valid
+                    i_is_settled);
+              }
+            ];
         reported_are_faulty =
             λ i i_is_reported. reported_is_faulty i
             (times_in_either i s.view.reported w.seat.view.reported
@@ -444,28 +435,8 @@ module _ {A : Type 0} (job : Job A) where
             i_is_reported));
       })
     where
-      settled_is_valid : (i : ℕ) → (0 < times_in i s.view.settled) ⊎ (0 < times_in i
-          w.seat.view.settled)
-          → IsFoundValid (fs ++ w.findings ∷ []) i
-      settled_is_valid i (inl i_is_settled) =
-          let found = are_gathered.settled_are_valid i i_is_settled in record {
-            findings = found.findings;
-            are_listed = Contains-append_left fs (w.findings ∷ []) found.findings found.are_listed;
-            has_index = found.has_index;
-          }
-      settled_is_valid i (inr i_is_settled) =
-          let seat_tells = is_done.is_between.seat_tells not_short in record {
-            findings = w.findings;
-            are_listed = Contains-push fs w.findings;
-            has_index =
-                times_contains i w.findings.valid.items
-                (subst (λ (l : List ℕ). 0 < times_in i l) seat_tells.settled_are_valid
-                i_is_settled);
-          }
-
       reported_is_faulty : (i : ℕ) → (0 < times_in i s.view.reported) ⊎ (0 < times_in i
-          w.seat.view.reported)
-          → IsFoundFaulty (fs ++ w.findings ∷ []) i
+          w.seat.view.reported) → IsFoundFaulty (fs ++ w.findings ∷ []) i
       reported_is_faulty i (inl i_is_reported) =
           let found = are_gathered.reported_are_faulty i i_is_reported in record {
             findings = found.findings;
@@ -473,10 +444,10 @@ module _ {A : Type 0} (job : Job A) where
             index_is = found.index_is;
           }
       reported_is_faulty i (inr i_is_reported) =
-          let seat_tells = is_done.is_between.seat_tells not_short in record {
+          record {
             findings = w.findings;
             are_listed = Contains-push fs w.findings;
-            index_is = seat_tells.reported_is_faulty i i_is_reported;
+            index_is = (is_done.is_between.seat_tells not_short).reported_is_faulty i i_is_reported;
           }
 
 -- a number drawn and judged
@@ -486,54 +457,42 @@ pub unrecorded_drops_after_draw : (n i : ℕ) (v w u : View) → v.open_number �
 unrecorded_drops_after_draw n i v w u no_number_open w_is i_lt_n i_above_recorded record_stays =
     unrecorded_drops n i v u recorded_no_less i_lt_n unrecorded_before recorded_after
   where
-    record_when_open : (x : ℕ)
-        → times_recorded x w
+    record_when_open : (x : ℕ) → times_recorded x w
         ≡ cond (i == x) 1 0 + times_in x v.settled + times_in x v.reported + times_in x
         v.skipped
     record_when_open x = ap (λ (y : View). times_recorded x y) w_is
 
-    record_when_closed : (x : ℕ)
-        → times_recorded x v
+    record_when_closed : (x : ℕ) → times_recorded x v
         ≡ 0 + times_in x v.settled + times_in x v.reported + times_in x v.skipped
     record_when_closed x =
         ap (λ (o : Option ℕ). times_open x o + times_in x v.settled + times_in x v.reported
         + times_in x v.skipped) no_number_open
 
     recorded_no_less : (x : ℕ) → times_recorded x v ≤ times_recorded x u
-    recorded_no_less x =
-        let stays = record_stays x in let with_open = record_when_open x in let without_open =
-        record_when_closed x in omega (arith, stays, with_open, without_open)
+    recorded_no_less x = omega (arith, record_stays x, record_when_open x, record_when_closed x)
 
     unrecorded_before : times_recorded i v ≡ 0
-    unrecorded_before = is_unrecorded (cases_lt 0 (times_recorded i v))
-      where
-        is_unrecorded : (0 < times_recorded i v) ⊎ (times_recorded i v ≤ 0) → times_recorded i v ≡ 0
-        is_unrecorded (inl is_recorded) = absurd (let i_lt_i = i_above_recorded i is_recorded in
-            omega (arith, i_lt_i))
-        is_unrecorded (inr not_recorded) = omega (arith, not_recorded)
+    unrecorded_before = elim (cases_lt 0 (times_recorded i v)) [
+      | inl is_recorded ↦ absurd (omega (arith, i_above_recorded i is_recorded))
+      | inr not_recorded ↦ omega (arith, not_recorded)
+    ]
 
     recorded_after : 0 < times_recorded i u
-    recorded_after = let stays = record_stays i in let with_open = record_when_open i in let
-        i_is_counted = equal_is_counted i in
-        omega (arith, stays, with_open, i_is_counted)
+    recorded_after = omega (arith, record_stays i, record_when_open i, equal_is_counted i)
 
 -- if all elements of a list have a property, so have those before the last one, and the last one
 pub All_of_front : {X : Type 0} (P : X → Type 0) (l m : List X) (x : X) → l
-    ≡ m ++ x ∷ [] → All P l
-    → All P m
+    ≡ m ++ x ∷ [] → All P l → All P m
 All_of_front {X} P l m x l_is all_of_l =
-    let all_of_split = subst (λ (xs : List X). All P xs) l_is all_of_l in
-    λ k d k_lt_length. let holds_at_k = all_of_split k d (let length_is = length-append m (x ∷ [])
-    in omega (arith, length_is, k_lt_length)) in
-    rw (sym (get_or_append_left m (x ∷ []) d k k_lt_length)) holds_at_k
+    λ k d k_lt_length. rw (sym (get_or_append_left m (x ∷ []) d k k_lt_length))
+    ((subst (λ (xs : List X). All P xs) l_is all_of_l) k d
+    (omega (arith, length-append m (x ∷ []), k_lt_length)))
 
 pub P_of_last : {X : Type 0} (P : X → Type 0) (l m : List X) (x : X) → l ≡ m ++ x ∷ [] → All P l
     → P x
 P_of_last {X} P l m x l_is all_of_l =
-    let all_of_split = subst (λ (xs : List X). All P xs) l_is all_of_l in
-    let holds_at_end = all_of_split (length m) x (let length_is = length-append m (x ∷ []) in omega
-    (arith, length_is)) in
-    rw (sym (get_or_appended m x)) holds_at_end
+    rw (sym (get_or_appended m x)) ((subst (λ (xs : List X). All P xs) l_is all_of_l) (length m) x
+    (omega (arith, length-append m (x ∷ []))))
   where
     get_or_appended : {X : Type 0} (l : List X) (x : X) → get_or (l ++ x ∷ []) (length l) x ≡ x
     get_or_appended [] x = refl

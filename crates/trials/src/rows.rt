@@ -10,11 +10,16 @@ use std::alloc::{AllocError, Global};
 use std::sync::Wait;
 use std::thread::Threads;
 
-/// Words with some bits set, all different.
-fn words() -> [u64; 33] {
-    let mut all = [0u64; 33];
+/// How many words a row here has at most: four times the eight that `or_row` takes at a time, and
+/// one more.
+const MAX_WORDS: usize = 33;
+
+/// A row of words with some bits set, all different. The first word and what changes it are
+/// arbitrary.
+fn sample_row() -> [u64; MAX_WORDS] {
+    let mut all = [0u64; MAX_WORDS];
     let mut word = 0x9E37_79B9_7F4A_7C15u64;
-    for i in 0..33 {
+    for i in 0..MAX_WORDS {
         all[i] = word;
         word = word.rotate_left(7) ^ 0x0123_4567_89AB_CDEF;
     }
@@ -23,10 +28,10 @@ fn words() -> [u64; 33] {
 
 #[test]
 fn or_by_lanes_is_the_plain_loop(rt: HostRuntime) {
-    for count in 0..34 {
-        let mut into = [0x00FF_00FF_00FF_00FFu64; 33];
+    for count in 0..MAX_WORDS + 1 {
+        let mut into = [0x00FF_00FF_00FF_00FFu64; MAX_WORDS];
         let mut expected = into;
-        let from = words();
+        let from = sample_row();
         or_row(&mut into[..count], &from[..count]);
         for i in 0..count {
             expected[i] |= from[i];
@@ -37,16 +42,19 @@ fn or_by_lanes_is_the_plain_loop(rt: HostRuntime) {
 
 #[test]
 fn ones_by_lanes_are_the_plain_sum(rt: HostRuntime) {
-    let row = words();
+    let row = sample_row();
     let mut expected = 0u64;
-    for count in 0..34 {
+    for count in 0..MAX_WORDS + 1 {
         assert_eq!(rt; ones(&row[..count]), expected);
-        if count < 33 {
+        if count < MAX_WORDS {
             expected = expected.wrapping_add(u64::from(row[count].count_ones()));
         }
     }
     assert_eq!(rt; ones(&[u64::MAX; 5]), 320);
 }
+
+/// How many workers check the proofs.
+const WORKERS: u32 = 1;
 
 /// The matrix of a text without a fault, with all axioms as columns.
 fn matrix_of<R: Threads + Wait + Sync>(
@@ -56,7 +64,7 @@ fn matrix_of<R: Threads + Wait + Sync>(
 ) -> Result<Matrix<Global>, AllocError> {
     let database = database_of(rt, alloc, text, WITHOUT_OPEN)?;
     let columns = Columns::new(alloc, &database, None)?;
-    match check_all(rt, alloc, &database, 1, BY_ALL_NODES, &Open)? {
+    match check_all(rt, alloc, &database, WORKERS, BY_ALL_NODES, &Open)? {
         Judged::Valid(citations) => matrix(rt, alloc, &citations, &columns),
         Judged::Faulty(_) => Err(AllocError),
     }
@@ -105,7 +113,7 @@ fn waves_of<R: Threads + Wait + Sync>(
     text: &[u8],
 ) -> Result<Vec<u32>, AllocError> {
     let database = database_of(rt, alloc, text, WITHOUT_OPEN)?;
-    match check_all(rt, alloc, &database, 1, BY_ALL_NODES, &Open)? {
+    match check_all(rt, alloc, &database, WORKERS, BY_ALL_NODES, &Open)? {
         Judged::Valid(citations) => waves(alloc, &citations),
         Judged::Faulty(_) => Err(AllocError),
     }

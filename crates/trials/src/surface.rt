@@ -6,7 +6,7 @@ ghost use Rattle.std.specs.Prelude.{◌≡◌, IfOk, Option, false, length};
 ghost use Rattle.mm_spec.specs.Text.{Bytes};
 ghost use Rattle.mm_spec.specs.Output.{columns, theorems};
 ghost use Rattle.mm_work.specs.Judged.{AllHaveCitations};
-ghost use Rattle.mm_report.specs.Rows.{AreCitationsOf};
+ghost use Rattle.mm_report.specs.CitingRows.{AreCitationsOf};
 
 use crate::flags::{BY_ALL_NODES, INSIDE_COMMENT, OUTSIDE_COMMENT, WITHOUT_OPEN};
 use crate::texts::{FIRST_REPORT, FIRST_TEXT};

@@ -44,11 +44,11 @@ pub(crate) const THROUGH_REPORT: &[u8] =
 pub(crate) const NO_CITATIONS: &[u8] =
     b"$c wff |- $. $v p $. wp $f wff p $.\n${ h $e |- p $. same $p |- p $= h $. $}\n";
 
-/// A theorem whose proof isn't valid.
-pub(crate) const LONG_PROOF: &[u8] = b"long $p wff p $= wp wq wp wi wp wi wp wi wp wi $.\n";
+/// A theorem whose proof isn't valid, and takes longer to check than the next one's.
+pub(crate) const LONG_FAULTY: &[u8] = b"long $p wff p $= wp wq wp wi wp wi wp wi wp wi $.\n";
 
-/// Another one, whose proof takes less time to check.
-pub(crate) const SHORT_PROOF: &[u8] = b"short $p wff p $= wq $.\n";
+/// Another theorem whose proof isn't valid.
+pub(crate) const SHORT_FAULTY: &[u8] = b"short $p wff p $= wq $.\n";
 
 /// The report on a text without axioms and theorems.
 pub(crate) const NOTHING_REPORT: &[u8] =

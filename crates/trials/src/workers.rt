@@ -6,7 +6,7 @@ ghost use Rattle.std.specs.Prelude.{◌≤◌};
 use crate::databases::database_of;
 use crate::flags::{BY_ALL_NODES, WITHOUT_OPEN};
 use crate::texts::{
-    ANOTHER_FAULTY, BASE, FIRST_FAULT_PLACE, FIRST_FAULTY, LONG_PROOF, NONE_FAULTY, SHORT_PROOF,
+    ANOTHER_FAULTY, BASE, FIRST_FAULT_PLACE, FIRST_FAULTY, LONG_FAULTY, NONE_FAULTY, SHORT_FAULTY,
     THEOREM_COUNT, joined, many_theorems_text, through_a_theorem,
 };
 use mm_spec::{Code, Fault};
@@ -66,7 +66,7 @@ fn assert_many_cite_one<R: Abort>(rt: &R, citations: &Citations<Global>) {
 #[test]
 fn two_theorems_by_any_workers(rt: HostRuntime) -> Result<(), AllocError> {
     let valid = through_a_theorem(rt.alloc())?;
-    let faulty = joined(rt.alloc(), &[BASE, LONG_PROOF, SHORT_PROOF])?;
+    let faulty = joined(rt.alloc(), &[BASE, LONG_FAULTY, SHORT_FAULTY])?;
     for workers in [1, 2, 64] {
         match check_proofs(&rt, rt.alloc(), &valid, workers, BY_ALL_NODES, &Open)? {
             Judged::Valid(citations) => assert_cites_through_a_theorem(&rt, &citations),

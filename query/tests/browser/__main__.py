@@ -20,11 +20,12 @@ import sys
 import tempfile
 from pathlib import Path
 
-from query.tests.browser import browsers, parts, proofs, views, whole
+from query.tests.browser import browsers, interface, proofs, views, whole
 from query.tests.browser.browsers import Browser
-from query.tests.browser.truth import DATABASES, Truth, metamath_conditions
+from query.tests.browser.truth import Truth, metamath_conditions
 from query.tests.browser.views import Shown
 from query.tests.counting import checks, count, figure, same
+from query.tests.samples import DEBIAN_DATABASES
 
 
 def missing(what: str) -> None:
@@ -57,12 +58,12 @@ class Pages:
 
     def page(self, name: str) -> tuple[Path, Truth, float]:
         """The page of a database, the truth on it, and how long it took."""
-        database = DATABASES / f"{name}.mm"
+        database = DEBIAN_DATABASES / f"{name}.mm"
         page = self.room / f"{name}.html"
         if name not in self.made:
             took = whole.make_page(database, page)
             self.made[name] = (page, Truth(database), took)
-            figure(f"bytes of the page of {name}.mm", page.stat().st_size, whole.MOST_BYTES)
+            figure(f"bytes of the page of {name}.mm", page.stat().st_size, whole.MOST_PAGE_BYTES)
         page, truth, took = self.made[name]
         assert truth is not None
         return page, truth, took
@@ -90,24 +91,24 @@ def try_database(browser: Browser, pages: Pages, name: str, rng: random.Random) 
     shown = Shown(browser, truth)
     views.check_sample(shown, theorems, axioms, rng)
     proofs.check_steps(browser, truth, theorems[:20])
-    parts.check_chapters(browser, page, truth, rng, 12 if is_large else 4)
-    parts.check_search(browser, page, truth, rng, 25)
-    parts.check_told(browser, page, truth)
-    parts.check_history(type(browser), page, theorems[:3])
-    parts.check_cells(browser, page, truth, rng, 20)
+    interface.check_chapters(browser, page, truth, rng, 12 if is_large else 4)
+    interface.check_search(browser, page, truth, rng, 25)
+    interface.check_told(browser, page, truth)
+    interface.check_history(type(browser), page, theorems[:3])
+    interface.check_cells(browser, page, truth, rng, 20)
     deep = max(theorems[:5], key=lambda label: len(truth.marks(label)))
     used = [label for label in truth.columns if truth.users[label]]
     numbers = [number for number, _, _ in truth.headings]
     chapter = [f"#chapter={rng.choice(numbers)}"] if numbers else []
     addresses = ["", f"#theorem={deep}", f"#axiom={used[-1]}", *chapter, "#search=a"]
-    parts.check_looks(browser, page, addresses, pages.room)
+    interface.check_looks(browser, page, addresses, pages.room)
     axiom = next(one for one in truth.marks(deep) if one in used and truth.group(one) != "syntax")
     other = next(label for label in used if label != axiom)
-    parts.check_keyboard(browser, page, truth, deep, axiom, other)
+    interface.check_keyboard(browser, page, truth, deep, axiom, other)
     if shown.known:
-        parts.check_switch(browser, page, truth, deep)
+        interface.check_switch(browser, page, truth, deep)
         given = next((label for label in theorems if truth.hypotheses[label]), deep)
-        parts.check_spelling(browser, page, truth, given)
+        interface.check_spelling(browser, page, truth, given)
     same(browser.messages(), [], f"{browser.name} {page.name}: messages in the console")
     print(f"{browser.name} {name}: {checks.passed} passed so far", flush=True)
 
@@ -123,16 +124,16 @@ def try_set(browser: Browser, pages: Pages) -> None:
         shown.conditions(view, label, pairs)
         shown.comment(view, label)
     views.check_colours(browser, page, "zorn", truth)
-    parts.check_distinct_marks(browser, page, "zorn", "ax-5")
+    interface.check_distinct_marks(browser, page, "zorn", "ax-5")
     browser.open(page)
     browser.call("searchReady")
-    best, _ = browser.run(parts.FIND, "zorn lemma")
+    best, _ = browser.run(interface.FIND, "zorn lemma")
     same(best[:1], ["zorn"], f"{browser.name}: `zorn lemma` finds `zorn` first")
-    best, _ = browser.run(parts.FIND, "lemma zorn")
+    best, _ = browser.run(interface.FIND, "lemma zorn")
     same(best[:1], ["zorn"], f"{browser.name}: and so does `lemma zorn`")
-    _, told = browser.run(parts.FIND, "∃y∀x(x∈y")
-    count(parts.number_in(told) > 0, f"{browser.name}: plain letters find shown ones", told)
-    parts.check_reachable(browser, page, truth, "discouraged", True)
+    _, told = browser.run(interface.FIND, "∃y∀x(x∈y")
+    count(interface.number_in(told) > 0, f"{browser.name}: plain letters find shown ones", told)
+    interface.check_reachable(browser, page, truth, "discouraged", True)
     same(browser.messages(), [], f"{browser.name}: messages in the console of set.mm's page")
 
 
@@ -146,8 +147,8 @@ def names_of(options: argparse.Namespace) -> list[str]:
     names = ["demo0", "hol", "ql", "iset"] + ([] if options.small else ["set"])
     names = [name for name in names if options.database in (None, name)]
     for name in names:
-        if not (DATABASES / f"{name}.mm").exists():
-            missing(f"there is no {DATABASES / name}.mm: apt-get install metamath-databases")
+        if not (DEBIAN_DATABASES / f"{name}.mm").exists():
+            missing(f"there is no {DEBIAN_DATABASES / name}.mm: apt-get install metamath-databases")
     return names
 
 

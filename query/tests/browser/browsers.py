@@ -24,6 +24,8 @@ def optional(name: str) -> Any:
 
 
 webdriver = optional("selenium.webdriver")
+WINDOW = (1280, 900)  # the width and height of a page, but where narrower ones are tried
+SCREEN = "1600x1200x24"  # wider and higher than WINDOW with a browser's own parts, 24 bits a dot
 
 
 class Keys:
@@ -68,8 +70,8 @@ class Browser(ABC):
         """Gives the page a size; whether that can be done."""
 
     @abstractmethod
-    def look(self, scheme: str, media: str = "") -> bool:
-        """Light or dark; the media `print` or none. Whether that can be done."""
+    def emulate(self, scheme: str, media: str = "") -> bool:
+        """Shows the page light or dark, printed or on a screen. Whether that can be done."""
 
     @abstractmethod
     def messages(self) -> list[str]:
@@ -161,7 +163,7 @@ class Chromium(Driven):
         options = webdriver.ChromeOptions()
         options.binary_location = shutil.which("chromium")
         words = ("headless=new", "no-sandbox", "disable-gpu", "hide-scrollbars")
-        for word in (*words, "window-size=1280,900", *more):
+        for word in (*words, f"window-size={WINDOW[0]},{WINDOW[1]}", *more):
             options.add_argument(f"--{word}")
         options.set_capability("goog:loggingPrefs", {"browser": "ALL"})
         services = optional("selenium.webdriver.chrome.service")
@@ -170,14 +172,14 @@ class Chromium(Driven):
         service = services.Service(shutil.which("chromedriver"), env=surroundings)
         self.driver = webdriver.Chrome(service=service, options=options)
         self.driver.set_script_timeout(500)
-        self.size(1280, 900)
+        self.size(*WINDOW)
 
     def size(self, width: int, height: int) -> bool:
         metrics = {"width": width, "height": height, "deviceScaleFactor": 1, "mobile": False}
         self.driver.execute_cdp_cmd("Emulation.setDeviceMetricsOverride", metrics)
         return True
 
-    def look(self, scheme: str, media: str = "") -> bool:
+    def emulate(self, scheme: str, media: str = "") -> bool:
         features = [{"name": "prefers-color-scheme", "value": scheme}]
         words = {"media": media, "features": features}
         self.driver.execute_cdp_cmd("Emulation.setEmulatedMedia", words)
@@ -208,7 +210,7 @@ class Firefox(Browser):
         self.marionette = Marionette(shutil.which("firefox-esr") or "firefox")
         self.marionette.ask("WebDriver:SetTimeouts", {"script": 500_000, "pageLoad": 120_000})
         self.page = "about:blank"
-        self.size(1280, 900)
+        self.size(*WINDOW)
 
     def go(self, address: str) -> None:
         self.page = address.split("#")[0]
@@ -244,7 +246,7 @@ class Firefox(Browser):
         self.marionette.ask("WebDriver:SetWindowRect", more)
         return bool(self.run("return window.innerWidth") == width)
 
-    def look(self, scheme: str, media: str = "") -> bool:
+    def emulate(self, scheme: str, media: str = "") -> bool:
         self.marionette.as_browser(
             "Services.prefs.setIntPref('layout.css.prefers-color-scheme.content-override',"
             " arguments[0]);"
@@ -284,7 +286,7 @@ class Screen:
     """A screen that nobody sees, for a browser that needs one."""
 
     def __init__(self) -> None:
-        words = ["Xvfb", "-displayfd", "1", "-screen", "0", "1600x1200x24", "-nolisten", "tcp"]
+        words = ["Xvfb", "-displayfd", "1", "-screen", "0", SCREEN, "-nolisten", "tcp"]
         self.process = subprocess.Popen(
             words, stdout=subprocess.PIPE, stderr=subprocess.DEVNULL, text=True
         )
@@ -318,7 +320,7 @@ class WebKit(Driven):
             if before is not None:
                 os.environ["DISPLAY"] = before
         self.driver.set_script_timeout(500)
-        self.size(1280, 900)
+        self.size(*WINDOW)
 
     @staticmethod
     def is_here() -> bool:
@@ -330,7 +332,7 @@ class WebKit(Driven):
         self.driver.set_window_rect(width=width, height=height)
         return bool(self.run("return window.innerWidth") == width)
 
-    def look(self, scheme: str, media: str = "") -> bool:
+    def emulate(self, scheme: str, media: str = "") -> bool:
         return False
 
     def messages(self) -> list[str]:

@@ -1,13 +1,13 @@
 """The steps of proofs that a page shows are those that metamath.exe lists."""
 
 import re
-import subprocess
 from pathlib import Path
 from typing import Any
 
 from query.tests.browser.browsers import Browser
 from query.tests.browser.truth import Truth
 from query.tests.counting import count, same
+from query.tests.metamath import asked
 
 # The steps that are shown, each with the steps that it uses, what it applies, and its formula as
 # the database spells it; null until they are there.
@@ -32,17 +32,8 @@ Step = list[str]
 def metamath_steps(path: Path, labels: list[str]) -> dict[str, list[Step]]:
     """What metamath.exe lists of each proof: the essential steps. It lists some steps once more
     where they are used again, and these are left out."""
-    asked = "".join(f"show proof {label} /essential /lemmon /renumber\n" for label in labels)
-    words = [f"read {path.name}", "set width 9999", "set scroll continuous"]
-    done = subprocess.run(
-        ["metamath", *words],
-        input=f"{asked}exit\n".encode(),
-        stdout=subprocess.PIPE,
-        cwd=path.parent,
-        check=True,
-    )
-    answers = done.stdout.decode("latin-1").split("MM> ")
-    return dict(zip(labels, map(steps_in, answers[-len(labels) - 1 : -1]), strict=True))
+    answers = asked(path, [f"show proof {label} /essential /lemmon /renumber" for label in labels])
+    return dict(zip(labels, map(steps_in, answers), strict=True))
 
 
 def steps_in(text: str) -> list[Step]:

@@ -9,9 +9,10 @@ from functools import cached_property
 from pathlib import Path
 from unicodedata import category
 
+from query.tests.metamath import asked
+
 HERE = Path(__file__).resolve().parents[3]
 PROGRAM = os.environ.get("MMDEPEND") or str(HERE / "mmdepend")
-DATABASES = Path("/usr/share/metamath/databases")
 COMMENT = re.compile(r"(?<!\S)\$\((?=\s).*?(?<=\s)\$\)(?!\S)", re.S)
 STATEMENT = re.compile(r"\$\{|\$\}|(?<!\S)(\S+)\s+\$([eapf])\s([^$]*)(?:\$=([^$]*))?\$\.")
 KEPT_TAGS = re.compile(r"</?(?:span|font|i|em|b|strong|u|sub|sup|small|big)(?:\s[^<>]*)?>", re.I)
@@ -24,6 +25,7 @@ class Truth:
     def __init__(self, path: Path, words: Iterable[str] = ()) -> None:
         self.path = path
         self.raw = path.read_bytes().decode("latin-1")
+        # Of each assertion its formula.
         self.formulas: dict[str, str] = {}
         self.lines: dict[str, int] = {}
         self.hypotheses: dict[str, list[PAIR]] = {}
@@ -228,20 +230,12 @@ def as_shown(formula: str, known: dict[str, str]) -> str:
 def metamath_conditions(path: Path, labels: list[str]) -> dict[str, tuple[set[str], set[str]]]:
     """What metamath.exe lists of each statement as its mandatory and its optional pairs, as written
     there without the outer brackets."""
-    asked = "".join(f"show statement {label} /full\n" for label in labels)
-    done = subprocess.run(
-        ["metamath", f"read {path.name}", "set scroll continuous"],
-        input=f"{asked}exit\n".encode(),
-        stdout=subprocess.PIPE,
-        cwd=path.parent,
-        check=True,
-    )
-    answers = done.stdout.decode("latin-1").split("MM> ")
-    texts = [" ".join(part.split()) for part in answers if part.startswith("Statement ")]
-    assert len(texts) == len(labels), f"{len(texts)} answers to {len(labels)} questions"
+    answers = asked(path, [f"show statement {label} /full" for label in labels])
+    texts = [" ".join(answer.split()) for answer in answers]
+    assert all(text.startswith("Statement ") for text in texts), f"not all of {labels} are there"
     return {
         label: (listed(text, "mandatory"), listed(text, "optional"))
-        for label, text in zip(labels, texts)
+        for label, text in zip(labels, texts, strict=True)
     }
 
 

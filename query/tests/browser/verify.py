@@ -12,10 +12,11 @@ from pathlib import Path
 
 from query.tests.browser import browsers, verifying, whole
 from query.tests.browser.browsers import Browser, WebKit
-from query.tests.browser.truth import DATABASES, PROGRAM
-from query.tests.browser.verifying import Room
+from query.tests.browser.truth import PROGRAM
+from query.tests.browser.verifying import Files
 from query.tests.browser.views import Shown, check_sample
 from query.tests.counting import checks
+from query.tests.samples import DEBIAN_DATABASES
 
 
 def options_of(told: str) -> argparse.Namespace:
@@ -39,25 +40,25 @@ def missing() -> str | None:
     """What isn't here."""
     if not shutil.which("metamath"):
         return "apt-get install metamath"
-    if not (DATABASES / "set.mm").exists():
+    if not (DEBIAN_DATABASES / "set.mm").exists():
         return "apt-get install metamath-databases"
     return browsers.missing()
 
 
-def try_browser(browser: Browser, room: Room, options: argparse.Namespace, seed: int) -> None:
+def try_browser(browser: Browser, files: Files, options: argparse.Namespace, seed: int) -> None:
     """All of it in one browser."""
     rng = random.Random(seed)
-    verifying.check_start(browser, room)
-    verifying.check_policy(browser, room)
-    verifying.check_workers(browser, room)
-    verifying.check_refusals(browser, room)
-    verifying.check_drop(browser, room)
-    verifying.check_again(browser, room)
-    verifying.check_pair(browser, room)
-    verifying.check_hostile(browser, room)
-    verifying.check_cancel(browser, room)
-    for name in room.names:
-        truth = verifying.check_database(browser, room, name)
+    verifying.check_start(browser, files)
+    verifying.check_policy(browser, files)
+    verifying.check_workers(browser, files)
+    verifying.check_refusals(browser, files)
+    verifying.check_drop(browser, files)
+    verifying.check_again(browser, files)
+    verifying.check_pair(browser, files)
+    verifying.check_hostile(browser, files)
+    verifying.check_cancel(browser, files)
+    for name in files.names:
+        truth = verifying.check_database(browser, files, name)
         if truth is not None:
             is_large = name == "set"
             theorems = whole.some(rng, truth.theorems, options.theorems if is_large else 20)
@@ -88,15 +89,15 @@ def main(told: str) -> None:
         if options.keep:
             options.keep.mkdir(parents=True, exist_ok=True)
             folder = options.keep.resolve()
-        room = Room(folder, options.module and options.module.resolve(), not options.small)
+        files = Files(folder, options.module and options.module.resolve(), not options.small)
         for at, kind in enumerate(kinds):
             browser = kind()
             stack.callback(browser.close)
             if not options.measure:
-                try_browser(browser, room, options, options.seed + at)
-            for name in room.names:
+                try_browser(browser, files, options, options.seed + at)
+            for name in files.names:
                 if name in verifying.MOST_SECONDS:
-                    verifying.measure(kind, room, name)
+                    verifying.measure(kind, files, name)
         if options.module and options.only in (None, "chromium"):
-            verifying.check_little_memory(room)
+            verifying.check_little_memory(files)
     checks.end()

@@ -20,13 +20,15 @@ from query.faults import FAULTS
 from query.options import Options
 from query.tests.blocks import blocks_in
 from query.tests.browser import proofs
-from query.tests.browser.browsers import Browser, Chromium, Keys, WebKit
+from query.tests.browser.browsers import WINDOW, Browser, Chromium, Keys, WebKit
 from query.tests.browser.databases import EVIL, EVIL_TYPESETTING, NEWER, OLDER, OPEN
+from query.tests.browser.interface import LEAST_CONTRAST
 from query.tests.browser.scripts import CONTRAST, GATHER, NAMES, TARGETS
-from query.tests.browser.truth import DATABASES, HERE, PROGRAM, Truth
+from query.tests.browser.truth import HERE, PROGRAM, Truth
 from query.tests.browser.views import Shown
 from query.tests.browser.whole import Asked, run
 from query.tests.counting import count, figure, same
+from query.tests.samples import DEBIAN_DATABASES
 
 BUILD = HERE / "web" / "verifier" / "build"
 STUB = HERE / "query" / "tests" / "library_stub.js"
@@ -39,7 +41,7 @@ EVIL_NAME = '<b>&"evil".mm'
 MOST_SECONDS = {"set": 8.0, "iset": 1.5}
 MOST_MEMORY = 450_000_000
 # The theorem that is shown first.
-FIRST = {"set": "2p2e4", "iset": "2p2e4"}
+FIRST_SHOWN = {"set": "2p2e4", "iset": "2p2e4"}
 
 # Keeps the sums of all blocks that workers make, and saved reports instead of writing them to disk.
 SPY = """
@@ -169,7 +171,7 @@ def words_of(path: Path, name: str, form: int, options: Options) -> list[str]:
     return [*words, str(path)]
 
 
-class Room:
+class Files:
     """The files of the test, and the page."""
 
     def __init__(self, folder: Path, module: Path | None, is_large: bool) -> None:
@@ -191,7 +193,7 @@ class Room:
         }
         for name, text in self.texts.items():
             self.path(name).write_text(text, newline="")
-        hol = (DATABASES / "hol.mm").read_bytes()
+        hol = (DEBIAN_DATABASES / "hol.mm").read_bytes()
         self.path("hol.mm.gz").write_bytes(gzip.compress(hol))
         self.path("damaged.mm.gz").write_bytes(gzip.compress(hol)[:-2000])
         parts = [gzip.compress(hol[at : at + 30_000]) for at in range(0, len(hol), 30_000)]
@@ -219,7 +221,7 @@ class Room:
         """The answers that stand for a module."""
         answers = Answers()
         for name in self.names:
-            answers.add(DATABASES / f"{name}.mm", ALL, REPORTS if name == "hol" else ())
+            answers.add(DEBIAN_DATABASES / f"{name}.mm", ALL, REPORTS if name == "hol" else ())
         for name in self.texts:
             answers.add(self.path(name), EVERYTHING if name == EVIL_NAME else ALL)
         for name in ("newer.mm", "faulty.mm"):
@@ -281,10 +283,10 @@ def memory_of(number: int) -> int:
     return sum(int(kept[name].split()[0]) * 1024 for name in ("RssAnon", "RssShmem"))
 
 
-def begin(browser: Browser, room: Room, address: str = "", spies: bool = True) -> None:
+def begin(browser: Browser, files: Files, address: str = "", spies: bool = True) -> None:
     """Opens the page anew."""
     browser.go("about:blank")
-    browser.go(f"{room.page.as_uri()}{address}")
+    browser.go(f"{files.page.as_uri()}{address}")
     state = browser.wait(
         "document.documentElement.dataset.state !== 'loading'"
         " && document.documentElement.dataset.state"
@@ -338,17 +340,17 @@ def check_blocks(browser: Browser, path: Path, options: Options, older: Path | N
     same(odd, [], f"{browser.name} {path.name}: blocks other than those of the command")
 
 
-def check_start(browser: Browser, room: Room) -> None:
+def check_start(browser: Browser, files: Files) -> None:
     """The view at the start, for who doesn't see or has no mouse, light and dark."""
-    begin(browser, room)
+    begin(browser, files)
     name = browser.name
     same(browser.run(NAMES), [], f"{name}: names at the start")
     for scheme in ("light", "dark"):
-        if not browser.look(scheme):
+        if not browser.emulate(scheme):
             continue
         worst = browser.run(CONTRAST)
-        count(worst["ratio"] >= 4.5, f"{name}: contrast at the start, {scheme}", worst)
-    browser.look("light")
+        count(worst["ratio"] >= LEAST_CONTRAST, f"{name}: contrast at the start, {scheme}", worst)
+    browser.emulate("light")
     same(browser.run(TARGETS), [], f"{name}: controls at the start are large enough")
     for condition in ("at.id === 'file'", "at.id === 'only'", "at.id === 'essential'"):
         count(browser.tab_until(condition, 30), f"{name}: the keyboard reaches {condition}")
@@ -358,30 +360,30 @@ def check_start(browser: Browser, room: Room) -> None:
     if browser.size(320, 640):
         wide = browser.run("return document.documentElement.scrollWidth - window.innerWidth")
         count(wide <= 0, f"{name}: the start fits a telephone", wide)
-        browser.size(1280, 900)
+        browser.size(*WINDOW)
     browser.stays_silent("at the start")
 
 
-def check_policy(browser: Browser, room: Room) -> None:
+def check_policy(browser: Browser, files: Files) -> None:
     """Nothing is loaded, neither from a disk nor over HTTP, and nothing can be; no other script can
     work beside the page."""
     name = browser.name
-    handler = functools.partial(Asked, directory=room.folder)
+    handler = functools.partial(Asked, directory=files.folder)
     server = http.server.ThreadingHTTPServer(("127.0.0.1", 0), handler)
     threading.Thread(target=server.serve_forever, daemon=True).start()
     address = f"http://127.0.0.1:{server.server_port}"
     Asked.paths.clear()
-    browser.go(f"{address}/{room.page.name}")
+    browser.go(f"{address}/{files.page.name}")
     browser.wait("document.documentElement.dataset.state === 'start'")
-    browser.choose("#file", [DATABASES / "demo0.mm"])
+    browser.choose("#file", [DEBIAN_DATABASES / "demo0.mm"])
     shown(browser, "demo0.mm over HTTP")
     time.sleep(1)
     asked = [path for path in Asked.paths if path != "/favicon.ico"]
-    same(asked, [f"/{room.page.name}"], f"{name}: the page loads nothing")
+    same(asked, [f"/{files.page.name}"], f"{name}: the page loads nothing")
     browser.stays_silent("over HTTP")
     for opened in ("HTTP", "a disk"):
         if opened == "a disk":
-            begin(browser, room, spies=False)
+            begin(browser, files, spies=False)
         Asked.paths.clear()
         told = browser.call(FETCHING, address)
         same(Asked.paths, [], f"{name}: nothing is loaded from {opened}")
@@ -394,19 +396,19 @@ def check_policy(browser: Browser, room: Room) -> None:
     server.shutdown()
 
 
-def check_workers(browser: Browser, room: Room) -> None:
+def check_workers(browser: Browser, files: Files) -> None:
     """What works beside the page can neither load nor send, were it another script."""
-    handler = functools.partial(Asked, directory=room.folder)
+    handler = functools.partial(Asked, directory=files.folder)
     server = http.server.ThreadingHTTPServer(("127.0.0.1", 0), handler)
     threading.Thread(target=server.serve_forever, daemon=True).start()
-    module, page = room.path("address"), room.path("leaking.html")
+    module, page = files.path("address"), files.path("leaking.html")
     module.write_text(f"http://127.0.0.1:{server.server_port}")
     words = [str(BUILD), str(module), "leaking", str(page)]
     subprocess.run(words, env={**os.environ, "LIBRARY_SCRIPT": str(LEAKING)}, check=True)
     Asked.paths.clear()
     browser.go(page.as_uri())
     browser.wait("document.documentElement.dataset.state === 'start'")
-    browser.choose("#file", [DATABASES / "demo0.mm"])
+    browser.choose("#file", [DEBIAN_DATABASES / "demo0.mm"])
     ways = "closed: fetch import script request socket"
     told_within(browser, "a worker that would send", "The page failed", ways)
     same(Asked.paths, [], f"{browser.name}: a worker loads nothing")
@@ -414,10 +416,10 @@ def check_workers(browser: Browser, room: Room) -> None:
     server.shutdown()
 
 
-def check_refusals(browser: Browser, room: Room) -> None:
+def check_refusals(browser: Browser, files: Files) -> None:
     """A refusal shows the line and the place; what is no database is told as such."""
-    begin(browser, room)
-    browser.choose("#file", [room.path("faulty.mm")])
+    begin(browser, files)
+    browser.choose("#file", [files.path("faulty.mm")])
     meaning, advice = (words.replace("`", "") for words in FAULTS["E18"])
     place = "Line 2, column 12, in 'x': E18, "
     told_within(browser, "a refusal", "faulty.mm is refused", place, f"{meaning}.", advice)
@@ -432,23 +434,23 @@ def check_refusals(browser: Browser, room: Room) -> None:
         ("picture.mm", "is no text"),
     ):
         browser.run("document.getElementById('answer').replaceChildren()")
-        browser.choose("#file", [room.path(name)])
+        browser.choose("#file", [files.path(name)])
         told_within(browser, name, "This file can't be verified", part)
     if isinstance(browser, Chromium):
-        check_changed(browser, room)
+        check_changed(browser, files)
     browser.run("document.getElementById('answer').replaceChildren()")
-    browser.choose("#file", [room.path("empty.mm")])
+    browser.choose("#file", [files.path("empty.mm")])
     told_within(browser, "an empty file", "nothing to show", "neither axioms nor theorems")
     browser.run("document.getElementById('answer').replaceChildren()")
     browser.run("document.getElementById('only').value = 'nothing'")
-    browser.choose("#file", [DATABASES / "demo0.mm"])
+    browser.choose("#file", [DEBIAN_DATABASES / "demo0.mm"])
     told_within(browser, "a typecode without axioms", "has no axiom of typecode 'nothing'")
     browser.stays_silent("at refusals")
 
 
-def check_changed(browser: Browser, room: Room) -> None:
+def check_changed(browser: Browser, files: Files) -> None:
     """A file that was changed since it was chosen isn't read."""
-    paths = [room.path("one.mm"), room.path("two.mm")]
+    paths = [files.path("one.mm"), files.path("two.mm")]
     for path in paths:
         path.write_text(OLDER)
     browser.run("document.getElementById('answer').replaceChildren()")
@@ -460,33 +462,33 @@ def check_changed(browser: Browser, room: Room) -> None:
     told_within(browser, "a changed file", "This file can't be verified", "can't be read")
 
 
-def check_cancel(browser: Browser, room: Room) -> None:
+def check_cancel(browser: Browser, files: Files) -> None:
     """What was begun can be cancelled, and then something else is verified."""
-    name = "set" if "set" in room.names else "iset"
+    name = "set" if "set" in files.names else "iset"
     for seconds in (0.0, 0.3, 1.0):
-        begin(browser, room)
-        browser.choose("#file", [DATABASES / f"{name}.mm"])
+        begin(browser, files)
+        browser.choose("#file", [DEBIAN_DATABASES / f"{name}.mm"])
         time.sleep(seconds)
         browser.run("document.getElementById('cancel')?.click()")
         told = browser.run("return document.getElementById('told')?.textContent ?? null")
         if told is None:
             continue  # it was shown before
         same(told, "Cancelled.", f"{browser.name}: cancelled after {seconds} s")
-        browser.choose("#file", [DATABASES / "demo0.mm"])
+        browser.choose("#file", [DEBIAN_DATABASES / "demo0.mm"])
         shown(browser, "a database after one that was cancelled")
         title = browser.run("return document.querySelector('h1').textContent")
         same(title, "demo0.mm", f"{browser.name}: that one")
     browser.stays_silent("when it is cancelled")
 
 
-def check_hostile(browser: Browser, room: Room) -> None:
+def check_hostile(browser: Browser, files: Files) -> None:
     """A database with markup in all its texts, with all options."""
-    begin(browser, room)
+    begin(browser, files)
     browser.run(
         "document.getElementById('only').value = '|-';"
         "for (const id of ['essential', 'open']) document.getElementById(id).checked = true;"
     )
-    path = room.path(EVIL_NAME)
+    path = files.path(EVIL_NAME)
     browser.choose("#file", [path])
     shown(browser, EVIL_NAME)
     check_blocks(browser, path, EVERYTHING)
@@ -509,10 +511,10 @@ def check_hostile(browser: Browser, room: Room) -> None:
     browser.stays_silent("of a hostile database")
 
 
-def check_pair(browser: Browser, room: Room) -> None:
+def check_pair(browser: Browser, files: Files) -> None:
     """Two files at once are compared."""
-    begin(browser, room)
-    older, newer = room.path("older.mm"), room.path("newer.mm")
+    begin(browser, files)
+    older, newer = files.path("older.mm"), files.path("newer.mm")
     browser.choose("#file", [newer, older])
     browser.wait("!document.getElementById('pair').hidden")
     labels = browser.run(
@@ -535,13 +537,13 @@ def dropped(path: Path) -> list[list[str]]:
     return [[path.name, base64.b64encode(path.read_bytes()).decode()]]
 
 
-def check_drop(browser: Browser, room: Room) -> None:
+def check_drop(browser: Browser, files: Files) -> None:
     """A dropped file and a compressed one; each report of it is saved as the program writes it."""
-    hol = DATABASES / "hol.mm"
-    begin(browser, room, "#theorem=ax1")
-    browser.run(DROP, dropped(room.path("hol.mm.gz")))
+    hol = DEBIAN_DATABASES / "hol.mm"
+    begin(browser, files, "#theorem=ax1")
+    browser.run(DROP, dropped(files.path("hol.mm.gz")))
     shown(browser, "hol.mm.gz, dropped")
-    begin(browser, room)
+    begin(browser, files)
     browser.run(DROP, dropped(hol))
     shown(browser, "hol.mm, dropped")
     check_blocks(browser, hol, ALL)
@@ -566,18 +568,18 @@ def check_drop(browser: Browser, room: Room) -> None:
     browser.stays_silent("of a dropped file")
 
 
-def check_again(browser: Browser, room: Room) -> None:
+def check_again(browser: Browser, files: Files) -> None:
     """A file that is dropped later takes the place of the one before, and options are changed."""
     name = browser.name
     footer = "document.getElementById('made').textContent"
-    begin(browser, room)
-    browser.run(DROP, dropped(room.path("parts.mm.gz")))
+    begin(browser, files)
+    browser.run(DROP, dropped(files.path("parts.mm.gz")))
     shown(browser, "hol.mm in several compressed parts")
     theorem = "ax1"
-    steps = proofs.metamath_steps(DATABASES / "hol.mm", [theorem])[theorem]
+    steps = proofs.metamath_steps(DEBIAN_DATABASES / "hol.mm", [theorem])[theorem]
     same(proofs.shown_steps(browser, theorem), steps, f"{name}: the steps of {theorem}")
     browser.run("document.documentElement.dataset.state = 'another'")
-    browser.run(DROP_ON_BODY, dropped(room.path("newer.mm")))
+    browser.run(DROP_ON_BODY, dropped(files.path("newer.mm")))
     shown(browser, "a database that is dropped later")
     told = browser.run(f"return {footer}")
     count("from newer.mm" in told, f"{name}: the page is that of the later one", told)
@@ -591,15 +593,15 @@ def check_again(browser: Browser, room: Room) -> None:
     told = browser.run(f"return {footer}")
     wanted = "with --only |- --essential --open."
     count(wanted in told and told.count("Made by") == 1, f"{name}: its options", told)
-    browser.run(DROP_ON_BODY, dropped(room.path("faulty.mm")))
+    browser.run(DROP_ON_BODY, dropped(files.path("faulty.mm")))
     told_within(browser, "a faulty file after another one", "faulty.mm is refused", "E18")
     browser.stays_silent("of files that are dropped later")
 
 
-def check_database(browser: Browser, room: Room, name: str) -> Truth | None:
+def check_database(browser: Browser, files: Files, name: str) -> Truth | None:
     """A database that is chosen: its blocks. Its page stays open."""
-    path = DATABASES / f"{name}.mm"
-    begin(browser, room)
+    path = DEBIAN_DATABASES / f"{name}.mm"
+    begin(browser, files)
     browser.choose("#file", [path])
     if not shown(browser, path.name):
         return None
@@ -607,17 +609,17 @@ def check_database(browser: Browser, room: Room, name: str) -> Truth | None:
     return Truth(path)
 
 
-def measure(kind: type[Browser], room: Room, name: str) -> None:
+def measure(kind: type[Browser], files: Files, name: str) -> None:
     """Seconds and memory, from the choice until the first theorem is shown, each time in a new
     browser."""
-    path = DATABASES / f"{name}.mm"
-    label = FIRST[name]
+    path = DEBIAN_DATABASES / f"{name}.mm"
+    label = FIRST_SHOWN[name]
     times: list[float] = []
     memories: list[int] = []
     for _ in range(3):
         browser = kind()
         try:
-            begin(browser, room, f"#theorem={label}", spies=False)
+            begin(browser, files, f"#theorem={label}", spies=False)
             with Memory(browser) as memory:
                 browser.choose("#file", [path])
                 shown(browser, path.name)
@@ -635,12 +637,12 @@ def measure(kind: type[Browser], room: Room, name: str) -> None:
         figure(f"chromium: bytes of memory for {name}.mm", min(memories), MOST_MEMORY)
 
 
-def check_little_memory(room: Room) -> None:
+def check_little_memory(files: Files) -> None:
     """Where there is too little memory for the module, that is told."""
     browser = Chromium("js-flags=--wasm-max-mem-pages=400")
     try:
-        begin(browser, room)
-        browser.choose("#file", [DATABASES / "iset.mm"])
+        begin(browser, files)
+        browser.choose("#file", [DEBIAN_DATABASES / "iset.mm"])
         told_within(browser, "too little memory", "There is too little memory", "iset.mm")
         same(browser.messages(), [], "chromium: messages in the console without memory")
     finally:

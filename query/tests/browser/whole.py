@@ -23,13 +23,14 @@ from query.tests.browser.databases import (
     OPEN,
     SHOWN_TITLE,
 )
-from query.tests.browser.parts import check_narrow
+from query.tests.browser.interface import check_narrow
 from query.tests.browser.scripts import CONTRAST
-from query.tests.browser.truth import DATABASES, HERE, PROGRAM, Truth
+from query.tests.browser.truth import HERE, PROGRAM, Truth
 from query.tests.browser.views import Shown
 from query.tests.counting import count, figure, same
+from query.tests.samples import DEBIAN_DATABASES
 
-MOST_BYTES = 12_000_000
+MOST_PAGE_BYTES = 12_000_000
 MOST_SECONDS = 12
 MOST_UNTIL_SHOWN = 1000  # milliseconds
 MOST_FOR_A_KEY = 50
@@ -302,7 +303,7 @@ def check_refusals(room: Path) -> None:
     broken = room / "broken.mm"
     broken.write_text("$c a $.\nx $a a b $.\n")
     report = room / "some.report"
-    demo = str(DATABASES / "demo0.mm")
+    demo = str(DEBIAN_DATABASES / "demo0.mm")
     report.write_bytes(subprocess.run([PROGRAM, demo], stdout=subprocess.PIPE).stdout)
     empty = room / "empty.mm"
     empty.write_text("")
@@ -340,7 +341,7 @@ def check_refusals(room: Path) -> None:
 def check_interrupt() -> None:
     """Ctrl-C says one line, at any moment; the status is 130."""
     for seconds in (0.3, 1.5, 4):
-        words = [*COMMAND, "page", "--no-cache", str(DATABASES / "set.mm")]
+        words = [*COMMAND, "page", "--no-cache", str(DEBIAN_DATABASES / "set.mm")]
         process = subprocess.Popen(
             words,
             stdout=subprocess.PIPE,
@@ -364,7 +365,7 @@ def measure(browser: Browser, page: Path, took: float | None) -> None:
     """The figures of set.mm's page."""
     name = browser.name
     if took is not None:
-        figure("bytes of the page", page.stat().st_size, MOST_BYTES)
+        figure("bytes of the page", page.stat().st_size, MOST_PAGE_BYTES)
         figure("seconds to make it", round(took, 1), MOST_SECONDS, "s")
     for address in ("#theorem=2p2e4", "#theorem=zorn", "#chapter=2.6.1", "#"):
         value = least(lambda: time_to_show(browser, page, address), MOST_UNTIL_SHOWN * 0.8)

@@ -1,7 +1,7 @@
 //! The calls that start no thread, by which a text in memory is judged and its outputs are written.
 
 ghost use Rattle.std.specs.Prelude.{IfSome, false};
-ghost use Rattle.mm_run.specs.Counted.{IsJudgedText};
+ghost use Rattle.mm_run.specs.Judging.{IsJudgedText};
 
 use super::proofs::{are_cited, database_of, is_judged};
 use super::words::is_lexed;

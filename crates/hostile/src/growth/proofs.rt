@@ -232,7 +232,7 @@ fn checked_in_turn<'h, R: Abort>(
 
 /// Refuses a growth of a checker's first check, and asserts that the checker is right afterwards.
 /// Returns whether there was such a growth; `None` if there is no checker.
-fn checker_refused<'h, R: Abort>(
+fn is_growth_refused<'h, R: Abort>(
     rt: &R,
     heap: &'h Refusing<Global>,
     database: &Database<'static, &'h Refusing<Global>>,
@@ -271,7 +271,7 @@ fn checkers_in_turn<'h, R: Abort>(
     requires no_reading_faults { reading_faults_at database.now.statements theorem ≡ [] }
 {
     for growth in 1..MOST_GROWTHS {
-        match checker_refused(rt, heap, database, theorem, steps, growth) {
+        match is_growth_refused(rt, heap, database, theorem, steps, growth) {
             Some(true) => {}
             Some(false) => return growth > 5,
             None => return false,

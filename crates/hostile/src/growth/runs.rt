@@ -2,8 +2,8 @@
 
 use super::{MOST_GROWTHS, was_refused};
 use crate::calls::{ended, plan_of};
-use crate::ends::GrowthWatching;
 use crate::heap::Refusing;
+use crate::readers_and_writers::GrowthWatching;
 use crate::texts::{
     BEGINNING, CITED_TWICE, CITED_TWICE_REPORT, CITED_TWICE_STATEMENTS, COMPRESSED,
     COMPRESSED_REPORT, DISJOINT, DISJOINT_REPORT, DUMMIES, DUMMIES_STATEMENTS, FIRST_REPORT,

@@ -14,8 +14,9 @@ abbrev pub StepsAreNamed : List Statement → ℕ → Type 0
 StepsAreNamed db k =
     (end : ℕ) (ts labels letters : List Token) (items : List Item) → reading_faults db k end ts ≡ []
     → IsCompressed ts labels letters → Spells (letters_in letters) items
-    → (js : List ℕ) × AllZip (λ t j. IsUsable db k t.word j) labels js
-    × AreSteps (mandatory_hypotheses db k) js items (bare_steps db k ts)
+    → (bracket_statements : List ℕ)
+    × AllZip (λ t j. IsUsable db k t.word j) labels bracket_statements
+    × AreSteps (mandatory_hypotheses db k) bracket_statements items (bare_steps db k ts)
 
 -- hypotheses, labels and items name at most one list of steps
 abbrev pub NamedStepsAreUnique : Type 0

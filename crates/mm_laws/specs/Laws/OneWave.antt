@@ -1,7 +1,7 @@
 -- Each theorem has one wave. (This project's own.)
 use Rattle.std.specs.Prelude.{◌≡◌, ℕ, Bool, List}
 use Rattle.mm_spec.specs.Statement.{Statement}
-use Rattle.mm_spec.specs.Opened.{counted}
+use Rattle.mm_spec.specs.Opened.{open_as_axioms}
 use Rattle.mm_spec.specs.Laws.Waves.{IsWave}
 use Rattle.mm_spec.specs.Lexed.{LexedText}
 use Rattle.mm_spec.specs.Output.{HasNoFault}
@@ -10,5 +10,5 @@ use Rattle.mm_spec.specs.Output.{HasNoFault}
 abbrev pub HaveWaves : ℕ → LexedText → (with_open : Bool) → Type 0
 HaveWaves len lexed with_open =
     (db : List Statement) → HasNoFault len lexed with_open db → (by_essential : Bool) (t : ℕ)
-    → (n : ℕ) × IsWave (counted with_open db) by_essential t n
-    × ((m : ℕ) → IsWave (counted with_open db) by_essential t m → m ≡ n)
+    → (n : ℕ) × IsWave (open_as_axioms with_open db) by_essential t n
+    × ((m : ℕ) → IsWave (open_as_axioms with_open db) by_essential t m → m ≡ n)

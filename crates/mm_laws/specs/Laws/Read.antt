@@ -2,7 +2,7 @@
 use Rattle.std.specs.Prelude.{ℕ, Bool, List, Option}
 use Rattle.mm_spec.specs.declared.Fault.{Fault}
 use Rattle.mm_spec.specs.Statement.{Statement}
-use Rattle.mm_spec.specs.Opened.{counted}
+use Rattle.mm_spec.specs.Opened.{open_as_axioms}
 use Rattle.mm_spec.specs.Lexed.{LexedText}
 use Rattle.mm_spec.specs.Output.{IsRead}
 
@@ -12,4 +12,4 @@ abbrev pub WhereRead : (List Statement → ℕ → Type 0) → Type 0
 WhereRead P =
     (len : ℕ) (lexed : LexedText) (db : List Statement) (fault : Option Fault)
     → IsRead len lexed db fault
-    → (with_open : Bool) (k : ℕ) → P (counted with_open db) k
+    → (with_open : Bool) (k : ℕ) → P (open_as_axioms with_open db) k

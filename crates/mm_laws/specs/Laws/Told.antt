@@ -4,7 +4,7 @@ use Rattle.std.specs.Prelude.{length, Option, codes}
 use Rattle.std.specs.List.{list_any, filter, range_with_len}
 use Rattle.mm_spec.specs.Text.{Bytes, has_dollar}
 use Rattle.mm_spec.specs.Statement.{Statement}
-use Rattle.mm_spec.specs.Opened.{counted}
+use Rattle.mm_spec.specs.Opened.{open_as_axioms}
 use Rattle.mm_spec.specs.Lexed.{lexed_of}
 use Rattle.mm_spec.specs.Derivation.{Pair}
 use Rattle.mm_spec.specs.Frame.{formula_at, mandatory_hypotheses, mandatory_pairs}
@@ -110,4 +110,4 @@ abbrev pub ReadIsSpelled : Type 0
 ReadIsSpelled =
     (text : List ℕ) (db : List Statement) (fault : Option Fault)
     → IsRead (length text) (lexed_of text) db fault
-    → (with_open : Bool) → AreSpelled (counted with_open db)
+    → (with_open : Bool) → AreSpelled (open_as_axioms with_open db)

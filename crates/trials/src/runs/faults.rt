@@ -115,8 +115,9 @@ fn proofs_of_one_theorem(rt: HostRuntime) -> Result<(), AllocError> {
 
 /// Statements at the end of a text. The bad byte stands in the second row before the end of the
 /// proof, and in the third after the faulty statement. The k-th marked formula of `big` has
-/// 2^(k+2) - 2 symbols.
-const STATEMENTS: [(&[u8], &[u8]); 12] = [
+/// 2^(k+2) - 2 symbols. The last two compare formulas of 2^13 symbols that were made apart: equal
+/// ones, so that the proof fails at its end, and others.
+const STATEMENTS: [(&[u8], &[u8]); 14] = [
     (
         b"wi2 $p wff ( p -> ( q -> p ) ) $= wp wq wp wi $.\n",
         b"refused 7:47 E37\n",
@@ -164,6 +165,14 @@ const STATEMENTS: [(&[u8], &[u8]); 12] = [
     (
         b"long $p wff p $= wp wq wp wi wp wi wp wi wp wi $.\nshort $p wff p $= wq $.\n",
         b"refused 7:48 E37\n",
+    ),
+    (
+        b"dd $a wff p p $.\nax $a |- p $.\n${ e $e |- p $. id $a |- p $. $}\nt $p wff p $= ( dd ax id ) ABBBBBBBBBBBBBZABBBBBBBBBBBBBZFCZEGD $.\n",
+        b"refused 10:65 E37\n",
+    ),
+    (
+        b"dd $a wff p p $.\nax $a |- p $.\n${ e $e |- p $. id $a |- p $. $}\nt $p wff p $= ( dd ax id wq ) ABBBBBBBBBBBBBZEBBBBBBBBBBBBBZGCZFHD $.\n",
+        b"refused 10:66 E35\n",
     ),
 ];
 

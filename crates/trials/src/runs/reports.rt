@@ -252,8 +252,8 @@ fn direct_citations(rt: HostRuntime) -> Result<(), AllocError> {
     assert_all_write(&rt, rt.alloc(), &CITATIONS_CASES)
 }
 
-/// Two blocks with `$f` of their own for the same variables. The formula of `one` is empty behind its
-/// typecode. The proofs of `p` and `q` have the dummy variable `z`, and `o` is an open theorem.
+/// Two blocks with `$f` of their own for the same variables. The formula of `one` is empty behind
+/// its typecode. The proofs of `p` and `q` have the dummy variable `z`, and `o` is an open theorem.
 const TWO_BLOCKS: &[u8] =
     b"$c wff |- $. $v x y z $.\n${ fx $f wff x $. fy $f wff y $. fz $f wff z $. $d x y z $. e $e |- x y $. ax $a |- y $. $}\n${ gx $f wff x $. gz $f wff z $. $d x z $. one $a wff $. two $a |- x $.\n${ m $e |- z $. cut $a |- x $. $}\np $p |- x $= gx gz gz two cut $.\nq $p |- x $= ( gz two cut ) ABBCD $.\no $p |- x $= ? $. $}\n";
 

@@ -1,5 +1,5 @@
-use Rattle.std.proofs.Common.{rules, ◌≡◌, suc, ◌-◌, ◌<◌, ◌||◌, ◌++◌, false, length, take, drop}
-use Rattle.std.proofs.Common.{take_at, replicate, refl, sym, ap, ◌∙◌, subst, arith}
+use Rattle.std.proofs.Common.{rules, ◌≡◌, ◌-◌, ◌<◌, ◌||◌, false, length, drop, take_at, replicate}
+use Rattle.std.proofs.Common.{refl, sym, ap, ◌∙◌, subst, arith}
 use Rattle.std.proofs.lemmas.Bool.{or_left}
 use Rattle.std.proofs.lemmas.List.{get_or_default}
 use Rattle.mm_spec.specs.Citation.{context_at}
@@ -14,38 +14,23 @@ use Rattle.mm_check.proofs.essential.note_essential.Goals.{then-flag, else-flag}
 use Rattle.mm_check.proofs.essential.note_essential.Goals as goal
 
 pub loop-i-init : goal.loop-i-init
-loop-i-init g c =
-    let steps = c.args.steps.now.steps in
-    let step_flags_are = c.in_ok-reset_flags.ensures.no_step_is_set
-    ∙ ap (λ n. replicate n false) c.len.ensures in
-    rw c.len-i.ensures
-    (walked_at_start c.args.database.now.statements c.args.theorem steps
-    c.requires.are_steps.is_complete
-    c.reset_flags.new.entry_flags.items c.reset_flags.new.step_flags.items c.clear.new.self
-    c.requires.are_steps.steps_are c.requires.has_proof
-    c.in_ok-reset_flags.ensures.root_is_essential step_flags_are
-    c.clear.ensures)
+loop-i-init g c = search (rules, arith, replicate, walked_at_start)
 
 pub pop_flag-flag-requires : goal.pop_flag-flag-requires
 pop_flag-flag-requires g c =
-    let steps = c.args.steps.now.steps in
-    let i_lt_length : c.loop-i.i - 1 < length steps =
-    omega (arith, c.loop-i-test.true, c.loop-i.auto.i, c.len-i.ensures) in
-    let i_is_suc : c.loop-i.i ≡ suc (c.loop-i.i - 1) = omega (arith, c.loop-i-test.true) in
-    has_entry_flag c.args.database.now.statements c.args.theorem steps c.loop-i.i
+    has_entry_flag c.args.database.now.statements c.args.theorem c.args.steps.now.steps c.loop-i.i
     (c.loop-i.i - 1) c.loop-i.entry_flags.items c.loop-i.step_flags.items c.loop-i.noted
-    c.loop-i.invariant i_lt_length i_is_suc
+    c.loop-i.invariant (omega (arith, c.loop-i-test.true, c.loop-i.auto.i, c.len-i.ensures))
+    (omega (arith, c.loop-i-test.true))
 
 pub undo_step-requires-clause-label_is_below : goal.undo_step-requires-clause-label_is_below
 undo_step-requires-clause-label_is_below g c =
     let db = c.args.database.now.statements in
-    let steps = c.args.steps.now.steps in
     let i = c.loop-i.i - 1 in
-    let i_lt_length_steps : i < length steps =
-    omega (arith, c.loop-i-test.true, c.loop-i.auto.i, c.len-i.ensures) in
     good_step_label_is_below db c.args.theorem i (as_step c.step.result)
-    (step_at_is_good (context_at db c.args.theorem) steps i i
-    (as_step c.step.result) i_lt_length_steps c.requires.are_steps.are_good refl c.step.ensures)
+    (step_at_is_good (context_at db c.args.theorem) c.args.steps.now.steps i i
+    (as_step c.step.result) (omega (arith, c.loop-i-test.true, c.loop-i.auto.i, c.len-i.ensures))
+    c.requires.are_steps.are_good refl c.step.ensures)
 
 pub undo_step-requires-clause-repeats_earlier : goal.undo_step-requires-clause-repeats_earlier
 undo_step-requires-clause-repeats_earlier g c =
@@ -54,21 +39,22 @@ undo_step-requires-clause-repeats_earlier g c =
     let i = c.loop-i.i - 1 in
     let i_lt_length_steps : i < length steps =
     omega (arith, c.loop-i-test.true, c.loop-i.auto.i, c.len-i.ensures) in
-    let step_flags_fit = ap length c.deref_mut.ensures.value ∙ c.loop-i.invariant.step_flags_fit in
     good_step_is_earlier (context_at db c.args.theorem) i (length c.deref_mut.result.now)
-    (as_step c.step.result) (omega (arith, i_lt_length_steps, step_flags_fit))
-    (step_at_is_good (context_at db c.args.theorem) steps i i
+    (as_step c.step.result) (omega (
+      arith,
+      i_lt_length_steps,
+      ap length c.deref_mut.ensures.value
+          ∙ c.loop-i.invariant.step_flags_fit,
+    )) (step_at_is_good (context_at db c.args.theorem) steps i i
     (as_step c.step.result) i_lt_length_steps c.requires.are_steps.are_good refl c.step.ensures)
 
 pub loop-i-preserved : goal.loop-i-preserved
 loop-i-preserved g c =
-    let db = c.args.database.now.statements in
     let steps = c.args.steps.now.steps in
     let i = c.loop-i.i - 1 in
     let step_flags = c.loop-i.step_flags.items in
     let i_lt_length_steps : i < length steps =
     omega (arith, c.loop-i-test.true, c.loop-i.auto.i, c.len-i.ensures) in
-    let i_is_suc : c.loop-i.i ≡ suc i = omega (arith, c.loop-i-test.true) in
     let is_essential_is : c.if-flag.is_essential ≡ (c.pop_flag-flag.result || flag_at step_flags i)
     =
     elim c.if-flag.branch [
@@ -85,20 +71,15 @@ loop-i-preserved g c =
     ∙ ap (step_flags_after c.if-flag.is_essential (as_step c.step.result))
     c.deref_mut.ensures.value in
     let length_is : length step_flags ≡ c.loop-i.step_flags.len = search rules in
-    let step_flags_written_back : take c.loop-i.step_flags.len
-    (c.undo_step.new.step_flags ++ drop (length c.undo_step.new.step_flags) step_flags)
-    ≡ c.undo_step.new.step_flags = take_at c.undo_step.new.step_flags
+    walked_by_value c.args.database.now.statements c.args.theorem steps c.loop-i.i i
+    c.loop-i.entry_flags.items step_flags c.loop-i.noted c.loop-i.invariant i_lt_length_steps
+    (omega (arith, c.loop-i-test.true)) c.pop_flag-flag.new.entry_flags.items c.pop_flag-flag.result
+    c.if-flag.is_essential (as_step c.step.result) c.undo_step.new.entry_flags.items _
+    c.undo_step.new.noted c.pop_flag-flag.ensures is_essential_is c.requires.are_steps.are_good
+    c.step.ensures c.in_ok-undo_step.ensures.pushes_taken_flags ((take_at c.undo_step.new.step_flags
     (drop (length c.undo_step.new.step_flags) step_flags) c.loop-i.step_flags.len
     (ap length step_flags_are ∙ step_flags_count c.if-flag.is_essential (as_step c.step.result)
-    step_flags
-    ∙ length_is) in
-    walked_by_value db c.args.theorem steps c.loop-i.i i c.loop-i.entry_flags.items step_flags
-    c.loop-i.noted c.loop-i.invariant i_lt_length_steps i_is_suc
-    c.pop_flag-flag.new.entry_flags.items c.pop_flag-flag.result c.if-flag.is_essential
-    (as_step c.step.result) c.undo_step.new.entry_flags.items _ c.undo_step.new.noted
-    c.pop_flag-flag.ensures is_essential_is c.requires.are_steps.are_good c.step.ensures
-    c.in_ok-undo_step.ensures.pushes_taken_flags
-    (step_flags_written_back ∙ step_flags_are) c.in_ok-undo_step.ensures.notes_applied
+    step_flags ∙ length_is)) ∙ step_flags_are) c.in_ok-undo_step.ensures.notes_applied
 
 pub returns : goal.returns
 returns g c =

@@ -1,4 +1,4 @@
-use Rattle.std.proofs.Common.{ℕ, ◌≤◌, ◌++◌, ◌&&◌, length, List, map, ap, ◌∙◌, arith}
+use Rattle.std.proofs.Common.{ℕ, ◌++◌, ◌&&◌, List, map, ap, ◌∙◌, arith}
 use Rattle.std.specs.List.{list_any}
 use Rattle.std.proofs.lemmas.List.{take_all}
 use Rattle.mm_spec.specs.Scope.{statement_at}
@@ -7,12 +7,8 @@ use Rattle.mm_check.proofs.essential.push_flags.Goals as goal
 
 pub returns : goal.returns
 returns g c =
-    let hs = c.mandatory_hypotheses-hypothesis-items.result.now in
-    let length_hs_le : length hs ≤ c.loop-hypothesis.hypothesis-index = omega
-    (arith, c.loop-hypothesis-test.false) in
-    c.loop-hypothesis.invariant
-    ∙ ap (λ (ks : List ℕ). c.args.entry_flags.now.items
-    ++ map (λ h. c.args.is_essential
-    && list_any is_essential (statement_at c.args.database.now.statements h)) ks)
-    (take_all c.loop-hypothesis.hypothesis-index hs length_hs_le
+    c.loop-hypothesis.invariant ∙ ap (λ (ks : List ℕ). c.args.entry_flags.now.items ++ map
+    (λ h. c.args.is_essential && list_any is_essential (statement_at c.args.database.now.statements
+    h)) ks) (take_all c.loop-hypothesis.hypothesis-index
+    c.mandatory_hypotheses-hypothesis-items.result.now (omega (arith, c.loop-hypothesis-test.false))
     ∙ c.mandatory_hypotheses-hypothesis-items.ensures.hypotheses_are)

@@ -1,3 +1,4 @@
+use Rattle.std.proofs.Common.{rules, arith}
 use Rattle.mm_database.specs.OrderedNames.{index_in}
 use Rattle.mm_database.proofs.NameMapLaw.{findable_beside_crowded, findable_in_filled_slots}
 use Rattle.mm_database.proofs.NameMapLaw.{first_free_is_free, others_stay_known}
@@ -5,12 +6,13 @@ use Rattle.mm_database.proofs.name_map.place.Goals as goal
 
 pub returns-in-Some-clause-others_stay : goal.returns-in-Some-clause-others_stay
 returns-in-Some-clause-others_stay g c =
-    λ w i w_isnt_word. findable_in_filled_slots c.args.slots.now.items
-    (index_in c.args.crowded.now)
-    c.in-Some.slot c.in-Ok.small_index
-    (first_free_is_free c.args.slots.now.items c.first_slot.result c.in-Some.slot
-    c.in-Some.ensures.is_first_free)
-    w i
+    search (
+      rules,
+      arith,
+      findable_in_filled_slots,
+      first_free_is_free,
+      c.in-Some.ensures.is_first_free,
+    )
 
 pub returns-in-None-clause-others_stay : goal.returns-in-None-clause-others_stay
 returns-in-None-clause-others_stay g c =

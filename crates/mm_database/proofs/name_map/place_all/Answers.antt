@@ -1,3 +1,4 @@
+use Rattle.std.proofs.lemmas.Grind.{common_steps}
 use Rattle.std.proofs.Common.{arith}
 use Rattle.std.proofs.lemmas.Option.{slice_get_within}
 use Rattle.mm_database.specs.Names.{names_of}
@@ -31,10 +32,4 @@ loop-index-preserved g c =
 
 pub returns-clause-are_findable : goal.returns-clause-are_findable
 returns-clause-are_findable g c =
-    let es = c.args.entries.now in
-    let count_is = as_many_names_as_entries es in
-    let length_le_index = c.loop-index-test.false in
-    λ i w name_is_w.
-    let i_lt_length = slice_get_within (names_of es) i w name_is_w in
-    c.loop-index.invariant.earlier_are_findable i w
-    (omega (arith, i_lt_length, count_is, length_le_index)) name_is_w
+    grind (arith, common_steps, as_many_names_as_entries, slice_get_within)

@@ -19,7 +19,8 @@ loop-symbol-preserved g c =
             chains_for_equal_tests _ _ statement statement _ _ (omega arith)
             (test_with_next_symbol has below c.args.symbols.now c.loop-symbol.symbol-index _ _
             statement c.loop-symbol-test.true c.symbol-item.is
-            (ap below (sym c.number.ensures) ∙ lt-ltb c.number.result c.args.end w.if-number-end.true))
+            (ap below (sym c.number.ensures) ∙ lt-ltb c.number.result c.args.end
+            w.if-number-end.true))
             (w.in_ok-add_link.ensures.adds_in_front _
             (c.loop-symbol.invariant.chains has are_chains));
       })
@@ -30,14 +31,16 @@ loop-symbol-preserved g c =
             chains_for_equal_tests _ _ statement statement _ _ (omega arith)
             (test_without_next_symbol has below c.args.symbols.now c.loop-symbol.symbol-index _ _
             statement c.loop-symbol-test.true c.symbol-item.is
-            (ap below (sym c.number.ensures) ∙ le-ltb c.number.result c.args.end w.if-number-end.false))
+            (ap below (sym c.number.ensures) ∙ le-ltb c.number.result c.args.end
+            w.if-number-end.false))
             (c.loop-symbol.invariant.chains has are_chains);
       })
     ]
 
 pub returns-clause-adds_in_front : goal.returns-clause-adds_in_front
 returns-clause-adds_in_front g c =
-    subst (λ (ys : List ℕ). AddsInFront (λ x. nat_lt x c.args.end && is_member ys x) c.args.statement
+    subst (λ (ys : List ℕ). AddsInFront (λ x. nat_lt x c.args.end && is_member ys x)
+    c.args.statement
     c.args.chains.now
     c.loop-symbol.chains)
     (take_all c.loop-symbol.symbol-index c.args.symbols.now c.loop-symbol-test.false)

@@ -1,5 +1,5 @@
 use Rattle.std.proofs.Common.{◌≡◌, ◌∙◌, ◌+◌, ◌-◌, ◌<◌, ℕ, List, length, get_or, refl, sym, ap}
-use Rattle.std.proofs.Common.{arith, replicate}
+use Rattle.std.proofs.Common.{arith, replicate, nat_le, nat_lt, nat_eq, ◌&&◌, ◌||◌}
 use Rattle.std.proofs.lemmas.List.{length-replicate, get_or-replicate}
 use Rattle.mm_frame.proofs.ChainsLaw.{no_chains_at_start, no_links_are_linked}
 use Rattle.mm_frame.proofs.ChainsLaw.{chains_for_equal_tests, has_symbol_with_disjoint}
@@ -8,7 +8,6 @@ use Rattle.mm_frame.proofs.ChainsLaw.{has_symbol_lt_length, members_below}
 use Rattle.mm_spec.specs.Derivation.{is_member}
 use Rattle.mm_spec.specs.Frame.{symbol_names}
 use Rattle.mm_database.specs.DisjointIndex.{has_symbol_by_width}
-use Rattle.std.proofs.Common.{nat_le, nat_lt, nat_eq, ◌&&◌, ◌||◌}
 use Rattle.mm_frame.proofs.chains.chains_of.Goals as goal
 
 pub loop-statement-init : goal.loop-statement-init
@@ -49,11 +48,15 @@ loop-statement-preserved-in-Continue-branch-2 g c =
           chains_for_equal_tests _ _ (statement - 1) (statement - 1) _ _ (omega arith)
           (λ x j. ap (λ b. (nat_le statement j && has_symbol_by_width db c.args.narrow x j)
           || (b && nat_eq j (statement - 1)))
-          (ap (λ n. nat_lt x n && is_member c.formula.result.now x) c.symbol_count-end.ensures.count_is
-          ∙ members_below (length (symbol_names db)) x c.formula.result.now c.formula.ensures.symbols_lt_count)
-          ∙ has_symbol_with_disjoint db c.args.narrow (statement - 1) x j statement c.formula.result.now
+          (ap (λ n. nat_lt x n && is_member c.formula.result.now x)
+          c.symbol_count-end.ensures.count_is
+          ∙ members_below (length (symbol_names db)) x c.formula.result.now
+          c.formula.ensures.symbols_lt_count)
+          ∙ has_symbol_with_disjoint db c.args.narrow (statement - 1) x j statement
+          c.formula.result.now
           statement_is_next
-          c.formula.ensures.formula (sym c.is_disjoint_by_width.ensures ∙ c.if-is_disjoint_by_width.true))
+          c.formula.ensures.formula (sym c.is_disjoint_by_width.ensures ∙
+          c.if-is_disjoint_by_width.true))
           (c.in_ok-add_links.ensures.adds_in_front _
           (chains_for_equal_tests _ _ (statement - 1) statement _ _ (omega arith) (λ x j. refl)
           c.loop-statement.invariant.chains));
@@ -73,7 +76,8 @@ loop-statement-preserved g c =
       linked = c.loop-statement.invariant.linked;
       chains =
           chains_for_equal_tests _ _ (statement - 1) statement _ _ (omega arith)
-          (λ x j. has_symbol_without_disjoint db c.args.narrow (statement - 1) x j statement statement_is_next
+          (λ x j. has_symbol_without_disjoint db c.args.narrow (statement - 1) x j statement
+          statement_is_next
           (sym c.is_disjoint_by_width.ensures ∙ c.if-is_disjoint_by_width.false))
           c.loop-statement.invariant.chains;
     }
@@ -81,6 +85,7 @@ loop-statement-preserved g c =
 pub returns-clause-symbols_have_heads : goal.returns-clause-symbols_have_heads
 returns-clause-symbols_have_heads g c = λ x j j_has_x.
     let x_lt_symbol_count =
-    symbol_lt_symbol_count c.args.statements.now.list c.len-statement.ensures.is_sound c.args.narrow x j j_has_x
+    symbol_lt_symbol_count c.args.statements.now.list c.len-statement.ensures.is_sound c.args.narrow
+    x j j_has_x
     in
     omega (arith, x_lt_symbol_count, c.loop-statement.invariant.count)

@@ -9,7 +9,8 @@ invariant-loop-statement g l = record {
   statement_le_length : l.statement ≤ length l.statements.list;
   count : length l.chains.heads.items ≡ length (symbol_names l.statements.list);
   linked : AreLinked l.chains.heads.items l.chains.links.items;
-  chains : AreChains (λ x j. nat_le l.statement j && has_symbol_by_width l.statements.list l.narrow x j) l.statement
+  chains : AreChains (λ x j. nat_le l.statement j && has_symbol_by_width l.statements.list l.narrow
+      x j) l.statement
       l.chains.heads.items l.chains.links.items;
 }
 

@@ -1,6 +1,6 @@
 use Rattle.std.proofs.Common.{◌≡◌, ◌∙◌, ◌+◌, ◌-◌, ◌<◌, ℕ, List, length, get_or, refl, sym, ap}
 use Rattle.std.proofs.Common.{arith, replicate, true, subst, nat_le, ◌&&◌}
-use Rattle.std.proofs.lemmas.List.{length-replicate, get_or-replicate, get_or_default}
+use Rattle.std.proofs.lemmas.List.{length-replicate, get_or-replicate}
 use Rattle.mm_database.proofs.DisjointIndexLaw.{has_pair_at_index}
 use Rattle.mm_frame.specs.Chains.{AreChains, has_lower}
 use Rattle.mm_frame.proofs.ChainsLaw.{no_chains_at_start, no_links_are_linked, lower_lt_length}

@@ -8,7 +8,8 @@ invariant-loop-index g l = record {
   index_le_length : l.index ≤ length l.by_symbol;
   count : length l.chains.heads.items ≡ length (symbol_names l.statements.list);
   linked : AreLinked l.chains.heads.items l.chains.links.items;
-  chains : AreChains (λ x i. nat_le l.index i && has_lower l.statements.list l.by_symbol x i) l.index
+  chains : AreChains (λ x i. nat_le l.index i && has_lower l.statements.list l.by_symbol x i)
+      l.index
       l.chains.heads.items l.chains.links.items;
 }
 

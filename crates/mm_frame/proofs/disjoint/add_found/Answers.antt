@@ -1,5 +1,5 @@
-use Rattle.std.proofs.Common.{◌≡◌, ◌∙◌, ◌&&◌, ◌||◌, ◌++◌, ◌∷◌, [], Bool, ℕ, List, nat_eq, nat_lt, ap, sym, take_all}
-use Rattle.mm_spec.specs.Derivation.{is_member}
+use Rattle.std.proofs.Common.{rules, arith, ◌≡◌, ◌∙◌, ◌&&◌, ◌||◌, ◌++◌, ◌∷◌, [], Bool, ℕ, nat_eq}
+use Rattle.std.proofs.Common.{nat_lt, ap, sym, take_all}
 use Rattle.mm_database.specs.Pairs.{has_pair}
 use Rattle.mm_database.specs.DisjointIndex.{is_active_in_row}
 use Rattle.mm_frame.proofs.LoopsLaw.{none_so_far, passing_with_next_element, pair_if_passing}
@@ -40,12 +40,4 @@ loop-variable-preserved g c = λ x y.
     c.number.ensures)
 
 pub returns : goal.returns
-returns g c = λ x y.
-    c.loop-variable.invariant x y
-    ∙ ap (λ (xs : List ℕ). has_pair c.args.pairs.now.items x y
-    || (is_member xs y && (nat_eq x c.args.low && (nat_lt c.args.low y
-    && is_active_in_row c.args.blocks.now c.args.row.now y c.args.at))))
-    (take_all c.loop-variable.variable-index c.args.variables.now c.loop-variable-test.false)
-    ∙ and_swap (has_pair c.args.pairs.now.items x y) (is_member c.args.variables.now y)
-    (nat_eq x c.args.low) (nat_lt c.args.low y
-    && is_active_in_row c.args.blocks.now c.args.row.now y c.args.at)
+returns g c = search (rules, arith, take_all, and_swap)

@@ -1,4 +1,5 @@
-use Rattle.std.proofs.Common.{◌≡◌, ◌∙◌, ◌&&◌, ◌||◌, Bool, ℕ, List, get_or, nat_eq, nat_lt, ap, sym, take_all}
+use Rattle.std.proofs.Common.{◌≡◌, ◌∙◌, ◌&&◌, ◌||◌, Bool, ℕ, List, get_or, nat_eq, nat_lt, ap, sym}
+use Rattle.std.proofs.Common.{take_all}
 use Rattle.std.specs.List.{list_any}
 use Rattle.mm_spec.specs.Derivation.{is_member}
 use Rattle.mm_database.specs.Pairs.{has_pair}

@@ -32,7 +32,7 @@ returns g c =
     c.requires.are_sources.index_is.members_are variables c.sort_and_dedup_pairs.new.pairs.items
     c.requires.are_mandatory
     (λ j y. c.sort_and_dedup_pairs.ensures.members_stay j y
-    ∙ rw (← c.blocks-blocks.ensures.blocks_are) (c.in_ok-add_all_active.ensures j y)
+    ∙ rw (← c.blocks-blocks.ensures.blocks_are) (c.in_ok-append_all_active_wide.ensures j y)
     ∙ ap (λ (xs : List (ℕ × ℕ)). has_pair xs j y
     || (is_member variables y && (has_pair ps y j && is_active_local b j k))) c.clear.ensures.items)
     c.sort_and_dedup_pairs-2.new.pairs.items c.sort_and_dedup_pairs-2.ensures.rising

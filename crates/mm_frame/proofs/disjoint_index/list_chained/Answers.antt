@@ -1,4 +1,4 @@
-use Rattle.std.proofs.Common.{◌≡◌, ◌∙◌, ◌++◌, ℕ, List, get_or, map, ap}
+use Rattle.std.proofs.Common.{◌≡◌, ◌∙◌, ◌++◌, ℕ, get_or, map, ap}
 use Rattle.std.proofs.lemmas.Result.{on_ok_weaker}
 use Rattle.mm_frame.proofs.RowsLaw.{indices_in_range, pairs_behind}
 use Rattle.mm_frame.proofs.disjoint_index.list_chained.Goals as goal
@@ -8,7 +8,8 @@ add_indexed-requires g c =
     indices_in_range c.args.by_symbol.now c.args.symbol c.requires.have_indices.0 c.deref.result.now
     (c.deref.ensures.value
     ∙ c.in_ok-add_chain.ensures c.requires.have_indices.0 c.requires.have_indices.1
-    ∙ ap (λ ps. ps ++ map (λ j. (c.args.symbol, j)) c.requires.have_indices.0) c.clear.ensures.items)
+    ∙ ap (λ ps. ps ++ map (λ j. (c.args.symbol, j)) c.requires.have_indices.0)
+    c.clear.ensures.items)
     c.requires.have_indices.2
 
 pub returns : goal.returns

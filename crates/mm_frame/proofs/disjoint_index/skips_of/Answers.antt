@@ -1,4 +1,5 @@
-use Rattle.std.proofs.Common.{◌-◌, length, ap, sym, ◌∙◌, arith}
+use Rattle.std.proofs.Common.{rules, ◌-◌, length, ap, sym, ◌∙◌, arith}
+use Rattle.std.proofs.lemmas.Grind.{common_steps}
 use Rattle.mm_frame.proofs.SkipsLaw.{covers_itself, covers_before, skip_covers, skips_with_next}
 use Rattle.mm_frame.proofs.SkipsLaw.{so_far_are_skips}
 use Rattle.mm_frame.proofs.disjoint_index.skips_of.Goals as goal
@@ -7,11 +8,7 @@ pub loop-index-init : goal.loop-index-init
 loop-index-init g c = (ap length c.new-skips.ensures.items, λ q q_lt_0. absurd (omega arith))
 
 pub loop-covered_from-init : goal.loop-covered_from-init
-loop-covered_from-init g c = (
-  omega arith,
-  covers_itself c.args.blocks.now c.args.by_symbol.now
-      c.loop-index.index,
-)
+loop-covered_from-init g c = grind (arith, common_steps, covers_itself)
 
 pub loop-covered_from-smaller : goal.loop-covered_from-smaller
 loop-covered_from-smaller g c =
@@ -45,35 +42,17 @@ loop-covered_from-preserved g c =
     c.index-covered_from.ensures)
 
 pub loop-index-preserved : goal.loop-index-preserved
-loop-index-preserved g c =
-    skips_with_next c.args.blocks.now c.args.by_symbol.now c.loop-index.index
-    c.loop-covered_from.covered_from
-    c.loop-index.skips.items
-    c.loop-index.invariant c.loop-covered_from.invariant c.push.new.self.items
-    c.in_ok-push.ensures.items
+loop-index-preserved g c = search (rules, arith, skips_with_next)
 
 pub returns : goal.returns
-returns g c =
-    so_far_are_skips c.args.blocks.now c.args.by_symbol.now c.loop-index.index
-    c.loop-index.skips.items
-    c.loop-index.invariant c.loop-index.auto.index-end c.loop-index-test.false
+returns g c = search (rules, arith, so_far_are_skips)
 
 pub is_covered-requires-clause-pair_has_block : goal.is_covered-requires-clause-pair_has_block
-is_covered-requires-clause-pair_has_block g c =
-    let covered_from_le_index = c.loop-covered_from.invariant.0 in
-    let index_lt_end = c.loop-index-test.true in
-    let covered_from_gt_0 = c.loop-covered_from-test.true in
-    c.requires.all_have_blocks (c.loop-covered_from.covered_from - 1)
-    (omega (arith, covered_from_le_index, index_lt_end, covered_from_gt_0))
+is_covered-requires-clause-pair_has_block g c = search (rules, arith)
 
 pub is_covered-requires-clause-covering_has_block :
     goal.is_covered-requires-clause-covering_has_block
-is_covered-requires-clause-covering_has_block g c =
-    c.requires.all_have_blocks c.loop-index.index c.loop-index-test.true
+is_covered-requires-clause-covering_has_block g c = search (rules, arith)
 
 pub index-covered_from-requires : goal.index-covered_from-requires
-index-covered_from-requires g c =
-    let skips_length = c.loop-index.invariant.0 in
-    let covered_from_le_index = c.loop-covered_from.invariant.0 in
-    let covered_from_gt_0 = c.loop-covered_from-test.true in
-    omega (arith, skips_length, covered_from_le_index, covered_from_gt_0)
+index-covered_from-requires g c = search (rules, arith)

@@ -1,15 +1,14 @@
-use Rattle.std.proofs.Common.{◌≢◌, ◌∙◌, ◌++◌, ◌∷◌, [], ℕ, Some, None, is_some}
-use Rattle.std.proofs.Common.{Option, length, get_or, refl, sym, ap, arith}
-use Rattle.std.proofs.Common.{◌-◌, Bool, List, if◌then◌else◌}
+use Rattle.std.proofs.Common.{◌≢◌, ◌∙◌, ◌++◌, ◌∷◌, [], ℕ, Some, None, is_some, Option, length}
+use Rattle.std.proofs.Common.{get_or, refl, sym, ap, arith, ◌-◌, Bool, List, if◌then◌else◌}
 use Rattle.std.proofs.lemmas.Bool.{eq-eqb}
 use Rattle.mm_spec.specs.Derivation.{is_member}
 use Rattle.mm_spec.specs.Frame.{symbol_names}
 use Rattle.mm_outline.specs.Blocks.{never}
 use Rattle.mm_database.specs.Frames.{Mandatory}
 use Rattle.mm_database.proofs.NamesLaw.{on_ok_then}
-use Rattle.mm_frame.specs.Scope.{is_further}
-use Rattle.mm_frame.proofs.ScopeLaw.{essential_lists_stay, previous_has_frame, taken_over}
-use Rattle.mm_frame.proofs.ScopeLaw.{ready_after_assertion, fresh_later}
+use Rattle.mm_frame.specs.Neighbours.{is_further}
+use Rattle.mm_frame.proofs.NeighboursLaw.{essential_lists_stay, previous_has_frame, taken_over}
+use Rattle.mm_frame.proofs.NeighboursLaw.{ready_after_assertion, fresh_later}
 use Rattle.mm_frame.proofs.frames.add_assertion.Goals as goal
 
 pub list_further-requires-clause-same_are_essential :
@@ -73,7 +72,8 @@ add_listed-requires-clause-has_frame g c = λ is_some_index.
     let s = c.args.scratch.now in
     let index_is = c.index_from-previous.ensures in
     let has_previous : s.previous ≢ never =
-    λ is_never. is_some_index (index_is ∙ ap (λ (d : Bool). if d then never else s.previous - c.args.from)
+    λ is_never. is_some_index (index_is ∙ ap (λ (d : Bool). if d then never else s.previous -
+    c.args.from)
     (eq-eqb s.previous never is_never)) in
     ap (λ (p : ℕ). is_some (get_or c.args.frames.now p None)) index_is
     ∙ ap is_some (previous_has_frame db c.args.from c.args.assertion s

@@ -1,7 +1,7 @@
 use Rattle.std.proofs.Common.{◌∙◌, ◌+◌, refl, sym, subst}
 use Rattle.mm_database.proofs.NamesLaw.{on_ok_then}
-use Rattle.mm_frame.specs.Scope.{IsReady}
-use Rattle.mm_frame.proofs.ScopeLaw.{ready_in_same_scope, ready_without_scope, kind_at_keeps}
+use Rattle.mm_frame.specs.Neighbours.{IsReady}
+use Rattle.mm_frame.proofs.NeighboursLaw.{ready_in_same_scope, ready_without_scope, kind_at_keeps}
 use Rattle.mm_frame.proofs.frames.add_other.Goals.{then-not-keeps_scope, else-not-keeps_scope}
 use Rattle.mm_frame.proofs.frames.add_other.Goals as goal
 
@@ -10,7 +10,8 @@ returns-clause-is_ready g c =
     let db = c.args.statements.now.list in
     let k = c.args.statement in
     let from = c.args.from in
-    let ready : IsReady db from (k + 1) c.if-not-keeps_scope.scratch = elim c.if-not-keeps_scope.branch [
+    let ready : IsReady db from (k + 1) c.if-not-keeps_scope.scratch = elim
+    c.if-not-keeps_scope.branch [
       | then-not-keeps_scope w ↦
           subst (IsReady db from (k + 1)) (sym w.scratch-is)
           (ready_without_scope db from k c.args.scratch.now _ c.requires.is_ready refl refl refl

@@ -4,4 +4,5 @@ use Rattle.mm_frame.proofs.frames.are_pairs.Given as goal
 
 abbrev pub invariant-loop-index : goal.invariant-loop-index
 invariant-loop-index l =
-    map (λ p. pair p.0 p.1) (take l.index l.symbols) ≡ map (λ p. pair p.0 p.1) (take l.index l.pairs)
+    map (λ p. pair p.0 p.1) (take l.index l.symbols) ≡ map (λ p. pair p.0 p.1) (take l.index
+    l.pairs)

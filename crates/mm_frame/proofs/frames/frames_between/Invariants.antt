@@ -1,6 +1,6 @@
 use Rattle.std.proofs.Common.{◌≡◌, ◌≤◌}
 use Rattle.mm_frame.specs.Hypotheses.{AreLastFloats}
-use Rattle.mm_frame.specs.Scope.{IsReady}
+use Rattle.mm_frame.specs.Neighbours.{IsReady}
 use Rattle.mm_database.specs.Frames.{frames_between}
 use Rattle.mm_frame.proofs.frames.frames_between.Given as goal
 

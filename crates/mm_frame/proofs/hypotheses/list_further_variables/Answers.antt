@@ -1,5 +1,5 @@
-use Rattle.std.proofs.Common.{◌≡◌, ◌∙◌, ◌&&◌, ◌||◌, not, Bool, ℕ, List, nat_eq, slice_index, ap, ap₂}
-use Rattle.std.proofs.Common.{sym, refl, take_all, true, false}
+use Rattle.std.proofs.Common.{◌≡◌, ◌∙◌, ◌&&◌, ◌||◌, not, Bool, ℕ, List, nat_eq, slice_index, ap}
+use Rattle.std.proofs.Common.{ap₂, sym, refl, take_all, true, false}
 use Rattle.mm_spec.specs.Derivation.{is_member}
 use Rattle.mm_spec.specs.Frame.{is_variable_number}
 use Rattle.mm_spec.proofs.MemberLaw.{member_push}

@@ -2,8 +2,7 @@ use Rattle.std.proofs.Common.{◌&&◌, ◌||◌, ◌∙◌, ap, ap₂, sym, Lis
 use Rattle.std.proofs.lemmas.Bool.{and_parts}
 use Rattle.std.specs.List.{list_any}
 use Rattle.mm_spec.specs.Derivation.{is_member}
-use Rattle.mm_spec.specs.Frame.{is_variable_number, formula_at, active_of}
-use Rattle.mm_spec.specs.Frame.{is_essential}
+use Rattle.mm_spec.specs.Frame.{is_variable_number, formula_at, active_of, is_essential}
 use Rattle.mm_spec.proofs.ListLaw.{element_is_member}
 use Rattle.mm_frame.proofs.HypothesesLaw.{listed_are_mandatory, variable_has_name}
 use Rattle.mm_database.proofs.NamesLaw.{on_ok_then}

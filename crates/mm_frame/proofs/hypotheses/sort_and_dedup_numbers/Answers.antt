@@ -1,4 +1,4 @@
-use Rattle.std.proofs.Common.{◌≡◌, nat_eq}
+use Rattle.std.proofs.Common.{rules, arith, ◌≡◌, nat_eq}
 use Rattle.std.specs.List.{dedup}
 use Rattle.std.proofs.lemmas.List.Filters.{dedup_is}
 use Rattle.std.proofs.lemmas.Map.Keys.{IsStrictlyIncreasing-dedup}
@@ -13,7 +13,4 @@ returns-clause-rising g c =
     (IsStrictlyIncreasing-dedup c.sort_unstable.new.self.items c.sort_unstable.ensures.sorted)
 
 pub returns-clause-members_stay : goal.returns-clause-members_stay
-returns-clause-members_stay g c =
-    sort_and_dedup_keeps_members c.args.numbers.now.items c.sort_unstable.new.self.items
-    c.dedup.new.self.items
-    c.sort_unstable.ensures.permutation (dedup_is nat_eq _ _ c.dedup.ensures.filtered)
+returns-clause-members_stay g c = search (rules, arith, sort_and_dedup_keeps_members, dedup_is)

@@ -15,8 +15,7 @@ returns c text = record {
       ap (reading text None) (sym (words_are_words_of text ws are_words)) in (
         reading text None ws,
         reading_IsReading text ws,
-        tokens_of_read text
-            (reading text None ws) is_short readings_equal,
+        tokens_of_read text (reading text None ws) is_short readings_equal,
         lexical_fault_read text (reading text None ws) is_short readings_equal,
       );
 }

@@ -1,77 +1,52 @@
-use Rattle.std.proofs.Common.{rules, arith, ◌≤◌, length, ◌≡◌, ◌∙◌, ℕ, List, [], Some, not, sym}
-use Rattle.std.proofs.Common.{ap, subst}
+use Rattle.std.proofs.Common.{rules, arith, ◌≤◌, length, ◌≡◌, ◌∙◌, ℕ, List, [], Some, not, sym, ap}
+use Rattle.std.proofs.Common.{subst}
 use Rattle.mm_lex.specs.Pieces.{side_reading}
 use Rattle.mm_lex.specs.Between.{side}
 use Rattle.mm_spec.specs.declared.TheConstants.{TEXT_LIMIT}
 use Rattle.mm_lex.specs.declared.scanner.WordScanner.{WordScanner}
 use Rattle.mm_spec.specs.Laws.Readings.{append_reading}
 use Rattle.mm_spec.specs.Words.{words_between}
-use Rattle.mm_lex.specs.Beginnings.{ArePlain}
-use Rattle.mm_lex.specs.Plain.{IsPlainWord}
-use Rattle.mm_spec.specs.Readings.{bytes_of, reading}
-use Rattle.mm_lex.proofs.PiecesLaw.{append_reading_continues, append_reading_is_complete}
-use Rattle.mm_lex.proofs.PiecesLaw.{appended_skips_plain}
-use Rattle.mm_lex.proofs.PiecesLaw.{append_reading_some}
-use Rattle.mm_lex.proofs.PiecesLaw.{next_word_of_equal_texts}
+use Rattle.mm_spec.specs.Readings.{Reading, reading}
+use Rattle.mm_lex.proofs.PiecesLaw.{append_reading_is_complete, append_reading_some}
+use Rattle.mm_lex.proofs.PiecesLaw.{next_word_is_read, plain_words_are_skipped}
 use Rattle.mm_lex.proofs.pieces.lex_between.Goals as goal
 use Rattle.mm_lex.proofs.pieces.lex_between.Goals.{else-loop-scanner-test}
 use Rattle.mm_lex.proofs.pieces.lex_between.Goals.{then-loop-scanner-test+in-None-1}
 
 pub loop-scanner-preserved : goal.loop-scanner-preserved
 loop-scanner-preserved g c =
-    let invariant_before = c.loop-scanner.invariant in
+    let before = c.loop-scanner.invariant in
     let text = c.args.text.now in
-    let word = c.in-Some.found.word in
-    let next_word_is =
-    next_word_of_equal_texts _ text c.loop-scanner.scanner.from c.next_word.new.self.from
-    c.args.tail_start word
-    invariant_before.texts_equal c.in-Some.ensures.is_next_word in
+    let is_read = next_word_is_read _ text c.loop-scanner.scanner.from c.next_word.new.self.from
+    c.args.tail_start c.in-Some.found.word before.texts_equal c.in-Some.ensures.is_next_word in
     record {
-      texts_equal = c.in-Some.ensures.text_is ∙ invariant_before.texts_equal;
+      texts_equal = c.in-Some.ensures.text_is ∙ before.texts_equal;
       outside_reading =
-          λ p. append_reading_continues text _ (side_reading p (side c.loop-scanner.outside)) _ word
-          _ _
-          (invariant_before.outside_reading p) next_word_is (c.in_ok-read_word.ensures p);
+          λ p. is_read _ (side_reading p (side c.loop-scanner.outside)) _ (before.outside_reading p)
+          (c.in_ok-read_word.ensures p);
       inside_reading =
-          λ p. append_reading_continues text _ (side_reading p (side c.loop-scanner.inside)) _ word
-          _ _
-          (invariant_before.inside_reading p) next_word_is (c.in_ok-read_word-2.ensures p);
+          λ p. is_read _ (side_reading p (side c.loop-scanner.inside)) _ (before.inside_reading p)
+          (c.in_ok-read_word-2.ensures p);
     }
 
 pub loop-scanner-preserved-then-ignores_plain-2 : goal.loop-scanner-preserved-then-ignores_plain-2
 loop-scanner-preserved-then-ignores_plain-2 g c =
-    let invariant_before = c.loop-scanner.invariant in
+    let before = c.loop-scanner.invariant in
     let text = c.args.text.now in
-    let word = c.in-Some.found.word in
-    let texts_equal = c.in-Some.ensures.text_is ∙ invariant_before.texts_equal in
-    let next_from = c.next_word.new.self.from in
-    let upto = c.skip_plain.new.self.from in
-    let next_word_is =
-    next_word_of_equal_texts _ text c.loop-scanner.scanner.from next_from c.args.tail_start word
-    invariant_before.texts_equal
-    c.in-Some.ensures.is_next_word in
-    let is_plain_word =
-    subst (λ (t : List ℕ). IsPlainWord (bytes_of t word)) invariant_before.texts_equal
-    (c.in-Some.ensures.plain_if_known c.if-found.true) in
-    let others_are_plain =
-    subst (λ (t : List ℕ). ArePlain t next_from upto) texts_equal c.skip_plain.ensures.are_plain in
+    let are_skipped = λ (total r : Reading). plain_words_are_skipped _ text
+    c.loop-scanner.scanner.from c.next_word.new.self.from c.args.tail_start c.in-Some.found.word
+    before.texts_equal c.in-Some.ensures.is_next_word c.skip_plain.new.self.from total r
+    (c.in-Some.ensures.plain_if_known c.if-found.true) c.skip_plain.ensures.onward
+    (rw c.in-Some.ensures.text_is at c.skip_plain.ensures.are_plain) in
     record {
-      texts_equal = c.skip_plain.ensures.text_is ∙ texts_equal;
+      texts_equal = c.skip_plain.ensures.text_is ∙ c.in-Some.ensures.text_is ∙ before.texts_equal;
       outside_reading =
-          λ p. appended_skips_plain text _
-          (side_reading p (side c.loop-scanner.outside)) word _ next_from upto
-          c.args.tail_start
-          (sym (c.ignores_plain.ensures p) ∙ c.if-ignores_plain.true) is_plain_word
-          c.skip_plain.ensures.onward others_are_plain (invariant_before.outside_reading p)
-          next_word_is;
+          λ p. are_skipped _ (side_reading p (side c.loop-scanner.outside))
+          (before.outside_reading p) (sym (c.ignores_plain.ensures p) ∙ c.if-ignores_plain.true);
       inside_reading =
-          λ p. appended_skips_plain text _
-          (side_reading p (side c.loop-scanner.inside)) word _ next_from upto
-          c.args.tail_start
-          (sym (c.ignores_plain-then-ignores_plain.ensures p) ∙ c.if-ignores_plain-2.true)
-          is_plain_word
-          c.skip_plain.ensures.onward others_are_plain (invariant_before.inside_reading p)
-          next_word_is;
+          λ p. are_skipped _ (side_reading p (side c.loop-scanner.inside))
+          (before.inside_reading p)
+          (sym (c.ignores_plain-then-ignores_plain.ensures p) ∙ c.if-ignores_plain-2.true);
     }
 
 pub new-scanner-requires : goal.new-scanner-requires

@@ -1,6 +1,6 @@
 use Rattle.std.proofs.Common.{subst}
 use Rattle.mm_spec.specs.Request.{Request}
-use Rattle.mm_run.specs.Counted.{IsJudgedText}
+use Rattle.mm_run.specs.Judging.{IsJudgedText}
 use Rattle.mm_library.proofs.report.output.Goals as goal
 
 pub write_to_front-requires : goal.write_to_front-requires

@@ -1,4 +1,4 @@
-use Rattle.std.proofs.Common.{◌≡◌, ◌<◌, ◌∙◌, ℕ, List, All, length, get_or, ap₂, sym, subst}
+use Rattle.std.proofs.Common.{◌<◌, ◌∙◌, ℕ, List, All, length, ap₂, sym, subst}
 use Rattle.std.proofs.lemmas.List.{get_or_default}
 use Rattle.mm_spec.specs.Frame.{symbol_names}
 use Rattle.mm_nodes.specs.Strings.{string_of}
@@ -13,11 +13,9 @@ append_stretch-requires g c =
     let w = length (symbol_names c.args.database.now.statements) in
     let es = c.args.premises.now in
     let i = c.loop-premise.premise-index in
-    let e = c.premise-item.result in
-    let e_is : e ≡ get_or es i no_entry =
-    c.premise-item.is ∙ get_or_default es i e no_entry c.loop-premise-test.true in
     subst (λ (u : List ℕ). All (λ s. s < w) u)
-    (sym (ap₂ (λ ns x. string_of ns x.body) c.loop-premise.invariant.nodes_stay e_is))
+    (sym (ap₂ (λ ns x. string_of ns x.body) c.loop-premise.invariant.nodes_stay (c.premise-item.is
+    ∙ get_or_default es i c.premise-item.result no_entry c.loop-premise-test.true)))
     (body_in_range w c.args.nodes.now es i c.requires c.loop-premise-test.true)
 
 pub loop-premise-preserved : goal.loop-premise-preserved
@@ -25,19 +23,16 @@ loop-premise-preserved g c =
     let db = c.args.database.now.statements in
     let es = c.args.premises.now in
     let i = c.loop-premise.premise-index in
-    let e = c.premise-item.result in
-    let e_is : e ≡ get_or es i no_entry =
-    c.premise-item.is ∙ get_or_default es i e no_entry c.loop-premise-test.true in
     let xs = c.loop-premise.list.items in
     let ss = c.loop-premise.stretches.items in
     record {
       nodes_stay = c.append_stretch.ensures.nodes_unchanged ∙ c.loop-premise.invariant.nodes_stay;
-      are_reduced =
+      have_variables =
           next_stretch db c.args.nodes.now es i xs c.append_stretch.new.list.items ss
           c.append_stretch.new.stretches.items c.loop-premise-test.true
-          c.loop-premise.invariant.are_reduced
-          (subst (λ (f : List ℕ). AppendsStretch db f xs c.append_stretch.new.list.items ss
-          c.append_stretch.new.stretches.items)
-          (ap₂ (λ ns x. string_of ns x.body) c.loop-premise.invariant.nodes_stay e_is)
+          c.loop-premise.invariant.have_variables (subst (λ (f : List ℕ). AppendsStretch db f xs
+          c.append_stretch.new.list.items ss c.append_stretch.new.stretches.items)
+          (ap₂ (λ ns x. string_of ns x.body) c.loop-premise.invariant.nodes_stay (c.premise-item.is
+          ∙ get_or_default es i c.premise-item.result no_entry c.loop-premise-test.true))
           c.in_ok-append_stretch.ensures.appends_stretch);
     }

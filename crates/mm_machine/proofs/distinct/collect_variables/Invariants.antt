@@ -1,10 +1,10 @@
 use Rattle.std.proofs.Common.{◌≡◌, take}
-use Rattle.mm_machine.specs.Distinct.{AreReduced}
+use Rattle.mm_machine.specs.Distinct.{HaveVariables}
 use Rattle.mm_machine.proofs.distinct.collect_variables.Given as goal
 
 abbrev pub invariant-loop-premise : goal.invariant-loop-premise
 invariant-loop-premise g l = record {
   nodes_stay : l.nodes ≡ l.fn.nodes;
-  are_reduced : AreReduced l.database.statements l.fn.nodes (take l.premise-index l.premises)
+  have_variables : HaveVariables l.database.statements l.fn.nodes (take l.premise-index l.premises)
       l.list.items l.stretches.items;
 }

@@ -30,18 +30,16 @@ loop-part-preserved g c =
           let p_is : p ≡ Constant s = sym c.to_part.ensures.part_is ∙ w.in-Constant.is in
           let b_is : w.symbol.result ≡ s = w.symbol.ensures ∙ w.number.ensures in
           let s_lt : s < first_node =
-          subst (IsConstantBelow first_node) w.in-Constant.is
-          c.to_part.ensures.constant_is_below in
+          subst (IsConstantBelow first_node) w.in-Constant.is c.to_part.ensures.constant_is_below in
           let string_is : string_of nodes w.symbol.result ≡ s ∷ [] =
           ap (string_of nodes) b_is ∙ symbol_string_is nodes s s_lt in
-          let one_more = ap length string_is in
           rw (w.list-is, w.count-is, w.more-is, w.greatest-is, w.mask-is) (record {
             is_written =
                 body_written nodes es parts c.loop-part.list w.put_body.new.list c.loop-part.count
                 (c.loop-part.count + c.loop-part.more) c.loop-part.greatest i p before.is_written
                 i_lt c.part-item.is w.symbol.result c.loop-part.greatest _
-                w.put_body.ensures.is_written
-                (string_is ∙ ap (filled_part nodes es) (sym p_is)) (omega (arith, one_more))
+                w.put_body.ensures.is_written (string_is ∙ ap (filled_part nodes es) (sym p_is))
+                (omega (arith, ap length string_is))
                 (inl (omega (arith, b_is, s_lt))) (omega arith) before.is_written.greatest_lt;
             more_le_limit = before.more_le_limit;
             includes_masks =
@@ -58,17 +56,15 @@ loop-part-preserved g c =
           let e = w.index-premises-floating_index.result in
           let e_is : e ≡ get_or es j no_entry =
           w.index-premises-floating_index.is ∙ get_or_default es j e no_entry j_lt in
-          let is_entry : IsEntry nodes e =
-          subst (IsEntry nodes) (sym e_is)
-          (All-get_or (IsEntry nodes) es j no_entry j_lt c.requires.are_entries) in
           rw (w.list-is, w.count-is, w.more-is, w.greatest-is, w.mask-is) (record {
             is_written =
-                premise_written nodes es parts c.loop-part.list
-                w.put_body-then-premise-gt0.new.list c.loop-part.count
-                (c.loop-part.count + c.loop-part.more) c.loop-part.greatest i p before.is_written
-                i_lt c.part-item.is j c.loop-part.more w.greater-greatest.result e p_is e_is
-                is_entry w.if-premise-gt0.true refl w.put_body-then-premise-gt0.ensures.is_written
-                w.greater-greatest.ensures.first_le w.greater-greatest.ensures.second_le
+                premise_written nodes es parts c.loop-part.list w.put_body-then-premise-gt0.new.list
+                c.loop-part.count (c.loop-part.count + c.loop-part.more) c.loop-part.greatest i p
+                before.is_written i_lt c.part-item.is j c.loop-part.more w.greater-greatest.result e
+                p_is e_is (subst (IsEntry nodes) (sym e_is) (All-get_or (IsEntry nodes) es j
+                no_entry j_lt c.requires.are_entries)) w.if-premise-gt0.true refl
+                w.put_body-then-premise-gt0.ensures.is_written w.greater-greatest.ensures.first_le
+                w.greater-greatest.ensures.second_le
                 w.greater-greatest.ensures.is_one_of_both;
             more_le_limit = w.if-more-gt-FORMULA_LIMIT.false;
             includes_masks =
@@ -84,18 +80,18 @@ loop-part-preserved g c =
           let e = w.index-premises-floating_index.result in
           let e_is : e ≡ get_or es j no_entry =
           w.index-premises-floating_index.is ∙ get_or_default es j e no_entry j_lt in
-          let is_entry : IsEntry nodes e =
-          subst (IsEntry nodes) (sym e_is)
-          (All-get_or (IsEntry nodes) es j no_entry j_lt c.requires.are_entries) in
-          let no_length = is_entry.length_is in
           rw (w.list-is, w.count-is, w.more-is, w.greatest-is, w.mask-is) (record {
             is_written =
                 none_written nodes es parts c.loop-part.list c.loop-part.list c.loop-part.count
                 (c.loop-part.count + c.loop-part.more) c.loop-part.greatest i p before.is_written
-                i_lt c.part-item.is
-                (sym (ap (λ x. string_of nodes x.body) e_is ∙ ap (filled_part nodes es) (sym p_is))
-                ∙ nil_if_no_length (string_of nodes e.body)
-                (omega (arith, no_length, w.if-premise-gt0.false)));
+                i_lt c.part-item.is (sym (ap (λ x. string_of nodes x.body) e_is
+                ∙ ap (filled_part nodes es) (sym p_is)) ∙ nil_if_no_length (string_of nodes e.body)
+                (omega (
+                  arith,
+                  (subst (IsEntry nodes) (sym e_is) (All-get_or (IsEntry nodes) es j
+                      no_entry j_lt c.requires.are_entries)).length_is,
+                  w.if-premise-gt0.false,
+                )));
             more_le_limit = before.more_le_limit;
             includes_masks =
                 includes_variable es parts i c.loop-part.mask p i_lt c.part-item.is j p_is e e_is
@@ -120,15 +116,11 @@ returns-then-more-gt-FORMULA_LIMIT-clause-is_too_long g c =
     let e = c.index-premises-floating_index.result in
     let e_is : e ≡ get_or es j no_entry =
     c.index-premises-floating_index.is ∙ get_or_default es j e no_entry j_lt in
-    let is_entry : IsEntry nodes e =
-    subst (IsEntry nodes) (sym e_is)
-    (All-get_or (IsEntry nodes) es j no_entry j_lt c.requires.are_entries) in
-    let written = premise_written nodes es parts c.loop-part.list
-    c.put_body-then-premise-gt0.new.list c.loop-part.count
-    (c.loop-part.count + c.loop-part.more) c.loop-part.greatest i p c.loop-part.invariant.is_written
-    i_lt c.part-item.is j c.loop-part.more c.greater-greatest.result e p_is e_is is_entry
-    c.if-premise-gt0.true refl c.put_body-then-premise-gt0.ensures.is_written
-    c.greater-greatest.ensures.first_le c.greater-greatest.ensures.second_le
-    c.greater-greatest.ensures.is_one_of_both in
-    let limit_lt = c.if-more-gt-FORMULA_LIMIT.true in
-    too_long_if_front_is nodes es parts (i + 1) _ written.length_is (omega (arith, limit_lt))
+    too_long_if_front_is nodes es parts (i + 1) _ (premise_written nodes es parts c.loop-part.list
+    c.put_body-then-premise-gt0.new.list c.loop-part.count (c.loop-part.count + c.loop-part.more)
+    c.loop-part.greatest i p c.loop-part.invariant.is_written i_lt c.part-item.is j c.loop-part.more
+    c.greater-greatest.result e p_is e_is (subst (IsEntry nodes) (sym e_is) (All-get_or
+    (IsEntry nodes) es j no_entry j_lt c.requires.are_entries)) c.if-premise-gt0.true refl
+    c.put_body-then-premise-gt0.ensures.is_written c.greater-greatest.ensures.first_le
+    c.greater-greatest.ensures.second_le c.greater-greatest.ensures.is_one_of_both).length_is
+    (omega (arith, c.if-more-gt-FORMULA_LIMIT.true))

@@ -1,14 +1,12 @@
-use Rattle.std.proofs.Common.{◌<◌, ◌-◌, ◌∙◌, length, length-take, ap, subst, sym, arith}
+use Rattle.std.proofs.Common.{rules, ◌<◌, ◌-◌, ◌∙◌, length, length-take, ap, arith}
 use Rattle.std.proofs.lemmas.List.{get_or_default}
 use Rattle.std.proofs.lemmas.List.Elements.{All-get_or}
-use Rattle.mm_machine.specs.Entries.{no_entry, IsEntry}
+use Rattle.mm_machine.specs.Entries.{no_entry}
 use Rattle.mm_machine.proofs.StackLaw.{needed_by_first}
 use Rattle.mm_machine.proofs.entry_stack.needed_below.Goals as goal
 
 pub returns-then-below-eq0-clause-needed_by_each : goal.returns-then-below-eq0-clause-needed_by_each
-returns-then-below-eq0-clause-needed_by_each g c = λ k d k_lt.
-    absurd (let taken = length-take c.args.below c.args.stack.now in
-    omega (arith, k_lt, taken, c.if-below-eq0.true))
+returns-then-below-eq0-clause-needed_by_each g c = search (rules, arith, length-take)
 
 pub returns-clause-needed_by_each : goal.returns-clause-needed_by_each
 returns-clause-needed_by_each g c =
@@ -22,12 +20,4 @@ returns-clause-needed_by_each g c =
     (ap (λ x. x.needed) (c.index-stack-last.is ∙ get_or_default stack last e no_entry last_lt))
 
 pub returns-clause-needed_le_count : goal.returns-clause-needed_le_count
-returns-clause-needed_le_count g c =
-    let stack = c.args.stack.now in
-    let last = c.args.below - 1 in
-    let e = c.index-stack-last.result in
-    let last_lt : last < length stack =
-    omega (arith, c.requires.below_le_length, c.if-below-eq0.false) in
-    (subst (IsEntry c.args._nodes.now) (sym c.index-stack-last.is)
-    (All-get_or (IsEntry c.args._nodes.now) stack last e last_lt
-    c.requires.is_stack.are_entries)).needed_le_count
+returns-clause-needed_le_count g c = search (rules, arith, All-get_or)

@@ -1,8 +1,7 @@
-use Rattle.std.proofs.Common.{ap, not}
+use Rattle.std.proofs.Common.{arith}
+use Rattle.std.proofs.lemmas.Grind.{common_steps}
 use Rattle.mm_machine.proofs.EntryTestLaw.{empty_test_is}
 use Rattle.mm_machine.proofs.entry_test.is_empty.Goals as goal
 
 pub returns : goal.returns
-returns g c =
-    empty_test_is c.args._nodes.now c.args.premise.now c.requires.is_entry _
-    (ap not c.is_symbol.ensures)
+returns g c = grind (arith, common_steps, empty_test_is, c.requires.is_entry, c.is_symbol.ensures)

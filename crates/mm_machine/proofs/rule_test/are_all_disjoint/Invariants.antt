@@ -7,7 +7,6 @@ use Rattle.mm_machine.proofs.rule_test.are_all_disjoint.Given as goal
 abbrev pub invariant-loop-symbol : goal.invariant-loop-symbol
 invariant-loop-symbol g l = record {
   so_far : are_all_disjoint (context_at l.database.statements l.theorem)
-      (take l.symbol-index l.first) l.second
-      ≡ true;
+      (take l.symbol-index l.first) l.second ≡ true;
   cache : AreDisjointAt l.database.statements l.theorem l.cache;
 }

@@ -7,8 +7,7 @@ use Rattle.mm_machine.proofs.rule_test.is_disjoint_from.Given as goal
 abbrev pub invariant-loop-other : goal.invariant-loop-other
 invariant-loop-other g l = record {
   so_far : is_disjoint_from (context_at l.database.statements l.theorem) l.symbol
-      (take l.other-index l.others)
-      ≡ true;
+      (take l.other-index l.others) ≡ true;
   cache : AreDisjointAt l.database.statements l.theorem l.cache;
   rows_stay : l.cache.rows ≡ l.initial.cache.rows;
 }

@@ -9,10 +9,8 @@ use Rattle.mm_machine.proofs.rule_test.keeps_disjoint.Given as goal
 abbrev pub invariant-loop-pair : goal.invariant-loop-pair
 invariant-loop-pair g l = record {
   nodes_stay : l.nodes ≡ l.fn.nodes;
-  so_far : list_all
-      (λ (p : ℕ × ℕ). are_all_disjoint (context_at l.database.statements l.theorem)
+  so_far : list_all (λ (p : ℕ × ℕ). are_all_disjoint (context_at l.database.statements l.theorem)
       (body_string_at l.fn.nodes l.premises p.0) (body_string_at l.fn.nodes l.premises p.1))
-      (take l.pair-index l.pairs)
-      ≡ true;
+      (take l.pair-index l.pairs) ≡ true;
   cache : AreDisjointAt l.database.statements l.theorem l.cache;
 }

@@ -11,9 +11,8 @@ returns-clause-tells_disjoint g c =
     let db = c.args.database.now.statements in
     let t = c.args.theorem in
     c.pairs_are_disjoint.ensures.tells_disjoint
-    ∙ ap₂ (λ xs ss. list_all
-    (λ (p : ℕ × ℕ). are_all_disjoint (context_at db t) (stretch_at xs ss p.0) (stretch_at xs ss p.1))
-    c.args.pairs.now) c.deref.ensures.value c.deref-2.ensures.value
-    ∙ pairs_by_variables db t c.args.nodes.now c.args.premises.now
-    c.collect.new.self.symbols.items c.collect.new.self.stretches.items
-    c.in_ok-collect.ensures.are_reduced c.args.pairs.now c.requires.pairs_in_range
+    ∙ ap₂ (λ xs ss. list_all (λ (p : ℕ × ℕ). are_all_disjoint (context_at db t) (stretch_at xs ss
+    p.0) (stretch_at xs ss p.1)) c.args.pairs.now) c.deref.ensures.value c.deref-2.ensures.value
+    ∙ pairs_by_variables db t c.args.nodes.now c.args.premises.now c.collect.new.self.symbols.items
+    c.collect.new.self.stretches.items c.in_ok-collect.ensures.have_variables c.args.pairs.now
+    c.requires.pairs_in_range

@@ -8,10 +8,8 @@ use Rattle.mm_machine.proofs.rule_test.pairs_are_disjoint.Given as goal
 
 abbrev pub invariant-loop-pair : goal.invariant-loop-pair
 invariant-loop-pair g l = record {
-  so_far : list_all
-      (λ (p : ℕ × ℕ). are_all_disjoint (context_at l.database.statements l.theorem)
+  so_far : list_all (λ (p : ℕ × ℕ). are_all_disjoint (context_at l.database.statements l.theorem)
       (stretch_at l.symbols l.stretches p.0) (stretch_at l.symbols l.stretches p.1))
-      (take l.pair-index l.pairs)
-      ≡ true;
+      (take l.pair-index l.pairs) ≡ true;
   cache : AreDisjointAt l.database.statements l.theorem l.cache;
 }

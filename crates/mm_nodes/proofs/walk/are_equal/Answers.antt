@@ -1,42 +1,74 @@
-use Rattle.std.proofs.Common.{◌≡◌, ◌+◌, ◌<◌, ◌++◌, ◌∙◌, ◌∷◌, [], ℕ, List, get_or, length, sym, ap, subst, refl}
-use Rattle.std.proofs.Common.{arith, eqb-true, eq-eqb, IfSome, IfNone, true≢false, Option}
-use Rattle.std.proofs.lemmas.List.{get_or_default}
+use Rattle.std.proofs.Common.{◌<◌, ◌++◌, ◌∙◌, [], ℕ, sym, ap, subst, refl, arith, eqb-true, eq-eqb}
+use Rattle.std.proofs.Common.{IfNone, true≢false, Option}
 use Rattle.mm_nodes.specs.Strings.{first_node, body_string, strings_of}
 use Rattle.mm_nodes.specs.Store.{nodes_of, stretch_string}
-use Rattle.mm_nodes.proofs.WalkLaw.{Reads, reading_begins, reads_later, reads_on, reads_into}
+use Rattle.mm_nodes.proofs.WalkLaw.{reading_begins, reads_later, reads_on, reads_into}
 use Rattle.mm_nodes.proofs.WalkLaw.{less_work_later, less_work_on, less_work_into, index_lt}
 use Rattle.mm_nodes.proofs.WalkLaw.{first_body_is, different_if_symbols_are, nil_if_no_length}
-use Rattle.mm_nodes.proofs.WalkLaw.{equal_at_first_end, equal_at_second_end}
-use Rattle.mm_nodes.proofs.WalkLaw.{less_left, less_right, less_both}
+use Rattle.mm_nodes.proofs.WalkLaw.{equal_at_first_end, equal_at_second_end, less_left, less_right}
+use Rattle.mm_nodes.proofs.WalkLaw.{less_both}
 use Rattle.mm_nodes.proofs.walk.are_equal.Goals as goal
 
 pub loop-left-init : goal.loop-left-init
 loop-left-init g c =
-    record { reads = ([], reading_begins c.args.bodies.now c.args.heads.now c.requires.are_nodes c.args.first c.clear.new.self.items c.requires.first_is_stretch c.clear.ensures.items, reading_begins c.args.bodies.now c.args.heads.now c.requires.are_nodes c.args.second c.clear-2.new.self.items c.requires.second_is_stretch c.clear-2.ensures.items) }
+    record {
+      reads = (
+        [],
+        reading_begins c.requires.are_nodes c.args.first c.clear.new.self.items
+            c.requires.first_is_stretch c.clear.ensures.items,
+        reading_begins c.requires.are_nodes
+            c.args.second c.clear-2.new.self.items c.requires.second_is_stretch
+            c.clear-2.ensures.items,
+      );
+    }
 
 pub returns-in-None : goal.returns-in-None
 returns-in-None g c =
-    equal_at_first_end c.args.bodies.now c.args.heads.now c.requires.are_nodes (stretch_string c.args.bodies.now c.args.heads.now c.args.first) (stretch_string c.args.bodies.now c.args.heads.now c.args.second) c.loop-left.invariant.reads.0 c.loop-left.left c.loop-left.right c.loop-left.left_later.items c.loop-left.right_later.items c.loop-left.invariant.reads.1 c.loop-left.invariant.reads.2 c.requires.lengths_equal c.if-left.true (nil_if_no_length c.loop-left.left_later.items (omega (arith, c.in-None.ensures.cases.0, c.loop-left.left_later.ok.0)))
+    equal_at_first_end c.requires.are_nodes c.loop-left.invariant.reads.1
+    c.loop-left.invariant.reads.2 c.requires.lengths_equal c.if-left.true (nil_if_no_length
+    c.loop-left.left_later.items (omega
+    (arith, c.in-None.ensures.cases.0, c.loop-left.left_later.ok.0)))
 
 pub loop-left-smaller-in-Some : goal.loop-left-smaller-in-Some
 loop-left-smaller-in-Some g c =
-    less_left _ _ _ (less_work_later c.args.bodies.now c.args.heads.now c.requires.are_nodes (stretch_string c.args.bodies.now c.args.heads.now c.args.first) c.loop-left.invariant.reads.0 c.loop-left.left c.loop-left.left_later.items c.loop-left.invariant.reads.1 c.pop.new.self.items c.in-Some.next c.in-Some.ensures.items)
+    less_left _ _ _ (less_work_later c.requires.are_nodes c.loop-left.invariant.reads.1
+    c.pop.new.self.items c.in-Some.next c.in-Some.ensures.items)
 
 pub loop-left-preserved-in-Some : goal.loop-left-preserved-in-Some
 loop-left-preserved-in-Some g c =
-    record { reads = (c.loop-left.invariant.reads.0, reads_later c.args.bodies.now c.args.heads.now c.requires.are_nodes (stretch_string c.args.bodies.now c.args.heads.now c.args.first) c.loop-left.invariant.reads.0 c.loop-left.left c.loop-left.left_later.items c.loop-left.invariant.reads.1 c.if-left.true c.pop.new.self.items c.in-Some.next c.in-Some.ensures.items, c.loop-left.invariant.reads.2) }
+    record {
+      reads = (
+        c.loop-left.invariant.reads.0,
+        reads_later c.requires.are_nodes
+            c.loop-left.invariant.reads.1 c.if-left.true c.pop.new.self.items c.in-Some.next
+            c.in-Some.ensures.items,
+        c.loop-left.invariant.reads.2,
+      );
+    }
 
 pub returns-in-None-pop : goal.returns-in-None-pop
 returns-in-None-pop g c =
-    equal_at_second_end c.args.bodies.now c.args.heads.now c.requires.are_nodes (stretch_string c.args.bodies.now c.args.heads.now c.args.first) (stretch_string c.args.bodies.now c.args.heads.now c.args.second) c.loop-left.invariant.reads.0 c.loop-left.left c.loop-left.right c.loop-left.left_later.items c.loop-left.right_later.items c.loop-left.invariant.reads.1 c.loop-left.invariant.reads.2 c.requires.lengths_equal c.if-right.true (nil_if_no_length c.loop-left.right_later.items (omega (arith, c.in-None-pop.ensures.cases.0, c.loop-left.right_later.ok.0)))
+    equal_at_second_end c.requires.are_nodes c.loop-left.invariant.reads.1
+    c.loop-left.invariant.reads.2 c.requires.lengths_equal c.if-right.true (nil_if_no_length
+    c.loop-left.right_later.items (omega
+    (arith, c.in-None-pop.ensures.cases.0, c.loop-left.right_later.ok.0)))
 
 pub loop-left-smaller-in-Some-pop : goal.loop-left-smaller-in-Some-pop
 loop-left-smaller-in-Some-pop g c =
-    less_right _ _ _ (less_work_later c.args.bodies.now c.args.heads.now c.requires.are_nodes (stretch_string c.args.bodies.now c.args.heads.now c.args.second) c.loop-left.invariant.reads.0 c.loop-left.right c.loop-left.right_later.items c.loop-left.invariant.reads.2 c.pop-then-right.new.self.items c.in-Some-pop.next c.in-Some-pop.ensures.items)
+    less_right _ _ _ (less_work_later c.requires.are_nodes c.loop-left.invariant.reads.2
+    c.pop-then-right.new.self.items c.in-Some-pop.next c.in-Some-pop.ensures.items)
 
 pub loop-left-preserved-in-Some-pop : goal.loop-left-preserved-in-Some-pop
 loop-left-preserved-in-Some-pop g c =
-    record { reads = (c.loop-left.invariant.reads.0, c.loop-left.invariant.reads.1, reads_later c.args.bodies.now c.args.heads.now c.requires.are_nodes (stretch_string c.args.bodies.now c.args.heads.now c.args.second) c.loop-left.invariant.reads.0 c.loop-left.right c.loop-left.right_later.items c.loop-left.invariant.reads.2 c.if-right.true c.pop-then-right.new.self.items c.in-Some-pop.next c.in-Some-pop.ensures.items) }
+    record {
+      reads = (
+        c.loop-left.invariant.reads.0,
+        c.loop-left.invariant.reads.1,
+        reads_later
+            c.requires.are_nodes c.loop-left.invariant.reads.2 c.if-right.true
+            c.pop-then-right.new.self.items c.in-Some-pop.next c.in-Some-pop.ensures.items,
+      );
+    }
 
 pub bounds-bodies-left : goal.bounds-bodies-left
 bounds-bodies-left g c =
@@ -48,60 +80,150 @@ bounds-bodies-right g c =
 
 pub loop-left-smaller-then-eq : goal.loop-left-smaller-then-eq
 loop-left-smaller-then-eq g c =
-    less_both _ _ _ _ (less_work_on c.args.bodies.now c.args.heads.now c.requires.are_nodes (stretch_string c.args.bodies.now c.args.heads.now c.args.first) c.loop-left.invariant.reads.0 c.loop-left.left c.loop-left.left_later.items c.loop-left.invariant.reads.1 c.if-left.false c.index-bodies-left.result (c.index-bodies-left.is ∙ get_or_default c.args.bodies.now c.loop-left.left.start c.index-bodies-left.result 0 (omega (arith, c.loop-left.invariant.reads.1.is_in.end_le_length)))) (less_work_on c.args.bodies.now c.args.heads.now c.requires.are_nodes (stretch_string c.args.bodies.now c.args.heads.now c.args.second) c.loop-left.invariant.reads.0 c.loop-left.right c.loop-left.right_later.items c.loop-left.invariant.reads.2 c.if-right.false c.index-bodies-right.result (c.index-bodies-right.is ∙ get_or_default c.args.bodies.now c.loop-left.right.start c.index-bodies-right.result 0 (omega (arith, c.loop-left.invariant.reads.2.is_in.end_le_length))))
+    less_both _ _ _ _ (less_work_on c.requires.are_nodes c.loop-left.invariant.reads.1
+    c.if-left.false c.index-bodies-left.result c.index-bodies-left.is) (less_work_on
+    c.requires.are_nodes c.loop-left.invariant.reads.2 c.if-right.false
+    c.index-bodies-right.result c.index-bodies-right.is)
 
 pub loop-left-preserved-then-eq : goal.loop-left-preserved-then-eq
 loop-left-preserved-then-eq g c =
-    record { reads = (c.loop-left.invariant.reads.0 ++ body_string (strings_of (nodes_of c.args.bodies.now c.args.heads.now)) c.index-bodies-left.result, reads_on c.args.bodies.now c.args.heads.now c.requires.are_nodes (stretch_string c.args.bodies.now c.args.heads.now c.args.first) c.loop-left.invariant.reads.0 c.loop-left.left c.loop-left.left_later.items c.loop-left.invariant.reads.1 c.if-left.false c.index-bodies-left.result (c.index-bodies-left.is ∙ get_or_default c.args.bodies.now c.loop-left.left.start c.index-bodies-left.result 0 (omega (arith, c.loop-left.invariant.reads.1.is_in.end_le_length))) _ refl, reads_on c.args.bodies.now c.args.heads.now c.requires.are_nodes (stretch_string c.args.bodies.now c.args.heads.now c.args.second) c.loop-left.invariant.reads.0 c.loop-left.right c.loop-left.right_later.items c.loop-left.invariant.reads.2 c.if-right.false c.index-bodies-right.result (c.index-bodies-right.is ∙ get_or_default c.args.bodies.now c.loop-left.right.start c.index-bodies-right.result 0 (omega (arith, c.loop-left.invariant.reads.2.is_in.end_le_length))) _ (ap (λ x. c.loop-left.invariant.reads.0 ++ body_string (strings_of (nodes_of c.args.bodies.now c.args.heads.now)) x) (eqb-true c.index-bodies-left.result c.index-bodies-right.result (sym c.eq.ensures ∙ c.if-eq.true)))) }
+    record {
+      reads = (
+        c.loop-left.invariant.reads.0 ++ body_string (strings_of
+            (nodes_of c.args.bodies.now c.args.heads.now)) c.index-bodies-left.result,
+        reads_on
+            c.requires.are_nodes c.loop-left.invariant.reads.1 c.if-left.false
+            c.index-bodies-left.result c.index-bodies-left.is _ refl,
+        reads_on c.requires.are_nodes
+            c.loop-left.invariant.reads.2 c.if-right.false c.index-bodies-right.result
+            c.index-bodies-right.is _ (ap (λ x. c.loop-left.invariant.reads.0 ++ body_string
+            (strings_of
+            (nodes_of c.args.bodies.now c.args.heads.now)) x) (eqb-true c.index-bodies-left.result
+            c.index-bodies-right.result (sym c.eq.ensures ∙ c.if-eq.true))),
+      );
+    }
 
 pub returns-in-None-None : goal.returns-in-None-None
 returns-in-None-None g c =
-    different_if_symbols_are (stretch_string c.args.bodies.now c.args.heads.now c.args.first) (stretch_string c.args.bodies.now c.args.heads.now c.args.second) c.loop-left.invariant.reads.0 _ _ (strings_of (nodes_of c.args.bodies.now c.args.heads.now)) c.index-bodies-left.result c.index-bodies-right.result (first_body_is c.args.bodies.now c.args.heads.now c.requires.are_nodes (stretch_string c.args.bodies.now c.args.heads.now c.args.first) c.loop-left.invariant.reads.0 c.loop-left.left c.loop-left.left_later.items c.loop-left.invariant.reads.1 c.if-left.false c.index-bodies-left.result (c.index-bodies-left.is ∙ get_or_default c.args.bodies.now c.loop-left.left.start c.index-bodies-left.result 0 (omega (arith, c.loop-left.invariant.reads.1.is_in.end_le_length)))) (first_body_is c.args.bodies.now c.args.heads.now c.requires.are_nodes (stretch_string c.args.bodies.now c.args.heads.now c.args.second) c.loop-left.invariant.reads.0 c.loop-left.right c.loop-left.right_later.items c.loop-left.invariant.reads.2 c.if-right.false c.index-bodies-right.result (c.index-bodies-right.is ∙ get_or_default c.args.bodies.now c.loop-left.right.start c.index-bodies-right.result 0 (omega (arith, c.loop-left.invariant.reads.2.is_in.end_le_length)))) (subst (λ (r : Option ℕ). IfNone r (c.index-bodies-left.result < first_node)) c.in-None-None.is-0 c.index.ensures.is_symbol) (subst (λ (r : Option ℕ). IfNone r (c.index-bodies-right.result < first_node)) c.in-None-None.is-1 c.index-else-right.ensures.is_symbol) (λ same. true≢false (sym (eq-eqb c.index-bodies-left.result c.index-bodies-right.result same) ∙ sym c.eq.ensures ∙ c.if-eq.false))
+    different_if_symbols_are (stretch_string c.args.bodies.now c.args.heads.now c.args.first)
+    (stretch_string c.args.bodies.now c.args.heads.now c.args.second)
+    c.loop-left.invariant.reads.0 _ _ (strings_of (nodes_of c.args.bodies.now c.args.heads.now))
+    c.index-bodies-left.result c.index-bodies-right.result (first_body_is c.requires.are_nodes
+    c.loop-left.invariant.reads.1 c.if-left.false c.index-bodies-left.result
+    c.index-bodies-left.is) (first_body_is c.requires.are_nodes c.loop-left.invariant.reads.2
+    c.if-right.false c.index-bodies-right.result c.index-bodies-right.is) (subst
+    (λ (r : Option ℕ). IfNone r (c.index-bodies-left.result < first_node)) c.in-None-None.is-0
+    c.index.ensures.is_symbol) c.in-None-None.ensures.is_symbol (λ same. true≢false
+    (sym (eq-eqb c.index-bodies-left.result c.index-bodies-right.result same) ∙ sym c.eq.ensures
+    ∙ c.if-eq.false))
 
 pub place_of-right-requires : goal.place_of-right-requires
 place_of-right-requires g c =
-    index_lt c.args.bodies.now c.args.heads.now c.requires.are_nodes (stretch_string c.args.bodies.now c.args.heads.now c.args.second) c.loop-left.invariant.reads.0 c.loop-left.right c.loop-left.right_later.items c.loop-left.invariant.reads.2 c.if-right.false c.index-bodies-right.result (c.index-bodies-right.is ∙ get_or_default c.args.bodies.now c.loop-left.right.start c.index-bodies-right.result 0 (omega (arith, c.loop-left.invariant.reads.2.is_in.end_le_length))) c.in-None-Some.index (subst (λ (r : Option ℕ). IfSome r (λ i. c.index-bodies-right.result ≡ first_node + i)) c.in-None-Some.is-1 c.index-else-right.ensures.is_node)
+    index_lt c.requires.are_nodes c.loop-left.invariant.reads.2 c.if-right.false
+    c.index-bodies-right.result c.index-bodies-right.is c.in-None-Some.index
+    c.in-None-Some.ensures.is_node
 
 pub loop-left-smaller-in-None-Some : goal.loop-left-smaller-in-None-Some
 loop-left-smaller-in-None-Some g c =
-    less_right _ _ _ (less_work_into c.args.bodies.now c.args.heads.now c.requires.are_nodes (stretch_string c.args.bodies.now c.args.heads.now c.args.second) c.loop-left.invariant.reads.0 c.loop-left.right c.loop-left.right_later.items c.loop-left.invariant.reads.2 c.if-right.false c.index-bodies-right.result (c.index-bodies-right.is ∙ get_or_default c.args.bodies.now c.loop-left.right.start c.index-bodies-right.result 0 (omega (arith, c.loop-left.invariant.reads.2.is_in.end_le_length))) c.in-None-Some.index (subst (λ (r : Option ℕ). IfSome r (λ i. c.index-bodies-right.result ≡ first_node + i)) c.in-None-Some.is-1 c.index-else-right.ensures.is_node) c.place_of-right.result c.put_off.new.later.items c.place_of-right.ensures c.in_ok-put_off-in-None-Some.ensures)
+    less_right _ _ _ (less_work_into c.requires.are_nodes c.loop-left.invariant.reads.2
+    c.if-right.false c.index-bodies-right.result c.index-bodies-right.is c.in-None-Some.index
+    c.in-None-Some.ensures.is_node c.place_of-right.result c.put_off.new.later.items
+    c.place_of-right.ensures c.in_ok-put_off-in-None-Some.ensures)
 
 pub loop-left-preserved-in-None-Some : goal.loop-left-preserved-in-None-Some
 loop-left-preserved-in-None-Some g c =
-    record { reads = (c.loop-left.invariant.reads.0, c.loop-left.invariant.reads.1, reads_into c.args.bodies.now c.args.heads.now c.requires.are_nodes (stretch_string c.args.bodies.now c.args.heads.now c.args.second) c.loop-left.invariant.reads.0 c.loop-left.right c.loop-left.right_later.items c.loop-left.invariant.reads.2 c.if-right.false c.index-bodies-right.result (c.index-bodies-right.is ∙ get_or_default c.args.bodies.now c.loop-left.right.start c.index-bodies-right.result 0 (omega (arith, c.loop-left.invariant.reads.2.is_in.end_le_length))) c.in-None-Some.index (subst (λ (r : Option ℕ). IfSome r (λ i. c.index-bodies-right.result ≡ first_node + i)) c.in-None-Some.is-1 c.index-else-right.ensures.is_node) c.place_of-right.result c.put_off.new.later.items c.place_of-right.ensures c.in_ok-put_off-in-None-Some.ensures) }
+    record {
+      reads = (
+        c.loop-left.invariant.reads.0,
+        c.loop-left.invariant.reads.1,
+        reads_into
+            c.requires.are_nodes c.loop-left.invariant.reads.2 c.if-right.false
+            c.index-bodies-right.result c.index-bodies-right.is c.in-None-Some.index
+            c.in-None-Some.ensures.is_node c.place_of-right.result c.put_off.new.later.items
+            c.place_of-right.ensures c.in_ok-put_off-in-None-Some.ensures,
+      );
+    }
 
 pub place_of-left-requires : goal.place_of-left-requires
 place_of-left-requires g c =
-    index_lt c.args.bodies.now c.args.heads.now c.requires.are_nodes (stretch_string c.args.bodies.now c.args.heads.now c.args.first) c.loop-left.invariant.reads.0 c.loop-left.left c.loop-left.left_later.items c.loop-left.invariant.reads.1 c.if-left.false c.index-bodies-left.result (c.index-bodies-left.is ∙ get_or_default c.args.bodies.now c.loop-left.left.start c.index-bodies-left.result 0 (omega (arith, c.loop-left.invariant.reads.1.is_in.end_le_length))) c.in-Some-None.index (subst (λ (r : Option ℕ). IfSome r (λ i. c.index-bodies-left.result ≡ first_node + i)) c.in-Some-None.is-0 c.index.ensures.is_node)
+    index_lt c.requires.are_nodes c.loop-left.invariant.reads.1 c.if-left.false
+    c.index-bodies-left.result c.index-bodies-left.is c.in-Some-None.index
+    c.in-Some-None.ensures.is_node
 
 pub loop-left-smaller-in-Some-None : goal.loop-left-smaller-in-Some-None
 loop-left-smaller-in-Some-None g c =
-    less_left _ _ _ (less_work_into c.args.bodies.now c.args.heads.now c.requires.are_nodes (stretch_string c.args.bodies.now c.args.heads.now c.args.first) c.loop-left.invariant.reads.0 c.loop-left.left c.loop-left.left_later.items c.loop-left.invariant.reads.1 c.if-left.false c.index-bodies-left.result (c.index-bodies-left.is ∙ get_or_default c.args.bodies.now c.loop-left.left.start c.index-bodies-left.result 0 (omega (arith, c.loop-left.invariant.reads.1.is_in.end_le_length))) c.in-Some-None.index (subst (λ (r : Option ℕ). IfSome r (λ i. c.index-bodies-left.result ≡ first_node + i)) c.in-Some-None.is-0 c.index.ensures.is_node) c.place_of-left.result c.put_off-in-Some-None.new.later.items c.place_of-left.ensures c.in_ok-put_off-in-Some-None.ensures)
+    less_left _ _ _ (less_work_into c.requires.are_nodes c.loop-left.invariant.reads.1
+    c.if-left.false c.index-bodies-left.result c.index-bodies-left.is c.in-Some-None.index
+    c.in-Some-None.ensures.is_node c.place_of-left.result c.put_off-in-Some-None.new.later.items
+    c.place_of-left.ensures c.in_ok-put_off-in-Some-None.ensures)
 
 pub loop-left-preserved-in-Some-None : goal.loop-left-preserved-in-Some-None
 loop-left-preserved-in-Some-None g c =
-    record { reads = (c.loop-left.invariant.reads.0, reads_into c.args.bodies.now c.args.heads.now c.requires.are_nodes (stretch_string c.args.bodies.now c.args.heads.now c.args.first) c.loop-left.invariant.reads.0 c.loop-left.left c.loop-left.left_later.items c.loop-left.invariant.reads.1 c.if-left.false c.index-bodies-left.result (c.index-bodies-left.is ∙ get_or_default c.args.bodies.now c.loop-left.left.start c.index-bodies-left.result 0 (omega (arith, c.loop-left.invariant.reads.1.is_in.end_le_length))) c.in-Some-None.index (subst (λ (r : Option ℕ). IfSome r (λ i. c.index-bodies-left.result ≡ first_node + i)) c.in-Some-None.is-0 c.index.ensures.is_node) c.place_of-left.result c.put_off-in-Some-None.new.later.items c.place_of-left.ensures c.in_ok-put_off-in-Some-None.ensures, c.loop-left.invariant.reads.2) }
+    record {
+      reads = (
+        c.loop-left.invariant.reads.0,
+        reads_into c.requires.are_nodes
+            c.loop-left.invariant.reads.1 c.if-left.false c.index-bodies-left.result
+            c.index-bodies-left.is c.in-Some-None.index c.in-Some-None.ensures.is_node
+            c.place_of-left.result c.put_off-in-Some-None.new.later.items c.place_of-left.ensures
+            c.in_ok-put_off-in-Some-None.ensures,
+        c.loop-left.invariant.reads.2,
+      );
+    }
 
 pub place_of-left-requires-then-length_of : goal.place_of-left-requires-then-length_of
 place_of-left-requires-then-length_of g c =
-    index_lt c.args.bodies.now c.args.heads.now c.requires.are_nodes (stretch_string c.args.bodies.now c.args.heads.now c.args.first) c.loop-left.invariant.reads.0 c.loop-left.left c.loop-left.left_later.items c.loop-left.invariant.reads.1 c.if-left.false c.index-bodies-left.result (c.index-bodies-left.is ∙ get_or_default c.args.bodies.now c.loop-left.left.start c.index-bodies-left.result 0 (omega (arith, c.loop-left.invariant.reads.1.is_in.end_le_length))) c.in-Some-Some.i (subst (λ (r : Option ℕ). IfSome r (λ i. c.index-bodies-left.result ≡ first_node + i)) c.in-Some-Some.is-0 c.index.ensures.is_node)
+    index_lt c.requires.are_nodes c.loop-left.invariant.reads.1 c.if-left.false
+    c.index-bodies-left.result c.index-bodies-left.is c.in-Some-Some.i
+    c.in-Some-Some.ensures.is_node
 
 pub loop-left-smaller-then-length_of : goal.loop-left-smaller-then-length_of
 loop-left-smaller-then-length_of g c =
-    less_left _ _ _ (less_work_into c.args.bodies.now c.args.heads.now c.requires.are_nodes (stretch_string c.args.bodies.now c.args.heads.now c.args.first) c.loop-left.invariant.reads.0 c.loop-left.left c.loop-left.left_later.items c.loop-left.invariant.reads.1 c.if-left.false c.index-bodies-left.result (c.index-bodies-left.is ∙ get_or_default c.args.bodies.now c.loop-left.left.start c.index-bodies-left.result 0 (omega (arith, c.loop-left.invariant.reads.1.is_in.end_le_length))) c.in-Some-Some.i (subst (λ (r : Option ℕ). IfSome r (λ i. c.index-bodies-left.result ≡ first_node + i)) c.in-Some-Some.is-0 c.index.ensures.is_node) c.place_of-left-then-length_of.result c.put_off-then-length_of.new.later.items c.place_of-left-then-length_of.ensures c.in_ok-put_off-in-Some-Some.ensures)
+    less_left _ _ _ (less_work_into c.requires.are_nodes c.loop-left.invariant.reads.1
+    c.if-left.false c.index-bodies-left.result c.index-bodies-left.is c.in-Some-Some.i
+    c.in-Some-Some.ensures.is_node c.place_of-left-then-length_of.result
+    c.put_off-then-length_of.new.later.items c.place_of-left-then-length_of.ensures
+    c.in_ok-put_off-in-Some-Some.ensures)
 
 pub loop-left-preserved-then-length_of : goal.loop-left-preserved-then-length_of
 loop-left-preserved-then-length_of g c =
-    record { reads = (c.loop-left.invariant.reads.0, reads_into c.args.bodies.now c.args.heads.now c.requires.are_nodes (stretch_string c.args.bodies.now c.args.heads.now c.args.first) c.loop-left.invariant.reads.0 c.loop-left.left c.loop-left.left_later.items c.loop-left.invariant.reads.1 c.if-left.false c.index-bodies-left.result (c.index-bodies-left.is ∙ get_or_default c.args.bodies.now c.loop-left.left.start c.index-bodies-left.result 0 (omega (arith, c.loop-left.invariant.reads.1.is_in.end_le_length))) c.in-Some-Some.i (subst (λ (r : Option ℕ). IfSome r (λ i. c.index-bodies-left.result ≡ first_node + i)) c.in-Some-Some.is-0 c.index.ensures.is_node) c.place_of-left-then-length_of.result c.put_off-then-length_of.new.later.items c.place_of-left-then-length_of.ensures c.in_ok-put_off-in-Some-Some.ensures, c.loop-left.invariant.reads.2) }
+    record {
+      reads = (
+        c.loop-left.invariant.reads.0,
+        reads_into c.requires.are_nodes
+            c.loop-left.invariant.reads.1 c.if-left.false c.index-bodies-left.result
+            c.index-bodies-left.is c.in-Some-Some.i c.in-Some-Some.ensures.is_node
+            c.place_of-left-then-length_of.result c.put_off-then-length_of.new.later.items
+            c.place_of-left-then-length_of.ensures c.in_ok-put_off-in-Some-Some.ensures,
+        c.loop-left.invariant.reads.2,
+      );
+    }
 
 pub place_of-right-requires-else-length_of : goal.place_of-right-requires-else-length_of
 place_of-right-requires-else-length_of g c =
-    index_lt c.args.bodies.now c.args.heads.now c.requires.are_nodes (stretch_string c.args.bodies.now c.args.heads.now c.args.second) c.loop-left.invariant.reads.0 c.loop-left.right c.loop-left.right_later.items c.loop-left.invariant.reads.2 c.if-right.false c.index-bodies-right.result (c.index-bodies-right.is ∙ get_or_default c.args.bodies.now c.loop-left.right.start c.index-bodies-right.result 0 (omega (arith, c.loop-left.invariant.reads.2.is_in.end_le_length))) c.in-Some-Some.j (subst (λ (r : Option ℕ). IfSome r (λ i. c.index-bodies-right.result ≡ first_node + i)) c.in-Some-Some.is-1 c.index-else-right.ensures.is_node)
+    index_lt c.requires.are_nodes c.loop-left.invariant.reads.2 c.if-right.false
+    c.index-bodies-right.result c.index-bodies-right.is c.in-Some-Some.j
+    c.in-Some-Some.ensures'.is_node
 
 pub loop-left-smaller : goal.loop-left-smaller
 loop-left-smaller g c =
-    less_right _ _ _ (less_work_into c.args.bodies.now c.args.heads.now c.requires.are_nodes (stretch_string c.args.bodies.now c.args.heads.now c.args.second) c.loop-left.invariant.reads.0 c.loop-left.right c.loop-left.right_later.items c.loop-left.invariant.reads.2 c.if-right.false c.index-bodies-right.result (c.index-bodies-right.is ∙ get_or_default c.args.bodies.now c.loop-left.right.start c.index-bodies-right.result 0 (omega (arith, c.loop-left.invariant.reads.2.is_in.end_le_length))) c.in-Some-Some.j (subst (λ (r : Option ℕ). IfSome r (λ i. c.index-bodies-right.result ≡ first_node + i)) c.in-Some-Some.is-1 c.index-else-right.ensures.is_node) c.place_of-right-else-length_of.result c.put_off-else-length_of.new.later.items c.place_of-right-else-length_of.ensures c.in_ok-put_off-in-Some-Some-2.ensures)
+    less_right _ _ _ (less_work_into c.requires.are_nodes c.loop-left.invariant.reads.2
+    c.if-right.false c.index-bodies-right.result c.index-bodies-right.is c.in-Some-Some.j
+    c.in-Some-Some.ensures'.is_node c.place_of-right-else-length_of.result
+    c.put_off-else-length_of.new.later.items c.place_of-right-else-length_of.ensures
+    c.in_ok-put_off-in-Some-Some-2.ensures)
 
 pub loop-left-preserved : goal.loop-left-preserved
 loop-left-preserved g c =
-    record { reads = (c.loop-left.invariant.reads.0, c.loop-left.invariant.reads.1, reads_into c.args.bodies.now c.args.heads.now c.requires.are_nodes (stretch_string c.args.bodies.now c.args.heads.now c.args.second) c.loop-left.invariant.reads.0 c.loop-left.right c.loop-left.right_later.items c.loop-left.invariant.reads.2 c.if-right.false c.index-bodies-right.result (c.index-bodies-right.is ∙ get_or_default c.args.bodies.now c.loop-left.right.start c.index-bodies-right.result 0 (omega (arith, c.loop-left.invariant.reads.2.is_in.end_le_length))) c.in-Some-Some.j (subst (λ (r : Option ℕ). IfSome r (λ i. c.index-bodies-right.result ≡ first_node + i)) c.in-Some-Some.is-1 c.index-else-right.ensures.is_node) c.place_of-right-else-length_of.result c.put_off-else-length_of.new.later.items c.place_of-right-else-length_of.ensures c.in_ok-put_off-in-Some-Some-2.ensures) }
+    record {
+      reads = (
+        c.loop-left.invariant.reads.0,
+        c.loop-left.invariant.reads.1,
+        reads_into
+            c.requires.are_nodes c.loop-left.invariant.reads.2 c.if-right.false
+            c.index-bodies-right.result c.index-bodies-right.is c.in-Some-Some.j
+            c.in-Some-Some.ensures'.is_node c.place_of-right-else-length_of.result
+            c.put_off-else-length_of.new.later.items c.place_of-right-else-length_of.ensures
+            c.in_ok-put_off-in-Some-Some-2.ensures,
+      );
+    }

@@ -1,5 +1,4 @@
-use Rattle.std.proofs.Common.{◌≡◌, ◌∙◌, ◌+◌, ap, ap₂, sym, take, drop, get_or, bytes_eq, codes}
-use Rattle.std.proofs.Common.{slice_range, true, false, [], arith, length}
+use Rattle.std.proofs.Common.{◌∙◌, ◌+◌, ap, sym, take, drop, get_or, [], arith, length}
 use Rattle.mm_spec.specs.declared.Word.{Word}
 use Rattle.mm_spec.specs.CompressedProof.{bracketed, compressed_faults}
 use Rattle.mm_spec.specs.NormalProof.{usable}
@@ -7,6 +6,7 @@ use Rattle.mm_outline.specs.Parts.{as_tokens, token_of}
 use Rattle.mm_proof.proofs.BracketsLaw.{with_labels_before, unusable_label_is_first_fault}
 use Rattle.mm_proof.proofs.BracketsLaw.{open_brackets_is_first_fault, tokens_begin_with_word}
 use Rattle.mm_proof.proofs.BracketsLaw.{no_tokens_past_end, brackets_close}
+use Rattle.mm_proof.proofs.ReadLaw.{word_is_code}
 use Rattle.mm_proof.proofs.LettersLaw.{on_same_err}
 use Rattle.mm_proof.specs.declared.refused.ProofRefused.TheVariants.{Memory}
 use Rattle.mm_proof.proofs.compressed.read_labels.Goals as goal
@@ -20,14 +20,13 @@ returns-in-None-clause-fault_is_first g c =
     let no_word : Word = record { start = 0; end = 0 } in
     let w = get_or words n no_word in
     let earlier_labels = as_tokens text (take n words) in
-    let label_is_word =
-    c.bytes-label.ensures ∙ ap (λ t. slice_range t w.start w.end) c.text-text.ensures in
-    let word_closes_not : bytes_eq (slice_range text w.start w.end) (codes ")") ≡ false =
-    ap₂ bytes_eq (sym label_is_word) (sym c.as_slice.ensures) ∙ sym c.eq.ensures ∙ c.if-eq.false in
     let first_fault =
     unusable_label_is_first_fault db c.args.theorem c.args.end earlier_labels (token_of text w)
     (as_tokens text (drop (n + 1) words)) c.loop-index.invariant.labels_are_faultless
-    word_closes_not (ap (usable db c.args.theorem) (sym label_is_word) ∙ c.in-None.ensures) in
+    (word_is_code w c.bytes-label.ensures c.text-text.ensures c.as_slice.ensures c.eq.ensures
+    c.if-eq.false)
+    (ap (usable db c.args.theorem) (sym (rw c.text-text.ensures at c.bytes-label.ensures))
+    ∙ c.in-None.ensures) in
     rw c.refused.ensures (
       first_fault.0,
       ap (compressed_faults db c.args.theorem c.args.end)
@@ -66,10 +65,6 @@ returns-then-eq-clause-reads g c =
     let no_word : Word = record { start = 0; end = 0 } in
     let w = get_or words n no_word in
     let earlier_labels = as_tokens text (take n words) in
-    let label_is_word =
-    c.bytes-label.ensures ∙ ap (λ t. slice_range t w.start w.end) c.text-text.ensures in
-    let word_closes : bytes_eq (slice_range text w.start w.end) (codes ")") ≡ true =
-    ap₂ bytes_eq (sym label_is_word) (sym c.as_slice.ensures) ∙ sym c.eq.ensures ∙ c.if-eq.true in
     record {
       n_lt_length = c.loop-index-test.true;
       brackets =
@@ -77,7 +72,9 @@ returns-then-eq-clause-reads g c =
           ∙ ap (λ ts. with_labels_before earlier_labels (bracketed ts))
           (tokens_begin_with_word text words n no_word c.loop-index-test.true)
           ∙ brackets_close earlier_labels (token_of text w)
-          (as_tokens text (drop (n + 1) words)) word_closes;
+          (as_tokens text (drop (n + 1) words))
+          (word_is_code w c.bytes-label.ensures c.text-text.ensures c.as_slice.ensures c.eq.ensures
+          c.if-eq.true);
       labels = c.loop-index.invariant.labels;
       label_count = c.loop-index.invariant.label_count;
       labels_are_faultless = c.loop-index.invariant.labels_are_faultless;

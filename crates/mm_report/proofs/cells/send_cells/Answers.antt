@@ -14,7 +14,7 @@ loop-word-init g c =
       sent =
           sent_equal_text _
           (ap (λ n. map (cell_text c.args.marked.now c.args.row) (range_with_len 0 n)) no_cells_yet)
-          (sent_nothing (g.W.Write.contents c.args.to.now) c.args.sink.now);
+          sent_nothing;
     }
 
 pub loop-word-preserved : goal.loop-word-preserved

@@ -3,7 +3,7 @@ use Rattle.std.specs.Prelude.{flat_map, slice_index_or}
 use Rattle.std.specs.Option.{option_map}
 use Rattle.std.specs.List.{range_with_len}
 use Rattle.mm_spec.specs.Report.{citation_line}
-use Rattle.mm_report.specs.Rows.{citing_row}
+use Rattle.mm_report.specs.CitingRows.{citing_row}
 use Rattle.mm_report.specs.Sent.{Sent}
 use Rattle.mm_report.proofs.citations.send_citation_lines.Given as goal
 

@@ -5,7 +5,7 @@ use Rattle.std.proofs.lemmas.List.{take_all}
 use Rattle.mm_spec.specs.Text.{Bytes}
 use Rattle.mm_spec.specs.Report.{separated}
 use Rattle.mm_spec.specs.Assertion.{label_at}
-use Rattle.mm_report.specs.Rows.{listed, next_label}
+use Rattle.mm_report.specs.Rows.{next_label}
 use Rattle.mm_report.proofs.SentLaw.{sent_both, sent_equal_text}
 use Rattle.mm_report.proofs.CitationLaw.{labels, listed_before_unchanged, labels_with_listed}
 use Rattle.mm_report.proofs.CitationLaw.{separated_push}
@@ -62,9 +62,5 @@ loop-statement-preserved g c =
 
 pub returns : goal.returns
 returns g c =
-    let db = c.args.database.now.statements in
-    let only = option_map (λ w. w.now) c.args.only in
-    sent_equal_text _
-    (ap (λ (xs : List ℕ). separated (map (label_at db) (listed db only xs)))
-    (take_all c.loop-statement.statement-index c.args.cited.now c.loop-statement-test.false))
-    c.loop-statement.invariant.sent
+    rw (take_all c.loop-statement.statement-index c.args.cited.now c.loop-statement-test.false)
+    at c.loop-statement.invariant.sent

@@ -16,7 +16,7 @@ loop-word-init g c =
           sent_equal_text _
           (ap (λ n. map (digit_text c.args.marked.now c.args.row) (range_with_len 0 n))
           no_digits_yet)
-          (sent_nothing (g.W.Write.contents c.args.to.now) c.args.sink.now);
+          sent_nothing;
     }
 
 pub loop-word-preserved : goal.loop-word-preserved

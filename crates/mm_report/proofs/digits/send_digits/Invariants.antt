@@ -8,6 +8,7 @@ use Rattle.mm_report.proofs.digits.send_digits.Given as goal
 abbrev pub invariant-loop-word : goal.invariant-loop-word
 invariant-loop-word g l = record {
   word_le_words : l.word ≤ div_ceil l.marked.columns 64;
+  -- the digits of the first `word` words, 16 each, as far as the row goes
   sent : Sent (g.W.Write.contents l.fn.to) (g.W.Write.contents l.to) l.fn.sink l.sink
       (map (digit_text l.marked l.row)
       (range_with_len 0 (min (16 * l.word) (div_ceil l.marked.columns 4))));

@@ -1,5 +1,4 @@
-use Rattle.std.proofs.Common.{◌≡◌, ◌∙◌, ◌<◌, ◌&&◌, ℕ, Bool, List, length, get_or, sym, ap, subst}
-use Rattle.std.proofs.Common.{arith}
+use Rattle.std.proofs.Common.{◌≡◌, ◌∙◌, ◌<◌, ◌&&◌, ℕ, Bool, List, length, get_or, sym, ap, arith}
 use Rattle.std.specs.List.{list_any}
 use Rattle.std.proofs.lemmas.List.Sums.{count_by_more_yes, count_by_more_no}
 use Rattle.mm_spec.specs.Opened.{is_open_theorem}
@@ -18,7 +17,7 @@ loop-statement-preserved g c =
     λ a. database.with_open && list_any is_open_theorem (statement_at database.read a) in
     let i = c.loop-statement.statement-index in
     let i_lt_length : i < length chosen =
-    subst (λ (xs : List ℕ). i < length xs) statements_are_chosen c.loop-statement-test.true in
+    rw statements_are_chosen at c.loop-statement-test.true in
     let next_is_open_as_asked : is_open (get_or chosen i 0) ≡ c.is_open.result =
     sym (c.is_open.ensures ∙ ap (λ (xs : List ℕ). is_open (get_or xs i 0)) statements_are_chosen) in
     let count_is = c.loop-statement.invariant.count_is in

@@ -1,24 +1,11 @@
-use Rattle.std.proofs.Common.{ap, sym, Bool}
-use Rattle.std.specs.Prelude.{codes}
-use Rattle.mm_spec.specs.Report.{section, usage_lines}
-use Rattle.mm_report.specs.Rows.{rows_of}
-use Rattle.mm_report.proofs.SentLaw.{sent_nothing, sent_both, sent_equal_text}
+use Rattle.std.proofs.Common.{sym}
+use Rattle.mm_report.proofs.SentLaw.{sent_nothing, sent_both}
 use Rattle.mm_report.proofs.sections.send_usage_section.Goals as goal
 
 pub returns-then-request : goal.returns-then-request
 returns-then-request g c =
-    rw (sym c.request.view_is)
-    (sent_equal_text _
-    (ap (λ (b : Bool). section b (codes "usage")
-    (usage_lines (rows_of c.args.matrix.now c.args.labels.now) 0 c.args.columns.now))
-    (sym c.if-request.true))
-    (sent_both c.send_line.ensures c.send_usage.ensures))
+    rw (sym c.request.view_is, c.if-request.true)
+    (sent_both c.send_line.ensures c.send_usage.ensures)
 
 pub returns-else-request : goal.returns-else-request
-returns-else-request g c =
-    rw (sym c.request.view_is)
-    (sent_equal_text _
-    (ap (λ (b : Bool). section b (codes "usage")
-    (usage_lines (rows_of c.args.matrix.now c.args.labels.now) 0 c.args.columns.now))
-    (sym c.if-request.false))
-    (sent_nothing (g.W.Write.contents c.args.to.now) c.args.sink.now))
+returns-else-request g c = rw (sym c.request.view_is, c.if-request.false) sent_nothing

@@ -12,7 +12,7 @@ loop-first-init g c =
     record {
       next_le_rows = omega arith;
       last_is_marked = tt;
-      sent = sent_nothing (g.W.Write.contents c.args.to.now) c.args.sink.now;
+      sent = sent_nothing;
     }
 
 pub loop-first-preserved : goal.loop-first-preserved

@@ -30,4 +30,4 @@ returns-else-is_told g c =
     (no_text_unless_selected (λ j. assertion_line db (is_open_at d.read d.with_open j) j)
     (is_told db (option_copied c.args.only)) c.args.statement
     (sym c.is_told.ensures ∙ c.if-is_told.false))
-    (sent_nothing (g.W.Write.contents c.args.to.now) c.args.sink.now)
+    sent_nothing

@@ -1,6 +1,4 @@
-use Rattle.std.proofs.Common.{◌≡◌, ℕ, ap, length, arith}
-use Rattle.std.specs.Prelude.{flat_map}
-use Rattle.std.specs.List.{filter, range_with_len}
+use Rattle.std.proofs.Common.{◌≡◌, length, arith}
 use Rattle.std.specs.Option.{option_copied}
 use Rattle.mm_spec.specs.Assertion.{assertion_line, is_told}
 use Rattle.mm_spec.specs.Output.{is_open_at}
@@ -12,7 +10,7 @@ pub loop-statement-init : goal.loop-statement-init
 loop-statement-init g c =
     record {
       statement_le_length = omega arith;
-      sent = sent_nothing (g.W.Write.contents c.args.to.now) c.args.sink.now;
+      sent = sent_nothing;
     }
 
 pub loop-statement-preserved : goal.loop-statement-preserved
@@ -30,10 +28,5 @@ loop-statement-preserved g c =
 
 pub returns : goal.returns
 returns g c =
-    let d = c.args.database.now in
-    let db = d.statements in
-    let all : c.loop-statement.statement ≡ length db = omega arith in
-    sent_equal_text _
-    (ap (λ (n : ℕ). flat_map (λ k. assertion_line db (is_open_at d.read d.with_open k) k)
-    (filter (is_told db (option_copied c.args.only)) (range_with_len 0 n))) all)
-    c.loop-statement.invariant.sent
+    let all : c.loop-statement.statement ≡ length c.args.database.now.statements = omega arith in
+    rw all at c.loop-statement.invariant.sent

@@ -2,8 +2,7 @@ use Rattle.std.proofs.Common.{◌+◌, ◌*◌, ◌/◌, ◌%◌, ◌^◌, arith
 use Rattle.std.proofs.lemmas.Nat.Bits.{bit_at-trailing_zeros, bit_at-zero}
 use Rattle.std.specs.Int.{bit_at}
 use Rattle.mm_rows.proofs.BitLaw.{IsSeeking, row_of_sought, search_begins_for_sought}
-use Rattle.mm_rows.proofs.BitLaw.{search_goes_on_for_sought}
-use Rattle.mm_rows.proofs.BitLaw.{lowest_bit_is_sought}
+use Rattle.mm_rows.proofs.BitLaw.{search_goes_on_for_sought, lowest_bit_is_sought}
 use Rattle.mm_rows.proofs.BitLaw.{no_bit_up_to_next_word, is_sought, is_not_sought}
 use Rattle.mm_rows.proofs.bits.next_bit.Goals as goal
 
@@ -31,8 +30,7 @@ returns-then-word-ne0-clause-is_first c =
     c.loop-word.invariant.is_seeking.word_lt_2_64 in
     let found_bit =
     lowest_bit_is_sought (row_of_sought set row) c.args.from c.loop-word.word_index c.loop-word.word
-    _
-    c.loop-word.invariant.is_seeking lowest_bit.0 lowest_bit.1 lowest_bit.2 in
+    c.loop-word.invariant.is_seeking _ lowest_bit.0 lowest_bit.1 lowest_bit.2 in
     let bit_lt_64 = lowest_bit.0 in (
       found_bit.0,
       omega arith,

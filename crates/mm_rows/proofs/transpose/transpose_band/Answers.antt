@@ -11,10 +11,9 @@ write_columns-requires-clause-columns_written c =
     let w_lt_words : c.args.w < words_for c.args.rows = omega (arith, band_lt_words) in
     let first_le_j = c.in-Some.ensures.is_first.0 in
     let none_before_j = c.in-Some.ensures.is_first.3 in
-    skipped_columns_are_written c.args.rows c.args.columns c.args.bits.now
-    c.mark_columns.new.has_mark c.loop-j.transposed
-    (length c.args.has_mark.now) c.args.w (8 * c.loop-j.byte_index)
-    (8 * (c.in-Some.j / 8)) c.requires.width_is w_lt_words c.mark_columns.ensures
+    skipped_columns_are_written c.args.rows c.args.columns c.args.bits.now c.loop-j.transposed
+    c.args.w w_lt_words c.mark_columns.new.has_mark (length c.args.has_mark.now)
+    (8 * c.loop-j.byte_index) (8 * (c.in-Some.j / 8)) c.requires.width_is c.mark_columns.ensures
     (omega (arith, first_le_j))
     (λ j first_le_i i_lt_end. none_before_j j first_le_i (omega arith)) c.loop-j.invariant.written
 
@@ -24,9 +23,9 @@ returns c =
     let w_lt_words : c.args.w < words_for c.args.rows = omega (arith, band_lt_words) in
     let past_columns = c.args.columns + 8 * c.loop-j.byte_index in
     let all_written =
-    skipped_columns_are_written c.args.rows c.args.columns c.args.bits.now
-    c.mark_columns.new.has_mark c.loop-j.transposed (length c.args.has_mark.now) c.args.w
-    (8 * c.loop-j.byte_index) past_columns c.requires.width_is w_lt_words c.mark_columns.ensures
+    skipped_columns_are_written c.args.rows c.args.columns c.args.bits.now c.loop-j.transposed
+    c.args.w w_lt_words c.mark_columns.new.has_mark (length c.args.has_mark.now)
+    (8 * c.loop-j.byte_index) past_columns c.requires.width_is c.mark_columns.ensures
     (omega arith) (λ j first_le_i i_lt_end. c.in_default.ensures.none_is_there j first_le_i)
     c.loop-j.invariant.written in
     next_band_is_begun c.args.rows c.args.columns c.args.bits.now c.loop-j.transposed c.args.w

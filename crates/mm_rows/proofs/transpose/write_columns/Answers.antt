@@ -29,13 +29,12 @@ loop-j-preserved c =
     c.lane_bits-word.result are_row_bytes
     first_le_j j_lt_last c.lane_bits-word.ensures in
     let word_is_written =
-    next_word_is_written rows columns bits c.loop-j.transposed w j c.lane_bits-word.result
-    w_lt_words j_lt_columns is_column_word
-    invariant_before.written in
+    next_word_is_written rows columns bits c.loop-j.transposed w w_lt_words j
+    c.lane_bits-word.result j_lt_columns is_column_word invariant_before.written in
     let zero_is_written =
     λ (word_is_zero : c.lane_bits-word.result ≡ 0). zero_word_is_written rows columns bits
-    c.loop-j.transposed w j
-    c.lane_bits-word.result w_lt_words is_column_word word_is_zero invariant_before.written in
+    c.loop-j.transposed w w_lt_words j c.lane_bits-word.result is_column_word word_is_zero
+    invariant_before.written in
     let one_more_is_written : ColumnsWritten rows columns bits c.if-word-ne0.transposed
     w (j + 1) =
     elim c.if-word-ne0.branch [
@@ -53,7 +52,7 @@ returns c =
     let band_lt_words = c.requires.band_has_row in
     let w_lt_words : c.args.w < words_for c.args.rows = omega (arith, band_lt_words) in
     zero_words_are_written c.args.rows c.args.columns c.args.bits.now c.loop-j.transposed c.args.w
-    c.loop-j.j (8 * c.args.byte_index + 8) w_lt_words
+    w_lt_words c.loop-j.j (8 * c.args.byte_index + 8)
     (λ i j_le_i i_lt_last i_lt_columns. absurd (omega (arith, end_is, end_le_j)))
     c.loop-j.invariant.within c.loop-j.invariant.written
 

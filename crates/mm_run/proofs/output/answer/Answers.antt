@@ -1,5 +1,5 @@
 use Rattle.std.proofs.Common.{subst}
-use Rattle.mm_spec.specs.Ends.{Answers}
+use Rattle.mm_spec.specs.Ends.{Wrote}
 use Rattle.mm_spec.specs.Request.{Request}
 use Rattle.mm_run.proofs.output.answer.Goals as goal
 
@@ -16,6 +16,6 @@ write_judged-requires g c =
 pub returns : goal.returns
 returns g c =
     subst
-    (λ (r : Request). Answers c.write_judged.result c.args.text.now r
+    (λ (r : Request). Wrote c.write_judged.result c.args.text.now r
     (g.W.Write.contents c.args.to.now) (g.W.Write.contents c.write_judged.new.to))
     c.request.ensures c.write_judged.ensures

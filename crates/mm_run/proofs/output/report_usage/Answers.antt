@@ -1,9 +1,11 @@
-use Rattle.mm_report.specs.Rows.{report_of, citing_rows_of}
+use Rattle.mm_report.specs.CitingRows.{citing_rows_of}
+use Rattle.mm_report.specs.Reports.{report_of}
 use Rattle.mm_run.proofs.RowsLaw.{table_is_output}
 use Rattle.mm_run.proofs.CitationsLaw.{are_citations_of}
 use Rattle.mm_run.proofs.output.report_usage.Goals as goal
 
-pub write_requested_report-requires-clause-are_citations : goal.write_requested_report-requires-clause-are_citations
+pub write_requested_report-requires-clause-are_citations :
+    goal.write_requested_report-requires-clause-are_citations
 write_requested_report-requires-clause-are_citations g c =
     are_citations_of c.args.database.now.statements c.args.request.now c.args.citations.now
     c.requires.is_judged.have_citations

@@ -11,10 +11,8 @@ loop-earlier-preserved c =
     let ws = c.args.tokens.now in
     let word = (token_at text ws c.args.token_index).word in
     let i = c.loop-earlier.earlier in
-    let i_lt_token_index = c.loop-earlier-test.true in
-    let token_index_lt_length = c.requires.index_lt_length in
     let among_with_word_i = among_between_push text ws c.args.from i (omega arith)
-    (omega (arith, i_lt_token_index, token_index_lt_length)) word in
+    (omega (arith, c.loop-earlier-test.true, c.requires.index_lt_length)) word in
     let earlier_words = words (between text ws c.args.from i) in
     let eq_is_bytes_eq = c.eq.ensures ∙ ap₂ bytes_eq c.bytes-word.ensures c.bytes.ensures in
     elim c.if-eq.branch [

@@ -1,13 +1,12 @@
-use Rattle.std.proofs.Common.{◌≡◌, ◌∙◌, ◌+◌, ◌++◌, ◌∷◌, ℕ, List, [], map, take, get_or, ap}
-use Rattle.std.proofs.Common.{append_assoc, arith}
+use Rattle.std.proofs.Common.{◌≡◌, ◌∙◌, ◌+◌, ◌++◌, ◌∷◌, ℕ, List, [], map, take, get_or, ap, arith}
 use Rattle.std.proofs.lemmas.List.{take_more, map-append}
 use Rattle.mm_spec.specs.Assertion.{label_at}
 use Rattle.mm_outline.specs.Statements.{statements}
 use Rattle.mm_lists.proofs.ListsLaw.{taken_joined_are_all_joined, joined_with_one_more, none_joined}
 use Rattle.mm_stmt.proofs.spaced_labels.spaced_labels_of.Goals as goal
 
-pub label_of-requires-clause-is_theorem : goal.label_of-requires-clause-is_theorem
-label_of-requires-clause-is_theorem g c =
+pub add_spaced_label-requires-clause-is_theorem : goal.add_spaced_label-requires-clause-is_theorem
+add_spaced_label-requires-clause-is_theorem g c =
     c.requires.are_theorems c.loop-theorem.theorem-index 0 (omega arith)
 
 pub loop-theorem-preserved : goal.loop-theorem-preserved
@@ -17,17 +16,15 @@ loop-theorem-preserved g c =
     let k = get_or ks i 0 in
     let name : ℕ → List ℕ =
     λ k. 32 ∷ label_at (statements c.args.text.now c.args.tokens.now c.args.outlines.now) k in
-    let bytes = c.loop-theorem.bytes.items in
     let one_more_is_taken : map name (take (i + 1) ks) ≡ map name (take i ks) ++ name k ∷ [] =
     ap (map name) (take_more ks i 0 (omega arith)) ∙ map-append name (take i ks) (k ∷ []) in
-    let bytes_have_label : c.extend_from_slice.new.self.items ≡ bytes ++ name k =
-    c.in_ok-extend_from_slice.ensures.items
-    ∙ ap (λ l. l ++ c.label_of.result.now) c.in_ok-push.ensures.items
-    ∙ append_assoc bytes (32 ∷ []) c.label_of.result.now
-    ∙ ap (λ l. bytes ++ 32 ∷ l) c.label_of.ensures in
-    rw (one_more_is_taken, c.in_ok-end_list.ensures.bound_is_added, bytes_have_label)
-    (joined_with_one_more (map name (take i ks)) (name k) bytes c.loop-theorem.ends.items
-    c.loop-theorem.invariant)
+    rw (
+      one_more_is_taken,
+      c.in_ok-add_spaced_label.ensures.end_is_added,
+      c.in_ok-add_spaced_label.ensures.label_is_added,
+    )
+    (joined_with_one_more (map name (take i ks)) (name k) c.loop-theorem.bytes.items
+    c.loop-theorem.ends.items c.loop-theorem.invariant)
 
 pub loop-theorem-init : goal.loop-theorem-init
 loop-theorem-init g c = none_joined _ _ c.new-bytes.ensures.items c.new-ends.ensures.items

@@ -1,4 +1,4 @@
-use Rattle.std.proofs.Common.{◌≡◌, ◌∙◌, length, ap, sym, subst, refl}
+use Rattle.std.proofs.Common.{◌∙◌, length, ap, sym, subst, refl}
 use Rattle.mm_spec.specs.Lexed.{lexed_of}
 use Rattle.mm_spec.specs.Output.{IsRead}
 use Rattle.mm_database.specs.Database.{Contents}

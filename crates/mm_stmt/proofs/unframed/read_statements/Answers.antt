@@ -15,7 +15,7 @@ use Rattle.mm_database.specs.declared.reading.Reading.{Reading}
 use Rattle.mm_database.proofs.RetainedWordsLaw.{retained_words_are_of_statements}
 use Rattle.mm_scope.specs.ReadSoFar.{IsReadSoFar, read_so_far}
 use Rattle.mm_database.specs.ParsedStatements.{IsSound}
-use Rattle.mm_spec.specs.Opened.{counted}
+use Rattle.mm_spec.specs.Opened.{open_as_axioms}
 use Rattle.mm_stmt.proofs.AssembleLaw.{lent_words_are_read, names_lt_2_31, statements_are_sound}
 use Rattle.mm_stmt.proofs.unframed.read_statements.Goals as goal
 
@@ -105,7 +105,7 @@ returns g c =
     (read_so_far c.in_ok-outlined.outlined))
     words_are_tokens outlined.is_read_so_far in
     let statement_lists =
-    subst (λ (us : List Word). AreStatementLists (counted w (statements text us os))
+    subst (λ (us : List Word). AreStatementLists (open_as_axioms w (statements text us os))
     c.in_ok-statement_lists.statement_lists)
     words_are_tokens (rw (sym c.deref.ensures.value) c.in_ok-statement_lists.ensures) in
     let is_read_text =
@@ -127,8 +127,8 @@ returns g c =
             few_statements = let outline_count_is = length-map os (statement_of text words) in
                 let outlines_are_few = outlined.few_outlines in
                 omega (arith, outline_count_is, outlines_are_few);
-            read = is_read_text;
-            labels = is_read_so_far.knows.labels_are;
+            is_read = is_read_text;
+            labels_are = is_read_so_far.knows.labels_are;
             names_are = is_read_so_far.names_are;
             frame_tables_are =
                 subst (λ (r : Reading _). AreFrameTables r.statements.list r.statements.blocks b)

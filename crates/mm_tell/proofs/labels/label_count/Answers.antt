@@ -1,7 +1,7 @@
-use Rattle.std.proofs.Common.{◌≡◌, ◌∙◌, true, ap, ap₂, length, sym, get_or, bytes_eq, codes, arith}
+use Rattle.std.proofs.Common.{rules, ◌≡◌, ◌∙◌, true, ap₂, sym, get_or, bytes_eq, codes, arith}
 use Rattle.std.proofs.lemmas.List.{take_all}
 use Rattle.mm_spec.specs.declared.Word.{Word}
-use Rattle.mm_outline.specs.Parts.{token_of, as_tokens}
+use Rattle.mm_outline.specs.Parts.{token_of}
 use Rattle.mm_tell.proofs.BracketLaw.{labels_up_to_bracket, all_are_labels}
 use Rattle.mm_tell.proofs.labels.label_count.Goals as goal
 
@@ -16,10 +16,4 @@ returns-then-eq-clause-are_labels c =
     c.loop-i.invariant closes
 
 pub returns-clause-are_labels : goal.returns-clause-are_labels
-returns-clause-are_labels c =
-    let text = c.args.text.now in
-    let words = c.args.words.now in
-    let ended = c.loop-i-test.false in
-    all_are_labels (token_of text) words
-    (λ j d j_lt_length. c.loop-i.invariant j d (omega (arith, ended)))
-    ∙ ap (as_tokens text) (sym (take_all (length words) words (omega arith)))
+returns-clause-are_labels c = search (rules, arith, all_are_labels, take_all)

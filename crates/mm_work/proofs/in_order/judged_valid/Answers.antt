@@ -4,19 +4,14 @@ use Rattle.mm_work.proofs.in_order.judged_valid.Goals as goal
 
 pub new-requires : goal.new-requires
 new-requires g c =
-    let db = c.args.database.now.statements in
-    (all_have_citations db c.theorems.ensures.few_statements c.len.ensures.are_complete
-    c.args.essential _ c.args.lists
+    (all_have_citations c.args.database.now.statements c.theorems.ensures.few_statements
+    c.len.ensures.are_complete c.args.essential _ c.args.lists
     (c.in_ok-theorems.ensures.items_if_clones_equal (λ x y equal. equal)
-    ∙ c.theorems.ensures.theorems)
-    c.requires).0
+    ∙ c.theorems.ensures.theorems) c.requires).0
 
 pub returns : goal.returns
 returns g c =
-    let db = c.args.database.now.statements in
-    rw c.new.ensures
-    (all_have_citations db c.theorems.ensures.few_statements c.len.ensures.are_complete
-    c.args.essential _ c.args.lists
+    rw c.new.ensures (all_have_citations c.args.database.now.statements
+    c.theorems.ensures.few_statements c.len.ensures.are_complete c.args.essential _ c.args.lists
     (c.in_ok-theorems.ensures.items_if_clones_equal (λ x y equal. equal)
-    ∙ c.theorems.ensures.theorems)
-    c.requires).1
+    ∙ c.theorems.ensures.theorems) c.requires).1

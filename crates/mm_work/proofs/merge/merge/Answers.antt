@@ -3,40 +3,44 @@ use Rattle.mm_spec.specs.Output.{theorems}
 use Rattle.mm_work.specs.Judged.{HaveCitationsUpTo}
 use Rattle.mm_work.specs.declared.merge.ListPosition.{ListPosition}
 use Rattle.mm_work.proofs.PositionsLaw.{le_of_lt, worker_lt_length, findings_at_worker}
-use Rattle.mm_work.proofs.PositionsLaw.{list_lt_cites_length}
-use Rattle.mm_work.proofs.PositionsLaw.{list_has_citations}
+use Rattle.mm_work.proofs.PositionsLaw.{list_lt_cites_length, list_has_citations}
 use Rattle.mm_work.proofs.VerifyLaw.{citations_push}
 use Rattle.mm_work.proofs.merge.merge.Goals as goal
 
 pub offset_bounds-all_findings-position : goal.offset_bounds-all_findings-position
 offset_bounds-all_findings-position g c =
-    let db = c.args.database.now.statements in
     let k = c.loop-position.position-index in
     let positions_are = c.deref-position-items.ensures.value in
-    let k_lt_count : k < length (theorems db) =
-    let k_lt_length = c.loop-position-test.true in let lengths_equal = ap (λ (ps : List
-    ListPosition). length ps) positions_are in
-    let position_count_is = c.in_ok-positions.ensures.length_is in
-    let theorem_counts_equal = ap (λ (ts : List ℕ). length ts) c.theorems.ensures.theorems in
-    omega (arith, k_lt_length, lengths_equal, position_count_is, theorem_counts_equal) in
-    le_of_lt (worker_lt_length db c.args.essential c.args.all_findings.now c.requires.are_findings
+    le_of_lt (worker_lt_length c.args.database.now.statements c.args.essential
+    c.args.all_findings.now c.requires.are_findings
     c.in_ok-positions.positions.items c.deref-position-items.result.now k _ positions_are
-    (c.in_ok-positions.ensures.have_positions k (c.requires.each_is_found_valid k k_lt_count)))
+    (c.in_ok-positions.ensures.have_positions k (c.requires.each_is_found_valid k
+    (omega (
+      arith,
+      c.loop-position-test.true,
+      ap (λ (ps : List ListPosition). length ps)
+          positions_are,
+      c.in_ok-positions.ensures.length_is,
+      ap (λ (ts : List ℕ). length ts)
+          c.theorems.ensures.theorems,
+    )))))
 
 pub bounds-all_findings-position : goal.bounds-all_findings-position
 bounds-all_findings-position g c =
-    let db = c.args.database.now.statements in
     let k = c.loop-position.position-index in
     let positions_are = c.deref-position-items.ensures.value in
-    let k_lt_count : k < length (theorems db) =
-    let k_lt_length = c.loop-position-test.true in let lengths_equal = ap (λ (ps : List
-    ListPosition). length ps) positions_are in
-    let position_count_is = c.in_ok-positions.ensures.length_is in
-    let theorem_counts_equal = ap (λ (ts : List ℕ). length ts) c.theorems.ensures.theorems in
-    omega (arith, k_lt_length, lengths_equal, position_count_is, theorem_counts_equal) in
-    worker_lt_length db c.args.essential c.args.all_findings.now c.requires.are_findings
-    c.in_ok-positions.positions.items c.deref-position-items.result.now k _ positions_are
-    (c.in_ok-positions.ensures.have_positions k (c.requires.each_is_found_valid k k_lt_count))
+    worker_lt_length c.args.database.now.statements c.args.essential c.args.all_findings.now
+    c.requires.are_findings c.in_ok-positions.positions.items c.deref-position-items.result.now k _
+    positions_are (c.in_ok-positions.ensures.have_positions k (c.requires.each_is_found_valid k
+    (omega (
+      arith,
+      c.loop-position-test.true,
+      ap (λ (ps : List ListPosition). length ps)
+          positions_are,
+      c.in_ok-positions.ensures.length_is,
+      ap (λ (ts : List ℕ). length ts)
+          c.theorems.ensures.theorems,
+    ))))
 
 pub get-requires : goal.get-requires
 get-requires g c =
@@ -44,21 +48,21 @@ get-requires g c =
     let fs = c.args.all_findings.now in
     let k = c.loop-position.position-index in
     let positions_are = c.deref-position-items.ensures.value in
-    let k_lt_count : k < length (theorems db) =
-    let k_lt_length = c.loop-position-test.true in let lengths_equal = ap (λ (ps : List
-    ListPosition). length ps) positions_are in
-    let position_count_is = c.in_ok-positions.ensures.length_is in
-    let theorem_counts_equal = ap (λ (ts : List ℕ). length ts) c.theorems.ensures.theorems in
-    omega (arith, k_lt_length, lengths_equal, position_count_is, theorem_counts_equal) in
     let has_position = c.in_ok-positions.ensures.have_positions k (c.requires.each_is_found_valid k
-    k_lt_count) in
+    (omega (
+      arith,
+      c.loop-position-test.true,
+      ap (λ (ps : List ListPosition). length ps)
+          positions_are,
+      c.in_ok-positions.ensures.length_is,
+      ap (λ (ts : List ℕ). length ts)
+          c.theorems.ensures.theorems,
+    ))) in
     list_lt_cites_length db c.args.essential fs c.requires.are_findings
-    c.in_ok-positions.positions.items
-    c.deref-position-items.result.now k _ positions_are has_position _
-    (findings_at_worker db c.args.essential fs c.requires.are_findings
-    c.in_ok-positions.positions.items
-    c.deref-position-items.result.now k _ positions_are has_position
-    c.index-all_findings-position.result)
+    c.in_ok-positions.positions.items c.deref-position-items.result.now k _ positions_are
+    has_position _ (findings_at_worker db c.args.essential fs c.requires.are_findings
+    c.in_ok-positions.positions.items c.deref-position-items.result.now k _ positions_are
+    has_position c.index-all_findings-position.result)
 
 pub loop-position-preserved : goal.loop-position-preserved
 loop-position-preserved g c =
@@ -66,39 +70,38 @@ loop-position-preserved g c =
     let fs = c.args.all_findings.now in
     let k = c.loop-position.position-index in
     let positions_are = c.deref-position-items.ensures.value in
-    let k_lt_count : k < length (theorems db) =
-    let k_lt_length = c.loop-position-test.true in let lengths_equal = ap (λ (ps : List
-    ListPosition). length ps) positions_are in
-    let position_count_is = c.in_ok-positions.ensures.length_is in
-    let theorem_counts_equal = ap (λ (ts : List ℕ). length ts) c.theorems.ensures.theorems in
-    omega (arith, k_lt_length, lengths_equal, position_count_is, theorem_counts_equal) in
     let has_position = c.in_ok-positions.ensures.have_positions k (c.requires.each_is_found_valid k
-    k_lt_count) in
-    let findings_are =
-    findings_at_worker db c.args.essential fs c.requires.are_findings
-    c.in_ok-positions.positions.items
-    c.deref-position-items.result.now k _ positions_are has_position
-    c.index-all_findings-position.result in
-    rw c.in_ok-push.ensures.list_is_added
-    (citations_push db c.args.essential
-    (theorems db) k c.loop-position.lists c.get.result.now c.loop-position.invariant
-    (list_has_citations db c.args.essential fs c.requires.are_findings
-    c.in_ok-positions.positions.items
-    c.deref-position-items.result.now k _ positions_are has_position _ c.get.result.now findings_are
-    c.get.ensures.is_list))
+    (omega (
+      arith,
+      c.loop-position-test.true,
+      ap (λ (ps : List ListPosition). length ps)
+          positions_are,
+      c.in_ok-positions.ensures.length_is,
+      ap (λ (ts : List ℕ). length ts)
+          c.theorems.ensures.theorems,
+    ))) in
+    rw c.in_ok-push.ensures.list_is_added (citations_push db c.args.essential (theorems db) k
+    c.loop-position.lists c.get.result.now c.loop-position.invariant (list_has_citations db
+    c.args.essential fs c.requires.are_findings c.in_ok-positions.positions.items
+    c.deref-position-items.result.now k _ positions_are has_position _ c.get.result.now
+    (findings_at_worker db c.args.essential fs c.requires.are_findings
+    c.in_ok-positions.positions.items c.deref-position-items.result.now k _ positions_are
+    has_position c.index-all_findings-position.result) c.get.ensures.is_list))
 
 pub returns : goal.returns
 returns g c =
     let db = c.args.database.now.statements in
-    let k = c.loop-position.position-index in
-    let k_is_count : k ≡ length (theorems db) =
-    let k_le_length = c.loop-position.auto.position-index-end in let length_le_k =
-    c.loop-position-test.false in
-    let lengths_equal = ap (λ (ps : List ListPosition). length ps)
-    c.deref-position-items.ensures.value in
-    let position_count_is = c.in_ok-positions.ensures.length_is in
-    let theorem_counts_equal = ap (λ (ts : List ℕ). length ts) c.theorems.ensures.theorems in
-    omega (arith, k_le_length, length_le_k, lengths_equal, position_count_is, theorem_counts_equal)
+    let k_is_count : c.loop-position.position-index ≡ length (theorems db) =
+    omega (
+      arith,
+      c.loop-position.auto.position-index-end,
+      c.loop-position-test.false,
+      ap
+          (λ (ps : List ListPosition). length ps) c.deref-position-items.ensures.value,
+      c.in_ok-positions.ensures.length_is,
+      ap (λ (ts : List ℕ). length ts)
+          c.theorems.ensures.theorems,
+    )
     in
     subst (λ n. HaveCitationsUpTo db c.args.essential (theorems db) n c.loop-position.lists)
     k_is_count c.loop-position.invariant

@@ -20,38 +20,30 @@ loop-worker-preserved g c =
     c.set_positions.ensures.length_stays
     ∙ ap (λ (ps : List ListPosition). length ps) c.deref_mut.ensures.value in
     let written_back_whole = written_back c.loop-worker.positions.len positions' positions
-    (length_stays
-    ∙ sym c.loop-worker.positions.ok.0) in
-    let findings_are =
-    slice_get_read fs (length fs) w findings refl c.loop-worker-test.true
-    c.index-all_findings-worker.is in
+    (length_stays ∙ sym c.loop-worker.positions.ok.0) in
     record {
       count_is = ap (λ (ps : List ListPosition). length ps) written_back_whole ∙ length_stays
           ∙ c.loop-worker.invariant.count_is;
       have_positions =
           subst (λ (ps : List ListPosition). (v : ℕ) (f : Findings _) (i : ℕ) → v < w + 1
           → slice_get fs v ≡ Some f → Contains f.valid.items i
-          → HasPosition ps fs i) (sym written_back_whole)
-          (has_position_up_to_next fs positions positions' w findings findings_are
+          → HasPosition ps fs i) (sym written_back_whole) (has_position_up_to_next fs positions
+          positions' w findings (slice_get_read fs (length fs) w findings refl
+          c.loop-worker-test.true c.index-all_findings-worker.is)
           (λ i is_in_valid. subst (λ j. IsWithWorker positions' w findings.valid.items j)
-          is_in_valid.2
-          (subst (λ (l : List ℕ). All (λ j. IsWithWorker positions' w l j) l) c.deref.ensures.value
-          c.set_positions.ensures.are_with_worker is_in_valid.0 i is_in_valid.1))
-          (subst (λ (ps : List ListPosition). (i : ℕ)
-          → IsWithWorker positions' w findings.valid.items i ⊎ (slice_get positions' i
-          ≡ slice_get ps i))
-          c.deref_mut.ensures.value
-          (subst (λ (l : List ℕ). (i : ℕ)
-          → IsWithWorker positions' w l i ⊎ (slice_get positions' i
-          ≡ slice_get c.deref_mut.result.now i))
-          c.deref.ensures.value c.set_positions.ensures.others_stay))
+          is_in_valid.2 (subst (λ (l : List ℕ). All (λ j. IsWithWorker positions' w l j) l)
+          c.deref.ensures.value c.set_positions.ensures.are_with_worker is_in_valid.0 i
+          is_in_valid.1)) (subst (λ (ps : List ListPosition). (i : ℕ)
+          → IsWithWorker positions' w findings.valid.items i ⊎ (slice_get positions' i ≡ slice_get
+          ps i)) c.deref_mut.ensures.value (subst (λ (l : List ℕ). (i : ℕ)
+          → IsWithWorker positions' w l i ⊎ (slice_get positions' i ≡ slice_get
+          c.deref_mut.result.now i)) c.deref.ensures.value c.set_positions.ensures.others_stay))
           c.loop-worker.invariant.have_positions);
     }
 
 pub returns-clause-have_positions : goal.returns-clause-have_positions
 returns-clause-have_positions g c =
-    let worker_le_length = c.loop-worker.auto.worker-end in
-    let length_le_worker = c.loop-worker-test.false in
     every_valid_has_position c.args.all_findings.now c.loop-worker.positions.items
     (λ v f i v_lt_length f_is_at_v i_is_in_f. c.loop-worker.invariant.have_positions v f i (omega
-    (arith, v_lt_length, worker_le_length, length_le_worker)) f_is_at_v i_is_in_f)
+    (arith, v_lt_length, c.loop-worker.auto.worker-end, c.loop-worker-test.false)) f_is_at_v
+    i_is_in_f)

@@ -8,6 +8,5 @@ abbrev pub invariant-loop-worker : goal.invariant-loop-worker
 invariant-loop-worker g l = record {
   count_is : length l.positions.items ≡ l.count;
   have_positions : (v : ℕ) (f : Findings _) (i : ℕ) → v < l.worker → slice_get l.all_findings v
-      ≡ Some f
-      → Contains f.valid.items i → HasPosition l.positions.items l.all_findings i;
+      ≡ Some f → Contains f.valid.items i → HasPosition l.positions.items l.all_findings i;
 }

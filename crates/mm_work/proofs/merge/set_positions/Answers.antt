@@ -12,9 +12,7 @@ loop-list-preserved c =
     let x = get_or c.args.valid.now k 0 in
     let p : ListPosition = record { worker = c.args.worker; list = k } in
     let x_lt_length : x < length positions =
-    let x_lt_old_length = c.requires k 0 c.loop-list-test.true in let length_stays =
-    c.loop-list.invariant.count_is in
-    omega (arith, x_lt_old_length, length_stays) in
+    omega (arith, c.requires k 0 c.loop-list-test.true, c.loop-list.invariant.count_is) in
     record {
       count_is = length-set positions x p ∙ c.loop-list.invariant.count_is;
       are_with_worker =
@@ -29,13 +27,6 @@ loop-list-preserved c =
 
 pub returns-clause-are_with_worker : goal.returns-clause-are_with_worker
 returns-clause-are_with_worker c = λ q d q_lt_length.
-    let list_le_length = c.loop-list.auto.list-end in
-    let length_le_list = c.loop-list-test.false in
     subst (λ i. IsWithWorker c.loop-list.positions c.args.worker c.args.valid.now i)
-    (get_or_default c.args.valid.now q 0 d q_lt_length)
-    (c.loop-list.invariant.are_with_worker q (omega (
-      arith,
-      q_lt_length,
-      list_le_length,
-      length_le_list,
-    )))
+    (get_or_default c.args.valid.now q 0 d q_lt_length) (c.loop-list.invariant.are_with_worker q
+    (omega (arith, q_lt_length, c.loop-list.auto.list-end, c.loop-list-test.false)))

@@ -63,8 +63,7 @@ returns-in-Err-Fault-clause-finds_fault g c = λ not_short not_valid.
       fault = c.in-Err-Fault.fault;
       has_fault =
           subst (λ (ts : List ℕ). HasFault db (get_or ts c.args.index 0) c.in-Err-Fault.fault)
-          c.theorems.ensures.theorems
-          (subst (λ (e : VerifyRefused). IsRefusalOf db
+          c.theorems.ensures.theorems (subst (λ (e : VerifyRefused). IsRefusalOf db
           (get_or c.theorems.result.now c.args.index 0) e)
           c.in-Err-Fault.field-0-is c.in-Err-Fault.ensures.refusal_is_right);
       valid_are = refl {A = List ℕ};

@@ -28,10 +28,9 @@ loop-index-smaller g c =
 
 pub settle_drawn-requires-clause-has_drawn : goal.settle_drawn-requires-clause-has_drawn
 settle_drawn-requires-clause-has_drawn g c =
-    drawn_after_claim c.args.job.now c.in-Some.index c.loop-index.state
-    c.claim.new.seat c.requires.is_of_database
-    c.loop-index.invariant.is_between c.in-Some.ensures.number_lt_count c.claim.ensures.is_of_board
-    c.in-Some.ensures.opens_number c.in-Some.ensures.number_gt_record
+    drawn_after_claim c.args.job.now c.in-Some.index c.loop-index.state c.claim.new.seat
+    c.requires.is_of_database c.loop-index.invariant.is_between c.in-Some.ensures.number_lt_count
+    c.claim.ensures.is_of_board c.in-Some.ensures.opens_number c.in-Some.ensures.number_gt_record
 
 pub loop-index-preserved : goal.loop-index-preserved
 loop-index-preserved g c = record {

@@ -1,4 +1,4 @@
-use Rattle.std.proofs.Common.{◌∙◌, ℕ, Bool, sym, ap, arith}
+use Rattle.std.proofs.Common.{rules, ◌∙◌, ℕ, Bool, sym, ap, arith}
 use Rattle.mm_spec.specs.Scope.{active_at}
 use Rattle.mm_spec.proofs.OpenedLaw.{counted_active}
 use Rattle.mm_database.specs.Database.{Contents}
@@ -7,16 +7,10 @@ use Rattle.mm_database.proofs.database.Database.active_at.Goals as goal
 
 pub active_at-requires-clause-statement_lt_length :
     goal.active_at-requires-clause-statement_lt_length
-active_at-requires-clause-statement_lt_length g c =
-    let counts_equal = as_many_statements _ _ _ _ _ c.self.view_is in
-    let statement_lt_length = c.requires.statement_lt_length in
-    omega (arith, counts_equal, statement_lt_length)
+active_at-requires-clause-statement_lt_length g c = search (rules, arith, as_many_statements)
 
 pub active_at-requires-clause-at_le_length : goal.active_at-requires-clause-at_le_length
-active_at-requires-clause-at_le_length g c =
-    let counts_equal = as_many_statements _ _ _ _ _ c.self.view_is in
-    let at_le_length = c.requires.at_le_length in
-    omega (arith, counts_equal, at_le_length)
+active_at-requires-clause-at_le_length g c = search (rules, arith, as_many_statements)
 
 pub returns : goal.returns
 returns g c =

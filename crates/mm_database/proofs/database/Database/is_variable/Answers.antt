@@ -1,16 +1,12 @@
-use Rattle.std.proofs.Common.{◌∙◌, ◌<◌, ℕ, Bool, List, length, sym, ap, subst}
-use Rattle.mm_spec.specs.Frame.{is_variable_number, symbol_names}
-use Rattle.mm_spec.specs.Text.{Bytes}
+use Rattle.std.proofs.Common.{arith, ◌∙◌, ℕ, Bool, sym, ap}
+use Rattle.std.proofs.lemmas.Grind.{common_steps}
+use Rattle.mm_spec.specs.Frame.{is_variable_number}
 use Rattle.mm_spec.proofs.OpenedLaw.{counted_names, counted_variable}
 use Rattle.mm_database.specs.Database.{Contents}
 use Rattle.mm_database.proofs.database.Database.is_variable.Goals as goal
 
 pub is_variable-requires : goal.is_variable-requires
-is_variable-requires g c =
-    subst (λ (ns : List Bytes). c.args.symbol < length ns)
-    (sym (sym (counted_names c.self.inside.with_open c.self.inside.reading.statements.list)
-    ∙ ap (λ (n : Contents). symbol_names n.statements) c.self.view_is))
-    c.requires
+is_variable-requires g c = grind (arith, common_steps, counted_names, c.self.view_is, c.requires)
 
 pub returns : goal.returns
 returns g c =

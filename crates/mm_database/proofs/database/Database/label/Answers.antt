@@ -1,4 +1,5 @@
-use Rattle.std.proofs.Common.{◌∙◌, length, get_or, take, drop, ◌-◌, Some, sym, ap, arith}
+use Rattle.std.proofs.Common.{rules, ◌∙◌, sym, ap, arith}
+use Rattle.std.proofs.lemmas.Grind.{common_steps}
 use Rattle.mm_database.specs.Database.{Contents}
 use Rattle.mm_database.proofs.DatabaseLaw.{as_many_statements}
 use Rattle.mm_database.proofs.RetainedWordsLaw.{k_lt_retained_count, some_are_retained}
@@ -6,49 +7,32 @@ use Rattle.mm_database.proofs.RetainedWordsLaw.{words_are_within, label_is_retai
 use Rattle.mm_database.proofs.database.Database.label.Goals as goal
 
 pub kind-requires : goal.kind-requires
-kind-requires g c =
-    let counts_equal = as_many_statements _ _ _ _ _ c.self.view_is in
-    let statement_lt_length = c.requires in omega
-    (arith, counts_equal, statement_lt_length)
+kind-requires g c = grind (arith, common_steps, as_many_statements, c.self.view_is, c.requires)
 
 pub get-requires : goal.get-requires
-get-requires g c = k_lt_retained_count _ _ _ _ _ c.self.view_is _ c.requires _
-    c.self.invariant.retained_are
+get-requires g c = search (rules, arith, k_lt_retained_count)
 
 pub bounds-get-0 : goal.bounds-get-0
-bounds-get-0 g c =
-    some_are_retained _ _ _ _ _ c.self.view_is _ c.requires _ c.self.invariant.retained_are
-    c.get.result.now
-    c.get.ensures.is_list
+bounds-get-0 g c = search (rules, arith, some_are_retained)
 
 pub bytes-requires : goal.bytes-requires
 bytes-requires g c =
-    let word_is_within =
-    words_are_within _ _ _ _ _ c.self.view_is _ c.requires _ c.self.invariant.retained_are
-    c.get.result.now
-    c.get.ensures.is_list 0 (record { start = 0; end = 0 })
-    (some_are_retained _ _ _ _ _ c.self.view_is _ c.requires _ c.self.invariant.retained_are
-    c.get.result.now
-    c.get.ensures.is_list) in
-    let text_lengths_equal = ap (λ (n : Contents). length n.text) c.self.view_is in
-    let lent_length = ap length c.text.ensures in
-    let end_le_length = word_is_within.1 in
+    let some = some_are_retained _ _ _ _ _ c.self.view_is _ c.requires _
+    c.self.invariant.retained_are c.get.result.now c.get.ensures.is_list in
+    let within = words_are_within _ _ _ _ _ c.self.view_is _ c.requires _
+    c.self.invariant.retained_are c.get.result.now c.get.ensures.is_list 0
+    (record { start = 0; end = 0 }) some in
     record {
-      start_le_end = word_is_within.0;
-      end_le_length =
-          omega (arith, end_le_length, text_lengths_equal, lent_length);
+      start_le_end = within.0;
+      end_le_length = rw (c.text.ensures, ← c.self.view_is) within.1;
     }
 
 pub returns-then-has_label : goal.returns-then-has_label
 returns-then-has_label g c =
-    let w = get_or c.get.result.now 0 (record { start = 0; end = 0 }) in
-    ap Some c.bytes.ensures
-    ∙ ap (λ l. Some (take (w.end - w.start) (drop w.start l)))
-    (c.text.ensures ∙ sym (ap (λ (n : Contents). n.text) c.self.view_is))
-    ∙ label_is_retained _ _ _ _ _ c.self.view_is _ c.requires _ c.self.invariant.retained_are
-    c.get.result.now
-    c.get.ensures.is_list (λ t. t.word) _ c.kind.ensures (sym c.has_label.ensures ∙ c.if-has_label.true)
-    (record { start = 0; end = 0 })
+    rw (c.bytes.ensures, c.text.ensures, ← ap (λ (n : Contents). n.text) c.self.view_is)
+    (label_is_retained _ _ _ _ _ c.self.view_is _ c.requires _ c.self.invariant.retained_are
+    c.get.result.now c.get.ensures.is_list (λ t. t.word) _ c.kind.ensures
+    (sym c.has_label.ensures ∙ c.if-has_label.true) (record { start = 0; end = 0 }))
 
 pub returns-else-has_label : goal.returns-else-has_label
 returns-else-has_label g c =

@@ -3,8 +3,8 @@ use Rattle.mm_spec.specs.Roles.{role_of, fault_of}
 use Rattle.mm_lex.specs.Pieces.{side_reading}
 use Rattle.mm_lex.specs.Between.{side}
 use Rattle.mm_lex.proofs.PiecesLaw.{not_some_is_none, append_reading_token, append_reading_opening}
-use Rattle.mm_lex.proofs.PiecesLaw.{append_reading_closing}
-use Rattle.mm_lex.proofs.PiecesLaw.{append_reading_comment, append_reading_faulty}
+use Rattle.mm_lex.proofs.PiecesLaw.{append_reading_closing, append_reading_comment}
+use Rattle.mm_lex.proofs.PiecesLaw.{append_reading_faulty}
 use Rattle.mm_lex.proofs.modes.ModeReading.read_word.Goals as goal
 
 pub returns-in_ok-push-in-Token : goal.returns-in_ok-push-in-Token

@@ -5,8 +5,7 @@ use Rattle.mm_spec.specs.Bytes.{is_white}
 use Rattle.mm_spec.specs.Words.{white_at}
 use Rattle.mm_lex.specs.Plain.{plain_at}
 use Rattle.mm_lex.proofs.BlockLaw.{one_bit_begins_word, zero_bit_begins_none, taken_dropped_is_all}
-use Rattle.mm_lex.proofs.BlockLaw.{place_in_dropped}
-use Rattle.mm_lex.proofs.BlockLaw.{plain_at_dropped, white_at_dropped}
+use Rattle.mm_lex.proofs.BlockLaw.{place_in_dropped, plain_at_dropped, white_at_dropped}
 use Rattle.mm_lex.proofs.scanner.WordScanner.at.Goals as goal
 
 pub invariant_of-result-clause-others_are_plain : goal.invariant_of-result-clause-others_are_plain

@@ -1,79 +1,57 @@
-use Rattle.std.proofs.Common.{◌≡◌, ◌<◌, ◌+◌, ◌∙◌, ℕ, true, false, List, length, refl, sym, ap}
-use Rattle.std.proofs.Common.{subst, arith, w64}
+use Rattle.std.proofs.Common.{◌≡◌, ◌<◌, ◌+◌, ◌∙◌, ℕ, true, List, length, refl, sym, ap, subst}
+use Rattle.std.proofs.Common.{arith, w64}
 use Rattle.std.specs.Int.{bit_at, trailing_zeros}
 use Rattle.std.proofs.lemmas.Nat.Bits.{bit_at-trailing_zeros, bit_at-zero}
 use Rattle.mm_spec.specs.Words.{begins_word}
-use Rattle.mm_lex.proofs.BlockLaw.{no_words_between, remaining_bits_are_above}
-use Rattle.mm_lex.proofs.BlockLaw.{remaining_bit_is_other, other_bits_are_kept}
-use Rattle.mm_lex.proofs.BlockLaw.{holds_up_to_next_bit}
+use Rattle.mm_lex.proofs.BlockLaw.{other_bits_are_kept, remaining_bit_is_other}
+use Rattle.mm_lex.proofs.BlockLaw.{remaining_bits_are_above}
+use Rattle.mm_lex.proofs.ScannerLaw.{no_words_up_to, none_begins_up_to}
 use Rattle.mm_lex.proofs.scanner.WordScanner.next_start.Goals as goal
 
 pub returns-then-to-self-clause-is_first : goal.returns-then-to-self-clause-is_first
 returns-then-to-self-clause-is_first c =
     let scanner = c.loop-self.self in
-    let text = c.args.self.now.text.now in
-    let invariant_before = c.loop-self.invariant in
-    no_words_between text c.args.self.now.from (scanner.base + 64) c.args.to
-    (omega (arith, invariant_before.old_from_le_from, scanner.from_le_block_end)) c.if-to-self.true
-    (λ i from_le_i i_lt_end i_lt_to. holds_up_to_next_bit
-    (λ t k. begins_word t k ≡ false) scanner.text.now text scanner.starts c.args.self.now.from
-    scanner.from scanner.base
-    64 invariant_before.texts_equal scanner.base_le_from (omega arith) invariant_before.none_begins
-    (λ k _ _. ap (λ (n : ℕ). bit_at n k) c.loop-self-test.true ∙ bit_at-zero k) scanner.begins_none
-    i from_le_i
-    i_lt_end
-    (omega (arith, c.requires.to_le_length)))
+    let before = c.loop-self.invariant in
+    no_words_up_to scanner c.args.self.now.text.now c.args.self.now.from before.texts_equal
+    before.none_begins 64 (omega arith)
+    (λ k _. ap (λ (n : ℕ). bit_at n k) c.loop-self-test.true ∙ bit_at-zero k) c.args.to
+    c.requires.to_le_length
+    (omega (arith, before.old_from_le_from, scanner.from_le_block_end)) c.if-to-self.true
 
 pub loop-self-preserved : goal.loop-self-preserved
 loop-self-preserved c =
     let scanner = c.loop-self.self in
-    let text = c.args.self.now.text.now in
-    let invariant_before = c.loop-self.invariant in
+    let before = c.loop-self.invariant in
     record {
-      texts_equal = c.next_block.ensures.text_is ∙ invariant_before.texts_equal;
-      old_from_le_from =
-          omega (
-            arith,
-            invariant_before.old_from_le_from,
-            scanner.from_le_block_end,
-            c.next_block.ensures.from_is,
-          );
-      none_begins =
-          λ i from_le_i i_lt_end i_lt_to. holds_up_to_next_bit
-          (λ t k. begins_word t k ≡ false) scanner.text.now text scanner.starts c.args.self.now.from
-          scanner.from
-          scanner.base 64 invariant_before.texts_equal scanner.base_le_from (omega arith)
-          invariant_before.none_begins
-          (λ k _ _. ap (λ (n : ℕ). bit_at n k) c.loop-self-test.true ∙ bit_at-zero k)
-          scanner.begins_none
-          i from_le_i
-          (omega (arith, c.next_block.ensures.from_is)) i_lt_to;
+      texts_equal = c.next_block.ensures.text_is ∙ before.texts_equal;
+      old_from_le_from = omega (
+        arith,
+        before.old_from_le_from,
+        scanner.from_le_block_end,
+        c.next_block.ensures.from_is,
+      );
+      none_begins = λ i from_le_i i_lt_end.
+          none_begins_up_to scanner c.args.self.now.text.now c.args.self.now.from
+          before.texts_equal before.none_begins 64 (omega arith)
+          (λ k _. ap (λ (n : ℕ). bit_at n k) c.loop-self-test.true ∙ bit_at-zero k) i from_le_i
+          (omega (arith, c.next_block.ensures.from_is));
     }
 
 pub returns-then-to-start-clause-is_first : goal.returns-then-to-start-clause-is_first
 returns-then-to-start-clause-is_first c =
     let scanner = c.loop-self.self in
-    let text = c.args.self.now.text.now in
-    let invariant_before = c.loop-self.invariant in
+    let before = c.loop-self.invariant in
     let lowest_bit =
     bit_at-trailing_zeros w64 scanner.starts (omega (arith, c.loop-self-test.false))
     (omega arith) in
-    no_words_between text c.args.self.now.from (scanner.base + trailing_zeros w64 scanner.starts)
-    c.args.to
+    no_words_up_to scanner c.args.self.now.text.now c.args.self.now.from before.texts_equal
+    before.none_begins (trailing_zeros w64 scanner.starts) (omega (arith, lowest_bit.0))
+    lowest_bit.2 c.args.to c.requires.to_le_length
     (omega (
       arith,
-      invariant_before.old_from_le_from,
-      scanner.starts_ge_from
-          (trailing_zeros w64 scanner.starts) lowest_bit.0 lowest_bit.1,
-    ))
-    c.if-to-start.true
-    (λ i from_le_i i_lt_end i_lt_to. holds_up_to_next_bit
-    (λ t k. begins_word t k ≡ false) scanner.text.now text scanner.starts c.args.self.now.from
-    scanner.from scanner.base
-    (trailing_zeros w64 scanner.starts) invariant_before.texts_equal scanner.base_le_from
-    (omega (arith, lowest_bit.0)) invariant_before.none_begins
-    (λ k _ k_lt_place. lowest_bit.2 k k_lt_place) scanner.begins_none i from_le_i i_lt_end
-    (omega (arith, c.requires.to_le_length)))
+      before.old_from_le_from,
+      scanner.starts_ge_from (trailing_zeros w64 scanner.starts) lowest_bit.0 lowest_bit.1,
+    )) c.if-to-start.true
 
 pub invariant_of-self-clause-begins : goal.invariant_of-self-clause-begins
 invariant_of-self-clause-begins c i i_lt_64 place_in_text bit_is_one =
@@ -143,14 +121,10 @@ returns-clause-is_first c =
           invariant_before.texts_equal
           (scanner.begins (trailing_zeros w64 scanner.starts) lowest_bit.0 start_in_text
           lowest_bit.1);
-      none_before_start =
-          λ i from_le_i i_lt_end. holds_up_to_next_bit (λ t k. begins_word t k ≡ false)
-          scanner.text.now text
-          scanner.starts
-          c.args.self.now.from scanner.from scanner.base (trailing_zeros w64 scanner.starts)
-          invariant_before.texts_equal scanner.base_le_from
-          (omega (arith, lowest_bit.0)) invariant_before.none_begins
-          (λ k _ k_lt_place. lowest_bit.2 k k_lt_place) scanner.begins_none i from_le_i i_lt_end
+      none_before_start = λ i from_le_i i_lt_end.
+          none_begins_up_to scanner text c.args.self.now.from invariant_before.texts_equal
+          invariant_before.none_begins (trailing_zeros w64 scanner.starts)
+          (omega (arith, lowest_bit.0)) lowest_bit.2 i from_le_i i_lt_end
           (omega (arith, c.requires.to_le_length, c.if-to-start.false));
     }
 
@@ -176,34 +150,19 @@ returns-clause-is_taken c =
 pub returns-then-to-self-clause-none_left : goal.returns-then-to-self-clause-none_left
 returns-then-to-self-clause-none_left c =
     let scanner = c.loop-self.self in
-    let text = c.args.self.now.text.now in
-    no_words_between text scanner.from (scanner.base + 64) c.args.to scanner.from_le_block_end
-    c.if-to-self.true
-    (λ i from_le_i i_lt_end i_lt_to. holds_up_to_next_bit
-    (λ t k. begins_word t k ≡ false) scanner.text.now text scanner.starts scanner.from scanner.from
-    scanner.base 64
-    c.loop-self.invariant.texts_equal scanner.base_le_from (omega arith)
-    (λ k from_le_k k_lt_from _. absurd (omega arith))
-    (λ k _ _. ap (λ (n : ℕ). bit_at n k) c.loop-self-test.true ∙ bit_at-zero k) scanner.begins_none
-    i from_le_i
-    i_lt_end
-    (omega (arith, c.requires.to_le_length)))
+    no_words_up_to scanner c.args.self.now.text.now scanner.from c.loop-self.invariant.texts_equal
+    (λ k from_le_k k_lt_from _. absurd (omega arith)) 64 (omega arith)
+    (λ k _. ap (λ (n : ℕ). bit_at n k) c.loop-self-test.true ∙ bit_at-zero k) c.args.to
+    c.requires.to_le_length scanner.from_le_block_end c.if-to-self.true
 
 pub returns-then-to-start-clause-none_left : goal.returns-then-to-start-clause-none_left
 returns-then-to-start-clause-none_left c =
     let scanner = c.loop-self.self in
-    let text = c.args.self.now.text.now in
     let lowest_bit =
     bit_at-trailing_zeros w64 scanner.starts (omega (arith, c.loop-self-test.false))
     (omega arith) in
-    no_words_between text scanner.from (scanner.base + trailing_zeros w64 scanner.starts) c.args.to
+    no_words_up_to scanner c.args.self.now.text.now scanner.from c.loop-self.invariant.texts_equal
+    (λ k from_le_k k_lt_from _. absurd (omega arith)) (trailing_zeros w64 scanner.starts)
+    (omega (arith, lowest_bit.0)) lowest_bit.2 c.args.to c.requires.to_le_length
     (scanner.starts_ge_from (trailing_zeros w64 scanner.starts) lowest_bit.0 lowest_bit.1)
     c.if-to-start.true
-    (λ i from_le_i i_lt_end i_lt_to. holds_up_to_next_bit
-    (λ t k. begins_word t k ≡ false) scanner.text.now text scanner.starts scanner.from scanner.from
-    scanner.base
-    (trailing_zeros w64 scanner.starts) c.loop-self.invariant.texts_equal scanner.base_le_from
-    (omega (arith, lowest_bit.0))
-    (λ k from_le_k k_lt_from _. absurd (omega arith)) (λ k _ k_lt_place. lowest_bit.2 k k_lt_place)
-    scanner.begins_none i from_le_i i_lt_end
-    (omega (arith, c.requires.to_le_length)))

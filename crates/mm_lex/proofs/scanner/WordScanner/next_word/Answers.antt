@@ -5,12 +5,11 @@ use Rattle.mm_spec.specs.Words.{white_at}
 use Rattle.mm_spec.specs.Laws.Words.{IsWord}
 use Rattle.mm_lex.specs.Plain.{plain_at}
 use Rattle.mm_lex.specs.Beginnings.{IsFirstWordStart, IsPassed, IsWordFrom}
-use Rattle.mm_lex.proofs.BlockLaw.{words_begin_with_found, found_bytes_are_word}
-use Rattle.mm_lex.proofs.BlockLaw.{plain_bytes_are_plain_word, holds_up_to_next_bit}
-use Rattle.mm_lex.proofs.BlockLaw.{one_bit_is_white}
+use Rattle.mm_lex.proofs.BlockLaw.{found_bytes_are_word, one_bit_is_white}
+use Rattle.mm_lex.proofs.BlockLaw.{plain_bytes_are_plain_word, words_begin_with_found}
+use Rattle.mm_lex.proofs.ScannerLaw.{plain_up_to, unstopped_up_to}
 use Rattle.mm_lex.proofs.scanner.WordScanner.next_word.Goals as goal
-use Rattle.mm_lex.proofs.scanner.WordScanner.next_word.Goals.{Then-self-stop-eq1}
-use Rattle.mm_lex.proofs.scanner.WordScanner.next_word.Goals.{After-word_from}
+use Rattle.mm_lex.proofs.scanner.WordScanner.next_word.Goals.{Then-self-stop-eq1, After-word_from}
 
 -- ---- a word that is plain and ends in the block
 
@@ -35,30 +34,22 @@ module _ (c : Then-self-stop-eq1) where
       → white_at c.args.self.now.text.now i ≡ false
   none_white_to_stop i start_le_i i_lt_end =
       let scanner = c.next_start.new.self in
-      holds_up_to_next_bit (λ t k. white_at t k ≡ false) scanner.text.now c.args.self.now.text.now
-      scanner.stops
-      c.in_ok-start.start c.in_ok-start.start scanner.base c.first_one-stop.result
-      c.next_start.ensures.text_is c.in_ok-start.ensures.is_taken.base_le_start
-      c.first_one-stop.ensures.index_le_64
+      unstopped_up_to scanner c.args.self.now.text.now c.in_ok-start.start c.in_ok-start.start
+      c.first_one-stop.result c.next_start.ensures.text_is
+      c.in_ok-start.ensures.is_taken.base_le_start c.first_one-stop.ensures.index_le_64
       (λ k start_le_k k_lt_start _. absurd (omega arith)) c.first_one-stop.ensures.zeros
-      (λ k k_lt_64 place_in_text _. scanner.others_not_white k k_lt_64 place_in_text)
-      i start_le_i i_lt_end
-      (omega (arith, (stop_is_white c).0))
+      i start_le_i i_lt_end (omega (arith, (stop_is_white c).0))
 
   plain_to_stop : (i : ℕ) → c.in_ok-start.start ≤ i
       → i < c.next_start.new.self.base + c.first_one-stop.result
       → plain_at c.args.self.now.text.now i ≡ true
   plain_to_stop i start_le_i i_lt_end =
       let scanner = c.next_start.new.self in
-      holds_up_to_next_bit (λ t k. plain_at t k ≡ true) scanner.text.now c.args.self.now.text.now
-      scanner.stops
-      c.in_ok-start.start c.in_ok-start.start scanner.base c.first_one-stop.result
-      c.next_start.ensures.text_is c.in_ok-start.ensures.is_taken.base_le_start
-      c.first_one-stop.ensures.index_le_64
+      plain_up_to scanner c.args.self.now.text.now c.in_ok-start.start c.in_ok-start.start
+      c.first_one-stop.result c.next_start.ensures.text_is
+      c.in_ok-start.ensures.is_taken.base_le_start c.first_one-stop.ensures.index_le_64
       (λ k start_le_k k_lt_start _. absurd (omega arith)) c.first_one-stop.ensures.zeros
-      (λ k k_lt_64 place_in_text _. scanner.others_are_plain k k_lt_64 place_in_text)
-      i start_le_i i_lt_end
-      (omega (arith, (stop_is_white c).0))
+      i start_le_i i_lt_end (omega (arith, (stop_is_white c).0))
 
   start_le_stop : c.in_ok-start.start ≤ c.next_start.new.self.base + c.first_one-stop.result
   start_le_stop =

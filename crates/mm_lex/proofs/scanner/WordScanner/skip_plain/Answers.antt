@@ -1,24 +1,19 @@
+use Rattle.std.proofs.lemmas.Grind.{common_steps}
 use Rattle.std.proofs.Common.{◌≡◌, ◌<◌, ◌+◌, ◌∙◌, false, refl, sym, arith, w64}
 use Rattle.std.specs.Int.{trailing_zeros}
 use Rattle.std.proofs.lemmas.Nat.Bits.{bit_at-trailing_zeros}
 use Rattle.mm_spec.specs.Words.{begins_word}
 use Rattle.mm_lex.proofs.BlockLaw.{bits_from, kept_bit_is_above_k, plain_with_none_before}
-use Rattle.mm_lex.proofs.BlockLaw.{holds_up_to_next_bit, skipped_words_are_plain}
-use Rattle.mm_lex.proofs.BlockLaw.{one_bit_is_white}
+use Rattle.mm_lex.proofs.BlockLaw.{holds_up_to_next_bit, skipped_words_are_plain, one_bit_is_white}
 use Rattle.mm_lex.proofs.scanner.WordScanner.skip_plain.Goals as goal
 
 pub invariant_of-self-clause-begins : goal.invariant_of-self-clause-begins
 invariant_of-self-clause-begins c i i_lt_64 place_in_text bit_is_one =
-    let scanner = c.args.self.now in
-    scanner.begins i i_lt_64 place_in_text
-    (kept_bit_is_above_k scanner.starts c.last_one-end.result i i_lt_64 bit_is_one).1
+    grind (arith, common_steps, kept_bit_is_above_k)
 
 pub invariant_of-self-clause-starts_ge_from : goal.invariant_of-self-clause-starts_ge_from
 invariant_of-self-clause-starts_ge_from c i i_lt_64 bit_is_one =
-    omega (
-      arith,
-      (kept_bit_is_above_k c.args.self.now.starts c.last_one-end.result i i_lt_64 bit_is_one).0,
-    )
+    grind (arith, common_steps, kept_bit_is_above_k)
 
 pub invariant_of-self-clause-begins_none : goal.invariant_of-self-clause-begins_none
 invariant_of-self-clause-begins_none c i i_lt_64 place_in_text from_le_i bit_is_zero =

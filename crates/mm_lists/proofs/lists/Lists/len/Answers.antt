@@ -1,4 +1,4 @@
-use Rattle.std.proofs.Common.{arith, ◌∙◌}
+use Rattle.std.proofs.Common.{arith}
 use Rattle.mm_lists.proofs.ListsLaw.{count_is_bounds}
 use Rattle.mm_lists.proofs.lists.Lists.len.Goals as goal
 

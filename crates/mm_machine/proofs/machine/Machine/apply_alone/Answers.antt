@@ -1,27 +1,23 @@
-use Rattle.std.proofs.Common.{◌++◌, ◌∷◌, [], Ok, length, sym, ap, ◌∙◌, arith, subst, refl}
+use Rattle.std.proofs.Common.{rules, ◌++◌, ◌∷◌, [], Ok, length, sym, ap, ◌∙◌, arith, subst, refl}
 use Rattle.std.proofs.Common.{length-append}
 use Rattle.mm_spec.specs.Frame.{formula_at}
 use Rattle.mm_machine.specs.State.{machine_state}
-use Rattle.mm_machine.specs.Applied.{Applies}
+use Rattle.mm_machine.specs.Applied.{LeadsTo}
 use Rattle.mm_machine.proofs.AloneLaw.{applied_alone_is_ok, applied_alone_is_too_long}
 use Rattle.mm_machine.proofs.machine.Machine.apply_alone.Goals as goal
 
 pub returns-then-symbols-gt-FORMULA_LIMIT : goal.returns-then-symbols-gt-FORMULA_LIMIT
 returns-then-symbols-gt-FORMULA_LIMIT g c =
-    let db = c.args.database.now.statements in
-    let symbols_are = c.formula-symbols.ensures.formula_is ∙ ap (formula_at db) c.assertion.ensures
-    in
-    let length_is = ap length symbols_are in
-    record {
-      is_applied = record {
-        applies_if_ok = tt;
-        refusal_is_right =
-            applied_alone_is_too_long db c.args._theorem c.args.rule.now c.requires.is_compiled
-            c.requires.no_hypotheses
-            c.args.self.now.stack (omega (arith, length_is, c.if-symbols-gt-FORMULA_LIMIT.true));
-        variables_stay = refl;
-      };
-    }
+    search (
+      rules,
+      arith,
+      applied_alone_is_too_long,
+      c.formula-symbols.ensures.formula_is,
+      c.assertion.ensures,
+      c.requires.is_compiled,
+      c.requires.no_hypotheses,
+      c.if-symbols-gt-FORMULA_LIMIT.true,
+    )
 
 pub returns-in-Ok : goal.returns-in-Ok
 returns-in-Ok g c =
@@ -31,20 +27,19 @@ returns-in-Ok g c =
     let symbols = c.formula-symbols.result.now in
     let symbols_are = c.formula-symbols.ensures.formula_is ∙ ap (formula_at db) c.assertion.ensures
     in
-    let length_is = ap length symbols_are in
     let state_after = machine_state (es ++ symbols ∷ []) state_before.marks state_before.formulas
-    state_before.variables
+    state_before.variable_flags
     in
     record {
       is_applied = record {
-        applies_if_ok =
-            subst (Applies db c.args._theorem c.args.rule.now.assertion state_before)
+        leads_if_ok =
+            subst (LeadsTo db c.args._theorem c.args.rule.now.assertion state_before)
             (sym c.in-Ok.ensures.pushes_formula)
             (record {
               entries_are =
                   applied_alone_is_ok db c.args._theorem c.args.rule.now c.requires.is_compiled
                   c.requires.no_hypotheses es
-                  (omega (arith, length_is, c.if-symbols-gt-FORMULA_LIMIT.false))
+                  (omega (arith, ap length symbols_are, c.if-symbols-gt-FORMULA_LIMIT.false))
                   ∙ ap (λ f. Ok (es ++ f ∷ [])) (sym symbols_are);
               has_entry = omega (arith, length-append es (symbols ∷ []));
               marks_stay = refl;

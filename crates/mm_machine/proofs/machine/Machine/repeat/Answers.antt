@@ -9,23 +9,25 @@ pub invariant_of-self-2 : goal.invariant_of-self-2
 invariant_of-self-2 g c =
     let i = c.self.inside in
     let index = c.index_of_mark-index.result in
-    let enough = c.self.invariant.is_machine.enough_marked in
     let index_lt : index < length i.marked.items =
-    let lengths_equal = ap length c.deref.ensures.value in
-    omega (arith, c.index_of_mark-index.ensures.index_lt_length, enough, lengths_equal) in
+    omega (
+      arith,
+      c.index_of_mark-index.ensures.index_lt_length,
+      c.self.invariant.is_machine.enough_marked,
+      ap length c.deref.ensures.value,
+    ) in
     let m = c.index.result.now in
     let m_is : m ≡ get_or i.marked.items index no_entry =
     c.index.ensures ∙ get_or_default i.marked.items index m no_entry index_lt in
     rw c.in_ok-push.ensures.items
     (record {
       is_machine =
-          repeated_machine i.nodes i.stack.items i.marks.items i.marked.items i.floor
-          i.owners.variables c.self.invariant.is_machine index m c.for_top-entry.result index_lt
+          repeated_machine c.self.invariant.is_machine index m c.for_top-entry.result index_lt
           m_is c.for_top-entry.ensures.is_entry c.for_top-entry.ensures.formula_stays
           c.for_top-entry.ensures.needs_all;
       has_masks =
-          masks_with_repeated i.nodes i.stack.items i.marked.items i.owners
-          c.self.invariant.has_masks index m c.for_top-entry.result index_lt m_is
+          masks_with_repeated c.self.invariant.has_masks index m c.for_top-entry.result index_lt
+          m_is
           c.for_top-entry.ensures.formula_stays c.for_top-entry.ensures.mask_stays;
     })
 
@@ -33,18 +35,14 @@ pub returns-clause-repeats_step : goal.returns-clause-repeats_step
 returns-clause-repeats_step g c =
     let i = c.self.inside in
     let index = c.index_of_mark-index.result in
-    let enough = c.self.invariant.is_machine.enough_marked in
     let index_lt_marks : index < length i.marks.items =
-    let lengths_equal = ap length c.deref.ensures.value in
-    omega (arith, c.index_of_mark-index.ensures.index_lt_length, lengths_equal) in
-    let index_lt : index < length i.marked.items = omega (arith, index_lt_marks, enough) in
+    omega (arith, c.index_of_mark-index.ensures.index_lt_length, ap length c.deref.ensures.value) in
+    let index_lt : index < length i.marked.items =
+    omega (arith, index_lt_marks, c.self.invariant.is_machine.enough_marked) in
     let m = c.index.result.now in
-    let m_is : m ≡ get_or i.marked.items index no_entry =
-    c.index.ensures ∙ get_or_default i.marked.items index m no_entry index_lt in
-    rw c.in_ok-push.ensures.items
-    (repeated_state i.nodes i.stack.items i.marks.items i.marked.items i.floor i.owners.variables
-    c.self.invariant.is_machine index m c.for_top-entry.result index_lt m_is
-    c.for_top-entry.ensures.is_entry c.for_top-entry.ensures.formula_stays
+    rw c.in_ok-push.ensures.items (repeated_state c.self.invariant.is_machine index m
+    c.for_top-entry.result index_lt (c.index.ensures ∙ get_or_default i.marked.items index m
+    no_entry index_lt) c.for_top-entry.ensures.is_entry c.for_top-entry.ensures.formula_stays
     c.for_top-entry.ensures.needs_all c.args.step c.args.self.now c.self.view_is index_lt_marks
     (ap (λ ms. get_or ms index 0) (sym c.deref.ensures.value)
     ∙ c.index_of_mark-index.ensures.finds_mark))

@@ -5,10 +5,10 @@ use Rattle.mm_machine.proofs.owners.Owners.mask_of.Given as goal
 
 abbrev pub invariant-loop-symbol : goal.invariant-loop-symbol
 invariant-loop-symbol g l = record {
-  variables_stay : l.self.variables ≡ l.fn.self.variables;
+  variables_stay : l.self.variable_flags ≡ l.fn.self.variable_flags;
   extends : Extends l.fn.self.symbols l.self.symbols;
-  stay_in_range : All (λ s. s < length l.fn.self.variables) l.fn.self.symbols
-      → All (λ s. s < length l.fn.self.variables) l.self.symbols;
-  are_masked : AreMasked l.fn.self.variables l.self.symbols l.mask
-      (take l.symbol-index l.formula);
+  stay_in_range : All (λ s. s < length l.fn.self.variable_flags) l.fn.self.symbols
+      → All (λ s. s < length l.fn.self.variable_flags) l.self.symbols;
+  are_masked : AreMasked l.fn.self.variable_flags l.self.symbols l.mask (take l.symbol-index
+      l.formula);
 }

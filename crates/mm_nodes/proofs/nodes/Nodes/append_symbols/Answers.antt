@@ -1,4 +1,5 @@
-use Rattle.std.proofs.Common.{◌≡◌, ◌<◌, ◌++◌, ◌∙◌, ℕ, List, [], length, ap, sym, subst, arith, append-nil}
+use Rattle.std.proofs.Common.{◌≡◌, ◌++◌, ◌∙◌, ℕ, List, [], length, ap, sym, subst, arith}
+use Rattle.std.proofs.Common.{append-nil}
 use Rattle.mm_nodes.specs.Strings.{string_of}
 use Rattle.mm_nodes.specs.declared.heads.Head.{Head}
 use Rattle.mm_nodes.specs.Store.{IsPlaceOf, stretch_string}

@@ -1,10 +1,8 @@
-use Rattle.std.proofs.Common.{◌≡◌, ◌<◌, ◌+◌, ◌++◌, ◌∷◌, [], ℕ, List, ◌∙◌, sym, ap, subst, arith, length, All}
-use Rattle.mm_nodes.specs.declared.heads.Head.{Head}
+use Rattle.std.proofs.Common.{◌≡◌, ◌<◌, ◌+◌, ◌++◌, ◌∷◌, [], ℕ, List, ◌∙◌, sym, ap, subst, arith}
+use Rattle.std.proofs.Common.{length, All}
 use Rattle.mm_nodes.specs.Strings.{first_node, joined_string_of, IsBody, IsMade}
-use Rattle.mm_nodes.specs.Store.{head, nodes_of, IsStore}
+use Rattle.mm_nodes.specs.Store.{head, nodes_of}
 use Rattle.mm_nodes.proofs.StoreLaw.{length_nodes, store_pushed, nodes_pushed, made_by_push}
-use Rattle.mm_nodes.proofs.nodes.Nodes.push.Given.{Over}
-use Rattle.mm_nodes.proofs.nodes.Nodes.push.Goals.{After-node}
 use Rattle.mm_nodes.proofs.nodes.Nodes.push.Goals as goal
 
 pub invariant_of-self-in-Ok : goal.invariant_of-self-in-Ok
@@ -28,10 +26,12 @@ returns-in-Ok-clause-nodes_stay g c =
       c.args.bodies.now ∷ [],
       rw (c.in_ok-append.ensures.appends_bodies, c.in-Ok.ensures.items)
           (nodes_pushed bodies heads c.args.bodies.now
-          (head c.len-start.result c.len.result c.args.symbol_count) c.self.invariant c.len-start.ensures
+          (head c.len-start.result c.len.result c.args.symbol_count) c.self.invariant
+          c.len-start.ensures
           (c.len.ensures ∙ ap length c.in_ok-append.ensures.appends_bodies)
           (subst (λ (ns : List (List ℕ)). c.args.symbol_count
-          ≡ length (joined_string_of ns c.args.bodies.now)) (sym c.self.view_is) c.requires.length_is)
+          ≡ length (joined_string_of ns c.args.bodies.now)) (sym c.self.view_is)
+          c.requires.length_is)
           (subst (λ (ns : List (List ℕ)). All (IsBody ns) c.args.bodies.now) (sym c.self.view_is)
           c.requires.are_bodies)
           (omega (arith, length_nodes bodies heads, ap length c.self.view_is, c.requires.has_room))

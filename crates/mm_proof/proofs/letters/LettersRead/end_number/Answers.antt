@@ -1,6 +1,6 @@
 use Rattle.std.proofs.Common.{◌∙◌, ◌*◌, ◌+◌, ap, refl}
 use Rattle.mm_proof.specs.Number.{saturated}
-use Rattle.mm_proof.proofs.LettersLaw.{continues_after_last_letter_of_number, on_same_err}
+use Rattle.mm_proof.proofs.LettersLaw.{continues_after_last_letter, on_same_err}
 use Rattle.mm_proof.proofs.LettersLaw.{stands_at_next_with_step}
 use Rattle.mm_proof.specs.declared.refused.ProofRefused.TheVariants.{Memory}
 use Rattle.mm_proof.proofs.letters.LettersRead.end_number.Goals as goal
@@ -13,7 +13,7 @@ returns-clause-reads g c = λ byte is_last_letter.
       theorem = refl;
       labels = refl;
       continues =
-          continues_after_last_letter_of_number s.theorem s.labels s.marks c.args.number s.steps
+          continues_after_last_letter s.theorem s.labels s.marks c.args.number s.steps
           c.args._at byte _ c.requires.is_read_up_to.begins is_last_letter.0 is_last_letter.1
           (λ n saturated_equal. c.in-Some.ensures.step_is_of_number n
           (c.with_next_digit-begun.ensures.value_is_saturated

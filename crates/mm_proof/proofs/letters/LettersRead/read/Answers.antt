@@ -3,10 +3,8 @@ use Rattle.mm_proof.specs.Number.{saturated}
 use Rattle.mm_proof.specs.declared.letters.BegunNumber.{BegunNumber}
 use Rattle.mm_proof.specs.Letters.{RefusesLetters, letter, with_number, ReadsLetters, if_begun}
 use Rattle.mm_proof.proofs.LettersLaw.{on_same_err, stands_at_next, last_digit_is_in_range}
-use Rattle.mm_proof.proofs.LettersLaw.{early_digit_is_in_range}
-use Rattle.mm_proof.proofs.LettersLaw.{continues_after_early_letter_of_number}
+use Rattle.mm_proof.proofs.LettersLaw.{early_digit_is_in_range, continues_after_early_letter}
 use Rattle.mm_proof.proofs.LettersLaw.{number_without_letters_is_not_begun}
-use Rattle.std.proofs.lemmas.Result.{IfOk-from_err}
 use Rattle.mm_proof.proofs.letters.LettersRead.read.Goals as goal
 
 pub returns-in_err-end_number-in-Last-clause-refuses :
@@ -18,29 +16,10 @@ returns-in_err-end_number-in-Last-clause-refuses g c =
     c.from_residual.ensures.1
     (c.in_err-end_number-in-Last.ensures.refuses c.args.byte c.in-Last.ensures)
 
-pub returns-in_err-end_number-in-Last-clause-is_read_after :
-    goal.returns-in_err-end_number-in-Last-clause-is_read_after
-returns-in_err-end_number-in-Last-clause-is_read_after g c =
-    IfOk-from_err c.from_residual.result _ c.from_residual.ensures.0
-
-pub returns-in_err-end_number-in-Last-clause-reads :
-    goal.returns-in_err-end_number-in-Last-clause-reads
-returns-in_err-end_number-in-Last-clause-reads g c =
-    IfOk-from_err c.from_residual.result _ c.from_residual.ensures.0
-
 pub returns-in_ok-end_number-in-Last-clause-is_read_after :
     goal.returns-in_ok-end_number-in-Last-clause-is_read_after
 returns-in_ok-end_number-in-Last-clause-is_read_after g c =
     record { stands = c.in_ok-end_number-in-Last.ensures.stands_after; begins = λ value_is_0. refl }
-
-pub returns-in_ok-end_number-in-Last-clause-reads :
-    goal.returns-in_ok-end_number-in-Last-clause-reads
-returns-in_ok-end_number-in-Last-clause-reads g c =
-    c.in_ok-end_number-in-Last.ensures.reads c.args.byte c.in-Last.ensures
-
-pub returns-in_ok-end_number-in-Last-clause-refuses :
-    goal.returns-in_ok-end_number-in-Last-clause-refuses
-returns-in_ok-end_number-in-Last-clause-refuses g c = tt
 
 pub returns-in_ok-mark-in-Mark-clause-is_read_after :
     goal.returns-in_ok-mark-in-Mark-clause-is_read_after
@@ -49,9 +28,9 @@ returns-in_ok-mark-in-Mark-clause-is_read_after g c =
 
 pub returns-in-Early-clause-is_read_after : goal.returns-in-Early-clause-is_read_after
 returns-in-Early-clause-is_read_after g c =
+    let value_is = c.with_next_digit.ensures.value_is_saturated in
     let digit_in_range = early_digit_is_in_range c.args.byte c.in-Early.digit c.in-Early.ensures.0
     c.in-Early.ensures.1 in
-    let value_is = c.with_next_digit.ensures.value_is_saturated in
     record {
       stands = stands_at_next c.args.self.now c.args.at c.requires.is_read_up_to.stands;
       begins = λ value_is_0. absurd (omega (arith, value_is_0, value_is, digit_in_range.0));
@@ -103,7 +82,7 @@ returns-in-Early-clause-reads g c =
       theorem = refl;
       labels = refl;
       continues =
-          continues_after_early_letter_of_number s.theorem s.labels s.marks c.args.number.now
+          continues_after_early_letter s.theorem s.labels s.marks c.args.number.now
           s.steps c.args.at c.args.byte
           c.with_next_digit.result c.requires.is_read_up_to.begins c.in-Early.ensures.0
           c.with_next_digit.ensures.place_stays (c.with_next_digit.ensures.value_is_saturated

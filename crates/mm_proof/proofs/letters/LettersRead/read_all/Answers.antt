@@ -1,5 +1,5 @@
-use Rattle.std.proofs.Common.{◌≡◌, ◌∙◌, ◌+◌, [], ap, sym, subst, length, drop, is_some}
-use Rattle.std.proofs.Common.{arith, get_or}
+use Rattle.std.proofs.Common.{◌≡◌, ◌∙◌, ◌+◌, [], ap, sym, subst, length, drop, is_some, arith}
+use Rattle.std.proofs.Common.{get_or}
 use Rattle.mm_spec.specs.declared.Word.{Word}
 use Rattle.mm_spec.specs.CompressedProof.{letters_of, letter_faults, groups, group_faults}
 use Rattle.mm_spec.specs.CompressedProof.{group_steps}
@@ -22,9 +22,7 @@ pub returns-in_err-read_word-clause-fault_is_first :
     goal.returns-in_err-read_word-clause-fault_is_first
 returns-in_err-read_word-clause-fault_is_first g c =
     let all_letters = letters_of (as_tokens c.args.text.now c.args.words.now) in
-    let continues_at_start : Continues c.args.self.now all_letters all_letters =
-    subst (λ s. Continues s all_letters all_letters) (sym c.requires.none_read)
-    (continues_from_start c.args.self.now.theorem c.args.self.now.labels all_letters) in
+    let continues_at_start = continues_from_start c.requires.none_read all_letters in
     let refusal = c.in_err-read_word.field-0.0 in
     let words = c.args.words.now in
     let i = c.loop-word.word-index in
@@ -46,9 +44,7 @@ returns-in_err-read_word-clause-fault_is_first g c =
 pub returns-then-begun-gt0-clause-fault_is_first : goal.returns-then-begun-gt0-clause-fault_is_first
 returns-then-begun-gt0-clause-fault_is_first g c =
     let all_letters = letters_of (as_tokens c.args.text.now c.args.words.now) in
-    let continues_at_start : Continues c.args.self.now all_letters all_letters =
-    subst (λ s. Continues s all_letters all_letters) (sym c.requires.none_read)
-    (continues_from_start c.args.self.now.theorem c.args.self.now.labels all_letters) in
+    let continues_at_start = continues_from_start c.requires.none_read all_letters in
     let continues_after_all =
     continues_at_end
     (with_number c.loop-word.self (if_begun c.loop-word.begun)) c.args.text.now c.args.words.now
@@ -70,9 +66,7 @@ returns-then-begun-gt0-clause-fault_is_first g c =
 pub returns-clause-reads : goal.returns-clause-reads
 returns-clause-reads g c =
     let all_letters = letters_of (as_tokens c.args.text.now c.args.words.now) in
-    let continues_at_start : Continues c.args.self.now all_letters all_letters =
-    subst (λ s. Continues s all_letters all_letters) (sym c.requires.none_read)
-    (continues_from_start c.args.self.now.theorem c.args.self.now.labels all_letters) in
+    let continues_at_start = continues_from_start c.requires.none_read all_letters in
     let continues_after_all =
     continues_at_end
     (with_number c.loop-word.self (if_begun c.loop-word.begun)) c.args.text.now c.args.words.now

@@ -1,4 +1,4 @@
-use Rattle.std.proofs.Common.{List, ℕ, ◌<◌, length, All, sym, ◌∙◌, subst}
+use Rattle.std.proofs.Common.{length, ◌∙◌}
 use Rattle.mm_report.proofs.LabelLaw.{selected_lt_bound}
 use Rattle.std.specs.List.{list_any}
 use Rattle.mm_spec.specs.Scope.{statement_at}
@@ -9,7 +9,6 @@ pub invariant_of-result : goal.invariant_of-result
 invariant_of-result g c =
     let db = c.args.database.now.statements in
     let columns_of_typecode = c.requires in
-    subst (λ (l : List ℕ). All (λ k. k < length db) l)
-    (sym (c.statements.ensures.statements_are ∙ columns_of_typecode.1))
+    rw (c.statements.ensures.statements_are ∙ columns_of_typecode.1)
     (selected_lt_bound (λ j. list_any (is_column columns_of_typecode.0) (statement_at db j))
     (length db))

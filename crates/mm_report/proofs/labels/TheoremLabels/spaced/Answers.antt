@@ -1,6 +1,4 @@
-use Rattle.std.proofs.Common.{List, ℕ, ◌<◌, ◌∷◌, length, sym, ap, subst, ◌∙◌}
-use Rattle.std.specs.Prelude.{flat_map, slice_range}
-use Rattle.mm_spec.specs.Text.{Bytes}
+use Rattle.std.proofs.Common.{◌∙◌}
 use Rattle.mm_spec.specs.Assertion.{label_at}
 use Rattle.mm_spec.specs.Output.{theorems}
 use Rattle.mm_report.proofs.LabelLaw.{spaced_of_mapped, spaced_has_bytes}
@@ -10,12 +8,12 @@ pub returns : goal.returns
 returns g c =
     let db = c.self.inside.database.now.statements in
     let spaced_are =
-    c.spaced_labels.ensures ∙ spaced_of_mapped (label_at db) (theorems db) c.args.from c.args.to
-    ∙ ap (λ (ls : List Bytes). flat_map (λ (l : Bytes). 32 ∷ l)
-    (slice_range ls c.args.from c.args.to)) c.self.view_is in
+    rw c.self.view_is
+    at (c.spaced_labels.ensures ∙ spaced_of_mapped (label_at db) (theorems db) c.args.from
+    c.args.to) in
     record {
       labels_are_spaced = spaced_are;
-      has_bytes = λ from_lt_to. subst (λ (bytes : List ℕ). 0 < length bytes) (sym spaced_are)
+      has_bytes = λ from_lt_to. rw spaced_are
           (spaced_has_bytes c.args.self.now c.args.from c.args.to from_lt_to
           c.requires.to_le_length);
     }

@@ -72,7 +72,7 @@ free_spec 𝓤 𝓛 𝓜 𝓡 wired A L g d dd met md =
     move ! (1 ∷ []) $ split ! $
     heard ! _ (λ lives_within. split ! $ heard ! _ (λ alloc_is_h. split ! $ heard ! _ (λ
     units_are_u. heard ! _ (λ units_lt_limit.
-    let s : ℕ = u * 16 in
+    let size : ℕ = u * 16 in
     split ! $ move ! (1 ∷ []) $ fsplit ! $ fsplit ! $ drop ! $
     rewrite ! 0 (λ (n : ℕ). ‵ (block_at (g.dealloc_token x.alloc) n x.address)) units_are_u refl $
     rewrite ! 0 (λ (b : A.Denot). ‵ (block_at (g.dealloc_token b) u x.address)) alloc_is_h refl $
@@ -85,7 +85,7 @@ free_spec 𝓤 𝓛 𝓜 𝓡 wired A L g d dd met md =
     move ! (2 ∷ 0 ∷ []) $ join ! $ move ! (2 ∷ []) $ fsplit ! $
     -- [the memory; the right to give it back; the allocator with the token of its loan; the other
     -- tokens]
-    let z = at_gives Y 𝓛 𝓜.mem 𝓡.returns κs.0 qs.0 alloc_ptr h b o s 16 τ in
+    let z = at_gives Y 𝓛 𝓜.mem 𝓡.returns κs.0 qs.0 alloc_ptr h b o size 16 τ in
     regoal ! (λ (us : List Val). prop (WpFn 𝓤 𝓛.H 𝓣.C 𝓣.Λ fn us Post))
     (λ i. (block_is x.address vss.0 are.0.0 ∙ ap (λ (r : Ptr). block_val r ∷ []) address_is) i
     ++ (are.1.0.0 i ++ (are.1.1.0.0 i ++ []))) refl $
@@ -102,14 +102,15 @@ free_spec 𝓤 𝓛 𝓜 𝓡 wired A L g d dd met md =
     (tt, record { fits = omega (arith, units_lt_limit) }) $
     use3 𝓛 (raw ((Gives Y 𝓛 𝓜.mem 𝓡.returns).pre z))
     (Gives-goes Y 𝓛 𝓜.mem 𝓡.returns κs.0 qs.0 alloc_ptr h (⊑_trans κs.0 κs.1.0 A.lives y.0.2.0
-    lives_within) b o s 16
-    τ (capped_is s (omega (arith, units_lt_limit))) refl (omega (arith, units_lt_limit)) (lit< tt))
+    lives_within) b o size 16
+    τ (capped_is size (omega (arith, units_lt_limit))) refl
+    (omega (arith, units_lt_limit)) (lit< tt))
     $
     calls_at_last ! (framed 𝓤 𝓛.H 𝓜 𝓣) (Gives Y 𝓛 𝓜.mem 𝓡.returns) (met.deallocate dd) z
     (and_then ! (get ! refl)
     (and_then ! (get ! refl) (and_then ! (get ! refl) (and_then ! (lit ! tt) (no_more !))))) (λ v.
     use1 𝓛 (later (given (v ≡ vunit) (‵ (flft κs.0 qs.0))))
-    (Gives-Gives Y 𝓛 𝓜.mem 𝓡.returns κs.0 qs.0 alloc_ptr h b o s 16 τ v) $ await ! tt $
+    (Gives-Gives Y 𝓛 𝓜.mem 𝓡.returns κs.0 qs.0 alloc_ptr h b o size 16 τ v) $ await ! tt $
     learn ! (λ result_is_unit. join ! $
     regoal ! (λ (w : Val). settles En (place 5 []) w
     (block_ends 𝓛 (rest_runs 𝓛 𝓣.C 𝓣.Λ En (after 2 fn.body) Ends))) result_is_unit refl $

@@ -68,7 +68,7 @@ leaked_spec 𝓤 𝓛 𝓜 𝓡 wired A L g d dd met md =
     qed 𝓛 ((raw (alive 𝓛 T.signature κs qs) ⊛ ‵ (owns (types_at T.signature.params κs) a y.0.4))
     ∷ (raw (fact 𝓤 (κs.1.0 ⊑ A.lives)) ⊛ raw (fact 𝓤 (u * 16 < 2 ^ 63))) ∷ []) ∵
     move ! (1 ∷ []) $ split ! $ heard ! _ (λ lives_within. heard ! _ (λ units_lt_limit.
-    let s : ℕ = u * 16 in let z = at_takes Y 𝓛 𝓜.mem 𝓡.returns κs.0 qs.0 alloc_ptr h s 16 τ in
+    let size : ℕ = u * 16 in let z = at_takes Y 𝓛 𝓜.mem 𝓡.returns κs.0 qs.0 alloc_ptr h size 16 τ in
     split ! $ move ! (1 ∷ []) $ fsplit ! $ fsplit ! $ drop ! $ move ! (1 ∷ []) $ drop ! $
     use1 𝓛 (‵ (seen Y κs.0 alloc_ptr h)) (id⊢ 𝓤 _) $
     move ! (1 ∷ []) $ use1 𝓛 (‵ (flft κs.0 qs.0) ⊛ ‵ (flft κs.1.0 qs.1.0) ⊛ ‵ ftrue) (id⊢ 𝓤 _) $
@@ -81,12 +81,13 @@ leaked_spec 𝓤 𝓛 𝓜 𝓡 wired A L g d dd met md =
     (tt, record { fits = omega (arith, units_lt_limit) }) $
     use2 𝓛 (raw ((Takes Y 𝓛 𝓜.mem 𝓡.returns).pre z))
     (Takes-goes Y 𝓛 𝓜.mem 𝓡.returns κs.0 qs.0 alloc_ptr h (⊑_trans κs.0 κs.1.0 A.lives bounds.0
-    lives_within) s 16 τ
-    (capped_is s (omega (arith, units_lt_limit))) refl (omega (arith, units_lt_limit)) (lit< tt)) $
+    lives_within) size 16 τ
+    (capped_is size (omega (arith, units_lt_limit))) refl
+    (omega (arith, units_lt_limit)) (lit< tt)) $
     calls_at ! (framed 𝓤 𝓛.H 𝓜 𝓣) (Takes Y 𝓛 𝓜.mem 𝓡.returns) (met.allocate dd) z
     (and_then ! (get ! refl) (and_then ! (get ! refl) (and_then ! (lit ! tt) (no_more !)))) (λ v.
     use1 𝓛 (later (raw (Answered Y 𝓛 𝓜.mem 𝓡.returns h τ v) ⊛ ‵ (flft κs.0 qs.0)))
-    (Takes-gives Y 𝓛 𝓜.mem 𝓡.returns κs.0 qs.0 alloc_ptr h s 16 τ v) $ await ! tt $ split ! $
+    (Takes-gives Y 𝓛 𝓜.mem 𝓡.returns κs.0 qs.0 alloc_ptr h size 16 τ v) $ await ! tt $ split ! $
     answers Y ! 𝓜.mem 𝓡.returns h τ v
     (λ b o answer_is. let p = block_ptr b o in
     let x : (memory.the_row).Denot = record { address = p; units = u } in
@@ -105,7 +106,13 @@ leaked_spec 𝓤 𝓛 𝓜 𝓡 wired A L g d dd met md =
     exec ! 𝓣.C 𝓣.Λ En (after 3 fn.body) Ends $
     sets ! (of_opd ! (get ! refl)) refl (tt, (record { fits = lit< tt }, ((tt, tt), tt))) $
     returns ! (look_at ! 0 refl) $ free_all ! refl $
-    suffices ! _ (ends_at 𝓛 T stayed c y (live 1 (vcons (memory_val p) vnil)) (Some x) (tt, (tt, tt))
+    suffices ! _ (ends_at 𝓛 T stayed c y (live 1 (vcons (memory_val p) vnil)) (Some x) (
+      tt,
+      (
+        tt,
+        tt,
+      ),
+    )
     (tt, (tt, tt))) $ says ! refl $
     owned ! MemoryFields (Is MemoryFields) (memory_makes 𝓛) (p, tt) (memory_val p ∷ [])
     (is_memory p) $ fjoin ! $

@@ -1,5 +1,5 @@
-use Rattle.std.proofs.Common.{◌≡◌, All, Bool, true, false, if◌then◌else◌, List, [], ◌∷◌, ◌++◌}
-use Rattle.std.proofs.Common.{subst, sym}
+use Rattle.std.proofs.Common.{arith, All, Bool, if◌then◌else◌, List, [], ◌∷◌, ◌++◌}
+use Rattle.std.proofs.lemmas.Grind.{common_steps}
 use Rattle.std.proofs.lemmas.List.Elements.{All-push}
 use Rattle.mm_room.proofs.reuse.Reusing.new.Goals as goal
 
@@ -7,12 +7,15 @@ use Rattle.mm_room.proofs.reuse.Reusing.new.Goals as goal
 all_after_push : {X : Type 0} (P : X → Type 0) (xs : List X) (x : X) (is_pushed : Bool) → All P xs
     → P x
     → All P (if is_pushed then xs ++ x ∷ [] else xs)
-all_after_push P xs x true all_hold new_holds = All-push P xs x all_hold new_holds
-all_after_push P xs x false all_hold new_holds = all_hold
+all_after_push P xs x is_pushed h1 h2 = grind (arith, common_steps, All-push)
 
 pub loop-preserved : goal.loop-preserved
 loop-preserved g c =
-    subst (All (λ a. a ≡ c.args.alloc)) (sym c.push.ensures.items)
-    (all_after_push (λ a. a ≡ c.args.alloc) c.loop.lists.items
-    c.new-in-loop.result _ c.loop.invariant
-    c.new-in-loop.ensures)
+    grind (
+      arith,
+      common_steps,
+      all_after_push,
+      c.push.ensures.items,
+      c.loop.invariant,
+      c.new-in-loop.ensures,
+    )

@@ -7,7 +7,7 @@ use base.Fml.{ftrue}
 use mir.MapTy.{inst_fn}
 use contract.BorrowLft.{◌⊑◌}
 use denote.Param.{param, bounded}
-use denote.Plain.{uint_Makes}
+use denote.Plain.{uint_Makes, uint_vals, uint_Tells}
 use mir.Syntax.{Args, Fn, a_type, dcons, dnil, named}
 use mir.Val.{Val, vunit}
 use contract.Monad.{fact, fact_i}
@@ -22,7 +22,6 @@ use types.Run.{enter, of_opd, unit_lit, no_more, and_then, returns}
 use types.ByLocal.{alloc_all, pass_all, free_all, look_at, get, sets, lands_as}
 use denote.Builtin.{usize, unit}
 use denote.Laws.{Is}
-use denote.Plain.{uint_vals, uint_Tells}
 use denote.RattleType.{RattleType, owns}
 use denote.RawPtr.{room_for, rawptr_vals, rawptr_Tells, rawptr_Lawful}
 use denote.Ref.{shr_vals, shr_Tells}

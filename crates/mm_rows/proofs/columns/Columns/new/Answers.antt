@@ -3,13 +3,13 @@ use Rattle.std.proofs.Common.{None, length, take, get_or, sym, ap, subst, arith,
 use Rattle.std.specs.Option.{option_map}
 use Rattle.std.specs.List.{list_any, range_with_len, filter}
 use Rattle.std.proofs.lemmas.List.{take_all, take_more}
+use Rattle.std.proofs.lemmas.List.Elements.{filter-append}
 use Rattle.mm_spec.specs.Scope.{statement_at}
 use Rattle.mm_spec.specs.Assertion.{has_typecode}
 use Rattle.mm_spec.specs.Output.{columns, is_column}
 use Rattle.mm_cites.specs.Citing.{IsStatementList}
 use Rattle.mm_cites.proofs.RisingLaw.{filtered_passes, filtered_range_is_statement_list}
-use Rattle.mm_rows.proofs.ColumnLaw.{filter_of_appended, columns_are_chosen_axioms}
-use Rattle.mm_rows.proofs.ColumnLaw.{axiom_is_assertion}
+use Rattle.mm_rows.proofs.ColumnLaw.{axiom_is_assertion, columns_are_chosen_axioms}
 use Rattle.mm_rows.proofs.columns.Columns.new.Goals as goal
 use Rattle.mm_rows.proofs.columns.Columns.new.Goals.{then-has_chosen_typecode+in_ok-push}
 use Rattle.mm_rows.proofs.columns.Columns.new.Goals.{else-has_chosen_typecode}
@@ -37,7 +37,7 @@ loop-statement-preserved g c =
     let one_more_is_taken : filter is_chosen (take (i + 1) axioms)
     ≡ filter is_chosen (take i axioms) ++ cond (is_chosen x) (x ∷ []) [] =
     ap (filter is_chosen) (take_more axioms i 0 (omega arith))
-    ∙ filter_of_appended is_chosen (take i axioms) x in
+    ∙ filter-append is_chosen (take i axioms) (x ∷ []) in
     elim c.if-has_chosen_typecode.branch [
       | then-has_chosen_typecode+in_ok-push w ↦
           let x_is_chosen : is_chosen x ≡ true =

@@ -1,13 +1,13 @@
-use Rattle.std.proofs.Common.{List, sym, subst, ℕ}
-use Rattle.mm_rows.specs.Bits.{AreTransposed}
-use Rattle.mm_rows.proofs.TableLaw.{transposed_are_columns}
+use Rattle.std.proofs.Common.{subst}
+use Rattle.mm_rows.specs.MarkBits.{AreBitsOfColumns}
+use Rattle.mm_rows.specs.Marks.{Marks}
+use Rattle.mm_rows.proofs.TableLaw.{bits_of_transposed}
 use Rattle.mm_rows.proofs.table.Matrix.with_columns.Goals as goal
 
 pub invariant_of-result : goal.invariant_of-result
 invariant_of-result g c =
     let table = c.marked.inside in
-    transposed_are_columns c.args.marked table.rows table.columns table.bits.items
-    (sym c.marked.view_is) c.marked.invariant c.in_ok-columns_bits.columns_bits.items
-    (subst (λ (xs : List ℕ). AreTransposed table.rows table.columns xs
-    c.in_ok-columns_bits.columns_bits.items)
-    c.deref.ensures.value c.in_ok-columns_bits.ensures)
+    let columns = c.in_ok-columns_bits.columns_bits.items in
+    subst (λ (m : Marks). AreBitsOfColumns m columns) c.marked.view_is
+    (bits_of_transposed table.rows table.columns table.bits.items c.marked.invariant columns
+    (rw c.deref.ensures.value at c.in_ok-columns_bits.ensures))

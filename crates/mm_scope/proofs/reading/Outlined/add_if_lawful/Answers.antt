@@ -1,15 +1,14 @@
-use Rattle.std.proofs.Common.{rules, refl, le_refl, take, take_all, ap₂, ◌≡◌, ℕ, ◌<◌, ◌++◌, ◌∷◌, []}
-use Rattle.std.proofs.Common.{List, length, sym, ap, ◌∙◌, subst, arith}
-use Rattle.std.proofs.lemmas.List.{length-map, take-append-le}
+use Rattle.std.proofs.Common.{rules, refl, take, ap₂, ◌≡◌, length, sym, ap, ◌∙◌, arith}
+use Rattle.std.proofs.lemmas.List.{length-map}
+use Rattle.std.proofs.Math.Seq.{take-append_seam}
 use Rattle.mm_spec.specs.Scope.{names_before}
 use Rattle.mm_spec.specs.Lawful.{least, scope_faults}
-use Rattle.mm_outline.specs.Blocks.{never}
 use Rattle.mm_outline.specs.Parts.{statement_of}
 use Rattle.mm_outline.specs.Statements.{statements}
-use Rattle.mm_scope.specs.Formulas.{AreFormulas, judged}
+use Rattle.mm_scope.specs.Formulas.{judged}
 use Rattle.mm_scope.specs.Scopes.{names_in}
-use Rattle.mm_database.specs.Names.{find, names_of}
-use Rattle.mm_scope.proofs.KnowsLaw.{scope_knows_names}
+use Rattle.mm_database.specs.Names.{names_of}
+use Rattle.mm_scope.proofs.KnowsLaw.{least_before_next}
 use Rattle.mm_scope.proofs.NumberedLaw.{declared, symbol_names_no_shorter}
 use Rattle.mm_scope.proofs.NumberedLaw.{declared_names_are_symbol_names, taken_numbers}
 use Rattle.mm_scope.proofs.NumberedLaw.{formulas_with_statement}
@@ -20,37 +19,27 @@ fault-requires-clause-few_names g c =
     let db = statements c.args.text.now c.args.tokens.now c.args.self.now.outlines.items in
     let s = statement_of c.args.text.now c.args.tokens.now c.args.outline in
     let names_length = ap length c.requires.is_read_so_far.names_are in
-    let names_no_shorter = symbol_names_no_shorter db s in
-    let names_lt_2_31 = c.requires.may_take.few_names in
-    omega (arith, names_length, names_no_shorter, names_lt_2_31)
+    omega
+    (arith, names_length, symbol_names_no_shorter db s, c.requires.may_take.few_names)
 
 pub returns-then-is_some : goal.returns-then-is_some
 returns-then-is_some g c =
     let text = c.args.text.now in
     let ws = c.args.tokens.now in
     let os = c.args.self.now.outlines.items in
-    let db = statements text ws os in
     let s = statement_of text ws c.args.outline in
     let is_read_so_far = c.requires.is_read_so_far in
-    let may_take = c.requires.may_take in
-    let b = c.args.self.now.scope.blocks in
-    let db_lt_2_31 = may_take.few_statements in
-    let db_lt_never : length db < never = omega (arith, db_lt_2_31) in
-    let fault_is_least =
-    c.in_ok-self.ensures.fault_is_least (names_before db (length db))
-    (scope_knows_names db (find c.args.self.now.scope.names.symbols)
-    (find c.args.self.now.scope.names.labels) b is_read_so_far.knows db_lt_never) in
     let symbols_before = c.args.self.now.symbols.items in
     let symbols_are_unchanged : c.truncate.new.self.items ≡ symbols_before =
     c.truncate.ensures.items
     ∙ ap₂ take (c.len-number_count.ensures ∙ c.args.self.now.symbols.ok.0)
-    c.in_ok-self.ensures.numbers_are_added ∙ take-append-le (length symbols_before) symbols_before
-    (judged (names_in c.args.self.now.scope) s)
-    (le_refl (length symbols_before))
-    ∙ take_all (length symbols_before) symbols_before (le_refl (length symbols_before)) in
+    c.in_ok-self.ensures.numbers_are_added
+    ∙ take-append_seam symbols_before (judged (names_in c.args.self.now.scope) s) in
     record {
       fault =
-          fault_is_least ∙ ap (λ n. least (scope_faults (names_before db n) c.args.depth s))
+          least_before_next (λ n. scope_faults n c.args.depth s) is_read_so_far.knows
+          c.requires.may_take.few_statements c.in_ok-self.ensures.fault_is_least
+          ∙ ap (λ n. least (scope_faults (names_before (statements text ws os) n) c.args.depth s))
           (length-map os (statement_of text ws));
       if_lawful = search rules;
       if_unlawful = λ is_some. (
@@ -58,10 +47,7 @@ returns-then-is_some g c =
         record {
           knows = is_read_so_far.knows;
           names_are = is_read_so_far.names_are;
-          formulas =
-              subst
-              (λ (ns : List ℕ). AreFormulas db ns c.args.self.now.ends.items)
-              (sym symbols_are_unchanged) is_read_so_far.formulas;
+          formulas = rw symbols_are_unchanged is_read_so_far.formulas;
         },
       );
     }
@@ -75,13 +61,9 @@ returns g c =
     let s = statement_of text ws c.args.outline in
     let is_read_so_far = c.requires.is_read_so_far in
     let may_take = c.requires.may_take in
-    let b = c.args.self.now.scope.blocks in
-    let db_lt_2_31 = may_take.few_statements in
-    let db_lt_never : length db < never = omega (arith, db_lt_2_31) in
     let fault_is_least =
-    c.in_ok-self.ensures.fault_is_least (names_before db (length db))
-    (scope_knows_names db (find c.args.self.now.scope.names.symbols)
-    (find c.args.self.now.scope.names.labels) b is_read_so_far.knows db_lt_never) in
+    least_before_next (λ n. scope_faults n c.args.depth s) is_read_so_far.knows
+    may_take.few_statements c.in_ok-self.ensures.fault_is_least in
     let names_are =
     declared_names_are_symbol_names db s (names_of c.add.new.self.names.symbols)
     (c.in_ok-add.ensures.names_are_declared (declared db) is_read_so_far.names_are) in
@@ -90,10 +72,6 @@ returns g c =
     c.number_others.new.numbers.items (names_of c.args.self.now.scope.names.symbols)
     (names_of c.add.new.self.names.symbols) is_read_so_far.names_are names_are
     c.in_ok-self.ensures.numbers_are_added c.in_ok-number_others.ensures in
-    let are_formulas =
-    formulas_with_statement db may_take.lawful s c.args.self.now.symbols.items
-    c.args.self.now.ends.items is_read_so_far.formulas c.number_others.new.numbers.items
-    symbols_are_appended in
     record {
       fault =
           fault_is_least ∙ ap (λ n. least (scope_faults (names_before db n) c.args.depth s))
@@ -103,15 +81,15 @@ returns g c =
         record {
           knows =
               c.in_ok-add.ensures.is_next_scope db is_read_so_far.knows (
-                ap (λ d. least (scope_faults (names_before db (length db)) d s))
-                    (sym may_take.open_blocks_is_depth) ∙ sym fault_is_least ∙ is_none,
+                rw (sym may_take.open_blocks_is_depth) (sym fault_is_least ∙ is_none),
                 may_take.closes_open_block,
               );
           names_are = names_are;
           formulas =
-              subst
-              (λ (ps : List ℕ). AreFormulas (db ++ s ∷ []) c.number_others.new.numbers.items ps)
-              (sym c.in_ok-end_list.ensures.bound_is_added) are_formulas;
+              rw c.in_ok-end_list.ensures.bound_is_added
+              (formulas_with_statement db may_take.lawful s c.args.self.now.symbols.items
+              c.args.self.now.ends.items is_read_so_far.formulas c.number_others.new.numbers.items
+              symbols_are_appended);
         },
       );
       if_unlawful = search rules;

@@ -1,5 +1,5 @@
-use Rattle.std.proofs.Common.{ap, ap₂, ◌+◌, ◌<◌, ◌≤◌, arith, length, ◌∙◌, ◌≡◌, ◌++◌, []}
-use Rattle.std.proofs.Common.{Some, bytes_eq, if◌then◌else◌}
+use Rattle.std.proofs.Common.{ap, ap₂, ◌+◌, ◌<◌, ◌≤◌, arith, length, ◌∙◌, ◌≡◌, ◌++◌, [], Some}
+use Rattle.std.proofs.Common.{bytes_eq, if◌then◌else◌}
 use Rattle.mm_spec.specs.Text.{words}
 use Rattle.mm_spec.specs.Frame.{first_occurrences}
 use Rattle.mm_outline.specs.Parts.{between}
@@ -12,10 +12,9 @@ use Rattle.mm_scope.proofs.scope.Scope.declare.Goals as goal
 pub loop-token_index-preserved : goal.loop-token_index-preserved
 loop-token_index-preserved g c =
     let from = c.args.outline.keyword + 1 in
-    let index_lt_middle = c.loop-token_index-test.true in
-    let end_lt_length = c.requires.is_among_tokens.end_lt_length in
     let index_lt_length : c.loop-token_index.token_index
-    < length c.args.tokens.now = omega (arith, index_lt_middle, end_lt_length) in
+    < length c.args.tokens.now =
+    omega (arith, c.loop-token_index-test.true, c.requires.is_among_tokens.end_lt_length) in
     let from_le_index : from ≤ c.loop-token_index.token_index = omega arith in
     let invariant = c.loop-token_index.invariant in
     record {

@@ -1,4 +1,4 @@
-use Rattle.std.proofs.Common.{not, ◌<◌, ◌≤◌, ◌∙◌, ◌+◌, ◌++◌, ◌∷◌, [], ap, sym, arith, length}
+use Rattle.std.proofs.Common.{not, ◌<◌, ◌≤◌, ◌∙◌, ◌+◌, ◌∷◌, [], ap, sym, arith, length}
 use Rattle.std.proofs.Common.{append_assoc}
 use Rattle.mm_spec.specs.Frame.{index_of}
 use Rattle.mm_outline.specs.Parts.{token_at, nth_word, between}
@@ -15,25 +15,22 @@ use Rattle.mm_database.proofs.NamesLaw.{index_of_le_length}
 pub overflow_cast-number : goal.overflow_cast-number
 overflow_cast-number g c =
     let ns = names_of c.args.self.now.names.symbols in
-    let names_lt_2_31 = c.requires.few_names in
     let index_le_length = index_of_le_length c.bytes.result.now ns in
-    let number_is_index = c.numbered-number.ensures.number_is_index in
-    omega (arith, index_le_length, number_is_index, names_lt_2_31)
+    omega (arith, index_le_length, c.numbered-number.ensures.number_is_index, c.requires.few_names)
 
 pub returns-clause-fault_is_least : goal.returns-clause-fault_is_least
 returns-clause-fault_is_least g c = λ n are_names.
-    let s = c.args.self.now in
-    let from_ne_to = c.if-from-to.false in
-    let to_lt_length = c.requires.to_lt_length in
-    let from_le_to = c.requires.from_le_to in
-    let from_lt_to : c.args.from < c.args.to = omega (arith, from_ne_to, from_le_to) in
-    let to_le_length : c.args.to ≤ length c.args.tokens.now = omega (arith, to_lt_length) in
+    let from_lt_to : c.args.from < c.args.to = omega
+    (arith, c.if-from-to.false, c.requires.from_le_to) in
+    let to_le_length : c.args.to ≤ length c.args.tokens.now = omega (arith, c.requires.to_lt_length)
+    in
     let text = c.args.text.now in
     let ws = c.args.tokens.now in
     let t = token_at text ws c.args.from in
     let end_place = (nth_word ws c.args.to).start in
     let symbol_is_found =
-    c.numbered-number.ensures.symbol_is_found ∙ ap (find s.names.symbols) c.bytes.ensures in
+    c.numbered-number.ensures.symbol_is_found ∙ ap (find c.args.self.now.names.symbols)
+    c.bytes.ensures in
     c.lesser.ensures (faults_at t.at (when (not (is_in t.word n.constants)) BadTypecode))
     (faults_at_each (symbol_codes n) [] (between text ws (c.args.from + 1) c.args.to))
     (c.fault_with_code-fault_of_typecode.ensures ∙ c.typecode_fault_code.ensures t.at
@@ -47,19 +44,17 @@ pub returns-clause-numbers_are_added : goal.returns-clause-numbers_are_added
 returns-clause-numbers_are_added g c =
     let text = c.args.text.now in
     let ws = c.args.tokens.now in
-    let from_ne_to = c.if-from-to.false in
-    let to_lt_length = c.requires.to_lt_length in
-    let from_le_to = c.requires.from_le_to in
-    let from_lt_to : c.args.from < c.args.to = omega (arith, from_ne_to, from_le_to) in
-    let to_le_length : c.args.to ≤ length ws = omega (arith, to_lt_length) in
+    let from_lt_to : c.args.from < c.args.to =
+    omega (arith, c.if-from-to.false, c.requires.from_le_to) in
     let ns = names_of c.args.self.now.names.symbols in
     c.in_ok-fault_of_symbols.ensures.numbers_are_added
-    ∙ ap (λ l. l ++ numbers_in ns (between text ws (c.args.from + 1) c.args.to))
-    (c.in_ok-push.ensures.items
-    ∙ ap (λ y. c.args.numbers.now.items ++ y ∷ [])
-    (c.new.ensures ∙ c.numbered-number.ensures.number_is_index
-    ∙ ap (λ w. index_of w ns) c.bytes.ensures))
-    ∙ append_assoc c.args.numbers.now.items (index_of (token_at text ws c.args.from).word ns ∷ [])
-    (numbers_in ns (between text ws (c.args.from + 1) c.args.to))
-    ∙ ap (λ l. c.args.numbers.now.items ++ l)
-    (sym (ap (numbers_in ns) (between_first text ws c.args.from c.args.to from_lt_to to_le_length)))
+    ∙ rw (
+      c.in_ok-push.ensures.items,
+      c.new.ensures,
+      c.numbered-number.ensures.number_is_index,
+      c.bytes.ensures,
+      between_first text ws c.args.from c.args.to from_lt_to
+          (omega (arith, c.requires.to_lt_length)),
+    ) (append_assoc c.args.numbers.now.items
+    (index_of (token_at text ws c.args.from).word ns ∷ [])
+    (numbers_in ns (between text ws (c.args.from + 1) c.args.to)))

@@ -2,33 +2,26 @@ use Rattle.std.proofs.Common.{◌≡◌, ◌<◌, ◌∙◌, get_or, ap, subst, 
 use Rattle.mm_work.specs.Workers.{IsDone}
 use Rattle.mm_work.specs.declared.job.Job.{Job}
 use Rattle.std.proofs.lemmas.List.Elements.{All-push}
-use Rattle.mm_work.proofs.threads.fn.work_all.scope.Goals.{in-Some+in-Ok+in_ok-push}
 use Rattle.mm_work.proofs.threads.fn.work_all.scope.Goals.{in-Some+in_default-spawn_with+in-Err-1}
 use Rattle.mm_work.proofs.threads.fn.work_all.scope.Goals.{in-Some+in_default-spawn_with+in-Ok-1}
-use Rattle.mm_work.proofs.threads.fn.work_all.scope.Goals.{in_default}
+use Rattle.mm_work.proofs.threads.fn.work_all.scope.Goals.{in-Some+in-Ok+in_ok-push, in_default}
 use Rattle.mm_work.proofs.threads.fn.work_all.scope.Goals as goal
 
 pub join_all-requires : goal.join_all-requires
 join_all-requires g c = record {
   first_is_done = c.work-first.ensures;
   others_are_done = λ k d k_lt_length.
-      let length_is = c.in-Ok-join_promised.ensures.len in
-      let handle_count_is = c.in-Ok-join_promised.others.ok.0 in
       let k_lt_handle_count : k < vec_len c.loop-worker.handles = omega (
         arith,
-        length_is,
-        handle_count_is,
+        c.in-Ok-join_promised.ensures.len,
+        c.in-Ok-join_promised.others.ok.0,
         k_lt_length,
       ) in
       let is_kept = (c.in-Ok-join_promised.ensures.each k d k_lt_handle_count).1 in
-      let handle_length_is = c.loop-worker.handles.ok.0 in
-      let is_promised = c.loop-worker.invariant.are_promised k is_kept.handle (omega (
-        arith,
-        k_lt_handle_count,
-        handle_length_is,
-      )) in
       subst (λ (j : Job _). IsDone j (get_or c.in-Ok-join_promised.others.items k d))
-      (ap (λ h. h.promise.now) is_kept.handle_is ∙ is_promised) is_kept.kept;
+      (ap (λ h. h.promise.now) is_kept.handle_is ∙ (c.loop-worker.invariant.are_promised k
+      is_kept.handle (omega (arith, k_lt_handle_count, c.loop-worker.handles.ok.0))))
+      is_kept.kept;
 }
 
 pub loop-worker-preserved : goal.loop-worker-preserved

@@ -1,0 +1,5 @@
+use Rattle.std.proofs.Common.{rules, arith}
+use Rattle.mm_frame.proofs.neighbours.EssentialLists.new.Goals as goal
+
+pub returns : goal.returns
+returns g c = search (rules, arith)

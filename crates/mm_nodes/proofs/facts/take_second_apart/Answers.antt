@@ -1,0 +1,30 @@
+use Rattle.std.proofs.Common.{arith}
+use Rattle.mm_nodes.proofs.StoreLaw.{length_nodes}
+use Rattle.mm_nodes.proofs.WalkLaw.{place_is_in}
+use Rattle.mm_nodes.proofs.OverlapLaw.{second_apart, on_ok}
+use Rattle.mm_nodes.proofs.facts.take_second_apart.Goals as goal
+
+pub require_parts-requires-clause-are_parts : goal.require_parts-requires-clause-are_parts
+require_parts-requires-clause-are_parts g c =
+    place_is_in c.args.bodies.now c.args.heads.now c.args.index c.place_of-place.result
+    c.requires.are_nodes
+    (omega (
+      arith,
+      c.requires.is_node,
+      c.requires.is_overlap.second_is_body,
+      length_nodes c.args.bodies.now c.args.heads.now,
+    )) c.place_of-place.ensures
+
+pub returns : goal.returns
+returns g c =
+    on_ok c.require_parts.result
+    (λ comes.
+    second_apart c.args.bodies.now c.args.heads.now c.requires.are_nodes c.args.overlap c.args.index
+    (omega (
+      arith,
+      c.requires.is_node,
+      c.requires.is_overlap.second_is_body,
+      length_nodes c.args.bodies.now c.args.heads.now,
+    )) c.place_of-place.result c.place_of-place.ensures c.requires.is_node
+    comes)
+    c.require_parts.ensures

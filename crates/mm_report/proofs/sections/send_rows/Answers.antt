@@ -1,5 +1,0 @@
-use Rattle.mm_report.proofs.SentLaw.{sent_both}
-use Rattle.mm_report.proofs.sections.send_rows.Goals as goal
-
-pub returns : goal.returns
-returns g c = sent_both c.send_matrix_section.ensures c.send_counts_section.ensures

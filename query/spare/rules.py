@@ -1,0 +1,270 @@
+"""The assertions of a database as rules, which proofs apply, with the trees of their formulas."""
+
+from __future__ import annotations
+
+import re
+from array import array
+from collections.abc import Iterable, Iterator, Mapping, Sequence
+from dataclasses import dataclass, field
+from itertools import chain
+from typing import NamedTuple
+
+from query.assertions import PAIR, Assertion, Hypothesis
+from query import cache, progress
+from query.bare import without_comments
+from query.database import Database, key_of
+from query.errors import NoAnswer
+from query.grammar import NotRead
+from query.spare.grammar import Form, Grammar
+from query.spare.trees import Code, Trees
+from query.text import Text
+
+FLOATING = re.compile(rb"(?<!\S)([\w.-]++)\s++\$f\s++([^\s$]++)\s++([^\s$]++)\s++\$\.")
+MOST_ASSERTIONS, MOST_VARIABLES, MOST_MARKS = 500_000, 5000, 2_000_000_000
+"""With more assertions or variables, or more pairs of an assertion and an axiom, there is no
+answer: sets of them are the bits of numbers."""
+FORM = 2
+"""Counts the forms in which trees are kept, and the ways in which formulas are parsed."""
+UNREAD = "{} formulas aren't read by the syntax axioms, so less may be found; the first is of {}"
+
+
+class Given(NamedTuple):
+    """A mandatory hypothesis: a `$f` with its variable, which `is_floating`, or a `$e` with its
+    tree."""
+
+    is_floating: bool
+    number: int
+    label: str
+
+
+@dataclass(slots=True)
+class Rule:
+    """An assertion as a rule. `tree` is that of its formula, -1 where it can be no step of a proof
+    that is changed; `slots` are its mandatory variables, in the order of their hypotheses; `form`
+    is that of a syntax axiom. `is_logical` is whether its formula has the typecode of what is
+    proved."""
+
+    number: int
+    label: str
+    is_logical: bool
+    tree: int
+    given: list[Given]
+    slots: list[int]
+    form: int | None = None
+    code: Code | None = field(default=None)
+
+    def essential(self) -> list[Given]:
+        """The `$e` hypotheses."""
+        return [each for each in self.given if not each.is_floating]
+
+
+class Rules:
+    """All assertions of a text as rules, by their numbers. `typecode` is that of what is proved;
+    all others are of the syntax. `kept` is what was found before of the same text."""
+
+    def __init__(self, text: Text, typecode: str, kept: Mapping[str, bytes] | None = None) -> None:
+        self.text = text
+        self.typecode_proved = typecode
+        self.trees = Trees()
+        self.grammar = Grammar(self.trees)
+        self.floating = floating_of(text.data)
+        self.unread: list[str] = []
+        """The assertions with a formula that has no tree by the syntax, and why it hasn't."""
+        self._parsed: dict[tuple[str, str], int] = {}
+        self._known = self.restored(kept) if kept is not None else iter(())
+        self._rules: list[Rule] = []
+        typecodes: dict[str, str] = {}
+        self._is_fixed = all(
+            typecodes.setdefault(symbol, typecode) == typecode
+            for typecode, symbol in self.floating.values()
+        )
+        for assertion in text.assertions:
+            self._rules.append(self.rule(assertion))
+
+    def __len__(self) -> int:
+        return len(self._rules)
+
+    def __getitem__(self, number: int) -> Rule:
+        return self._rules[number]
+
+    def __iter__(self) -> Iterator[Rule]:
+        return iter(self._rules)
+
+    def rule(self, assertion: Assertion) -> Rule:
+        """An assertion as a rule. All before it are there already."""
+        frame = assertion.frame()
+        given = frame.hypotheses()
+        leaves = {}
+        slots = []
+        for each in given:
+            if each.kind == "f":
+                typecode, symbol = each.formula.split(" ")
+                leaves[symbol] = self.grammar.variable(typecode, symbol)
+                slots.append(~self.trees.heads[leaves[symbol]])
+        scope = "" if self._is_fixed else " ".join(each.formula for each in given)
+        found = [self.given(assertion, each, leaves, scope) for each in given]
+        is_logical = assertion.typecode == self.typecode_proved
+        rule = Rule(assertion.number, assertion.label, is_logical, -1, found, slots)
+        is_syntax = not is_logical and len(slots) == len(found) and not frame.disjoint
+        if is_syntax and assertion.kind == "a":
+            rule.form = self.grammar.add(form_of(assertion, given))
+            parts = [self.trees.made((~slot,)) for slot in slots]
+            rule.tree = self.trees.made((rule.form, *parts))
+        elif is_logical or is_syntax:
+            rule.tree = self.parsed(assertion, assertion.formula, leaves, scope)
+        return rule
+
+    def given(
+        self, assertion: Assertion, one: Hypothesis, leaves: dict[str, int], scope: str
+    ) -> Given:
+        """A mandatory hypothesis. A `$e` of the syntax has the tree -1."""
+        if one.kind == "f":
+            variable = ~self.trees.heads[leaves[one.formula.split(" ")[1]]]
+            return Given(True, variable, one.label)
+        if one.formula.split(" ", 1)[0] != self.typecode_proved:
+            return Given(False, -1, one.label)
+        return Given(False, self.parsed(assertion, one.formula, leaves, scope), one.label)
+
+    def parsed(self, assertion: Assertion, formula: str, leaves: dict[str, int], scope: str) -> int:
+        """The tree of a formula of an assertion. One that has none by the syntax has a form of its
+        own."""
+        key = (formula, scope)
+        found = self._parsed.get(key)
+        if found is None:
+            found = next(self._known, None)
+            if found is None:
+                typecode, *symbols = formula.split(" ")
+                kind = None if typecode == self.typecode_proved else typecode
+                try:
+                    found = self.grammar.parsed(kind, symbols, leaves)
+                except NotRead as why:
+                    self.unread.append(f"{assertion.label}: {why}")
+                    found = self.grammar.flat(symbols, leaves)
+            self._parsed[key] = found
+        return found
+
+    def parts(self) -> dict[str, bytes] | None:
+        """What can be kept of all trees: what they are made of, and which are the formulas that
+        were parsed, in order. None where a formula isn't one of the syntax."""
+        if any(form.label is None for form in self.grammar.forms):
+            return None
+        trees = self.trees
+        return {
+            "heads": array("q", trees.heads).tobytes(),
+            "counts": array("q", map(len, trees.parts)).tobytes(),
+            "parts": array("q", chain.from_iterable(trees.parts)).tobytes(),
+            "formulas": array("q", self._parsed.values()).tobytes(),
+        }
+
+    def restored(self, kept: Mapping[str, bytes]) -> Iterator[int]:
+        """Makes the trees that were kept. Returns those of the formulas."""
+        numbers = {name: array("q") for name in kept}
+        for name, each in numbers.items():
+            each.frombytes(kept[name])
+        place = 0
+        for head, count in zip(numbers["heads"], numbers["counts"]):
+            self.trees.made((head, *numbers["parts"][place : place + count]))
+            place += count
+        return iter(numbers["formulas"])
+
+    def code(self, rule: Rule) -> Code:
+        """The pattern of a rule's formula."""
+        if rule.code is None:
+            rule.code = self.trees.code(rule.tree, rule.slots)
+        return rule.code
+
+    def scope(self, rule: Rule) -> Scope:
+        """What binds the proof of a theorem."""
+        return Scope(self, rule)
+
+    def pairs(self, rule: Rule) -> list[tuple[int, int]]:
+        """The pairs of a rule's variables that must be distinct."""
+        names = {self.grammar.variables[slot][1]: slot for slot in rule.slots}
+        frame = self.text.assertions[rule.number].frame()
+        return [(names[one], names[other]) for one, other in frame.pairs()]
+
+
+def see_size(database: Database) -> None:
+    """NoAnswer where a database has too much of something."""
+    axioms, assertions = len(database.prepared.columns), len(database.text.assertions)
+    variables = len({*floating_of(database.data()).values()})
+    for number, most, what in (
+        (assertions, MOST_ASSERTIONS, "assertions"),
+        (variables, MOST_VARIABLES, "variables"),
+        (axioms * assertions, MOST_MARKS, "pairs of an assertion and an axiom"),
+    ):
+        if number > most:
+            raise NoAnswer(f"{database.name}: has more than {most} {what}, too many to search")
+
+
+def rules_of(database: Database, typecode: str) -> Rules:
+    """The rules of a database, whose trees are kept. NoAnswer where these would be too many."""
+    see_size(database)
+    progress.now(f"reading the formulas of {database.name}")
+    key = key_of(FORM, "trees", database.key, typecode)
+    kept = cache.load(key) if database.uses_cache else None
+    rules = Rules(database.text, typecode, kept)
+    parts = rules.parts() if database.uses_cache and kept is None else None
+    if parts is not None:
+        cache.store(key, parts)
+    return rules
+
+
+class Scope:
+    """The variables that the proof of a theorem may have, with the labels of their `$f`, and which
+    of them are distinct."""
+
+    def __init__(self, rules: Rules, rule: Rule) -> None:
+        self.labels = {each.number: each.label for each in rule.given if each.is_floating}
+        self.names = {rules.grammar.variables[slot][1]: slot for slot in rule.slots}
+        self.said = rules.text.assertions[rule.number].said
+        self._apart: dict[int, int] | None = None
+
+    def add_dummy(self, variable: int, symbol: str, label: str) -> None:
+        """Adds a dummy variable."""
+        self.labels.setdefault(variable, label)
+        self.names.setdefault(symbol, variable)
+
+    def apart(self) -> dict[int, int]:
+        """For each variable the bits of those from which it is distinct."""
+        if self._apart is None:
+            self._apart = {}
+            for pair in PAIR.findall(self.said):
+                if pair[0] in self.names and pair[1] in self.names:
+                    one, other = (self.names[name] for name in pair)
+                    self._apart[one] = self._apart.get(one, 0) | 1 << other
+                    self._apart[other] = self._apart.get(other, 0) | 1 << one
+        return self._apart
+
+
+def form_of(assertion: Assertion, given: Sequence[Hypothesis]) -> Form:
+    """The form of a syntax axiom."""
+    typecodes, symbols = zip(*(each.formula.split(" ") for each in given)) if given else ((), ())
+    places = {symbol: place for place, symbol in enumerate(symbols)}
+    items = tuple(places.get(symbol, symbol) for symbol in assertion.formula.split(" ")[1:])
+    return Form(assertion.label, assertion.typecode, items, tuple(typecodes))
+
+
+def floating_of(data: bytes) -> dict[str, tuple[str, str]]:
+    """For the label of each `$f` its typecode and its variable."""
+    return {
+        label.decode(): (typecode.decode(), variable.decode())
+        for label, typecode, variable in FLOATING.findall(without_comments(data))
+    }
+
+
+def joined(numbers: Iterable[int]) -> int:
+    """A number that has these bits."""
+    places = list(numbers)
+    data = bytearray(max(places, default=0) // 8 + 1)
+    for place in places:
+        data[place >> 3] |= 1 << (place & 7)
+    return int.from_bytes(data, "little")
+
+
+def bits_of(numbers: int) -> Iterator[int]:
+    """The places of the bits of a number, rising."""
+    while numbers:
+        lowest = numbers & -numbers
+        yield lowest.bit_length() - 1
+        numbers ^= lowest
