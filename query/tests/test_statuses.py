@@ -225,7 +225,8 @@ class Interrupts(World):
                 shutil.rmtree(self.cache / "mmquery", ignore_errors=True)
                 came, was_running = self.interrupted(words, number, chance.uniform(0, took))
                 if came.status in (128 + number, -number):
-                    self.assertIn(came.err, ("", "mmquery: interrupted\n"), f"{words}")
+                    told = came.err.removesuffix("mmquery: interrupted\n")
+                    self.assertTrue(whole.err.startswith(told), f"{words}: {came.err}")
                     self.assertTrue(whole.out.startswith(came.out), f"{words}")
                     stopped += 1
                 else:
