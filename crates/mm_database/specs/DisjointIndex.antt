@@ -103,7 +103,7 @@ is_active_pair blocks rows x y k =
     else is_active_in_row blocks (row_of rows y) x k
 
 -- the pairs are in order, their statements have a block, the skips are theirs, and so are the rows
-pub record IsOrdered (blocks : BlockLists) (index : PairLists) : Type 0 where
+pub record IsWellFormed (blocks : BlockLists) (index : PairLists) : Type 0 where
   pub rising : AreRising index.by_symbol
   pub known : HaveBlocks blocks index.by_symbol
   pub skips_are : AreSkips blocks index.by_symbol index.skips
@@ -114,4 +114,4 @@ pub record IsDisjointIndex (db : List Statement) (blocks : BlockLists) (index : 
   where
     pub members_are : (x j : ℕ) → has_pair index.by_symbol x j ≡ has_symbol_by_width db false x j
     pub rows_are : (x : ℕ) → IsRowOfPairs blocks (has_narrow_pair db x) (row_of index.rows x)
-    pub ordered : IsOrdered blocks index
+    pub well_formed : IsWellFormed blocks index

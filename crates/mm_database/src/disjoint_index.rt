@@ -5,7 +5,7 @@
 ghost use Rattle.std.specs.Prelude.{◌≡◌, ◌≢◌, ◌<◌, ◌≤◌, ◌+◌, ◌-◌, ◌&&◌, ◌||◌, ℕ, OnOk};
 ghost use Rattle.std.specs.Prelude.{length, get_or, nat_eq, nat_lt, nat_le, true, false};
 ghost use Rattle.mm_outline.specs.Blocks.{end_of};
-ghost use Rattle.mm_database.specs.DisjointIndex.{pair_lists, is_active_local, IsOrdered};
+ghost use Rattle.mm_database.specs.DisjointIndex.{pair_lists, is_active_local, IsWellFormed};
 ghost use Rattle.mm_database.specs.DisjointIndex.{is_narrow, is_active_in_row, is_active_pair};
 ghost use Rattle.mm_database.specs.DisjointIndex.{IsRow, row_of};
 ghost use Rattle.mm_database.specs.Pairs.{has_pair, AreRising, is_pair_before};
@@ -141,7 +141,7 @@ fn is_active_pair<A: Allocator>(
     y: Sym,
     at: u32,
 ) -> bool
-    requires { IsOrdered blocks.now disjoint_index.now }
+    requires { IsWellFormed blocks.now disjoint_index.now }
     ensures { result ≡ is_active_pair blocks.now disjoint_index.now.rows x y at }
 {
     if x.number() < y.number() {
@@ -204,7 +204,7 @@ fn skip_last<A: Allocator>(
 ) -> usize
     requires end_gt_0 { 0 < end }
     requires end_le_length { end ≤ length disjoint_index.now.by_symbol }
-    requires ordered { IsOrdered blocks.now disjoint_index.now }
+    requires well_formed { IsWellFormed blocks.now disjoint_index.now }
     ensures result_lt_end { result < end }
     ensures skipped_are_closed { (p : ℕ) → result ≤ p → p + 1 < end
         → nat_le at (end_of blocks.now (get_or disjoint_index.now.by_symbol p (0, 0)).1) ≡ false }
@@ -225,7 +225,7 @@ pub fn append_active_wide<A: Allocator>(
     at: u32,
     by_statement: &mut Vec<(u32, u32), A>,
 ) -> Result<(), AllocError>
-    requires ordered { IsOrdered blocks.now disjoint_index.now }
+    requires well_formed { IsWellFormed blocks.now disjoint_index.now }
     ensures { OnOk result
         ((j y : ℕ)
         → has_pair by_statement.new.items j y
@@ -255,7 +255,7 @@ fn are_together<A: Allocator>(
     y: Sym,
     at: u32,
 ) -> bool
-    requires ordered { IsOrdered blocks.now disjoint_index.now }
+    requires well_formed { IsWellFormed blocks.now disjoint_index.now }
     ensures are_together_if_true { result ≡ true
         → (j : ℕ) × (has_pair disjoint_index.now.by_symbol x j ≡ true)
         × (has_pair disjoint_index.now.by_symbol y j ≡ true)
@@ -295,7 +295,7 @@ pub(crate) fn are_in_one<A: Allocator>(
     y: Sym,
     at: u32,
 ) -> bool
-    requires { IsOrdered blocks.now disjoint_index.now }
+    requires { IsWellFormed blocks.now disjoint_index.now }
     ensures narrow_is_found { is_active_pair blocks.now disjoint_index.now.rows x y at ≡ true
         → result ≡ true }
     ensures wide_if_true { result ≡ true

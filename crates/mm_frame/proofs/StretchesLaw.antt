@@ -13,7 +13,7 @@ use Rattle.mm_database.specs.Frames.{Mandatory, frame_or_none, frames_before, fr
 use Rattle.mm_stretches.specs.Stretches.{stretch_start, stretch_count}
 use Rattle.mm_stretches.proofs.StretchesLaw.{first_start_is_zero, start_le_next}
 use Rattle.mm_stretches.proofs.StretchesLaw.{last_start_is_count}
-use Rattle.mm_frame.specs.Stretches.{IsStretch}
+use Rattle.mm_frame.specs.Stretches.{AreStretchFrames}
 use Rattle.mm_frame.proofs.FramesLaw.{frame_count}
 
 -- the frames up to a statement, and behind them those up to a later one
@@ -40,15 +40,16 @@ pub record AreJoined (db : List Statement) (size : ℕ) (frames : List (Option M
   pub left : ℕ
   pub count : joined + left ≡ stretch_count size (length db)
   pub frames_are : frames ≡ frames_between db 0 (stretch_start size (length db) joined)
-  pub unjoined_are : AllZip (λ i r. IfOk r (IsStretch db size i)) (range_with_len joined left)
-      unjoined
+  pub unjoined_are : AllZip (λ i r. IfOk r (AreStretchFrames db size i))
+      (range_with_len joined left) unjoined
 
 module _ (db : List Statement) (size : ℕ) where
   abbrev Made : Type 0
   Made = Result (List (Option Mandatory)) AllocError
 
   abbrev AreMade : ℕ → ℕ → List Made → Type 0
-  AreMade joined left = AllZip (λ i r. IfOk r (IsStretch db size i)) (range_with_len joined left)
+  AreMade joined left =
+      AllZip (λ i r. IfOk r (AreStretchFrames db size i)) (range_with_len joined left)
 
   -- at first no stretch is joined
   pub none_are_joined : (frames : List (Option Mandatory)) (made : List Made) → frames ≡ []
@@ -65,12 +66,12 @@ module _ (db : List Statement) (size : ℕ) where
   -- the first of the stretches that are left, and those after it
   first_of_left : (joined left : ℕ) (unjoined : List Made) (next : List (Option Mandatory))
       → AreMade joined left unjoined → 0 < length unjoined → Ok next ≡ get_or unjoined 0 (Ok next)
-      → IsStretch db size joined next
+      → AreStretchFrames db size joined next
       × (later : ℕ) × (left ≡ later + 1) × AreMade (joined + 1) later (remove unjoined 0)
   first_of_left joined left [] next are_made some_left is_next = absurd (omega arith)
   first_of_left joined zero (r ∷ rest) next are_made some_left is_next = absurd are_made
   first_of_left joined (suc later) (r ∷ rest) next (is_stretch, later_are) some_left is_next = (
-    subst (λ (r : Made). IfOk r (IsStretch db size joined)) (sym is_next) is_stretch,
+    subst (λ (r : Made). IfOk r (AreStretchFrames db size joined)) (sym is_next) is_stretch,
     later,
     omega arith,
     later_are,

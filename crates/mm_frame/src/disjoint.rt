@@ -5,7 +5,7 @@ ghost use Rattle.std.specs.Prelude.{get_or, map, nat_eq, nat_lt};
 ghost use Rattle.std.specs.List.{list_any};
 ghost use Rattle.mm_spec.specs.Derivation.{is_member, pair};
 ghost use Rattle.mm_spec.specs.Frame.{mandatory_variables, mandatory_pairs, symbol_names};
-ghost use Rattle.mm_database.specs.DisjointIndex.{is_active_local, is_active_in_row, IsOrdered};
+ghost use Rattle.mm_database.specs.DisjointIndex.{is_active_local, is_active_in_row, IsWellFormed};
 ghost use Rattle.mm_database.specs.DisjointIndex.{IsRow};
 ghost use Rattle.mm_frame.specs.Hypotheses.{AreStamps};
 ghost use Rattle.mm_frame.specs.Sources.{AreSources};
@@ -69,7 +69,7 @@ fn append_all_active_wide<A: Allocator>(
     at: u32,
     by_statement: &mut Vec<(u32, u32), A>,
 ) -> Result<(), AllocError>
-    requires ordered { IsOrdered blocks.now disjoint_index.now }
+    requires well_formed { IsWellFormed blocks.now disjoint_index.now }
     ensures { OnOk result
         ((j y : ℕ)
         → has_pair by_statement.new.items j y
@@ -213,7 +213,7 @@ fn add_narrow<A: Allocator>(
     at: u32,
     pairs: &mut Vec<(u32, u32), A>,
 ) -> Result<(), AllocError>
-    requires ordered { IsOrdered blocks.now disjoint_index.now }
+    requires well_formed { IsWellFormed blocks.now disjoint_index.now }
     requires variables_lt_count { All (λ s. s < length marks.now) variables.now }
     requires are_stamps { AreStamps (length marks.now) stamp marks.now variables.now }
     ensures { OnOk result

@@ -7,7 +7,7 @@ ghost use Rattle.std.specs.List.{AllZip, range_with_len};
 ghost use Rattle.mm_database.specs.Frames.{frames_before};
 ghost use Rattle.mm_database.specs.FrameTables.{AreFrameTables};
 ghost use Rattle.mm_frame.specs.Sources.{AreSources};
-ghost use Rattle.mm_frame.specs.Stretches.{IsStretch};
+ghost use Rattle.mm_frame.specs.Stretches.{AreStretchFrames};
 ghost use Rattle.mm_stretches.specs.Stretches.{stretch_count};
 
 use crate::active::latest_essentials;
@@ -31,7 +31,8 @@ fn frames_of_stretch<A: Allocator + Copy>(
     requires are_sources { AreSources sources.now }
     requires all_are_cut { stretches.now.count
         ≡ length sources.now.statements.now.list }
-    ensures { IfOk result (IsStretch sources.now.statements.now.list stretches.now.size index) }
+    ensures { IfOk result
+        (AreStretchFrames sources.now.statements.now.list stretches.now.size index) }
 {
     let (from, to) = stretches.range(index);
     frames_between(alloc, sources, from, to)
@@ -49,7 +50,7 @@ fn frames_by_stretch<R: Threads + Sync, A: Allocator + Copy + Send + Sync>(
         ≡ length sources.now.statements.now.list }
     ensures { IfOk result
         (λ v. AllZip
-        (λ i r. IfOk r (IsStretch sources.now.statements.now.list stretches.now.size i))
+        (λ i r. IfOk r (AreStretchFrames sources.now.statements.now.list stretches.now.size i))
         (range_with_len 0 (stretch_count stretches.now.size stretches.now.count)) v.items) }
 {
     (0..stretches.len())
@@ -60,7 +61,7 @@ fn frames_by_stretch<R: Threads + Sync, A: Allocator + Copy + Send + Sync>(
                 requires all_are_cut { stretches.now.count
                     ≡ length sources.now.statements.now.list }
                 ensures { IfOk result
-                    (IsStretch sources.entry.now.statements.now.list stretches.entry.now.size
+                    (AreStretchFrames sources.entry.now.statements.now.list stretches.entry.now.size
                     index) }
             { frames_of_stretch(alloc, sources, stretches, index) },
         )
@@ -77,7 +78,7 @@ fn joined_frames<A: Allocator + Copy>(
 ) -> Result<Frames<A>, AllocError>
     requires all_are_cut { stretches.now.count ≡ length statements.now.list }
     requires are_stretches { AllZip
-        (λ i r. IfOk r (IsStretch statements.now.list stretches.now.size i))
+        (λ i r. IfOk r (AreStretchFrames statements.now.list stretches.now.size i))
         (range_with_len 0 (stretch_count stretches.now.size stretches.now.count)) made.items }
     ensures { IfOk result
         (λ f. f ≡ frames_before statements.now.list (length statements.now.list)) }

@@ -14,7 +14,7 @@ use Rattle.mm_spec.specs.Lexed.{LexedText}
 use Rattle.mm_spec.specs.Output.{AreValid}
 use Rattle.mm_spec.specs.Laws.Decided.{IsDecided}
 use Rattle.mm_laws.specs.Laws.OneWave.{HaveWaves}
-use Rattle.mm_spec.proofs.ChainsLaw.{two_waves_are_equal}
+use Rattle.mm_spec.proofs.ChainsLaw.{longest_chains_are_equal}
 use Rattle.mm_spec.specs.Opened.{open_as_axioms}
 use Rattle.mm_spec.proofs.CompleteLaw.{reads_complete}
 use Rattle.mm_spec.proofs.OpenedLaw.{counted_complete}
@@ -119,6 +119,6 @@ have_waves len x with_open db has_no_fault by_essential t =
     in (
       wave.0,
       wave.1,
-      λ m is_wave. two_waves_are_equal (Cites statements by_essential)
+      λ m is_wave. longest_chains_are_equal (Cites statements by_essential)
           (IsTheorem statements) t m wave.0 is_wave wave.1,
     )

@@ -19,12 +19,13 @@ use Rattle.mm_spec.specs.Frame.{is_variable_number, symbol_names}
 use Rattle.mm_spec.specs.Citation.{context_at}
 use Rattle.mm_nodes.specs.Strings.{string_of}
 use Rattle.mm_nodes.proofs.StoreLaw.{range_of_front, range_behind}
-use Rattle.mm_machine.specs.declared.distinct.Stretch.{Stretch}
+use Rattle.mm_nodes.specs.declared.heads.Segment.{Segment}
+use Rattle.mm_nodes.specs.Store.{segment}
 use Rattle.mm_machine.specs.declared.entry.Entry.{Entry}
 use Rattle.mm_machine.specs.Entries.{no_entry}
 use Rattle.mm_machine.specs.Filled.{body_string_at}
-use Rattle.mm_machine.specs.Distinct.{stretch, stretch_at, IsStretch, HaveSameVariables}
-use Rattle.mm_machine.specs.Distinct.{AppendsIfNew, AppendsVariables, AppendsStretch, HaveVariables}
+use Rattle.mm_machine.specs.Distinct.{segment_at, IsSegment, HaveSameVariables}
+use Rattle.mm_machine.specs.Distinct.{AppendsIfNew, AppendsVariables, AppendsSegment, HaveVariables}
 
 list_all_equal : (p q : ℕ → Bool) → ((s : ℕ) → p s ≡ q s) → (u : List ℕ)
     → list_all p u ≡ list_all q u
@@ -95,60 +96,60 @@ module _ (db : List Statement) (f : Formula) (i s : ℕ) (i_lt_length : i < leng
         (are_symbols i s i_lt_length));
   }
 
--- ---- a stretch after the others
+-- ---- a segment after the others
 
 have_same_at : (db : List Statement) (u u' v v' : List ℕ) → u ≡ u' → v ≡ v'
     → HaveSameVariables db u' v' → HaveSameVariables db u v
 have_same_at db u u' v v' u_is v_is have_same = grind (arith, common_steps)
 
 module _ (db : List Statement) (nodes : List (List ℕ)) (es : List Entry) (xs : List ℕ)
-    (ss : List Stretch) (e : Entry) (so_far : HaveVariables db nodes es xs ss) (variables : List ℕ)
+    (ss : List Segment) (e : Entry) (so_far : HaveVariables db nodes es xs ss) (variables : List ℕ)
     (have_same : HaveSameVariables db (string_of nodes e.body) variables)
     (are_symbols : All (λ s. s < length (symbol_names db)) variables) where
-  abbrev added : Stretch
-  added = stretch (length xs) (length (xs ++ variables))
+  abbrev added : Segment
+  added = segment (length xs) (length (xs ++ variables))
 
   old_string : body_string_at nodes (es ++ e ∷ []) (length es) ≡ string_of nodes e.body
   old_string = ap (λ z. string_of nodes z.body) (get_or-append_seam es e [] no_entry)
 
-  new_stretch : stretch_at (xs ++ variables) (ss ++ added ∷ []) (length ss) ≡ variables
-  new_stretch =
+  new_segment : segment_at (xs ++ variables) (ss ++ added ∷ []) (length ss) ≡ variables
+  new_segment =
       ap (λ z. slice_range (xs ++ variables) z.start z.end) (get_or-append_seam ss added []
-      (stretch 0 0)) ∙ range_behind xs variables (length xs) (length (xs ++ variables)) refl refl
+      (segment 0 0)) ∙ range_behind xs variables (length xs) (length (xs ++ variables)) refl refl
 
-  stretch_stays : (j : ℕ) → j < length ss
-      → stretch_at (xs ++ variables) (ss ++ added ∷ []) j ≡ stretch_at xs ss j
-  stretch_stays j j_lt_length =
+  segment_stays : (j : ℕ) → j < length ss
+      → segment_at (xs ++ variables) (ss ++ added ∷ []) j ≡ segment_at xs ss j
+  segment_stays j j_lt_length =
       ap (λ z. slice_range (xs ++ variables) z.start z.end) (get_or_append_left ss (added ∷ [])
-      (stretch 0 0) j j_lt_length) ∙ range_of_front xs variables (get_or ss j (stretch 0 0)).start
-      (get_or ss j (stretch 0 0)).end (All-get_or (IsStretch (length xs)) ss j (stretch 0 0)
-      j_lt_length so_far.are_stretches).end_le
+      (segment 0 0) j j_lt_length) ∙ range_of_front xs variables (get_or ss j (segment 0 0)).start
+      (get_or ss j (segment 0 0)).end (All-get_or (IsSegment (length xs)) ss j (segment 0 0)
+      j_lt_length so_far.are_segments).end_le
 
-  have_same_with_stretch : (j : ℕ) → (j < length es) ⊎ (length es ≤ j) → j < length (es ++ e ∷ [])
+  have_same_with_segment : (j : ℕ) → (j < length es) ⊎ (length es ≤ j) → j < length (es ++ e ∷ [])
       → HaveSameVariables db (body_string_at nodes (es ++ e ∷ []) j)
-      (stretch_at (xs ++ variables) (ss ++ added ∷ []) j)
-  have_same_with_stretch j (inl j_lt_es) j_lt_length =
-      have_same_at db _ (body_string_at nodes es j) _ (stretch_at xs ss j) (ap (λ z. string_of nodes
-      z.body) (get_or_append_left es (e ∷ []) no_entry j j_lt_es)) (stretch_stays j (omega
+      (segment_at (xs ++ variables) (ss ++ added ∷ []) j)
+  have_same_with_segment j (inl j_lt_es) j_lt_length =
+      have_same_at db _ (body_string_at nodes es j) _ (segment_at xs ss j) (ap (λ z. string_of nodes
+      z.body) (get_or_append_left es (e ∷ []) no_entry j j_lt_es)) (segment_stays j (omega
       (arith, so_far.counts_equal, j_lt_es))) (so_far.have_same_variables j j_lt_es)
-  have_same_with_stretch j (inr es_le_j) j_lt_length =
+  have_same_with_segment j (inr es_le_j) j_lt_length =
       let j_is_es : j ≡ length es = omega (arith, length-append es (e ∷ []), es_le_j) in
       let j_is_ss : j ≡ length ss = omega (arith, j_is_es, so_far.counts_equal) in
       have_same_at db _ (string_of nodes e.body) _ variables
       (ap (body_string_at nodes (es ++ e ∷ [])) j_is_es ∙ old_string)
-      (ap (stretch_at (xs ++ variables) (ss ++ added ∷ [])) j_is_ss ∙ new_stretch) have_same
+      (ap (segment_at (xs ++ variables) (ss ++ added ∷ [])) j_is_ss ∙ new_segment) have_same
 
   have_variables : HaveVariables db nodes (es ++ e ∷ []) (xs ++ variables) (ss ++ added ∷ [])
   have_variables = record {
     are_symbols = All-append (λ s. s < length (symbol_names db)) xs variables so_far.are_symbols
         are_symbols;
-    are_stretches =
-        All-push (IsStretch (length (xs ++ variables))) ss added
-        (All-weaker (IsStretch (length xs)) (IsStretch (length (xs ++ variables)))
-        (λ s is_stretch. let end_le = is_stretch.end_le in record {
-          start_le_end = is_stretch.start_le_end;
+    are_segments =
+        All-push (IsSegment (length (xs ++ variables))) ss added
+        (All-weaker (IsSegment (length xs)) (IsSegment (length (xs ++ variables)))
+        (λ s is_segment. let end_le = is_segment.end_le in record {
+          start_le_end = is_segment.start_le_end;
           end_le = omega (arith, end_le, length-append xs variables);
-        }) ss so_far.are_stretches)
+        }) ss so_far.are_segments)
         (record {
           start_le_end = omega (arith, length-append xs variables);
           end_le = omega arith;
@@ -159,20 +160,20 @@ module _ (db : List Statement) (nodes : List (List ℕ)) (es : List Entry) (xs :
       length-append es (e ∷ []),
       length-append ss (added ∷ []),
     );
-    have_same_variables = λ j. have_same_with_stretch j (cases_lt j (length es));
+    have_same_variables = λ j. have_same_with_segment j (cases_lt j (length es));
   }
 
-pub next_stretch : (db : List Statement) (nodes : List (List ℕ)) (es : List Entry) (i : ℕ)
-    (xs ys : List ℕ) (ss ts : List Stretch) → i < length es
+pub next_segment : (db : List Statement) (nodes : List (List ℕ)) (es : List Entry) (i : ℕ)
+    (xs ys : List ℕ) (ss ts : List Segment) → i < length es
     → HaveVariables db nodes (take i es) xs ss
-    → AppendsStretch db (string_of nodes (get_or es i no_entry).body) xs ys ss ts
+    → AppendsSegment db (string_of nodes (get_or es i no_entry).body) xs ys ss ts
     → HaveVariables db nodes (take (i + 1) es) ys ts
-next_stretch db nodes es i xs ys ss ts i_lt_length so_far appended =
+next_segment db nodes es i xs ys ss ts i_lt_length so_far appended =
     let e = get_or es i no_entry in
     subst (λ z. HaveVariables db nodes z ys ts) (sym (take_more es i no_entry i_lt_length))
-    (subst (λ z. HaveVariables db nodes (take i es ++ e ∷ []) ys z) (sym appended.stretches_are)
+    (subst (λ z. HaveVariables db nodes (take i es ++ e ∷ []) ys z) (sym appended.segments_are)
     (subst (λ z. HaveVariables db nodes (take i es ++ e ∷ []) z
-    (ss ++ stretch (length xs) (length z) ∷ [])) (sym appended.appends_variables.list_is)
+    (ss ++ segment (length xs) (length z) ∷ [])) (sym appended.appends_variables.list_is)
     (have_variables db nodes (take i es) xs ss e so_far appended.appends_variables.variables
     appended.appends_variables.have_same_variables appended.appends_variables.are_symbols)))
 
@@ -195,29 +196,29 @@ disjoint_by_variables db t u u' v v' first_same second_same =
     grind (arith, nat_tests, constant_is_disjoint_from, list_all_equal, is_disjoint_from_constant)
 
 module _ (db : List Statement) (t : ℕ) (nodes : List (List ℕ)) (es : List Entry) (xs : List ℕ)
-    (ss : List Stretch) (have_variables : HaveVariables db nodes es xs ss) where
+    (ss : List Segment) (have_variables : HaveVariables db nodes es xs ss) where
   abbrev keep : ℕ × ℕ → Bool
   keep p = are_all_disjoint (context_at db t) (body_string_at nodes es p.0)
       (body_string_at nodes es p.1)
 
   abbrev keep_by_variables : ℕ × ℕ → Bool
-  keep_by_variables p = are_all_disjoint (context_at db t) (stretch_at xs ss p.0)
-      (stretch_at xs ss p.1)
+  keep_by_variables p = are_all_disjoint (context_at db t) (segment_at xs ss p.0)
+      (segment_at xs ss p.1)
 
   each_pair : (ps : List (ℕ × ℕ))
       → AllByRecursion (λ (p : ℕ × ℕ). (p.0 < length es) × (p.1 < length es)) ps
       → list_all keep_by_variables ps ≡ list_all keep ps
   each_pair [] in_range = refl
   each_pair (p ∷ ps) in_range = ap₂ (λ x y. x && y)
-      (sym (disjoint_by_variables db t (body_string_at nodes es p.0) (stretch_at xs ss p.0)
-      (body_string_at nodes es p.1) (stretch_at xs ss p.1)
+      (sym (disjoint_by_variables db t (body_string_at nodes es p.0) (segment_at xs ss p.0)
+      (body_string_at nodes es p.1) (segment_at xs ss p.1)
       (have_variables.have_same_variables p.0 in_range.0.0)
       (have_variables.have_same_variables p.1 in_range.0.1))) (each_pair ps in_range.1)
 
   pub pairs_by_variables : (ps : List (ℕ × ℕ))
       → All (λ (p : ℕ × ℕ). (p.0 < length es) × (p.1 < length es)) ps
-      → list_all (λ (p : ℕ × ℕ). are_all_disjoint (context_at db t) (stretch_at xs ss p.0)
-      (stretch_at xs ss p.1)) ps ≡ list_all (λ (p : ℕ × ℕ). are_all_disjoint (context_at db t)
+      → list_all (λ (p : ℕ × ℕ). are_all_disjoint (context_at db t) (segment_at xs ss p.0)
+      (segment_at xs ss p.1)) ps ≡ list_all (λ (p : ℕ × ℕ). are_all_disjoint (context_at db t)
       (body_string_at nodes es p.0) (body_string_at nodes es p.1)) ps
   pairs_by_variables ps in_range = each_pair ps (recursion_from_All
       (λ (p : ℕ × ℕ). (p.0 < length es) × (p.1 < length es)) ps in_range)

@@ -5,20 +5,18 @@ use Rattle.std.specs.List.{list_all, Contains}
 use Rattle.mm_spec.specs.Statement.{Statement}
 use Rattle.mm_spec.specs.Derivation.{Formula}
 use Rattle.mm_spec.specs.Frame.{is_variable_number, symbol_names}
-use Rattle.mm_machine.specs.declared.distinct.Stretch.{Stretch}
+use Rattle.mm_nodes.specs.declared.heads.Segment.{Segment}
+use Rattle.mm_nodes.specs.Store.{segment}
 use Rattle.mm_machine.specs.declared.entry.Entry.{Entry}
 use Rattle.mm_machine.specs.Filled.{body_string_at}
 
-abbrev pub stretch : ℕ → ℕ → Stretch
-stretch start end = record { start = start; end = end }
+-- the symbols of segment `j` of a list
+abbrev pub segment_at : List ℕ → List Segment → ℕ → List ℕ
+segment_at list ss j =
+    slice_range list (get_or ss j (segment 0 0)).start (get_or ss j (segment 0 0)).end
 
--- the symbols of stretch `j` of a list
-abbrev pub stretch_at : List ℕ → List Stretch → ℕ → List ℕ
-stretch_at list ss j =
-    slice_range list (get_or ss j (stretch 0 0)).start (get_or ss j (stretch 0 0)).end
-
--- it is a stretch of a list of `n` symbols
-pub record IsStretch (n : ℕ) (s : Stretch) : Type 0 where
+-- it is a segment of a list of `n` symbols
+pub record IsSegment (n : ℕ) (s : Segment) : Type 0 where
   pub start_le_end : s.start ≤ s.end
   pub end_le : s.end ≤ n
 
@@ -43,17 +41,17 @@ pub record AppendsVariables (db : List Statement) (f : Formula) (xs ys : List �
   pub have_same_variables : HaveSameVariables db f variables
   pub are_symbols : All (λ s. s < length (symbol_names db)) variables
 
--- the variables of the formula were appended, and the stretch of them
-pub record AppendsStretch (db : List Statement) (f : Formula) (xs ys : List ℕ)
-    (ss ts : List Stretch) : Type 0 where
+-- the variables of the formula were appended, and the segment of them
+pub record AppendsSegment (db : List Statement) (f : Formula) (xs ys : List ℕ)
+    (ss ts : List Segment) : Type 0 where
   pub appends_variables : AppendsVariables db f xs ys
-  pub stretches_are : ts ≡ ss ++ stretch (length xs) (length ys) ∷ []
+  pub segments_are : ts ≡ ss ++ segment (length xs) (length ys) ∷ []
 
--- the stretches of the list have the variables of what replaces a variable by the entries
+-- the segments of the list have the variables of what replaces a variable by the entries
 pub record HaveVariables (db : List Statement) (nodes : List (List ℕ)) (es : List Entry)
-    (list : List ℕ) (ss : List Stretch) : Type 0 where
+    (list : List ℕ) (ss : List Segment) : Type 0 where
   pub are_symbols : All (λ s. s < length (symbol_names db)) list
-  pub are_stretches : All (IsStretch (length list)) ss
+  pub are_segments : All (IsSegment (length list)) ss
   pub counts_equal : length ss ≡ length es
   pub have_same_variables : (j : ℕ) → j < length es
-      → HaveSameVariables db (body_string_at nodes es j) (stretch_at list ss j)
+      → HaveSameVariables db (body_string_at nodes es j) (segment_at list ss j)

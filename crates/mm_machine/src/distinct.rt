@@ -5,29 +5,22 @@ ghost use Rattle.std.specs.List.{Contains};
 ghost use Rattle.mm_spec.specs.Frame.{symbol_names};
 ghost use Rattle.mm_nodes.specs.Strings.{string_of};
 ghost use Rattle.mm_machine.specs.Entries.{AreInRange, entry_formulas};
-ghost use Rattle.mm_machine.specs.Distinct.{AppendsIfNew, AppendsVariables, AppendsStretch};
+ghost use Rattle.mm_machine.specs.Distinct.{AppendsIfNew, AppendsVariables, AppendsSegment};
 ghost use Rattle.mm_machine.specs.Distinct.{HaveVariables};
 
 use crate::entry::Entry;
 use mm_database::{Database, Sym};
-use mm_nodes::{Body, Nodes};
+use mm_nodes::{Body, Nodes, Segment};
 use mm_rule::{empty, put_number};
 use std::alloc::{AllocError, Allocator};
-
-/// A stretch of a list of symbols: from index `start` up to, but not including, `end`.
-#[derive(Clone, Copy, Drop)]
-pub struct Stretch {
-    pub start: usize,
-    pub end: usize,
-}
 
 /// The variables of what replaces variables, each once for a premise. They are kept from step to
 /// step, so that their memory is reused.
 pub struct DistinctVariables<A: Allocator> {
     /// The variables of the premises, those of one after those of the other.
     pub symbols: Vec<Sym, A>,
-    /// For each premise the stretch of its variables in `symbols`.
-    pub stretches: Vec<Stretch, A>,
+    /// For each premise the segment of its variables in `symbols`.
+    pub segments: Vec<Segment, A>,
     /// The columns of a list of symbols in the rows of a `DisjointCache`.
     pub columns: Vec<usize, A>,
     /// For each symbol the index at which it may be in `symbols`.
@@ -39,7 +32,7 @@ impl<A: Allocator> Drop for DistinctVariables<A> {
     fn drop(self) {
         let Self {
             symbols: _,
-            stretches: _,
+            segments: _,
             columns: _,
             slots: _,
         } = self;
@@ -54,7 +47,7 @@ impl<A: Allocator> DistinctVariables<A> {
     {
         Ok(DistinctVariables {
             symbols: Vec::new(alloc),
-            stretches: Vec::new(alloc),
+            segments: Vec::new(alloc),
             columns: Vec::new(alloc),
             slots: vec![in alloc; 0; symbol_count]?,
         })
@@ -63,7 +56,7 @@ impl<A: Allocator> DistinctVariables<A> {
     /// Removes all variables, and frees the memory of long lists.
     pub fn empty(&mut self) {
         empty(&mut self.symbols);
-        empty(&mut self.stretches);
+        empty(&mut self.segments);
         empty(&mut self.columns);
     }
 
@@ -81,7 +74,7 @@ impl<A: Allocator> DistinctVariables<A> {
         ensures nodes_unchanged { nodes.new ≡ nodes.old }
         ensures have_variables { OnOk result
             (HaveVariables database.now.statements nodes.old premises.now self.new.symbols.items
-            self.new.stretches.items) }
+            self.new.segments.items) }
     {
         collect_variables(
             database,
@@ -89,7 +82,7 @@ impl<A: Allocator> DistinctVariables<A> {
             premises,
             bodies,
             &mut self.symbols,
-            &mut self.stretches,
+            &mut self.segments,
             &mut self.slots,
         )
     }
@@ -102,7 +95,7 @@ fn collect_variables<A: Allocator>(
     premises: &[Entry],
     bodies: &mut Vec<Body, A>,
     list: &mut Vec<Sym, A>,
-    stretches: &mut Vec<Stretch, A>,
+    segments: &mut Vec<Segment, A>,
     slots: &mut [u32],
 ) -> Result<(), AllocError>
     requires { AreInRange (length (symbol_names database.now.statements))
@@ -110,47 +103,39 @@ fn collect_variables<A: Allocator>(
     ensures nodes_unchanged { nodes.new ≡ nodes.old }
     ensures have_variables { OnOk result
         (HaveVariables database.now.statements nodes.old premises.now list.new.items
-        stretches.new.items) }
+        segments.new.items) }
 {
     list.clear();
-    stretches.clear();
+    segments.clear();
     for premise in premises {
-        append_stretch(
-            database,
-            nodes,
-            premise.body,
-            bodies,
-            list,
-            stretches,
-            slots,
-        )?;
+        append_segment(database, nodes, premise.body, bodies, list, segments, slots)?;
     }
     Ok(())
 }
 
-/// Appends the variables of a body, each once, and the stretch of them.
-fn append_stretch<A: Allocator>(
+/// Appends the variables of a body, each once, and the segment of them.
+fn append_segment<A: Allocator>(
     database: &Database<A>,
     nodes: &mut Nodes<A>,
     body: Body,
     bodies: &mut Vec<Body, A>,
     list: &mut Vec<Sym, A>,
-    stretches: &mut Vec<Stretch, A>,
+    segments: &mut Vec<Segment, A>,
     slots: &mut [u32],
 ) -> Result<(), AllocError>
     requires { All (λ symbol. symbol < length (symbol_names database.now.statements))
         (string_of nodes.old body) }
     ensures nodes_unchanged { nodes.new ≡ nodes.old }
-    ensures appends_stretch { OnOk result
-        (AppendsStretch database.now.statements (string_of nodes.old body) list.old.items
-        list.new.items stretches.old.items stretches.new.items) }
+    ensures appends_segment { OnOk result
+        (AppendsSegment database.now.statements (string_of nodes.old body) list.old.items
+        list.new.items segments.old.items segments.new.items) }
 {
     bodies.clear();
     nodes.append_symbols(body, bodies)?;
     let start = list.len();
     append_variables(database, bodies, list, slots)?;
     let end = list.len();
-    stretches.push(Stretch { start, end })?;
+    segments.push(Segment { start, end })?;
     Ok(())
 }
 

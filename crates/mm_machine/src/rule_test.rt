@@ -12,7 +12,7 @@ ghost use Rattle.mm_machine.specs.DisjointCache.{AreDisjointAt};
 ghost use Rattle.mm_machine.specs.FlagRows.{AreColumnsOf};
 ghost use Rattle.mm_rule.specs.Rule.{IsCompiled};
 ghost use Rattle.mm_nodes.specs.Strings.{string_of};
-ghost use Rattle.mm_machine.specs.Distinct.{IsStretch, stretch_at};
+ghost use Rattle.mm_machine.specs.Distinct.{IsSegment, segment_at};
 ghost use Rattle.mm_machine.specs.Entries.{IsEntry, AreInRange, entry_formulas};
 ghost use Rattle.mm_machine.specs.Filled.{body_string_at};
 ghost use Rattle.mm_machine.specs.Masks.{AreVariablesOf, AreAllMasked, AreMasked, entry_masks};
@@ -20,7 +20,7 @@ ghost use Rattle.mm_machine.specs.Masks.{IsApartFrom, AreApart};
 ghost use Rattle.mm_machine.specs.Applied.{TestsRule};
 
 use crate::disjoint_cache::DisjointCache;
-use crate::distinct::{DistinctVariables, Stretch};
+use crate::distinct::{DistinctVariables, Segment};
 use crate::entry::Entry;
 use crate::entry_test::premises_match;
 use crate::flat::{SymbolLists, append_body};
@@ -230,23 +230,23 @@ fn are_apart<A: Allocator>(
     }
 }
 
-/// The symbols of a stretch of a list.
-fn symbols_at<'a>(symbols: &'a [Sym], stretches: &[Stretch], index: u32) -> &'a [Sym]
-    requires index_lt_length { index < length stretches.now }
-    requires are_stretches { All (IsStretch (length symbols.now)) stretches.now }
-    ensures { result.now ≡ stretch_at symbols.now stretches.now index }
+/// The symbols of a segment of a list.
+fn symbols_at<'a>(symbols: &'a [Sym], segments: &[Segment], index: u32) -> &'a [Sym]
+    requires index_lt_length { index < length segments.now }
+    requires are_segments { All (IsSegment (length symbols.now)) segments.now }
+    ensures { result.now ≡ segment_at symbols.now segments.now index }
 {
-    let stretch = stretches[index as usize];
-    &symbols[stretch.start..stretch.end]
+    let segment = segments[index as usize];
+    &symbols[segment.start..segment.end]
 }
 
-/// Whether for each pair of stretches of a list, each variable of the first is disjoint from each
+/// Whether for each pair of segments of a list, each variable of the first is disjoint from each
 /// variable of the second.
 fn pairs_are_disjoint<A: Allocator>(
     database: &Database<A>,
     theorem: u32,
     symbols: &[Sym],
-    stretches: &[Stretch],
+    segments: &[Segment],
     pairs: &[(u32, u32)],
     columns: &mut Vec<usize, A>,
     cache: &mut DisjointCache<A>,
@@ -254,20 +254,20 @@ fn pairs_are_disjoint<A: Allocator>(
     requires theorem_lt_length { theorem < length database.now.statements }
     requires are_symbols { All (λ symbol. symbol < length (symbol_names database.now.statements))
         symbols.now }
-    requires are_stretches { All (IsStretch (length symbols.now)) stretches.now }
+    requires are_segments { All (IsSegment (length symbols.now)) segments.now }
     requires pairs_in_range { All
-        (λ (p : ℕ × ℕ). (p.0 < length stretches.now) × (p.1 < length stretches.now)) pairs.now }
+        (λ (p : ℕ × ℕ). (p.0 < length segments.now) × (p.1 < length segments.now)) pairs.now }
     requires cached_are_disjoint { AreDisjointAt database.now.statements theorem cache.old }
     ensures tells_disjoint { result
         ≡ list_all
         (λ (p : ℕ × ℕ). disjoint_lists (context_at database.now.statements theorem)
-        (stretch_at symbols.now stretches.now p.0) (stretch_at symbols.now stretches.now p.1))
+        (segment_at symbols.now segments.now p.0) (segment_at symbols.now segments.now p.1))
         pairs.now }
     ensures cached_are_disjoint { AreDisjointAt database.now.statements theorem cache.new }
 {
     for pair in pairs {
-        let first = symbols_at(symbols, stretches, pair.0);
-        let second = symbols_at(symbols, stretches, pair.1);
+        let first = symbols_at(symbols, segments, pair.0);
+        let second = symbols_at(symbols, segments, pair.1);
         if !are_apart(database, theorem, first, second, columns, cache) {
             return false;
         }
@@ -279,7 +279,7 @@ fn pairs_are_disjoint<A: Allocator>(
 /// each variable in what replaces the second. A variable of a formula is looked at once.
 #[cold]
 #[inline(never)]
-fn long_pairs_are_disjoint<A: Allocator>(
+fn long_formulas_are_disjoint<A: Allocator>(
     database: &Database<A>,
     theorem: u32,
     nodes: &mut Nodes<A>,
@@ -306,9 +306,9 @@ fn long_pairs_are_disjoint<A: Allocator>(
 {
     distinct.collect(database, nodes, premises, bodies)?;
     let symbols = &distinct.symbols;
-    let stretches = &distinct.stretches;
+    let segments = &distinct.segments;
     let columns = &mut distinct.columns;
-    Ok(pairs_are_disjoint(database, theorem, symbols, stretches, pairs, columns, cache))
+    Ok(pairs_are_disjoint(database, theorem, symbols, segments, pairs, columns, cache))
 }
 
 /// Whether each variable of a body's string is disjoint from each variable of another's.
@@ -481,7 +481,7 @@ fn keeps_disjoint<A: Allocator>(
         count = count.saturating_add(symbol_pairs);
         if count > MAX_SYMBOL_PAIRS {
             let bodies = &mut lists.bodies;
-            return long_pairs_are_disjoint(
+            return long_formulas_are_disjoint(
                 database, theorem, nodes, premises, pairs, bodies, distinct, cache,
             );
         }

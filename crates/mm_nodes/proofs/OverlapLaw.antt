@@ -10,11 +10,11 @@ use Rattle.std.proofs.lemmas.List.Elements.{All-push, All-set, All-weaker}
 use Rattle.std.proofs.lemmas.Slice.Eq.{bytes_eq-Decides}
 use Rattle.std.proofs.lemmas.Bool.{cases_lt, and_parts}
 use Rattle.mm_nodes.specs.declared.heads.Head.{Head}
-use Rattle.mm_nodes.specs.declared.heads.Stretch.{Stretch}
+use Rattle.mm_nodes.specs.declared.heads.Segment.{Segment}
 use Rattle.mm_nodes.specs.declared.facts.Overlap.{Overlap}
 use Rattle.mm_nodes.specs.Strings.{first_node, string_of, strings_of, IsBody}
-use Rattle.mm_nodes.specs.Store.{nodes_of, AreNodes, IsStretch, IsPlaceOf, stretch_bodies}
-use Rattle.mm_nodes.specs.Store.{stretch_string, stretch}
+use Rattle.mm_nodes.specs.Store.{nodes_of, AreNodes, IsBodySegment, IsSegmentOf, segment_bodies}
+use Rattle.mm_nodes.specs.Store.{segment_string, segment}
 use Rattle.mm_nodes.specs.Overlaps.{Agree, Holds, IsOverlap, HoldBelow, Comes}
 use Rattle.mm_nodes.proofs.StoreLaw.{node_at, length_nodes}
 use Rattle.mm_nodes.proofs.WalkLaw.{node_is_opened, string_splits, string_is_empty, slice_is_cons}
@@ -326,49 +326,49 @@ module _ {nodes : List (List ℕ)} {Statement : Type 0} {pending pending' seen s
 
 -- Of bodies, the strings of the first stand before place `at`, and the rest is left. That the first
 -- agree with the other body comes to what was added.
-pub record PartsBefore (bodies : List ℕ) (heads : List Head) (parts : Stretch)
-    (start other other_start : ℕ) (pending pending' seen seen' : List Overlap) (rest : Stretch)
+pub record PartsBefore (bodies : List ℕ) (heads : List Head) (parts : Segment)
+    (start other other_start : ℕ) (pending pending' seen seen' : List Overlap) (rest : Segment)
     (at : ℕ) : Type 0 where
   pub before : List ℕ
-  pub string_is : before ++ stretch_string bodies heads rest ≡ stretch_string bodies heads parts
+  pub string_is : before ++ segment_string bodies heads rest ≡ segment_string bodies heads parts
   pub at_is : at ≡ start + length before
-  pub is_stretch : IsStretch bodies heads rest
-  pub are_below : (n : ℕ) → All (λ b. b + other < n) (stretch_bodies bodies parts)
-      → All (λ b. b + other < n) (stretch_bodies bodies rest)
-  pub comes : (n : ℕ) → All (λ b. b + other < n) (stretch_bodies bodies parts)
+  pub is_segment : IsBodySegment bodies heads rest
+  pub are_below : (n : ℕ) → All (λ b. b + other < n) (segment_bodies bodies parts)
+      → All (λ b. b + other < n) (segment_bodies bodies rest)
+  pub comes : (n : ℕ) → All (λ b. b + other < n) (segment_bodies bodies parts)
       → Comes (nodes_of bodies heads) n
       (Agree before start (string_of (nodes_of bodies heads) other) other_start)
       pending pending' seen seen'
 
-module _ {bodies : List ℕ} {heads : List Head} {parts : Stretch} {start other other_start : ℕ} where
-  pub no_parts_before : {pending seen : List Overlap} → IsStretch bodies heads parts
+module _ {bodies : List ℕ} {heads : List Head} {parts : Segment} {start other other_start : ℕ} where
+  pub no_parts_before : {pending seen : List Overlap} → IsBodySegment bodies heads parts
       → PartsBefore bodies heads parts start other other_start pending pending seen seen parts start
-  no_parts_before is_stretch = record {
+  no_parts_before is_segment = record {
     before = [];
     string_is = refl;
     at_is = omega arith;
-    is_stretch = is_stretch;
+    is_segment = is_segment;
     are_below = λ n below. below;
     comes = λ n below.
         comes_to_nothing
         (λ seen_hold m start_le m_lt q_le m_lt_q. absurd (omega (arith, start_le, m_lt)));
   }
 
-  module _ {pending pending' seen seen' : List Overlap} {rest : Stretch} {at : ℕ}
+  module _ {pending pending' seen seen' : List Overlap} {rest : Segment} {at : ℕ}
       (done : PartsBefore bodies heads parts start other other_start pending pending' seen seen'
       rest at) where
     module _ (start_lt : rest.start < rest.end) (b : ℕ) (b_is : b ≡ get_or bodies rest.start 0)
         (at' : ℕ) (at_is : at' ≡ at + length (string_of (nodes_of bodies heads) b)) where
-      rest_string : stretch_string bodies heads rest
+      rest_string : segment_string bodies heads rest
           ≡ string_of (nodes_of bodies heads) b
-          ++ stretch_string bodies heads (stretch (rest.start + 1) rest.end)
+          ++ segment_string bodies heads (segment (rest.start + 1) rest.end)
       rest_string =
-          rw b_is (string_splits [] bodies heads rest start_lt done.is_stretch.end_le_length)
+          rw b_is (string_splits [] bodies heads rest start_lt done.is_segment.end_le_length)
 
-      rest_bodies : stretch_bodies bodies rest
-          ≡ b ∷ stretch_bodies bodies (stretch (rest.start + 1) rest.end)
+      rest_bodies : segment_bodies bodies rest
+          ≡ b ∷ segment_bodies bodies (segment (rest.start + 1) rest.end)
       rest_bodies =
-          rw b_is (slice_is_cons bodies rest.start rest.end start_lt done.is_stretch.end_le_length)
+          rw b_is (slice_is_cons bodies rest.start rest.end start_lt done.is_segment.end_le_length)
 
       module _ {pending'' seen'' : List Overlap} where
         more_parts : ((n : ℕ) → b + other < n
@@ -377,12 +377,12 @@ module _ {bodies : List ℕ} {heads : List Head} {parts : Stretch} {start other 
             (string_of (nodes_of bodies heads) other) other_start)
             pending' pending'' seen' seen'')
             → PartsBefore bodies heads parts start other other_start pending pending'' seen seen''
-            (stretch (rest.start + 1) rest.end) at'
+            (segment (rest.start + 1) rest.end) at'
         more_parts comes = record {
           before = done.before ++ string_of (nodes_of bodies heads) b;
           string_is =
               append_assoc done.before (string_of (nodes_of bodies heads) b)
-              (stretch_string bodies heads (stretch (rest.start + 1) rest.end))
+              (segment_string bodies heads (segment (rest.start + 1) rest.end))
               ∙ sym (ap (λ u. done.before ++ u) rest_string) ∙ done.string_is;
           at_is =
               let before_is = done.at_is in
@@ -392,7 +392,7 @@ module _ {bodies : List ℕ} {heads : List Head} {parts : Stretch} {start other 
                 before_is,
                 length-append done.before (string_of (nodes_of bodies heads) b),
               );
-          is_stretch = rest_is_in bodies heads rest done.is_stretch start_lt;
+          is_segment = rest_is_in bodies heads rest done.is_segment start_lt;
           are_below = λ n below. All-tail (λ c. c + other < n) b _
               (subst (All (λ c. c + other < n)) rest_bodies (done.are_below n below));
           comes = λ n below.
@@ -415,7 +415,7 @@ module _ {bodies : List ℕ} {heads : List Head} {parts : Stretch} {start other 
       -- the body is nowhere over the other
       pub part_apart : ((n : ℕ) → at ≤ n → n < at' → other_start ≤ n → ⊥)
           → PartsBefore bodies heads parts start other other_start pending pending' seen seen'
-          (stretch (rest.start + 1) rest.end) at'
+          (segment (rest.start + 1) rest.end) at'
       part_apart apart = more_parts (λ n below.
           comes_to_nothing
           (λ seen_hold m at_le m_lt q_le m_lt_q. absurd (apart m at_le (omega (arith, m_lt, at_is))
@@ -433,14 +433,14 @@ module _ {bodies : List ℕ} {heads : List Head} {parts : Stretch} {start other 
           → ((nodes : List (List ℕ)) → IsOverlap nodes o → (n : ℕ) → o.first + o.second < n
           → Comes nodes n (Holds nodes o) pending' pending'' seen' seen'')
           → PartsBefore bodies heads parts start other other_start pending pending'' seen seen''
-          (stretch (rest.start + 1) rest.end) at'
+          (segment (rest.start + 1) rest.end) at'
       part_over o {pending'' = pending''} {seen'' = seen''} other_is_body begins_first begins_second
           begins_lt at_lt comes =
           more_parts (λ n below. by_case n below (cases_lt other_start at))
         where
           b_is_body : IsBody (nodes_of bodies heads) b
           b_is_body =
-              let in_range = body_in_range bodies heads rest done.is_stretch start_lt in
+              let in_range = body_in_range bodies heads rest done.is_segment start_lt in
               omega (arith, in_range, b_is, length_nodes bodies heads)
 
           by_case : (n : ℕ) → b + other < n → (other_start < at) ⊎ (at ≤ other_start)
@@ -484,26 +484,26 @@ module _ {bodies : List ℕ} {heads : List Head} {parts : Stretch} {start other 
     -- all bodies are read, or the rest stands behind the other
     pub all_parts : (rest.end ≤ rest.start)
         ⊎ (other_start + length (string_of (nodes_of bodies heads) other) ≤ at)
-        → (n : ℕ) → All (λ b. b + other < n) (stretch_bodies bodies parts)
+        → (n : ℕ) → All (λ b. b + other < n) (segment_bodies bodies parts)
         → Comes (nodes_of bodies heads) n
-        (Agree (stretch_string bodies heads parts) start
+        (Agree (segment_string bodies heads parts) start
         (string_of (nodes_of bodies heads) other) other_start) pending pending' seen seen'
     all_parts ended n below =
         comes_to_same (done.comes n below)
         (λ agree.
         subst (λ (u : List ℕ). Agree u start (string_of (nodes_of bodies heads) other) other_start)
         done.string_is
-        (agree_joined done.before (stretch_string bodies heads rest) start
+        (agree_joined done.before (segment_string bodies heads rest) start
         (string_of (nodes_of bodies heads) other) other_start agree (rest_agrees ended)))
         (λ agree.
-        agree_front done.before (stretch_string bodies heads rest) start
+        agree_front done.before (segment_string bodies heads rest) start
         (string_of (nodes_of bodies heads) other) other_start
         (subst (λ (u : List ℕ). Agree u start (string_of (nodes_of bodies heads) other) other_start)
         (sym done.string_is) agree))
       where
         rest_agrees : (rest.end ≤ rest.start)
             ⊎ (other_start + length (string_of (nodes_of bodies heads) other) ≤ at)
-            → Agree (stretch_string bodies heads rest) (start + length done.before)
+            → Agree (segment_string bodies heads rest) (start + length done.before)
             (string_of (nodes_of bodies heads) other) other_start
         rest_agrees (inl end_le) =
             subst (λ (u : List ℕ). Agree u (start + length done.before)
@@ -512,7 +512,7 @@ module _ {bodies : List ℕ} {heads : List Head} {parts : Stretch} {start other 
             (λ m start_le m_lt q_le m_lt_q. absurd (omega (arith, start_le, m_lt)))
         rest_agrees (inr behind) =
             let at_is = done.at_is in
-            agree_apart (stretch_string bodies heads rest)
+            agree_apart (segment_string bodies heads rest)
             (string_of (nodes_of bodies heads) other) (start + length done.before) other_start
             (omega (arith, behind, at_is))
 
@@ -522,26 +522,26 @@ pub on_ok : {T E P Q : Type 0} (r : Result T E) → (P → Q) → OnOk r P → O
 on_ok r h1 h2 = grind (arith, common_steps)
 
 module _ (bodies : List ℕ) (heads : List Head) (are_nodes : AreNodes bodies heads) (o : Overlap)
-    (i : ℕ) (i_lt : i < length heads) (p : Stretch) (is_place : IsPlaceOf heads i p) where
+    (i : ℕ) (i_lt : i < length heads) (p : Segment) (is_segment_of : IsSegmentOf heads i p) where
   parts_below : (b other n : ℕ) → b ≡ first_node + i → b + other ≡ n
-      → All (λ c. c + other < n) (stretch_bodies bodies p)
+      → All (λ c. c + other < n) (segment_bodies bodies p)
   parts_below b other n b_is n_is =
       All-weaker (λ c. c < first_node + i) (λ c. c + other < n)
-      (λ c c_lt. omega (arith, c_lt, b_is, n_is)) (stretch_bodies bodies p)
+      (λ c c_lt. omega (arith, c_lt, b_is, n_is)) (segment_bodies bodies p)
       (subst (All (λ c. c < first_node + i))
-      (node_at bodies heads i i_lt ∙ sym (ap₂ (slice_range bodies) is_place.0 is_place.1))
+      (node_at bodies heads i i_lt ∙ sym (ap₂ (slice_range bodies) is_segment_of.0 is_segment_of.1))
       (are_nodes i i_lt).bodies_below)
 
   parts_string : (b : ℕ) → b ≡ first_node + i
-      → stretch_string bodies heads p ≡ string_of (nodes_of bodies heads) b
-  parts_string b b_is = sym (node_is_opened [] bodies heads are_nodes b i p b_is i_lt is_place)
+      → segment_string bodies heads p ≡ string_of (nodes_of bodies heads) b
+  parts_string b b_is = sym (node_is_opened [] bodies heads are_nodes b i p b_is i_lt is_segment_of)
 
   module _ {pending pending' seen seen' : List Overlap} where
     -- the first is a node
     pub first_apart : o.first ≡ first_node + i
-        → ((n : ℕ) → All (λ b. b + o.second < n) (stretch_bodies bodies p)
+        → ((n : ℕ) → All (λ b. b + o.second < n) (segment_bodies bodies p)
         → Comes (nodes_of bodies heads) n
-        (Agree (stretch_string bodies heads p) 0 (string_of (nodes_of bodies heads) o.second)
+        (Agree (segment_string bodies heads p) 0 (string_of (nodes_of bodies heads) o.second)
         o.offset)
         pending pending' seen seen')
         → Comes (nodes_of bodies heads) (o.first + o.second) (Holds (nodes_of bodies heads) o)
@@ -556,9 +556,9 @@ module _ (bodies : List ℕ) (heads : List Head) (are_nodes : AreNodes bodies he
 
     -- the second is a node
     pub second_apart : o.second ≡ first_node + i
-        → ((n : ℕ) → All (λ b. b + o.first < n) (stretch_bodies bodies p)
+        → ((n : ℕ) → All (λ b. b + o.first < n) (segment_bodies bodies p)
         → Comes (nodes_of bodies heads) n
-        (Agree (stretch_string bodies heads p) o.offset (string_of (nodes_of bodies heads) o.first)
+        (Agree (segment_string bodies heads p) o.offset (string_of (nodes_of bodies heads) o.first)
         0)
         pending pending' seen seen')
         → Comes (nodes_of bodies heads) (o.first + o.second) (Holds (nodes_of bodies heads) o)

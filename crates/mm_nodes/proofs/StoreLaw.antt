@@ -17,7 +17,7 @@ use Rattle.mm_nodes.specs.Store.{no_head, nodes_of, Follow, IsNode, AreNodes, Is
 use Rattle.mm_nodes.proofs.StringLaw.{length_strings, string_stays, strings_append, body_stays}
 use Rattle.mm_nodes.proofs.StringLaw.{strings_take, node_string}
 
--- ---- stretches
+-- ---- segments
 
 pub empty_range : (xs : List ℕ) (a b : ℕ) → b ≤ a → slice_range xs a b ≡ []
 empty_range xs a b b_le_a = grind (arith, common_steps)

@@ -1,4 +1,4 @@
--- A string is read from its first body on, and what is left of it is a stretch and stretches that
+-- A string is read from its first body on, and what is left of it is a segment and segments that
 -- were put off.
 use Rattle.std.proofs.lemmas.Grind.{common_steps}
 use Rattle.std.proofs.Common.{◌≡◌, ℕ, ◌+◌, ◌-◌, ◌<◌, ◌≤◌, inl, inr, List, [], ◌∷◌, ◌++◌, length}
@@ -13,11 +13,11 @@ use Rattle.std.proofs.lemmas.Slice.Eq.{bytes_eq-Decides}
 use Rattle.std.proofs.lemmas.Bool.Decides.{nat_tests}
 use Rattle.std.proofs.lemmas.Bool.{cases_lt}
 use Rattle.mm_nodes.specs.declared.heads.Head.{Head}
-use Rattle.mm_nodes.specs.declared.heads.Stretch.{Stretch}
+use Rattle.mm_nodes.specs.declared.heads.Segment.{Segment}
 use Rattle.mm_nodes.specs.Strings.{first_node, body_string, joined_strings, strings_after}
 use Rattle.mm_nodes.specs.Strings.{string_of, joined_string_of, IsBody}
-use Rattle.mm_nodes.specs.Store.{nodes_of, AreNodes, IsStretch, MayPutOff, IsPlaceOf, stretch}
-use Rattle.mm_nodes.specs.Store.{stretch_bodies, stretch_string, no_head}
+use Rattle.mm_nodes.specs.Store.{nodes_of, AreNodes, IsBodySegment, MayPutOff, IsSegmentOf, segment}
+use Rattle.mm_nodes.specs.Store.{segment_bodies, segment_string, no_head}
 use Rattle.mm_nodes.proofs.StringLaw.{node_string}
 use Rattle.mm_nodes.proofs.StoreLaw.{length_nodes, node_at, nodes_with_more, nodes_are_kept}
 use Rattle.mm_nodes.proofs.StoreLaw.{empty_range, range_of_front, range_behind}
@@ -27,58 +27,58 @@ pub slice_is_cons : (l : List ℕ) (a e : ℕ) → a < e → e ≤ length l
 slice_is_cons l a e a_lt_e e_le_length = grind (arith, nat_tests, drop_more)
 
 module _ (front bodies : List ℕ) (heads : List Head) where
-  -- the string of a stretch, with `front` before the string of each node
-  abbrev pub string_of_stretch : Stretch → List ℕ
-  string_of_stretch s =
-      joined_strings (strings_after front [] (nodes_of bodies heads)) (stretch_bodies bodies s)
+  -- the string of a segment, with `front` before the string of each node
+  abbrev pub string_of_segment : Segment → List ℕ
+  string_of_segment s =
+      joined_strings (strings_after front [] (nodes_of bodies heads)) (segment_bodies bodies s)
 
-  -- what the stretches stand for that were put off: the last of them comes first
-  pub later_string : List Stretch → List ℕ
+  -- what the segments stand for that were put off: the last of them comes first
+  pub later_string : List Segment → List ℕ
   later_string [] = []
-  later_string (s ∷ later) = later_string later ++ string_of_stretch s
+  later_string (s ∷ later) = later_string later ++ string_of_segment s
 
   pub later_string_nil : later_string [] ≡ []
   unfolding later_string
   later_string_nil = refl
 
-  pub later_string_push : (later : List Stretch) (s : Stretch)
-      → later_string (later ++ s ∷ []) ≡ string_of_stretch s ++ later_string later
+  pub later_string_push : (later : List Segment) (s : Segment)
+      → later_string (later ++ s ∷ []) ≡ string_of_segment s ++ later_string later
   unfolding later_string
-  later_string_push [] s = sym (append-nil (string_of_stretch s))
+  later_string_push [] s = sym (append-nil (string_of_segment s))
   later_string_push (t ∷ later) s =
-      ap (λ u. u ++ string_of_stretch t) (later_string_push later s)
-      ∙ append_assoc (string_of_stretch s) (later_string later) (string_of_stretch t)
+      ap (λ u. u ++ string_of_segment t) (later_string_push later s)
+      ∙ append_assoc (string_of_segment s) (later_string later) (string_of_segment t)
 
   -- the first body and the rest
-  pub string_splits : (s : Stretch) → s.start < s.end → s.end ≤ length bodies
-      → string_of_stretch s
+  pub string_splits : (s : Segment) → s.start < s.end → s.end ≤ length bodies
+      → string_of_segment s
       ≡ body_string (strings_after front [] (nodes_of bodies heads)) (get_or bodies s.start 0)
-      ++ string_of_stretch (stretch (s.start + 1) s.end)
+      ++ string_of_segment (segment (s.start + 1) s.end)
   string_splits s start_lt end_le =
       ap (joined_strings (strings_after front [] (nodes_of bodies heads)))
       (slice_is_cons bodies s.start s.end start_lt end_le)
 
-  pub string_is_empty : (s : Stretch) → s.end ≤ s.start → string_of_stretch s ≡ []
+  pub string_is_empty : (s : Segment) → s.end ≤ s.start → string_of_segment s ≡ []
   string_is_empty s end_le =
       ap (joined_strings (strings_after front [] (nodes_of bodies heads)))
       (empty_range bodies s.start s.end end_le)
 
-  pub later_string_put_off : (s : Stretch) (later later' : List Stretch) → MayPutOff s later later'
+  pub later_string_put_off : (s : Segment) (later later' : List Segment) → MayPutOff s later later'
       → later_string later'
-      ≡ string_of_stretch (stretch (s.start + 1) s.end) ++ later_string later
+      ≡ string_of_segment (segment (s.start + 1) s.end) ++ later_string later
   later_string_put_off s later later' (inl none) =
       ap later_string none.1
       ∙ sym (ap (λ u. u ++ later_string later)
-      (string_is_empty (stretch (s.start + 1) s.end) none.0))
+      (string_is_empty (segment (s.start + 1) s.end) none.0))
   later_string_put_off s later later' (inr is_pushed) =
-      ap later_string is_pushed ∙ later_string_push later (stretch (s.start + 1) s.end)
+      ap later_string is_pushed ∙ later_string_push later (segment (s.start + 1) s.end)
 
-  -- a node's string is that of the stretch of its bodies
-  pub node_is_opened : AreNodes bodies heads → (b i : ℕ) (p : Stretch) → b ≡ first_node + i
-      → i < length heads → IsPlaceOf heads i p
+  -- a node's string is that of the segment of its bodies
+  pub node_is_opened : AreNodes bodies heads → (b i : ℕ) (p : Segment) → b ≡ first_node + i
+      → i < length heads → IsSegmentOf heads i p
       → body_string (strings_after front [] (nodes_of bodies heads)) b
-      ≡ front ++ string_of_stretch p
-  node_is_opened are_nodes b i p b_is i_lt is_place =
+      ≡ front ++ string_of_segment p
+  node_is_opened are_nodes b i p b_is i_lt is_segment_of =
       let count = length_nodes bodies heads in
       let is_no_symbol : nat_lt b first_node ≡ false = grind (arith, nat_tests) in
       let index_is : b - first_node ≡ i = omega (arith, b_is) in
@@ -87,17 +87,18 @@ module _ (front bodies : List ℕ) (heads : List Head) where
       (are_nodes i i_lt).bodies_below
       ∙ ap (λ bs. front ++ joined_strings (strings_after front [] (nodes_of bodies heads)) bs)
       (node_at bodies heads i i_lt
-      ∙ sym (ap₂ (slice_range bodies) is_place.0 is_place.1)))
+      ∙ sym (ap₂ (slice_range bodies) is_segment_of.0 is_segment_of.1)))
 
--- ---- where the stretches are
+-- ---- where the segments are
 
-pub body_in_range : (bodies : List ℕ) (heads : List Head) (s : Stretch) → IsStretch bodies heads s
-    → s.start < s.end → get_or bodies s.start 0 < first_node + length heads
+pub body_in_range : (bodies : List ℕ) (heads : List Head) (s : Segment)
+    → IsBodySegment bodies heads s → s.start < s.end
+    → get_or bodies s.start 0 < first_node + length heads
 body_in_range bodies heads s is_in start_lt =
     grind (arith, nat_tests, All-get_or, slice_range, slice_is_cons)
 
-pub rest_is_in : (bodies : List ℕ) (heads : List Head) (s : Stretch) → IsStretch bodies heads s
-    → s.start < s.end → IsStretch bodies heads (stretch (s.start + 1) s.end)
+pub rest_is_in : (bodies : List ℕ) (heads : List Head) (s : Segment) → IsBodySegment bodies heads s
+    → s.start < s.end → IsBodySegment bodies heads (segment (s.start + 1) s.end)
 rest_is_in bodies heads s is_in start_lt = record {
   end_le_length = is_in.end_le_length;
   are_bodies =
@@ -107,29 +108,30 @@ rest_is_in bodies heads s is_in start_lt = record {
       (slice_is_cons bodies s.start s.end start_lt is_in.end_le_length) is_in.are_bodies);
 }
 
-pub place_is_in : (bodies : List ℕ) (heads : List Head) (i : ℕ) (p : Stretch)
-    → AreNodes bodies heads → i < length heads → IsPlaceOf heads i p → IsStretch bodies heads p
-place_is_in bodies heads i p are_nodes i_lt is_place =
+pub segment_is_in : (bodies : List ℕ) (heads : List Head) (i : ℕ) (p : Segment)
+    → AreNodes bodies heads → i < length heads → IsSegmentOf heads i p
+    → IsBodySegment bodies heads p
+segment_is_in bodies heads i p are_nodes i_lt is_segment_of =
     grind (arith, nat_tests, node_at, slice_range, All-weaker)
 
-later_are_in : (bodies : List ℕ) (heads : List Head) (s : Stretch) (later later' : List Stretch)
-    → IsStretch bodies heads s → s.start < s.end → All (IsStretch bodies heads) later
-    → MayPutOff s later later' → All (IsStretch bodies heads) later'
+later_are_in : (bodies : List ℕ) (heads : List Head) (s : Segment) (later later' : List Segment)
+    → IsBodySegment bodies heads s → s.start < s.end → All (IsBodySegment bodies heads) later
+    → MayPutOff s later later' → All (IsBodySegment bodies heads) later'
 later_are_in bodies heads s later later' is_in start_lt are_in (inl none) = grind (arith, nat_tests)
 later_are_in bodies heads s later later' is_in start_lt are_in (inr is_pushed) =
-    subst (All (IsStretch bodies heads)) (sym is_pushed)
-    (All-push (IsStretch bodies heads) later (stretch (s.start + 1) s.end) are_in
+    subst (All (IsBodySegment bodies heads)) (sym is_pushed)
+    (All-push (IsBodySegment bodies heads) later (segment (s.start + 1) s.end) are_in
     (rest_is_in bodies heads s is_in start_lt))
 
 -- ---- one string is read
 
--- `common` was read of the string `whole`, and the stretch and those that were put off are left
-pub record Reads (bodies : List ℕ) (heads : List Head) (whole common : List ℕ) (s : Stretch)
-    (later : List Stretch) : Type 0 where
-  pub whole_is : common ++ (string_of_stretch [] bodies heads s
+-- `common` was read of the string `whole`, and the segment and those that were put off are left
+pub record Reads (bodies : List ℕ) (heads : List Head) (whole common : List ℕ) (s : Segment)
+    (later : List Segment) : Type 0 where
+  pub whole_is : common ++ (string_of_segment [] bodies heads s
       ++ later_string [] bodies heads later) ≡ whole
-  pub is_in : IsStretch bodies heads s
-  pub are_in : All (IsStretch bodies heads) later
+  pub is_in : IsBodySegment bodies heads s
+  pub are_in : All (IsBodySegment bodies heads) later
 
 -- a body isn't nothing to do
 some_work : (bodies : List ℕ) (heads : List Head) → AreNodes bodies heads → (b : ℕ)
@@ -143,34 +145,34 @@ some_work bodies heads are_nodes b b_lt =
       | inr is_node ↦
           let h = get_or heads (b - first_node) no_head in
           let opened = ap length (node_is_opened (0 ∷ 0 ∷ []) bodies heads are_nodes b
-          (b - first_node) (stretch h.start h.end) (omega (arith, is_node))
+          (b - first_node) (segment h.start h.end) (omega (arith, is_node))
           (omega (arith, is_node, b_lt)) (refl, refl)) in
           omega (
             arith,
             opened,
             length-append (0 ∷ 0 ∷ [])
-                (string_of_stretch (0 ∷ 0 ∷ []) bodies heads (stretch h.start h.end)),
+                (string_of_segment (0 ∷ 0 ∷ []) bodies heads (segment h.start h.end)),
           )
     ]
 
 -- what is left to be done: two for each node, one for each symbol, one for each that was put off
-abbrev pub work : List ℕ → List Head → Stretch → List Stretch → ℕ
+abbrev pub work : List ℕ → List Head → Segment → List Segment → ℕ
 work bodies heads s later =
-    length (string_of_stretch (0 ∷ 0 ∷ []) bodies heads s)
+    length (string_of_segment (0 ∷ 0 ∷ []) bodies heads s)
     + length (later_string (0 ∷ 0 ∷ []) bodies heads later) + length later
 
 module _ {bodies : List ℕ} {heads : List Head} (are_nodes : AreNodes bodies heads) where
-  pub reading_begins : (s : Stretch) (later : List Stretch) → IsStretch bodies heads s
-      → later ≡ [] → Reads bodies heads (stretch_string bodies heads s) [] s later
+  pub reading_begins : (s : Segment) (later : List Segment) → IsBodySegment bodies heads s
+      → later ≡ [] → Reads bodies heads (segment_string bodies heads s) [] s later
   reading_begins s later is_in later_is = rw later_is (record {
     whole_is =
-        ap (λ u. string_of_stretch [] bodies heads s ++ u) (later_string_nil [] bodies heads)
-        ∙ append-nil (string_of_stretch [] bodies heads s);
+        ap (λ u. string_of_segment [] bodies heads s ++ u) (later_string_nil [] bodies heads)
+        ∙ append-nil (string_of_segment [] bodies heads s);
     is_in = is_in;
-    are_in = All-nil (IsStretch bodies heads);
+    are_in = All-nil (IsBodySegment bodies heads);
   })
 
-  module _ {whole common : List ℕ} {s : Stretch} {later : List Stretch}
+  module _ {whole common : List ℕ} {s : Segment} {later : List Segment}
       (reads : Reads bodies heads whole common s later) where
     pub all_is_read : s.end ≤ s.start → later ≡ [] → common ≡ whole
     all_is_read end_le later_is =
@@ -180,7 +182,7 @@ module _ {bodies : List ℕ} {heads : List Head} (are_nodes : AreNodes bodies he
         (ap (later_string [] bodies heads) later_is ∙ later_string_nil [] bodies heads)))
         ∙ reads.whole_is
 
-    pub reads_later : s.end ≤ s.start → (later' : List Stretch) (t : Stretch)
+    pub reads_later : s.end ≤ s.start → (later' : List Segment) (t : Segment)
         → later ≡ later' ++ t ∷ [] → Reads bodies heads whole common t later'
     reads_later end_le later' t later_is = record {
       whole_is =
@@ -190,17 +192,17 @@ module _ {bodies : List ℕ} {heads : List Head} (are_nodes : AreNodes bodies he
           t)))
           ∙ reads.whole_is;
       is_in =
-          subst (IsStretch bodies heads) (get_or_push later' t s (length later') refl)
-          (All-get_or (IsStretch bodies heads) (later' ++ t ∷ []) (length later') s
+          subst (IsBodySegment bodies heads) (get_or_push later' t s (length later') refl)
+          (All-get_or (IsBodySegment bodies heads) (later' ++ t ∷ []) (length later') s
           (omega (arith, length-append later' (t ∷ [])))
-          (subst (All (IsStretch bodies heads)) later_is reads.are_in));
+          (subst (All (IsBodySegment bodies heads)) later_is reads.are_in));
       are_in =
-          subst (All (IsStretch bodies heads)) (take-append_seam later' (t ∷ []))
-          (All-take (IsStretch bodies heads) (length later') (later' ++ t ∷ [])
-          (subst (All (IsStretch bodies heads)) later_is reads.are_in));
+          subst (All (IsBodySegment bodies heads)) (take-append_seam later' (t ∷ []))
+          (All-take (IsBodySegment bodies heads) (length later') (later' ++ t ∷ [])
+          (subst (All (IsBodySegment bodies heads)) later_is reads.are_in));
     }
 
-    pub less_work_later : (later' : List Stretch) (t : Stretch) → later ≡ later' ++ t ∷ []
+    pub less_work_later : (later' : List Segment) (t : Segment) → later ≡ later' ++ t ∷ []
         → work bodies heads t later' < work bodies heads s later
     less_work_later later' t later_is =
         let string_is = ap length (ap (later_string (0 ∷ 0 ∷ []) bodies heads) later_is
@@ -211,7 +213,7 @@ module _ {bodies : List ℕ} {heads : List Head} (are_nodes : AreNodes bodies he
           string_is,
           count_is,
           length-append later' (t ∷ []),
-          length-append (string_of_stretch (0 ∷ 0 ∷ []) bodies heads t)
+          length-append (string_of_segment (0 ∷ 0 ∷ []) bodies heads t)
               (later_string (0 ∷ 0 ∷ []) bodies heads later'),
         )
 
@@ -222,29 +224,29 @@ module _ {bodies : List ℕ} {heads : List Head} (are_nodes : AreNodes bodies he
 
       pub first_body_is : whole ≡ common
           ++ (body_string (strings_after [] [] (nodes_of bodies heads)) b
-          ++ (string_of_stretch [] bodies heads (stretch (s.start + 1) s.end)
+          ++ (string_of_segment [] bodies heads (segment (s.start + 1) s.end)
           ++ later_string [] bodies heads later))
       first_body_is = rw b_is
           (sym reads.whole_is
           ∙ ap (λ u. common ++ u)
           (ap (λ u. u ++ later_string [] bodies heads later)
           (string_splits [] bodies heads s start_lt reads.is_in.end_le_length)
-          ∙ append_assoc _ (string_of_stretch [] bodies heads (stretch (s.start + 1) s.end))
+          ∙ append_assoc _ (string_of_segment [] bodies heads (segment (s.start + 1) s.end))
           (later_string [] bodies heads later)))
 
       pub reads_on : (common' : List ℕ)
           → common' ≡ common ++ body_string (strings_after [] [] (nodes_of bodies heads)) b
-          → Reads bodies heads whole common' (stretch (s.start + 1) s.end) later
+          → Reads bodies heads whole common' (segment (s.start + 1) s.end) later
       reads_on common' common_is = record {
         whole_is =
-            ap (λ u. u ++ (string_of_stretch [] bodies heads (stretch (s.start + 1) s.end)
+            ap (λ u. u ++ (string_of_segment [] bodies heads (segment (s.start + 1) s.end)
             ++ later_string [] bodies heads later)) common_is
             ∙ append_assoc common _ _ ∙ sym first_body_is;
         is_in = rest_is_in bodies heads s reads.is_in start_lt;
         are_in = reads.are_in;
       }
 
-      pub less_work_on : work bodies heads (stretch (s.start + 1) s.end) later
+      pub less_work_on : work bodies heads (segment (s.start + 1) s.end) later
           < work bodies heads s later
       less_work_on =
           let front = 0 ∷ 0 ∷ [] in
@@ -258,7 +260,7 @@ module _ {bodies : List ℕ} {heads : List Head} (are_nodes : AreNodes bodies he
             some,
             length-append (body_string (strings_after front [] (nodes_of bodies heads))
                 (get_or bodies s.start 0))
-                (string_of_stretch front bodies heads (stretch (s.start + 1) s.end)),
+                (string_of_segment front bodies heads (segment (s.start + 1) s.end)),
           )
 
       module _ (i : ℕ) (is_node : b ≡ first_node + i) where
@@ -267,28 +269,28 @@ module _ {bodies : List ℕ} {heads : List Head} (are_nodes : AreNodes bodies he
             let in_range = body_in_range bodies heads s reads.is_in start_lt in
             omega (arith, in_range, b_is, is_node)
 
-        pub reads_into : (p : Stretch) (later' : List Stretch) → IsPlaceOf heads i p
+        pub reads_into : (p : Segment) (later' : List Segment) → IsSegmentOf heads i p
             → MayPutOff s later later' → Reads bodies heads whole common p later'
-        reads_into p later' is_place put_off = record {
+        reads_into p later' is_segment_of put_off = record {
           whole_is =
               ap (λ u. common ++ u)
               (ap₂ (λ u v. u ++ v)
-              (sym (node_is_opened [] bodies heads are_nodes b i p is_node index_lt is_place))
+              (sym (node_is_opened [] bodies heads are_nodes b i p is_node index_lt is_segment_of))
               (later_string_put_off [] bodies heads s later later' put_off))
               ∙ sym first_body_is;
-          is_in = place_is_in bodies heads i p are_nodes index_lt is_place;
+          is_in = segment_is_in bodies heads i p are_nodes index_lt is_segment_of;
           are_in = later_are_in bodies heads s later later' reads.is_in start_lt reads.are_in
               put_off;
         }
 
-        pub less_work_into : (p : Stretch) (later' : List Stretch) → IsPlaceOf heads i p
+        pub less_work_into : (p : Segment) (later' : List Segment) → IsSegmentOf heads i p
             → MayPutOff s later later' → work bodies heads p later' < work bodies heads s later
-        less_work_into p later' is_place put_off =
+        less_work_into p later' is_segment_of put_off =
             let front = 0 ∷ 0 ∷ [] in
             let splits = ap length (string_splits front bodies heads s start_lt
             reads.is_in.end_le_length) in
             let opened = ap length (node_is_opened front bodies heads are_nodes b i p is_node
-            index_lt is_place) in
+            index_lt is_segment_of) in
             let later_is = ap length (later_string_put_off front bodies heads s later later'
             put_off)
             in
@@ -304,16 +306,16 @@ module _ {bodies : List ℕ} {heads : List Head} (are_nodes : AreNodes bodies he
               same,
               length-append (body_string (strings_after front [] (nodes_of bodies heads))
                   (get_or bodies s.start 0))
-                  (string_of_stretch front bodies heads (stretch (s.start + 1) s.end)),
-              length-append front (string_of_stretch front bodies heads p),
-              length-append (string_of_stretch front bodies heads (stretch (s.start + 1) s.end))
+                  (string_of_segment front bodies heads (segment (s.start + 1) s.end)),
+              length-append front (string_of_segment front bodies heads p),
+              length-append (string_of_segment front bodies heads (segment (s.start + 1) s.end))
                   (later_string front bodies heads later),
             )
           where
             put_off_count : MayPutOff s later later' → length later' ≤ length later + 1
             put_off_count (inl none) = let same = ap length none.1 in omega (arith, same)
             put_off_count (inr is_pushed) = let more = ap length is_pushed in
-                omega (arith, more, length-append later (stretch (s.start + 1) s.end ∷ []))
+                omega (arith, more, length-append later (segment (s.start + 1) s.end ∷ []))
 
 -- ---- two strings are compared
 
@@ -328,22 +330,22 @@ equal_if_second_is_read u v more h1 h2 =
     grind (arith, common_steps, bytes_eq-Decides, append-nil, length-append)
 
 module _ {bodies : List ℕ} {heads : List Head} (are_nodes : AreNodes bodies heads)
-    {u v common : List ℕ} {s t : Stretch} {later later' : List Stretch}
+    {u v common : List ℕ} {s t : Segment} {later later' : List Segment}
     (first : Reads bodies heads u common s later) (second : Reads bodies heads v common t later')
     (lengths_equal : length u ≡ length v) where
   pub equal_at_first_end : s.end ≤ s.start → later ≡ [] → true ≡ bytes_eq v u
   equal_at_first_end end_le later_is =
       equal_if_first_is_read u v
-      (string_of_stretch [] bodies heads t ++ later_string [] bodies heads later')
-      (ap (λ w. w ++ (string_of_stretch [] bodies heads t ++ later_string [] bodies heads later'))
+      (string_of_segment [] bodies heads t ++ later_string [] bodies heads later')
+      (ap (λ w. w ++ (string_of_segment [] bodies heads t ++ later_string [] bodies heads later'))
       (sym (all_is_read are_nodes first end_le later_is))
       ∙ second.whole_is) lengths_equal
 
   pub equal_at_second_end : t.end ≤ t.start → later' ≡ [] → true ≡ bytes_eq v u
   equal_at_second_end end_le later_is =
       equal_if_second_is_read u v
-      (string_of_stretch [] bodies heads s ++ later_string [] bodies heads later)
-      (ap (λ w. w ++ (string_of_stretch [] bodies heads s ++ later_string [] bodies heads later))
+      (string_of_segment [] bodies heads s ++ later_string [] bodies heads later)
+      (ap (λ w. w ++ (string_of_segment [] bodies heads s ++ later_string [] bodies heads later))
       (sym (all_is_read are_nodes second end_le later_is))
       ∙ first.whole_is) lengths_equal
 
@@ -388,23 +390,23 @@ module _ (bodies wanted : List ℕ) (b : ℕ) (heads : List Head) (are_nodes : A
   pub are_nodes_behind : AreNodes all heads
   are_nodes_behind = rw regrouped (nodes_are_kept bodies (wanted ++ b ∷ []) heads are_nodes)
 
-  first_bodies : stretch_bodies all (stretch start middle) ≡ wanted
+  first_bodies : segment_bodies all (segment start middle) ≡ wanted
   first_bodies =
       ap (λ bs. slice_range bs start middle) all_is
       ∙ range_of_front (bodies ++ wanted) (b ∷ []) start middle (omega (arith, middle_is))
       ∙ range_behind bodies wanted start middle start_is middle_is
 
-  second_bodies : stretch_bodies all (stretch middle end) ≡ b ∷ []
+  second_bodies : segment_bodies all (segment middle end) ≡ b ∷ []
   second_bodies =
       ap (λ bs. slice_range bs middle end) all_is
       ∙ range_behind (bodies ++ wanted) (b ∷ []) middle end middle_is
       (end_is ∙ ap length all_is)
 
-  pub first_string : stretch_string all heads (stretch start middle)
+  pub first_string : segment_string all heads (segment start middle)
       ≡ joined_string_of (nodes_of bodies heads) wanted
   first_string = ap₂ joined_string_of nodes_same first_bodies
 
-  pub second_string : stretch_string all heads (stretch middle end)
+  pub second_string : segment_string all heads (segment middle end)
       ≡ string_of (nodes_of bodies heads) b
   second_string =
       ap₂ joined_string_of nodes_same second_bodies
@@ -413,12 +415,12 @@ module _ (bodies wanted : List ℕ) (b : ℕ) (heads : List Head) (are_nodes : A
   pub is_body_behind : IsBody (nodes_of all heads) b
   is_body_behind = subst (λ (ns : List (List ℕ)). IsBody ns b) (sym nodes_same) is_body
 
-  pub second_is_body : stretch_string all heads (stretch middle end) ≡ string_of (nodes_of all
+  pub second_is_body : segment_string all heads (segment middle end) ≡ string_of (nodes_of all
       heads) b
   second_is_body = second_string ∙ sym (ap (λ ns. string_of ns b) nodes_same)
 
-  pub first_is_stretch : IsStretch all heads (stretch start middle)
-  first_is_stretch = record {
+  pub first_is_segment : IsBodySegment all heads (segment start middle)
+  first_is_segment = record {
     end_le_length =
         let all_count = ap length all_is in
         omega (arith, all_count, middle_is, length-append (bodies ++ wanted) (b ∷ []));
@@ -428,8 +430,8 @@ module _ (bodies wanted : List ℕ) (b : ℕ) (heads : List Head) (are_nodes : A
         (subst (λ (n : ℕ). All (λ b. b < first_node + n) wanted) count are_bodies);
   }
 
-  pub second_is_stretch : IsStretch all heads (stretch middle end)
-  second_is_stretch = record {
+  pub second_is_segment : IsBodySegment all heads (segment middle end)
+  second_is_segment = record {
     end_le_length = omega (arith, end_is);
     are_bodies =
         let count = length_nodes bodies heads in

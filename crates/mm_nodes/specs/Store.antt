@@ -2,7 +2,7 @@
 use Rattle.std.specs.Prelude.{ℕ, ◌+◌, ◌<◌, ◌≤◌, ◌≡◌, List, [], ◌∷◌, ◌++◌, length, get_or, map, ◌⊎◌}
 use Rattle.std.specs.Prelude.{slice_range, All}
 use Rattle.mm_nodes.specs.declared.heads.Head.{Head}
-use Rattle.mm_nodes.specs.declared.heads.Stretch.{Stretch}
+use Rattle.mm_nodes.specs.declared.heads.Segment.{Segment}
 use Rattle.mm_nodes.specs.Strings.{first_node, strings_of, joined_string_of}
 
 abbrev pub head : ℕ → ℕ → ℕ → Head
@@ -38,29 +38,29 @@ pub record IsStore (bodies : List ℕ) (heads : List Head) : Type 0 where
   pub are_nodes : AreNodes bodies heads
   pub count_lt : length heads < first_node
 
-abbrev pub stretch : ℕ → ℕ → Stretch
-stretch start end = record { start = start; end = end }
+abbrev pub segment : ℕ → ℕ → Segment
+segment start end = record { start = start; end = end }
 
--- the bodies of a stretch
-abbrev pub stretch_bodies : List ℕ → Stretch → List ℕ
-stretch_bodies bodies s = slice_range bodies s.start s.end
+-- the bodies of a segment
+abbrev pub segment_bodies : List ℕ → Segment → List ℕ
+segment_bodies bodies s = slice_range bodies s.start s.end
 
--- the string of a stretch of bodies
-abbrev pub stretch_string : List ℕ → List Head → Stretch → List ℕ
-stretch_string bodies heads s = joined_string_of (nodes_of bodies heads) (stretch_bodies bodies s)
+-- the string of a segment of bodies
+abbrev pub segment_string : List ℕ → List Head → Segment → List ℕ
+segment_string bodies heads s = joined_string_of (nodes_of bodies heads) (segment_bodies bodies s)
 
--- a stretch of the bodies, each of which is a symbol or one of the nodes
-pub record IsStretch (bodies : List ℕ) (heads : List Head) (s : Stretch) : Type 0 where
+-- a segment of the bodies, each of which is a symbol or one of the nodes
+pub record IsBodySegment (bodies : List ℕ) (heads : List Head) (s : Segment) : Type 0 where
   pub end_le_length : s.end ≤ length bodies
-  pub are_bodies : All (λ b. b < first_node + length heads) (stretch_bodies bodies s)
+  pub are_bodies : All (λ b. b < first_node + length heads) (segment_bodies bodies s)
 
--- the first body of a stretch is left out, and the rest is put off, if there is any
-abbrev pub MayPutOff : Stretch → List Stretch → List Stretch → Type 0
+-- the first body of a segment is left out, and the rest is put off, if there is any
+abbrev pub MayPutOff : Segment → List Segment → List Segment → Type 0
 MayPutOff s later later' =
     ((s.end ≤ s.start + 1) × (later' ≡ later))
-    ⊎ (later' ≡ later ++ stretch (s.start + 1) s.end ∷ [])
+    ⊎ (later' ≡ later ++ segment (s.start + 1) s.end ∷ [])
 
--- the stretch has the bodies of the node
-abbrev pub IsPlaceOf : List Head → ℕ → Stretch → Type 0
+-- the segment has the bodies of the node
+abbrev pub IsPlaceOf : List Head → ℕ → Segment → Type 0
 IsPlaceOf heads i s =
     (s.start ≡ (get_or heads i no_head).start) × (s.end ≡ (get_or heads i no_head).end)

@@ -6,13 +6,13 @@
 ghost use Rattle.std.specs.Prelude.{◌≡◌, ◌<◌, ◌≤◌, ◌+◌, ◌^◌, All, IfOk, IfSome, OnOk, length};
 ghost use Rattle.std.specs.Prelude.{bytes_eq, [], List, ℕ, true, false};
 ghost use Rattle.mm_nodes.specs.Strings.{string_of, IsBody, first_node};
-ghost use Rattle.mm_nodes.specs.Store.{AreNodes, IsStretch, nodes_of, stretch_string};
-ghost use Rattle.mm_nodes.specs.Store.{stretch_bodies};
+ghost use Rattle.mm_nodes.specs.Store.{AreNodes, IsBodySegment, nodes_of, segment_string};
+ghost use Rattle.mm_nodes.specs.Store.{segment_bodies};
 ghost use Rattle.mm_nodes.specs.Overlaps.{Agree, IsOverlap, Holds, Comes};
 
 use crate::body::Body;
-use crate::heads::{Head, Stretch};
-use crate::walk::{length_of, place_of};
+use crate::heads::{Head, Segment};
+use crate::walk::{length_of, segment_of};
 use std::alloc::{AllocError, Allocator};
 
 /// For how many steps there is a slot for a fact that was seen.
@@ -86,7 +86,7 @@ fn require<A: Allocator>(
 fn require_parts<A: Allocator>(
     heads: &[Head],
     bodies: &[Body],
-    parts: Stretch,
+    parts: Segment,
     start: usize,
     other: Body,
     other_start: usize,
@@ -94,14 +94,14 @@ fn require_parts<A: Allocator>(
     pending: &mut Vec<Overlap, A>,
 ) -> Result<(), AllocError>
     requires are_nodes { AreNodes bodies.now heads.now }
-    requires are_parts { IsStretch bodies.now heads.now parts }
+    requires are_parts { IsBodySegment bodies.now heads.now parts }
     requires is_body { IsBody (nodes_of bodies.now heads.now) other }
     requires some_slots { 0 < length seen.old }
     requires other_start_lt { other_start < 2 ^ 32 }
     ensures { OnOk result
-        ((n : ℕ) → All (λ b. b + other < n) (stretch_bodies bodies.now parts)
+        ((n : ℕ) → All (λ b. b + other < n) (segment_bodies bodies.now parts)
         → Comes (nodes_of bodies.now heads.now) n
-        (Agree (stretch_string bodies.now heads.now parts) start
+        (Agree (segment_string bodies.now heads.now parts) start
         (string_of (nodes_of bodies.now heads.now) other) other_start)
         pending.old.items pending.new.items seen.old seen.new) }
 {
@@ -161,12 +161,12 @@ fn take_first_apart<A: Allocator>(
         (Holds (nodes_of bodies.now heads.now) overlap) pending.old.items pending.new.items seen.old
         seen.new) }
 {
-    let place = place_of(heads, index);
+    let opened = segment_of(heads, index);
     let offset = overlap.offset as usize;
     require_parts(
         heads,
         bodies,
-        place,
+        opened,
         0,
         overlap.second,
         offset,
@@ -192,12 +192,12 @@ fn take_second_apart<A: Allocator>(
         (Holds (nodes_of bodies.now heads.now) overlap) pending.old.items pending.new.items seen.old
         seen.new) }
 {
-    let place = place_of(heads, index);
+    let opened = segment_of(heads, index);
     let offset = overlap.offset as usize;
     require_parts(
         heads,
         bodies,
-        place,
+        opened,
         offset,
         overlap.first,
         0,
@@ -249,34 +249,34 @@ fn part_count(heads: &[Head], body: Body) -> usize {
             if index >= heads.len() {
                 return 0;
             }
-            let place = place_of(heads, index);
-            place.end.saturating_sub(place.start)
+            let opened = segment_of(heads, index);
+            opened.end.saturating_sub(opened.start)
         }
     }
 }
 
-/// Whether the string of a stretch of bodies is that of a body. They have the same length, and all
+/// Whether the string of a segment of bodies is that of a body. They have the same length, and all
 /// that was seen holds. `None` if it takes more than so many steps to find out.
 fn are_equal_by_facts<A: Allocator>(
     heads: &[Head],
     bodies: &[Body],
-    parts: Stretch,
+    parts: Segment,
     body: Body,
     steps: usize,
     seen: &mut [Overlap],
     pending: &mut Vec<Overlap, A>,
 ) -> Result<Option<bool>, AllocError>
     requires are_nodes { AreNodes bodies.now heads.now }
-    requires are_parts { IsStretch bodies.now heads.now parts }
+    requires are_parts { IsBodySegment bodies.now heads.now parts }
     requires is_body { IsBody (nodes_of bodies.now heads.now) body }
-    requires lengths_equal { length (stretch_string bodies.now heads.now parts)
+    requires lengths_equal { length (segment_string bodies.now heads.now parts)
         ≡ length (string_of (nodes_of bodies.now heads.now) body) }
     requires some_slots { 0 < length seen.old }
     requires seen_hold { All (Holds (nodes_of bodies.now heads.now)) seen.old }
     requires none_pending { pending.old.items ≡ [] }
     ensures { IfOk result (λ r. IfSome r
         (λ b. b ≡ bytes_eq (string_of (nodes_of bodies.now heads.now) body)
-        (stretch_string bodies.now heads.now parts))) }
+        (segment_string bodies.now heads.now parts))) }
 {
     require_parts(heads, bodies, parts, 0, body, 0, seen, pending)?;
     let mut left = steps;
@@ -296,25 +296,25 @@ fn are_equal_by_facts<A: Allocator>(
     Ok(Some(true))
 }
 
-/// Whether the string of a stretch of bodies is that of a body. They have the same length. `None`
+/// Whether the string of a segment of bodies is that of a body. They have the same length. `None`
 /// if it takes more than so many steps to find out.
 pub fn are_equal_by_parts<A: Allocator>(
     heads: &[Head],
     bodies: &[Body],
-    parts: Stretch,
+    parts: Segment,
     body: Body,
     steps: usize,
     pending: &mut Vec<Overlap, A>,
     seen: &mut Vec<Overlap, A>,
 ) -> Result<Option<bool>, AllocError>
     requires are_nodes { AreNodes bodies.now heads.now }
-    requires are_parts { IsStretch bodies.now heads.now parts }
+    requires are_parts { IsBodySegment bodies.now heads.now parts }
     requires is_body { IsBody (nodes_of bodies.now heads.now) body }
-    requires lengths_equal { length (stretch_string bodies.now heads.now parts)
+    requires lengths_equal { length (segment_string bodies.now heads.now parts)
         ≡ length (string_of (nodes_of bodies.now heads.now) body) }
     ensures { IfOk result (λ r. IfSome r
         (λ b. b ≡ bytes_eq (string_of (nodes_of bodies.now heads.now) body)
-        (stretch_string bodies.now heads.now parts))) }
+        (segment_string bodies.now heads.now parts))) }
 {
     let slots = (steps / STEPS_PER_SLOT).clamp(MIN_SLOTS, MAX_SLOTS);
     seen.clear();

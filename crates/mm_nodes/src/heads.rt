@@ -11,9 +11,11 @@ pub struct Head {
     pub length: u32,
 }
 
-/// The bodies from index `start` up to, but not including, `end`.
+/// A segment of a list: from index `start` up to, but not including, `end`.
 #[derive(Clone, Copy, Drop)]
-pub struct Stretch {
+pub struct Segment {
+    /// The index of the first element.
     pub start: usize,
+    /// The index after the last element.
     pub end: usize,
 }

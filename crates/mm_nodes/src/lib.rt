@@ -20,4 +20,5 @@ mod nodes;
 mod walk;
 
 pub use body::Body;
+pub use heads::Segment;
 pub use nodes::Nodes;

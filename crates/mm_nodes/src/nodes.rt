@@ -4,13 +4,13 @@ ghost use Rattle.std.specs.Prelude.{◌≡◌, ◌<◌, ◌≤◌, ◌++◌, ◌
 ghost use Rattle.std.specs.Prelude.{IfOk, bytes_eq, true};
 ghost use Rattle.mm_nodes.specs.Strings.{first_node, string_of, joined_string_of, IsBody, IsMade};
 ghost use Rattle.mm_nodes.specs.Strings.{Extends};
-ghost use Rattle.mm_nodes.specs.Store.{nodes_of, AreNodes, IsStretch, stretch_string};
+ghost use Rattle.mm_nodes.specs.Store.{nodes_of, AreNodes, IsBodySegment, segment_string};
 
 use crate::body::Body;
 use crate::body_list::BodyList;
 use crate::facts::{Overlap, are_equal_by_parts};
-use crate::heads::{Head, Stretch};
-use crate::walk::{append_all, are_equal, bodies_of, length_of, place_of};
+use crate::heads::{Head, Segment};
+use crate::walk::{append_all, are_equal, bodies_of, length_of, segment_of};
 use std::alloc::{AllocError, Allocator};
 use std::marker::Model;
 
@@ -30,9 +30,9 @@ pub struct Nodes<A: Allocator> {
     bodies: BodyList<A>,
     heads: Vec<Head, A>,
     /// What is to come of a string that is read, or of the first of two that are compared.
-    left: Vec<Stretch, A>,
+    left: Vec<Segment, A>,
     /// What is to come of the second string.
-    right: Vec<Stretch, A>,
+    right: Vec<Segment, A>,
     /// What two long strings come to that are compared by their parts.
     pending: Vec<Overlap, A>,
     /// What of that was seen before.
@@ -271,23 +271,23 @@ impl<A: Allocator> Nodes<A> {
                 if index >= self.heads.len() {
                     return Ok(());
                 }
-                let place = place_of(&self.heads, index);
+                let opened = segment_of(&self.heads, index);
                 let bodies = self.bodies.as_slice();
-                append_all(&self.heads, bodies, place, &mut self.left, list)
+                append_all(&self.heads, bodies, opened, &mut self.left, list)
             }
         }
     }
 }
 
 /// Whether the string of `wanted` is that of `body`. Appends both to the bodies of the nodes, so
-/// that each is a stretch of one list; the caller takes them away again.
+/// that each is a segment of one list; the caller takes them away again.
 fn append_and_compare<A: Allocator>(
     heads: &[Head],
     bodies: &mut BodyList<A>,
     wanted: &[Body],
     body: Body,
-    left: &mut Vec<Stretch, A>,
-    right: &mut Vec<Stretch, A>,
+    left: &mut Vec<Segment, A>,
+    right: &mut Vec<Segment, A>,
     pending: &mut Vec<Overlap, A>,
     seen: &mut Vec<Overlap, A>,
 ) -> Result<bool, AllocError>
@@ -305,8 +305,8 @@ fn append_and_compare<A: Allocator>(
     bodies.append(wanted)?;
     let middle = bodies.len();
     bodies.append(&[body])?;
-    let first = Stretch { start, end: middle };
-    let second = Stretch {
+    let first = Segment { start, end: middle };
+    let second = Segment {
         start: middle,
         end: bodies.len(),
     };
@@ -327,25 +327,25 @@ fn append_and_compare<A: Allocator>(
 fn compare<A: Allocator>(
     heads: &[Head],
     bodies: &[Body],
-    first: Stretch,
-    second: Stretch,
+    first: Segment,
+    second: Segment,
     body: Body,
-    left: &mut Vec<Stretch, A>,
-    right: &mut Vec<Stretch, A>,
+    left: &mut Vec<Segment, A>,
+    right: &mut Vec<Segment, A>,
     pending: &mut Vec<Overlap, A>,
     seen: &mut Vec<Overlap, A>,
 ) -> Result<bool, AllocError>
     requires are_nodes { AreNodes bodies.now heads.now }
-    requires first_is_stretch { IsStretch bodies.now heads.now first }
-    requires second_is_stretch { IsStretch bodies.now heads.now second }
+    requires first_is_segment { IsBodySegment bodies.now heads.now first }
+    requires second_is_segment { IsBodySegment bodies.now heads.now second }
     requires is_body { IsBody (nodes_of bodies.now heads.now) body }
-    requires second_is_body { stretch_string bodies.now heads.now second
+    requires second_is_body { segment_string bodies.now heads.now second
         ≡ string_of (nodes_of bodies.now heads.now) body }
-    requires lengths_equal { length (stretch_string bodies.now heads.now first)
-        ≡ length (stretch_string bodies.now heads.now second) }
+    requires lengths_equal { length (segment_string bodies.now heads.now first)
+        ≡ length (segment_string bodies.now heads.now second) }
     ensures { IfOk result
-        (λ b. b ≡ bytes_eq (stretch_string bodies.now heads.now second)
-        (stretch_string bodies.now heads.now first)) }
+        (λ b. b ≡ bytes_eq (segment_string bodies.now heads.now second)
+        (segment_string bodies.now heads.now first)) }
 {
     let symbol_count = length_of(heads, bodies, body) as usize;
     if symbol_count >= LONG_STRING {

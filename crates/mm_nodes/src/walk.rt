@@ -3,11 +3,11 @@
 ghost use Rattle.std.specs.Prelude.{◌≡◌, ◌<◌, ◌+◌, ◌++◌, [], ◌∷◌, length, OnOk, IfOk, bytes_eq};
 ghost use Rattle.std.specs.Prelude.{get_or, slice_index_or, List};
 ghost use Rattle.mm_nodes.specs.Strings.{first_node, strings_of, string_of};
-ghost use Rattle.mm_nodes.specs.Store.{AreNodes, IsStretch, nodes_of, stretch_string, no_head};
-ghost use Rattle.mm_nodes.specs.Store.{MayPutOff, stretch, IsPlaceOf};
+ghost use Rattle.mm_nodes.specs.Store.{AreNodes, IsBodySegment, nodes_of, segment_string, no_head};
+ghost use Rattle.mm_nodes.specs.Store.{MayPutOff, segment, IsSegmentOf};
 
 use crate::body::Body;
-use crate::heads::{Head, Stretch};
+use crate::heads::{Head, Segment};
 use std::alloc::{AllocError, Allocator};
 
 /// How many symbols a body's string has.
@@ -30,12 +30,12 @@ pub fn length_of(heads: &[Head], _bodies: &[Body], body: Body) -> u32
 
 /// Where the bodies of a node are.
 #[inline(always)]
-pub fn place_of(heads: &[Head], index: usize) -> Stretch
+pub fn segment_of(heads: &[Head], index: usize) -> Segment
     requires { index < length heads.now }
-    ensures { IsPlaceOf heads.now index result }
+    ensures { IsSegmentOf heads.now index result }
 {
     let head = heads[index];
-    Stretch {
+    Segment {
         start: head.start as usize,
         end: head.end as usize,
     }
@@ -48,19 +48,19 @@ pub fn bodies_of<'a>(heads: &[Head], bodies: &'a [Body], index: usize) -> &'a [B
     requires index_lt_length { index < length heads.now }
     ensures { result.now ≡ slice_index_or (nodes_of bodies.now heads.now) index [] }
 {
-    let place = place_of(heads, index);
-    &bodies[place.start..place.end]
+    let opened = segment_of(heads, index);
+    &bodies[opened.start..opened.end]
 }
 
-/// Puts off what a stretch has after its first body, if it has more.
+/// Puts off what a segment has after its first body, if it has more.
 #[inline(always)]
-fn put_off<A: Allocator>(from: Stretch, later: &mut Vec<Stretch, A>) -> Result<(), AllocError>
+fn put_off<A: Allocator>(from: Segment, later: &mut Vec<Segment, A>) -> Result<(), AllocError>
     requires { from.start < from.end }
     ensures { OnOk result (MayPutOff from later.old.items later.new.items) }
 {
     let start = from.start + 1;
     if start < from.end {
-        later.push(Stretch {
+        later.push(Segment {
             start,
             end: from.end,
         })?;
@@ -72,19 +72,19 @@ fn put_off<A: Allocator>(from: Stretch, later: &mut Vec<Stretch, A>) -> Result<(
 pub fn are_equal<A: Allocator>(
     heads: &[Head],
     bodies: &[Body],
-    first: Stretch,
-    second: Stretch,
-    left_later: &mut Vec<Stretch, A>,
-    right_later: &mut Vec<Stretch, A>,
+    first: Segment,
+    second: Segment,
+    left_later: &mut Vec<Segment, A>,
+    right_later: &mut Vec<Segment, A>,
 ) -> Result<bool, AllocError>
     requires are_nodes { AreNodes bodies.now heads.now }
-    requires first_is_stretch { IsStretch bodies.now heads.now first }
-    requires second_is_stretch { IsStretch bodies.now heads.now second }
-    requires lengths_equal { length (stretch_string bodies.now heads.now first)
-        ≡ length (stretch_string bodies.now heads.now second) }
+    requires first_is_segment { IsBodySegment bodies.now heads.now first }
+    requires second_is_segment { IsBodySegment bodies.now heads.now second }
+    requires lengths_equal { length (segment_string bodies.now heads.now first)
+        ≡ length (segment_string bodies.now heads.now second) }
     ensures { IfOk result
-        (λ b. b ≡ bytes_eq (stretch_string bodies.now heads.now second)
-        (stretch_string bodies.now heads.now first)) }
+        (λ b. b ≡ bytes_eq (segment_string bodies.now heads.now second)
+        (segment_string bodies.now heads.now first)) }
 {
     left_later.clear();
     right_later.clear();
@@ -113,19 +113,19 @@ pub fn are_equal<A: Allocator>(
                 (None, None) => return Ok(false),
                 (Some(index), None) => {
                     put_off(left, left_later)?;
-                    left = place_of(heads, index);
+                    left = segment_of(heads, index);
                 }
                 (None, Some(index)) => {
                     put_off(right, right_later)?;
-                    right = place_of(heads, index);
+                    right = segment_of(heads, index);
                 }
                 (Some(i), Some(j)) => {
                     if length_of(heads, bodies, a) >= length_of(heads, bodies, b) {
                         put_off(left, left_later)?;
-                        left = place_of(heads, i);
+                        left = segment_of(heads, i);
                     } else {
                         put_off(right, right_later)?;
-                        right = place_of(heads, j);
+                        right = segment_of(heads, j);
                     }
                 }
             }
@@ -133,18 +133,18 @@ pub fn are_equal<A: Allocator>(
     }
 }
 
-/// Appends the symbols of a stretch of bodies to a list.
+/// Appends the symbols of a segment of bodies to a list.
 pub fn append_all<A: Allocator>(
     heads: &[Head],
     bodies: &[Body],
-    all: Stretch,
-    later: &mut Vec<Stretch, A>,
+    all: Segment,
+    later: &mut Vec<Segment, A>,
     list: &mut Vec<Body, A>,
 ) -> Result<(), AllocError>
     requires are_nodes { AreNodes bodies.now heads.now }
-    requires is_stretch { IsStretch bodies.now heads.now all }
+    requires is_segment { IsBodySegment bodies.now heads.now all }
     ensures { OnOk result
-        (list.new.items ≡ list.old.items ++ stretch_string bodies.now heads.now all) }
+        (list.new.items ≡ list.old.items ++ segment_string bodies.now heads.now all) }
 {
     later.clear();
     let mut rest = all;
@@ -163,7 +163,7 @@ pub fn append_all<A: Allocator>(
                 }
                 Some(index) => {
                     put_off(rest, later)?;
-                    rest = place_of(heads, index);
+                    rest = segment_of(heads, index);
                 }
             }
         }

@@ -4,7 +4,7 @@ use Rattle.std.proofs.Common.{length, subst, sym, ap, refl, arith, get_or, ◌�
 use Rattle.std.proofs.lemmas.Bool.{cases_eq, cases_lt}
 use Rattle.std.proofs.lemmas.List.{length-append, get_or_append_left, get_or_push}
 use Rattle.mm_cites.specs.Citing.{Citing, HasCitation, IsFileOrder, theorem_at, list_at}
-use Rattle.mm_spec.specs.Laws.Chains.{IsWave, TheoremChain}
+use Rattle.mm_spec.specs.Laws.Chains.{IsLongestChain, TheoremChain}
 use Rattle.mm_rows.specs.Waves.{IsCitingTheorem, AreWaves}
 use Rattle.mm_rows.proofs.ChainLaw.{index_is_unique, earlier_row, listed_is_cited, cited_is_listed}
 
@@ -74,7 +74,7 @@ wave_without_citation c waves i cited n wave cites_no_theorem wave_before = grin
 pub wave_of_all_citations : (c : Citing) (waves : List ℕ) (i : ℕ) (cited : List ℕ) (wave : ℕ)
     → IsFileOrder c
     → i < length c.theorems → AreWaves c i waves → WaveTo c waves i cited (length cited) wave
-    → IsWave (HasCitation c) (IsCitingTheorem c) (theorem_at c i) wave
+    → IsLongestChain (HasCitation c) (IsCitingTheorem c) (theorem_at c i) wave
 wave_of_all_citations c waves i cited wave is_file_order i_lt_theorems are_waves wave_of_all =
     (wave_of_all.has_chain, no_longer_chain)
   where
@@ -105,7 +105,7 @@ pub no_waves : (c : Citing) → AreWaves c 0 []
 no_waves c = omega arith
 
 pub waves_with_one_more : (c : Citing) (n wave : ℕ) (waves : List ℕ) → AreWaves c n waves
-    → IsWave (HasCitation c) (IsCitingTheorem c) (theorem_at c n) wave → wave ≤ n
+    → IsLongestChain (HasCitation c) (IsCitingTheorem c) (theorem_at c n) wave → wave ≤ n
     → AreWaves c (n + 1) (waves ++ wave ∷ [])
 waves_with_one_more c n wave waves are_waves is_wave wave_le_n =
     search (rules, arith, length-append, get_or_append_left, get_or_push)

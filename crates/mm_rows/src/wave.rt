@@ -2,7 +2,7 @@
 
 ghost use Rattle.std.specs.Prelude.{◌≡◌, ◌<◌, ◌≤◌, length, IfOk};
 ghost use Rattle.mm_cites.specs.Citing.{HasCitation, theorem_at};
-ghost use Rattle.mm_spec.specs.Laws.Chains.{IsWave};
+ghost use Rattle.mm_spec.specs.Laws.Chains.{IsLongestChain};
 ghost use Rattle.mm_rows.specs.Waves.{IsCitingTheorem, AreWaves};
 
 use crate::indices::StatementIndices;
@@ -19,7 +19,7 @@ fn wave_of_theorem<A: Allocator>(
     requires theorems_are { theorems.now ≡ citations.now.theorems }
     requires index_lt_theorems { theorem_index < length citations.now.theorems }
     requires are_waves { AreWaves citations.now theorem_index waves.now }
-    ensures is_wave { IsWave (HasCitation citations.now) (IsCitingTheorem citations.now)
+    ensures is_wave { IsLongestChain (HasCitation citations.now) (IsCitingTheorem citations.now)
         (theorem_at citations.now theorem_index) result }
     ensures wave_le_index { result ≤ theorem_index }
 {

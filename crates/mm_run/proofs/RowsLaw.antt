@@ -26,7 +26,7 @@ use Rattle.mm_report.specs.Reports.{open_theorem_count, report_of}
 use Rattle.mm_report.specs.CitingRows.{citing_rows, citing_rows_of}
 use Rattle.mm_report.specs.Reports.{unmarked_report_of}
 use Rattle.mm_report.specs.Told.{told_of}
-use Rattle.mm_run.specs.Judging.{IsJudged}
+use Rattle.mm_run.specs.Judging.{IsFaultless}
 use Rattle.mm_run.proofs.OutputLaw.{is_output}
 use Rattle.mm_run.proofs.CitationsLaw.{citing_rows_are}
 use Rattle.mm_run.proofs.ListLaw.{zip_by_index}
@@ -123,13 +123,13 @@ is_report request db opened told c axioms m have_citations axioms_are is_matrix 
 
 -- the report of a database's marks is the output of its text
 pub table_is_output : (request : Request) (d : Contents) (c : Citing) (axioms : List ℕ)
-    → (m : Marks) → IsJudged request.essential request.with_open d c
+    → (m : Marks) → IsFaultless request.essential request.with_open d c
     → axioms ≡ columns d.statements request.only → IsMatrix c axioms m
     → IsOutput d.text request (report_of request d axioms m (citing_rows_of request d c))
-table_is_output request d c axioms m is_judged axioms_are is_matrix =
-    is_output request d axioms _ is_judged.is_counted is_judged.has_no_fault axioms_are
+table_is_output request d c axioms m is_faultless axioms_are is_matrix =
+    is_output request d axioms _ is_faultless.is_counted is_faultless.has_no_fault axioms_are
     (is_report request d.statements (open_theorem_count request.with_open d axioms)
-    (told_of d request.only) c axioms m is_judged.have_citations axioms_are is_matrix)
+    (told_of d request.only) c axioms m is_faultless.have_citations axioms_are is_matrix)
 
 -- the rows of the definitions are as many as those of the citations, and without sections of marks
 -- no more is told of them
@@ -160,22 +160,22 @@ unmarked_is_report request opened axioms names rows citing told no_marks axioms_
 
 -- a report without sections of marks is the output of its text
 pub unmarked_is_output : (request : Request) (d : Contents) (c : Citing) (axioms : List ℕ)
-    → IsJudged request.essential request.with_open d c
+    → IsFaultless request.essential request.with_open d c
     → axioms ≡ columns d.statements request.only → has_marks request.sections ≡ false
     → IsOutput d.text request (unmarked_report_of request d axioms (citing_rows_of request d c))
-unmarked_is_output request d c axioms is_judged axioms_are no_marks =
+unmarked_is_output request d c axioms is_faultless axioms_are no_marks =
     let db = d.statements in
     let opened = open_theorem_count request.with_open d axioms in
     let all_complete : AreComplete db =
-    subst AreComplete (sym is_judged.is_counted.statements_are)
+    subst AreComplete (sym is_faultless.is_counted.statements_are)
     (counted_complete request.with_open d.read
-    (reads_complete _ _ d.read None is_judged.has_no_fault.0)) in
+    (reads_complete _ _ d.read None is_faultless.has_no_fault.0)) in
     let are_valid : AllAreValid db =
-    subst AllAreValid (sym is_judged.is_counted.statements_are) is_judged.has_no_fault.1 in
+    subst AllAreValid (sym is_faultless.is_counted.statements_are) is_faultless.has_no_fault.1 in
     let rows = rows_of_theorems db request all_complete are_valid (theorems db) in
     let citing = citing_rows_of request d c in
-    let are_citing = citing_rows_are db request c is_judged.have_citations in
-    is_output request d axioms _ is_judged.is_counted is_judged.has_no_fault axioms_are
+    let are_citing = citing_rows_are db request c is_faultless.have_citations in
+    is_output request d axioms _ is_faultless.is_counted is_faultless.has_no_fault axioms_are
     (record {
       rows = rows.0;
       are_rows = rows.1;

@@ -23,7 +23,7 @@ pub record IsReadFrom (text : List ℕ) (with_open : Bool) (d : Contents) : Type
 
 -- the database was judged without a fault, by all nodes of a proof or the essential ones, and this
 -- is what its theorems cite
-pub record IsJudged (essential with_open : Bool) (d : Contents) (c : Citing) : Type 0 where
+pub record IsFaultless (essential with_open : Bool) (d : Contents) (c : Citing) : Type 0 where
   pub has_no_fault : HasNoFault (length d.text) (lexed_of d.text) with_open d.read
   pub is_counted : IsCounted with_open d
   pub have_citations : AllHaveCitations d.statements essential c
@@ -34,4 +34,4 @@ module _ {A : Type 0} where
   IsJudgedText text essential with_open (Faulty f) =
       FirstFault (length text) (lexed_of text) with_open f
   IsJudgedText text essential with_open (Sound d c) =
-      (d.text ≡ text) × IsJudged essential with_open d c
+      (d.text ≡ text) × IsFaultless essential with_open d c

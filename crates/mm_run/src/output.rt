@@ -8,7 +8,7 @@ ghost use Rattle.mm_spec.specs.Ends.{Wrote, reading_limit};
 ghost use Rattle.mm_work.specs.Judged.{IsJudgement};
 ghost use Rattle.mm_rows.specs.Marks.{IsMatrix};
 ghost use Rattle.mm_report.specs.Told.{AreDummiesFor};
-ghost use Rattle.mm_run.specs.Judging.{IsJudged, IsJudgedText, IsReadFrom};
+ghost use Rattle.mm_run.specs.Judging.{IsFaultless, IsJudgedText, IsReadFrom};
 ghost use Rattle.mm_plan.specs.Plans.{IsLawfulPlan, request_of};
 
 use crate::RunEnd;
@@ -50,7 +50,7 @@ fn report_unmarked<'a, A: Allocator, W: Write>(
     dummy_lists: &Dummies<A>,
     to: &mut W,
 ) -> RunEnd
-    requires is_judged { IsJudged request.now.essential request.now.with_open database.now
+    requires is_faultless { IsFaultless request.now.essential request.now.with_open database.now
         citations.now }
     requires columns_are { chosen.now ≡ columns database.now.statements request.now.only }
     requires no_marks { has_marks request.now.sections ≡ false }
@@ -74,7 +74,7 @@ fn report_usage<'a, A: Allocator, W: Write>(
     dummy_lists: &Dummies<A>,
     to: &mut W,
 ) -> RunEnd
-    requires is_judged { IsJudged request.now.essential request.now.with_open database.now
+    requires is_faultless { IsFaultless request.now.essential request.now.with_open database.now
         citations.now }
     requires columns_are { chosen.now ≡ columns database.now.statements request.now.only }
     requires is_matrix { IsMatrix citations.now chosen.now matrix.now }
@@ -106,7 +106,7 @@ fn report_rows<'a, A: Allocator, W: Write>(
     dummy_lists: &Dummies<A>,
     to: &mut W,
 ) -> RunEnd
-    requires is_judged { IsJudged request.now.essential request.now.with_open database.now
+    requires is_faultless { IsFaultless request.now.essential request.now.with_open database.now
         citations.now }
     requires columns_are { chosen.now ≡ columns database.now.statements request.now.only }
     requires is_matrix { IsMatrix citations.now chosen.now marked.now }
@@ -139,7 +139,7 @@ fn report_marked<'a, A: Allocator + Copy, W: Write>(
     dummy_lists: &Dummies<A>,
     to: &mut W,
 ) -> RunEnd
-    requires is_judged { IsJudged request.now.essential request.now.with_open database.now
+    requires is_faultless { IsFaultless request.now.essential request.now.with_open database.now
         citations.now }
     requires columns_are { chosen.now ≡ columns database.now.statements request.now.only }
     requires are_dummies { AreDummiesFor request.now database.now dummy_lists.now }
@@ -200,7 +200,7 @@ fn report<'a, A: Allocator + Copy, W: Write>(
     citations: &Citations<A>,
     to: &mut W,
 ) -> RunEnd
-    requires is_judged { IsJudged request.now.essential request.now.with_open database.now
+    requires is_faultless { IsFaultless request.now.essential request.now.with_open database.now
         citations.now }
     ensures { Wrote result database.now.text request.now (W.contents to.old)
         (W.contents to.new) }

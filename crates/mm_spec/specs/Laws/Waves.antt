@@ -13,4 +13,4 @@ IsTheorem db b = IsTrue (list_any is_theorem (statement_at db b))
 
 -- the longest chain of citations from t through theorems only has n citations
 abbrev pub IsWave : List Statement → (by_essential : Bool) → ℕ → ℕ → Type 0
-IsWave db by_essential t n = chain.IsWave (Cites db by_essential) (IsTheorem db) t n
+IsWave db by_essential t n = chain.IsLongestChain (Cites db by_essential) (IsTheorem db) t n

@@ -50,7 +50,7 @@ loop-by_symbol-preserved-then-x_statement-y_statement-2 g c =
       y_end_falls = omega (arith, next_lt_y_end, invariant.y_end_falls);
       x_end_within = invariant.x_end_within;
       y_end_within = omega (arith, next_lt_y_end, invariant.y_end_within);
-      none_in_common = none_before_y_end c.args.blocks.now _ c.requires.ordered.rising c.args.x
+      none_in_common = none_before_y_end c.args.blocks.now _ c.requires.well_formed.rising c.args.x
           c.args.y c.args.at _ _ _ invariant.none_in_common x_statement.0 invariant.x_end_within
           y_statement.0 invariant.y_end_within
           (rw (pairs, c.number-in-loop-by_symbol.ensures) at x_statement.1)
@@ -72,7 +72,7 @@ loop-by_symbol-preserved g c =
       y_end_falls = invariant.y_end_falls;
       x_end_within = omega (arith, next_lt_x_end, invariant.x_end_within);
       y_end_within = invariant.y_end_within;
-      none_in_common = none_before_x_end c.args.blocks.now _ c.requires.ordered.rising c.args.x
+      none_in_common = none_before_x_end c.args.blocks.now _ c.requires.well_formed.rising c.args.x
           c.args.y c.args.at _ _ _ invariant.none_in_common x_statement.0 invariant.x_end_within
           y_statement.0 invariant.y_end_within
           (rw (pairs, c.number-in-loop-by_symbol-2.ensures) at y_statement.1)
@@ -94,7 +94,7 @@ returns-else-last_has_symbol-clause-none_if_false g c =
     let start = c.count_before-y_end.ensures in
     let parted = parted_if_equal _ _ _ c.args.y pairs c.number-2.ensures c.args.at _
     start.result_le_length start.earlier_are_before start.later_are_not_before in
-    let rising = c.requires.ordered.rising in
+    let rising = c.requires.well_formed.rising in
     λ result_is_false. none_at_end c.args.blocks.now _ rising c.args.x c.args.y c.args.at _ _
     c.loop-by_symbol.invariant.none_in_common (inr (none_before_end c.args.blocks.now _ rising
     c.args.y c.args.at _ parted _ c.loop-by_symbol.invariant.y_end_falls (λ y_end_gt_0.
@@ -110,7 +110,7 @@ returns-after-loop-by_symbol-clause-none_if_false g c =
     let start = c.count_before-x_end.ensures in
     let parted = parted_if_equal _ _ _ c.args.x pairs c.number.ensures c.args.at _
     start.result_le_length start.earlier_are_before start.later_are_not_before in
-    let rising = c.requires.ordered.rising in
+    let rising = c.requires.well_formed.rising in
     λ result_is_false. none_at_end c.args.blocks.now _ rising c.args.x c.args.y c.args.at _ _
     c.loop-by_symbol.invariant.none_in_common (inl (none_before_end c.args.blocks.now _ rising
     c.args.x c.args.at _ parted _ c.loop-by_symbol.invariant.x_end_falls (λ x_end_gt_0.

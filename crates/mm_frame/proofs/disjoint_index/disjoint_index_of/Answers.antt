@@ -22,7 +22,7 @@ returns g c =
     record {
       members_are = c.in_ok-by_symbol.ensures.members_are;
       rows_are = λ x. (c.in_ok-rows.ensures x).1;
-      ordered = record {
+      well_formed = record {
         rising = c.in_ok-by_symbol.ensures.rising;
         known =
             have_blocks c.args.statements.now.list b c.blocks-2.ensures.are_blocks false ps

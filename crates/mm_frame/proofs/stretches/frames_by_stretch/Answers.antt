@@ -3,7 +3,7 @@ use Rattle.std.specs.Prelude.{IfOk}
 use Rattle.std.specs.List.{AllZip, range_with_len}
 use Rattle.rayon.specs.Numbers.{nat_range}
 use Rattle.rayon.proofs.ListFacts.{IfOk-then}
-use Rattle.mm_frame.specs.Stretches.{IsStretch}
+use Rattle.mm_frame.specs.Stretches.{AreStretchFrames}
 use Rattle.mm_frame.proofs.stretches.frames_by_stretch.Goals as goal
 
 pub returns : goal.returns
@@ -27,5 +27,5 @@ returns g c =
       ← c.len.ensures,
       ← (indices_are ∙ ap₂ nat_range start_is end_is ∙ ap (range_with_len 0) length_is),
     )
-    (subst (λ f. AllZip (λ i r. IfOk r (IsStretch f.1.now.statements.now.list f.2.now.size i))
-    indices results) captured_are zipped))
+    (subst (λ f. AllZip (λ i r. IfOk r (AreStretchFrames f.1.now.statements.now.list f.2.now.size
+    i)) indices results) captured_are zipped))

@@ -3,13 +3,13 @@ use Rattle.std.proofs.lemmas.List.{get_or_default}
 use Rattle.mm_spec.specs.Frame.{symbol_names}
 use Rattle.mm_nodes.specs.Strings.{string_of}
 use Rattle.mm_machine.specs.Entries.{no_entry}
-use Rattle.mm_machine.specs.Distinct.{AppendsStretch}
-use Rattle.mm_machine.proofs.DistinctLaw.{next_stretch}
+use Rattle.mm_machine.specs.Distinct.{AppendsSegment}
+use Rattle.mm_machine.proofs.DistinctLaw.{next_segment}
 use Rattle.mm_machine.proofs.StepLaw.{body_in_range}
 use Rattle.mm_machine.proofs.distinct.collect_variables.Goals as goal
 
-pub append_stretch-requires : goal.append_stretch-requires
-append_stretch-requires g c =
+pub append_segment-requires : goal.append_segment-requires
+append_segment-requires g c =
     let w = length (symbol_names c.args.database.now.statements) in
     let es = c.args.premises.now in
     let i = c.loop-premise.premise-index in
@@ -24,15 +24,15 @@ loop-premise-preserved g c =
     let es = c.args.premises.now in
     let i = c.loop-premise.premise-index in
     let xs = c.loop-premise.list.items in
-    let ss = c.loop-premise.stretches.items in
+    let ss = c.loop-premise.segments.items in
     record {
-      nodes_stay = c.append_stretch.ensures.nodes_unchanged ∙ c.loop-premise.invariant.nodes_stay;
+      nodes_stay = c.append_segment.ensures.nodes_unchanged ∙ c.loop-premise.invariant.nodes_stay;
       have_variables =
-          next_stretch db c.args.nodes.now es i xs c.append_stretch.new.list.items ss
-          c.append_stretch.new.stretches.items c.loop-premise-test.true
-          c.loop-premise.invariant.have_variables (subst (λ (f : List ℕ). AppendsStretch db f xs
-          c.append_stretch.new.list.items ss c.append_stretch.new.stretches.items)
+          next_segment db c.args.nodes.now es i xs c.append_segment.new.list.items ss
+          c.append_segment.new.segments.items c.loop-premise-test.true
+          c.loop-premise.invariant.have_variables (subst (λ (f : List ℕ). AppendsSegment db f xs
+          c.append_segment.new.list.items ss c.append_segment.new.segments.items)
           (ap₂ (λ ns x. string_of ns x.body) c.loop-premise.invariant.nodes_stay (c.premise-item.is
           ∙ get_or_default es i c.premise-item.result no_entry c.loop-premise-test.true))
-          c.in_ok-append_stretch.ensures.appends_stretch);
+          c.in_ok-append_segment.ensures.appends_segment);
     }

@@ -6,5 +6,5 @@ abbrev pub invariant-loop-premise : goal.invariant-loop-premise
 invariant-loop-premise g l = record {
   nodes_stay : l.nodes ≡ l.fn.nodes;
   have_variables : HaveVariables l.database.statements l.fn.nodes (take l.premise-index l.premises)
-      l.list.items l.stretches.items;
+      l.list.items l.segments.items;
 }

@@ -43,10 +43,10 @@ pub returns-then-count-gt-MAX_SYMBOL_PAIRS-clause-tells_disjoint :
     goal.returns-then-count-gt-MAX_SYMBOL_PAIRS-clause-tells_disjoint
 returns-then-count-gt-MAX_SYMBOL_PAIRS-clause-tells_disjoint g c =
     let es = c.args.premises.now in
-    subst (λ (ns : List (List ℕ)). IfOk c.long_pairs_are_disjoint.result (λ r. r ≡ list_all
+    subst (λ (ns : List (List ℕ)). IfOk c.long_formulas_are_disjoint.result (λ r. r ≡ list_all
     (λ (p : ℕ × ℕ). are_all_disjoint (context_at c.args.database.now.statements c.args.theorem)
     (body_string_at ns es p.0) (body_string_at ns es p.1)) c.args.pairs.now))
-    c.loop-pair.invariant.nodes_stay c.long_pairs_are_disjoint.ensures.tells_disjoint
+    c.loop-pair.invariant.nodes_stay c.long_formulas_are_disjoint.ensures.tells_disjoint
 
 pub returns-then-not-are_disjoint-clause-tells_disjoint :
     goal.returns-then-not-are_disjoint-clause-tells_disjoint

@@ -1,7 +1,7 @@
 use Rattle.std.proofs.Common.{◌<◌, ◌+◌, All, length, sym, subst, arith}
 use Rattle.std.proofs.lemmas.List.Elements.{All-weaker, All-nil}
 use Rattle.mm_nodes.specs.Strings.{string_of, first_node}
-use Rattle.mm_nodes.specs.Store.{nodes_of, stretch_string, stretch_bodies}
+use Rattle.mm_nodes.specs.Store.{nodes_of, segment_string, segment_bodies}
 use Rattle.mm_nodes.specs.Overlaps.{Agree, Holds, IsOverlap}
 use Rattle.mm_nodes.proofs.WalkLaw.{nil_if_no_length}
 use Rattle.mm_nodes.proofs.OverlapLaw.{pending_first, pending_next, same_if_agree}
@@ -14,7 +14,7 @@ loop-overlap-init g c = record {
       (first_node + length c.args.heads.now + c.args.body)
       (All-weaker (λ b. b < first_node + length c.args.heads.now)
       (λ b. b + c.args.body < first_node + length c.args.heads.now + c.args.body)
-      (λ b b_lt. omega (arith, b_lt)) (stretch_bodies c.args.bodies.now c.args.parts)
+      (λ b b_lt. omega (arith, b_lt)) (segment_bodies c.args.bodies.now c.args.parts)
       c.requires.are_parts.are_bodies));
 }
 
@@ -26,7 +26,7 @@ take_apart-requires-clause-is_overlap g c =
 
 pub returns-then-not-branch : goal.returns-then-not-branch
 returns-then-not-branch g c =
-    different_if_not_agree (stretch_string c.args.bodies.now c.args.heads.now c.args.parts)
+    different_if_not_agree (segment_string c.args.bodies.now c.args.heads.now c.args.parts)
     (string_of (nodes_of c.args.bodies.now c.args.heads.now) c.args.body)
     (λ agree.
     c.in_ok-take_apart.ensures.does_not_hold c.if-not-branch.true
@@ -38,7 +38,7 @@ pub loop-overlap-preserved : goal.loop-overlap-preserved
 loop-overlap-preserved g c = record {
   comes = pending_next c.in-Some.overlap (subst (λ os. ComesToPending
       (nodes_of c.args.bodies.now c.args.heads.now)
-      (Agree (stretch_string c.args.bodies.now c.args.heads.now c.args.parts) 0
+      (Agree (segment_string c.args.bodies.now c.args.heads.now c.args.parts) 0
       (string_of (nodes_of c.args.bodies.now c.args.heads.now) c.args.body) 0) os
       c.loop-overlap.seen) c.in-Some.ensures.items c.loop-overlap.invariant.comes)
       (c.in_ok-take_apart.ensures.comes_to_parts c.if-not-branch.false);
@@ -46,7 +46,7 @@ loop-overlap-preserved g c = record {
 
 pub returns : goal.returns
 returns g c =
-    same_if_agree (stretch_string c.args.bodies.now c.args.heads.now c.args.parts)
+    same_if_agree (segment_string c.args.bodies.now c.args.heads.now c.args.parts)
     (string_of (nodes_of c.args.bodies.now c.args.heads.now) c.args.body) c.requires.lengths_equal
     (c.loop-overlap.invariant.comes.is_enough
     (subst (All (Holds (nodes_of c.args.bodies.now c.args.heads.now)))

@@ -15,7 +15,7 @@ loop-rest-preserved g c =
     let done = c.loop-rest.invariant.parts_before in
     let b_is = c.index-bodies-rest.is
     ∙ get_or_default c.args.bodies.now c.loop-rest.rest.start c.index-bodies-rest.result 0
-    (omega (arith, done.is_stretch.end_le_length)) in
+    (omega (arith, done.is_segment.end_le_length)) in
     let at_is = ap (λ x. c.loop-rest.at + x) c.length_of-in-loop-rest.ensures in
     elim c.if-at-end.branch [
       | then-at-end+then-other_start-end+in_ok-require w ↦ rw (w.seen-is, w.pending-is) (record {

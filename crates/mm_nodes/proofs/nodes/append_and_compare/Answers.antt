@@ -1,7 +1,7 @@
 use Rattle.std.proofs.Common.{rules, arith, ◌++◌, ◌∙◌, ◌∷◌, [], length, ap}
 use Rattle.std.proofs.lemmas.Grind.{common_steps}
-use Rattle.mm_nodes.proofs.WalkLaw.{are_nodes_behind, first_string, second_string, first_is_stretch}
-use Rattle.mm_nodes.proofs.WalkLaw.{second_is_stretch, is_body_behind, second_is_body}
+use Rattle.mm_nodes.proofs.WalkLaw.{are_nodes_behind, first_string, second_string, first_is_segment}
+use Rattle.mm_nodes.proofs.WalkLaw.{second_is_segment, is_body_behind, second_is_body}
 use Rattle.mm_nodes.proofs.nodes.append_and_compare.Goals as goal
 
 pub compare-requires-clause-are_nodes : goal.compare-requires-clause-are_nodes
@@ -13,11 +13,11 @@ compare-requires-clause-are_nodes g c =
     c.in_ok-append.ensures.appends_bodies) c.len-start.ensures (c.len-middle.ensures ∙ ap length
     c.in_ok-append.ensures.appends_bodies) c.len.ensures)
 
-pub compare-requires-clause-first_is_stretch : goal.compare-requires-clause-first_is_stretch
-compare-requires-clause-first_is_stretch g c = grind (arith, common_steps, first_is_stretch)
+pub compare-requires-clause-first_is_segment : goal.compare-requires-clause-first_is_segment
+compare-requires-clause-first_is_segment g c = grind (arith, common_steps, first_is_segment)
 
-pub compare-requires-clause-second_is_stretch : goal.compare-requires-clause-second_is_stretch
-compare-requires-clause-second_is_stretch g c = grind (arith, common_steps, second_is_stretch)
+pub compare-requires-clause-second_is_segment : goal.compare-requires-clause-second_is_segment
+compare-requires-clause-second_is_segment g c = grind (arith, common_steps, second_is_segment)
 
 pub compare-requires-clause-lengths_equal : goal.compare-requires-clause-lengths_equal
 compare-requires-clause-lengths_equal g c =

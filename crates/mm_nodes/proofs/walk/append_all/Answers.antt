@@ -53,8 +53,8 @@ loop-rest-preserved-in-None-index g c =
       );
     }
 
-pub place_of-rest-requires : goal.place_of-rest-requires
-place_of-rest-requires g c =
+pub segment_of-rest-requires : goal.segment_of-rest-requires
+segment_of-rest-requires g c =
     index_lt c.requires.are_nodes c.loop-rest.invariant.reads.1 c.if-rest.false
     c.index-bodies-rest.result c.index-bodies-rest.is c.in-Some-index.index
     c.in-Some-index.ensures.is_node
@@ -63,8 +63,8 @@ pub loop-rest-smaller : goal.loop-rest-smaller
 loop-rest-smaller g c =
     less_work_into c.requires.are_nodes c.loop-rest.invariant.reads.1 c.if-rest.false
     c.index-bodies-rest.result c.index-bodies-rest.is c.in-Some-index.index
-    c.in-Some-index.ensures.is_node c.place_of-rest.result c.put_off.new.later.items
-    c.place_of-rest.ensures c.in_ok-put_off-in-Some-index.ensures
+    c.in-Some-index.ensures.is_node c.segment_of-rest.result c.put_off.new.later.items
+    c.segment_of-rest.ensures c.in_ok-put_off-in-Some-index.ensures
 
 pub loop-rest-preserved : goal.loop-rest-preserved
 loop-rest-preserved g c =
@@ -74,7 +74,7 @@ loop-rest-preserved g c =
         reads_into c.requires.are_nodes
             c.loop-rest.invariant.reads.1 c.if-rest.false c.index-bodies-rest.result
             c.index-bodies-rest.is c.in-Some-index.index c.in-Some-index.ensures.is_node
-            c.place_of-rest.result c.put_off.new.later.items c.place_of-rest.ensures
+            c.segment_of-rest.result c.put_off.new.later.items c.segment_of-rest.ensures
             c.in_ok-put_off-in-Some-index.ensures,
         c.loop-rest.invariant.reads.2,
       );

@@ -1,7 +1,7 @@
 use Rattle.std.proofs.Common.{◌<◌, ◌++◌, ◌∙◌, [], ℕ, sym, ap, subst, refl, arith, eqb-true, eq-eqb}
 use Rattle.std.proofs.Common.{IfNone, true≢false, Option}
 use Rattle.mm_nodes.specs.Strings.{first_node, body_string, strings_of}
-use Rattle.mm_nodes.specs.Store.{nodes_of, stretch_string}
+use Rattle.mm_nodes.specs.Store.{nodes_of, segment_string}
 use Rattle.mm_nodes.proofs.WalkLaw.{reading_begins, reads_later, reads_on, reads_into}
 use Rattle.mm_nodes.proofs.WalkLaw.{less_work_later, less_work_on, less_work_into, index_lt}
 use Rattle.mm_nodes.proofs.WalkLaw.{first_body_is, different_if_symbols_are, nil_if_no_length}
@@ -15,9 +15,9 @@ loop-left-init g c =
       reads = (
         [],
         reading_begins c.requires.are_nodes c.args.first c.clear.new.self.items
-            c.requires.first_is_stretch c.clear.ensures.items,
+            c.requires.first_is_segment c.clear.ensures.items,
         reading_begins c.requires.are_nodes
-            c.args.second c.clear-2.new.self.items c.requires.second_is_stretch
+            c.args.second c.clear-2.new.self.items c.requires.second_is_segment
             c.clear-2.ensures.items,
       );
     }
@@ -105,8 +105,8 @@ loop-left-preserved-then-eq g c =
 
 pub returns-in-None-None : goal.returns-in-None-None
 returns-in-None-None g c =
-    different_if_symbols_are (stretch_string c.args.bodies.now c.args.heads.now c.args.first)
-    (stretch_string c.args.bodies.now c.args.heads.now c.args.second)
+    different_if_symbols_are (segment_string c.args.bodies.now c.args.heads.now c.args.first)
+    (segment_string c.args.bodies.now c.args.heads.now c.args.second)
     c.loop-left.invariant.reads.0 _ _ (strings_of (nodes_of c.args.bodies.now c.args.heads.now))
     c.index-bodies-left.result c.index-bodies-right.result (first_body_is c.requires.are_nodes
     c.loop-left.invariant.reads.1 c.if-left.false c.index-bodies-left.result
@@ -117,8 +117,8 @@ returns-in-None-None g c =
     (sym (eq-eqb c.index-bodies-left.result c.index-bodies-right.result same) ∙ sym c.eq.ensures
     ∙ c.if-eq.false))
 
-pub place_of-right-requires : goal.place_of-right-requires
-place_of-right-requires g c =
+pub segment_of-right-requires : goal.segment_of-right-requires
+segment_of-right-requires g c =
     index_lt c.requires.are_nodes c.loop-left.invariant.reads.2 c.if-right.false
     c.index-bodies-right.result c.index-bodies-right.is c.in-None-Some.index
     c.in-None-Some.ensures.is_node
@@ -127,8 +127,8 @@ pub loop-left-smaller-in-None-Some : goal.loop-left-smaller-in-None-Some
 loop-left-smaller-in-None-Some g c =
     less_right _ _ _ (less_work_into c.requires.are_nodes c.loop-left.invariant.reads.2
     c.if-right.false c.index-bodies-right.result c.index-bodies-right.is c.in-None-Some.index
-    c.in-None-Some.ensures.is_node c.place_of-right.result c.put_off.new.later.items
-    c.place_of-right.ensures c.in_ok-put_off-in-None-Some.ensures)
+    c.in-None-Some.ensures.is_node c.segment_of-right.result c.put_off.new.later.items
+    c.segment_of-right.ensures c.in_ok-put_off-in-None-Some.ensures)
 
 pub loop-left-preserved-in-None-Some : goal.loop-left-preserved-in-None-Some
 loop-left-preserved-in-None-Some g c =
@@ -139,13 +139,13 @@ loop-left-preserved-in-None-Some g c =
         reads_into
             c.requires.are_nodes c.loop-left.invariant.reads.2 c.if-right.false
             c.index-bodies-right.result c.index-bodies-right.is c.in-None-Some.index
-            c.in-None-Some.ensures.is_node c.place_of-right.result c.put_off.new.later.items
-            c.place_of-right.ensures c.in_ok-put_off-in-None-Some.ensures,
+            c.in-None-Some.ensures.is_node c.segment_of-right.result c.put_off.new.later.items
+            c.segment_of-right.ensures c.in_ok-put_off-in-None-Some.ensures,
       );
     }
 
-pub place_of-left-requires : goal.place_of-left-requires
-place_of-left-requires g c =
+pub segment_of-left-requires : goal.segment_of-left-requires
+segment_of-left-requires g c =
     index_lt c.requires.are_nodes c.loop-left.invariant.reads.1 c.if-left.false
     c.index-bodies-left.result c.index-bodies-left.is c.in-Some-None.index
     c.in-Some-None.ensures.is_node
@@ -154,8 +154,8 @@ pub loop-left-smaller-in-Some-None : goal.loop-left-smaller-in-Some-None
 loop-left-smaller-in-Some-None g c =
     less_left _ _ _ (less_work_into c.requires.are_nodes c.loop-left.invariant.reads.1
     c.if-left.false c.index-bodies-left.result c.index-bodies-left.is c.in-Some-None.index
-    c.in-Some-None.ensures.is_node c.place_of-left.result c.put_off-in-Some-None.new.later.items
-    c.place_of-left.ensures c.in_ok-put_off-in-Some-None.ensures)
+    c.in-Some-None.ensures.is_node c.segment_of-left.result c.put_off-in-Some-None.new.later.items
+    c.segment_of-left.ensures c.in_ok-put_off-in-Some-None.ensures)
 
 pub loop-left-preserved-in-Some-None : goal.loop-left-preserved-in-Some-None
 loop-left-preserved-in-Some-None g c =
@@ -165,14 +165,14 @@ loop-left-preserved-in-Some-None g c =
         reads_into c.requires.are_nodes
             c.loop-left.invariant.reads.1 c.if-left.false c.index-bodies-left.result
             c.index-bodies-left.is c.in-Some-None.index c.in-Some-None.ensures.is_node
-            c.place_of-left.result c.put_off-in-Some-None.new.later.items c.place_of-left.ensures
-            c.in_ok-put_off-in-Some-None.ensures,
+            c.segment_of-left.result c.put_off-in-Some-None.new.later.items
+            c.segment_of-left.ensures c.in_ok-put_off-in-Some-None.ensures,
         c.loop-left.invariant.reads.2,
       );
     }
 
-pub place_of-left-requires-then-length_of : goal.place_of-left-requires-then-length_of
-place_of-left-requires-then-length_of g c =
+pub segment_of-left-requires-then-length_of : goal.segment_of-left-requires-then-length_of
+segment_of-left-requires-then-length_of g c =
     index_lt c.requires.are_nodes c.loop-left.invariant.reads.1 c.if-left.false
     c.index-bodies-left.result c.index-bodies-left.is c.in-Some-Some.i
     c.in-Some-Some.ensures.is_node
@@ -181,8 +181,8 @@ pub loop-left-smaller-then-length_of : goal.loop-left-smaller-then-length_of
 loop-left-smaller-then-length_of g c =
     less_left _ _ _ (less_work_into c.requires.are_nodes c.loop-left.invariant.reads.1
     c.if-left.false c.index-bodies-left.result c.index-bodies-left.is c.in-Some-Some.i
-    c.in-Some-Some.ensures.is_node c.place_of-left-then-length_of.result
-    c.put_off-then-length_of.new.later.items c.place_of-left-then-length_of.ensures
+    c.in-Some-Some.ensures.is_node c.segment_of-left-then-length_of.result
+    c.put_off-then-length_of.new.later.items c.segment_of-left-then-length_of.ensures
     c.in_ok-put_off-in-Some-Some.ensures)
 
 pub loop-left-preserved-then-length_of : goal.loop-left-preserved-then-length_of
@@ -193,14 +193,14 @@ loop-left-preserved-then-length_of g c =
         reads_into c.requires.are_nodes
             c.loop-left.invariant.reads.1 c.if-left.false c.index-bodies-left.result
             c.index-bodies-left.is c.in-Some-Some.i c.in-Some-Some.ensures.is_node
-            c.place_of-left-then-length_of.result c.put_off-then-length_of.new.later.items
-            c.place_of-left-then-length_of.ensures c.in_ok-put_off-in-Some-Some.ensures,
+            c.segment_of-left-then-length_of.result c.put_off-then-length_of.new.later.items
+            c.segment_of-left-then-length_of.ensures c.in_ok-put_off-in-Some-Some.ensures,
         c.loop-left.invariant.reads.2,
       );
     }
 
-pub place_of-right-requires-else-length_of : goal.place_of-right-requires-else-length_of
-place_of-right-requires-else-length_of g c =
+pub segment_of-right-requires-else-length_of : goal.segment_of-right-requires-else-length_of
+segment_of-right-requires-else-length_of g c =
     index_lt c.requires.are_nodes c.loop-left.invariant.reads.2 c.if-right.false
     c.index-bodies-right.result c.index-bodies-right.is c.in-Some-Some.j
     c.in-Some-Some.ensures'.is_node
@@ -209,8 +209,8 @@ pub loop-left-smaller : goal.loop-left-smaller
 loop-left-smaller g c =
     less_right _ _ _ (less_work_into c.requires.are_nodes c.loop-left.invariant.reads.2
     c.if-right.false c.index-bodies-right.result c.index-bodies-right.is c.in-Some-Some.j
-    c.in-Some-Some.ensures'.is_node c.place_of-right-else-length_of.result
-    c.put_off-else-length_of.new.later.items c.place_of-right-else-length_of.ensures
+    c.in-Some-Some.ensures'.is_node c.segment_of-right-else-length_of.result
+    c.put_off-else-length_of.new.later.items c.segment_of-right-else-length_of.ensures
     c.in_ok-put_off-in-Some-Some-2.ensures)
 
 pub loop-left-preserved : goal.loop-left-preserved
@@ -222,8 +222,8 @@ loop-left-preserved g c =
         reads_into
             c.requires.are_nodes c.loop-left.invariant.reads.2 c.if-right.false
             c.index-bodies-right.result c.index-bodies-right.is c.in-Some-Some.j
-            c.in-Some-Some.ensures'.is_node c.place_of-right-else-length_of.result
-            c.put_off-else-length_of.new.later.items c.place_of-right-else-length_of.ensures
+            c.in-Some-Some.ensures'.is_node c.segment_of-right-else-length_of.result
+            c.put_off-else-length_of.new.later.items c.segment_of-right-else-length_of.ensures
             c.in_ok-put_off-in-Some-Some-2.ensures,
       );
     }

@@ -7,18 +7,18 @@ use Rattle.mm_run.proofs.output.report_rows.Goals as goal
 pub write_rows-requires-clause-are_citations : goal.write_rows-requires-clause-are_citations
 write_rows-requires-clause-are_citations g c =
     are_citations_of c.args.database.now.statements c.args.request.now c.args.citations.now
-    c.requires.is_judged.have_citations
+    c.requires.is_faultless.have_citations
 
 pub returns-in-Ok : goal.returns-in-Ok
 returns-in-Ok g c =
     let d = c.args.database.now in
     let request = c.args.request.now in
     let citing = c.args.citations.now in (
-      (d.read, c.requires.is_judged.has_no_fault),
+      (d.read, c.requires.is_faultless.has_no_fault),
       (
         report_of request d c.args.chosen.now c.args.marked.now (citing_rows_of request d citing),
         table_is_output request d citing c.args.chosen.now c.args.marked.now
-            c.requires.is_judged c.requires.columns_are c.requires.is_matrix,
+            c.requires.is_faultless c.requires.columns_are c.requires.is_matrix,
         c.in-Ok.ensures.report_is_written,
       ),
     )
@@ -32,6 +32,6 @@ returns-in-Err g c =
       report_of request d c.args.chosen.now c.args.marked.now (citing_rows_of request d citing),
       is_prefix.0,
       table_is_output request d citing c.args.chosen.now c.args.marked.now
-          c.requires.is_judged c.requires.columns_are c.requires.is_matrix,
+          c.requires.is_faultless c.requires.columns_are c.requires.is_matrix,
       is_prefix.1,
     )

@@ -2,9 +2,9 @@ use Rattle.std.proofs.Common.{◌≡◌, ◌++◌, ◌∙◌, ℕ, List, [], len
 use Rattle.std.proofs.Common.{append-nil}
 use Rattle.mm_nodes.specs.Strings.{string_of}
 use Rattle.mm_nodes.specs.declared.heads.Head.{Head}
-use Rattle.mm_nodes.specs.Store.{IsPlaceOf, stretch_string}
+use Rattle.mm_nodes.specs.Store.{IsSegmentOf, segment_string}
 use Rattle.mm_nodes.proofs.StoreLaw.{no_string, length_nodes}
-use Rattle.mm_nodes.proofs.WalkLaw.{place_is_in, node_is_opened}
+use Rattle.mm_nodes.proofs.WalkLaw.{segment_is_in, node_is_opened}
 use Rattle.mm_nodes.proofs.nodes.Nodes.append_symbols.Goals as goal
 
 pub returns-then-index-len-clause-symbols_are : goal.returns-then-index-len-clause-symbols_are
@@ -20,24 +20,24 @@ pub append_all-requires-clause-are_nodes : goal.append_all-requires-clause-are_n
 append_all-requires-clause-are_nodes g c =
     rw (c.as_slice-bodies.ensures, c.deref-in-Some.ensures.value) c.self.invariant.are_nodes
 
-pub append_all-requires-clause-is_stretch : goal.append_all-requires-clause-is_stretch
-append_all-requires-clause-is_stretch g c =
+pub append_all-requires-clause-is_segment : goal.append_all-requires-clause-is_segment
+append_all-requires-clause-is_segment g c =
     rw (c.as_slice-bodies.ensures, c.deref-in-Some.ensures.value)
-    (place_is_in c.self.inside.bodies c.self.inside.heads.items c.in-Some.index
-    c.place_of-place.result c.self.invariant.are_nodes (omega (arith, c.self.inside.heads.ok.0))
-    (subst (λ (hs : List Head). IsPlaceOf hs c.in-Some.index c.place_of-place.result)
-    c.deref.ensures.value c.place_of-place.ensures))
+    (segment_is_in c.self.inside.bodies c.self.inside.heads.items c.in-Some.index
+    c.segment_of-opened.result c.self.invariant.are_nodes (omega (arith, c.self.inside.heads.ok.0))
+    (subst (λ (hs : List Head). IsSegmentOf hs c.in-Some.index c.segment_of-opened.result)
+    c.deref.ensures.value c.segment_of-opened.ensures))
 
 pub returns-else-index-len-clause-symbols_are : goal.returns-else-index-len-clause-symbols_are
 returns-else-index-len-clause-symbols_are g c =
     let bodies = c.self.inside.bodies in
     let heads = c.self.inside.heads.items in
-    let string_is : stretch_string bodies heads c.place_of-place.result
+    let string_is : segment_string bodies heads c.segment_of-opened.result
     ≡ string_of c.args.self.now c.args.body =
     sym (node_is_opened [] bodies heads c.self.invariant.are_nodes c.args.body c.in-Some.index
-    c.place_of-place.result c.in-Some.ensures.is_node (omega (arith, c.self.inside.heads.ok.0))
-    (subst (λ (hs : List Head). IsPlaceOf hs c.in-Some.index c.place_of-place.result)
-    c.deref.ensures.value c.place_of-place.ensures))
+    c.segment_of-opened.result c.in-Some.ensures.is_node (omega (arith, c.self.inside.heads.ok.0))
+    (subst (λ (hs : List Head). IsSegmentOf hs c.in-Some.index c.segment_of-opened.result)
+    c.deref.ensures.value c.segment_of-opened.ensures))
     ∙ ap (λ (ns : List (List ℕ)). string_of ns c.args.body) c.self.view_is in
     rw (c.as_slice-bodies.ensures, c.deref-in-Some.ensures.value, string_is)
     at c.append_all.ensures
