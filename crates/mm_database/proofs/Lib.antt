@@ -4,11 +4,11 @@
 -- have other names (`absent_at_free_slot`, `NameMapLaw.antt`); kinds by `test_by_kind`, theorems by
 -- `theorems_by_kind` (`KindsLaw.antt`). Lists that are kept one after the other are the lists that
 -- were joined (`joined_with_one_more`, `joined_lists_are_part`, `ListsLaw.antt` of `mm_lists`):
--- labels and proofs
--- (`label_is_retained` and `proof_is_retained`, `RetainedWordsLaw.antt`), and the labels of
--- theorems (`spaced_slice`, `SpacedLaw.antt`). A frame is found by its index, which stays its own
+-- labels and proofs (`label_is_retained` and `proof_is_retained`, `RetainedWordsLaw.antt`), and the
+-- labels of theorems (`spaced_slice`, `SpacedLaw.antt`). A frame is found by its index, which stays
+-- its own
 -- as frames are added (`frame_at_index` and `frames_at_push_frame`, `FrameIndicesLaw.antt`).
--- A narrow `$d` of two variables is found in a row by `last_pair_answers` (`RowsLaw.antt`): its
+-- A narrow `$d` of two variables is found in a row by `last_pair_answers` (`RowSearchLaw.antt`): its
 -- last pair before a statement answers for all. `are_together` finds a wide one by
 -- `none_before_x_end` and `none_before_y_end` (`DisjointIndexLaw.antt`), among pairs that begin
 -- where `StartsLaw.antt` says, and `found_is_together` (`TogetherLaw.antt`) says what both answer;
@@ -22,7 +22,7 @@ pub mod NamesLaw
 pub mod NameMapLaw
 pub mod DisjointIndexLaw
 pub mod StartsLaw
-pub mod RowsLaw
+pub mod RowSearchLaw
 pub mod TogetherLaw
 pub mod FrameIndicesLaw
 pub mod KindsLaw

@@ -15,7 +15,7 @@ use Rattle.mm_outline.specs.Blocks.{BlockLists, IsBlocks, end_of}
 use Rattle.mm_database.specs.DisjointIndex.{is_disjoint_by_width, has_symbol_by_width}
 use Rattle.mm_database.specs.DisjointIndex.{has_narrow_pair, is_narrow, is_active_local}
 use Rattle.mm_database.specs.DisjointIndex.{is_active_in_row, is_active_pair, IsRowOfPairs, row_of}
-use Rattle.mm_database.proofs.RowsLaw.{active_from_test, test_from_active}
+use Rattle.mm_database.proofs.RowSearchLaw.{active_from_test, test_from_active}
 use Rattle.mm_database.specs.Pairs.{has_pair}
 use Rattle.mm_database.specs.Together.{are_together_at}
 

@@ -4,14 +4,15 @@
 -- `found_are_mandatory_variables` the variables, and `hypotheses_are_mandatory`
 -- (`HypothesesLaw.antt`) the hypotheses. `has_symbol_with_disjoint` and `pairs_with_symbol`
 -- (`ChainsLaw.antt`) give the `$d` by variables. `chained_are_higher` and `row_with_next`
--- (`RowsLaw.antt`) make the rows of the narrow ones. With `have_blocks` of `mm_database` they give
--- `IsDisjointIndex`. `pairs_are_mandatory_pairs` (`DisjointLaw.antt`) gives the pairs.
+-- (`DisjointRowsLaw.antt`) make the rows of the narrow ones. With `have_blocks` of `mm_database`
+-- they give `IsDisjointIndex`. `pairs_are_mandatory_pairs` (`MandatoryPairsLaw.antt`) gives the
+-- pairs.
 -- `same_frame` (`NeighboursLaw.antt`) says when an assertion has the frame of the one before it.
 -- (`SkipsLaw.antt`: the loops of `skips_of`; `LoopsLaw.antt`: one more element in the loops that
 -- collect.) The loop of `frames_between` adds to the frames by `frames_with_statement`
 -- (`FramesLaw.antt`). `next_is_joined` and `all_are_joined` (`StretchesLaw.antt`) put the frames of
 -- stretches together. So `frame_tables_of` has `AreFrameTables`.
-pub mod DisjointLaw
+pub mod MandatoryPairsLaw
 pub mod FloatLaw
 pub mod FramesLaw
 pub mod LatestLaw
@@ -22,6 +23,6 @@ pub mod PairsLaw
 pub mod SkipsLaw
 pub mod HypothesesLaw
 pub mod ChainsLaw
-pub mod RowsLaw
+pub mod DisjointRowsLaw
 pub mod NeighboursLaw
 pub mod StretchesLaw

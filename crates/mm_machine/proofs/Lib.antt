@@ -3,7 +3,7 @@
 -- Entries stay as they are while nodes are added, and while nodes are given up that they don't need
 -- (`EntryLaw.antt`).
 pub mod AloneLaw
-pub mod DisjointLaw
+pub mod CachedPairsLaw
 pub mod DistinctLaw
 pub mod FlagRowsLaw
 pub mod MarksLaw

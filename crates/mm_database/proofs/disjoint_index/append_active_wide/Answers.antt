@@ -26,8 +26,8 @@ loop-by_symbol-preserved g c =
           pairs,
           w.number-then-is_block_open.ensures,
         )
-            (added_open blocks _ c.requires.well_formed.rising c.args.symbol c.args.at _ parted _ _ _
-            _ c.loop-by_symbol.invariant.1 last.0
+            (added_open blocks _ c.requires.well_formed.rising c.args.symbol c.args.at _ parted _ _
+            _ _ c.loop-by_symbol.invariant.1 last.0
             (rw (pairs, c.number-in-loop-by_symbol.ensures) at last.1)
             (rw pairs at (sym c.is_block_open.ensures ∙ w.if-is_block_open.true)) next_lt_end
             closed),
@@ -48,7 +48,7 @@ returns g c =
     let start = c.count_before-end.ensures in
     let parted = parted_if_equal _ _ _ c.args.symbol pairs c.number.ensures c.args.at _
     start.result_le_length start.earlier_are_before start.later_are_not_before in
-    all_are_added c.args.blocks.now _ c.requires.well_formed.rising c.args.symbol c.args.at _ parted _
-    _ _ c.loop-by_symbol.invariant.1 (λ end_gt_0.
+    all_are_added c.args.blocks.now _ c.requires.well_formed.rising c.args.symbol c.args.at _ parted
+    _ _ _ c.loop-by_symbol.invariant.1 (λ end_gt_0.
     rw (pairs, c.number-in-loop-by_symbol.ensures) at
     (c.last_has_symbol.ensures.differs_if_false c.loop-by_symbol-test.false end_gt_0))

@@ -1,7 +1,7 @@
 use Rattle.std.proofs.Common.{rules, arith}
 use Rattle.std.proofs.lemmas.List.Sorted.{IsPartitionPoint-from_clause}
 use Rattle.mm_database.specs.Pairs.{is_pair_before}
-use Rattle.mm_database.proofs.RowsLaw.{row_is_partitioned}
+use Rattle.mm_database.proofs.RowSearchLaw.{row_is_partitioned}
 use Rattle.mm_database.proofs.disjoint_index.count_in_row.Goals as goal
 
 pub returns-clause-earlier_are_before : goal.returns-clause-earlier_are_before

@@ -1,6 +1,6 @@
 use Rattle.mm_database.proofs.DisjointIndexLaw.{parted_if_equal}
 use Rattle.std.proofs.Common.{refl, ◌∙◌, sym, true≢false}
-use Rattle.mm_database.proofs.RowsLaw.{last_pair_answers}
+use Rattle.mm_database.proofs.RowSearchLaw.{last_pair_answers}
 use Rattle.mm_database.proofs.disjoint_index.is_active_in_row.Goals as goal
 
 pub returns-then-last_has_symbol : goal.returns-then-last_has_symbol

@@ -1,7 +1,7 @@
 use Rattle.std.proofs.Common.{rules, arith}
 use Rattle.std.proofs.lemmas.Grind.{common_steps}
-use Rattle.mm_frame.proofs.DisjointLaw.{adds_later_at_end, adds_later_at_start}
-use Rattle.mm_frame.proofs.DisjointLaw.{adds_later_with_pair}
+use Rattle.mm_frame.proofs.MandatoryPairsLaw.{adds_later_at_end, adds_later_at_start}
+use Rattle.mm_frame.proofs.MandatoryPairsLaw.{adds_later_with_pair}
 use Rattle.mm_frame.proofs.disjoint.add_later_pairs.Goals as goal
 
 pub returns-else-by_statement-later : goal.returns-else-by_statement-later

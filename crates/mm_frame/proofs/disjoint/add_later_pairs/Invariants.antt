@@ -1,5 +1,5 @@
 use Rattle.std.proofs.Common.{◌-◌, length}
-use Rattle.mm_frame.proofs.DisjointLaw.{AddsLater}
+use Rattle.mm_frame.proofs.MandatoryPairsLaw.{AddsLater}
 use Rattle.mm_frame.proofs.disjoint.add_later_pairs.Given as goal
 
 abbrev pub invariant-loop-later : goal.invariant-loop-later

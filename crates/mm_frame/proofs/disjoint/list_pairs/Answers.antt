@@ -4,7 +4,7 @@ use Rattle.mm_spec.specs.Derivation.{is_member}
 use Rattle.mm_database.specs.DisjointIndex.{is_active_local}
 use Rattle.mm_database.specs.Pairs.{has_pair}
 use Rattle.mm_frame.specs.Together.{has_later, is_later_in_rows}
-use Rattle.mm_frame.proofs.DisjointLaw.{pairs_are_mandatory_pairs}
+use Rattle.mm_frame.proofs.MandatoryPairsLaw.{pairs_are_mandatory_pairs}
 use Rattle.mm_frame.proofs.HypothesesLaw.{variables_have_names}
 use Rattle.mm_frame.proofs.disjoint.list_pairs.Goals as goal
 

@@ -1,6 +1,6 @@
 use Rattle.std.proofs.Common.{◌≡◌, ◌∙◌, ◌++◌, ℕ, get_or, map, ap}
 use Rattle.std.proofs.lemmas.Result.{on_ok_weaker}
-use Rattle.mm_frame.proofs.RowsLaw.{indices_in_range, pairs_behind}
+use Rattle.mm_frame.proofs.DisjointRowsLaw.{indices_in_range, pairs_behind}
 use Rattle.mm_frame.proofs.disjoint_index.list_chained.Goals as goal
 
 pub add_indexed-requires : goal.add_indexed-requires

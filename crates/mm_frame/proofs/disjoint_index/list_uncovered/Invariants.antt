@@ -1,4 +1,4 @@
-use Rattle.mm_frame.proofs.RowsLaw.{IsRowTo}
+use Rattle.mm_frame.proofs.DisjointRowsLaw.{IsRowTo}
 use Rattle.mm_frame.proofs.disjoint_index.list_uncovered.Given as goal
 
 abbrev pub invariant-loop-pair : goal.invariant-loop-pair

@@ -1,5 +1,5 @@
 use Rattle.std.proofs.Common.{◌∙◌, ◌++◌, ◌∷◌, [], ap, arith}
-use Rattle.mm_frame.proofs.RowsLaw.{rows_of_all, rows_with_next}
+use Rattle.mm_frame.proofs.DisjointRowsLaw.{rows_of_all, rows_with_next}
 use Rattle.mm_frame.proofs.disjoint_index.rows_of.Goals as goal
 
 pub loop-symbol-preserved : goal.loop-symbol-preserved

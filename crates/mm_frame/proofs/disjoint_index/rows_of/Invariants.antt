@@ -1,4 +1,4 @@
-use Rattle.mm_frame.proofs.RowsLaw.{AreRowsTo}
+use Rattle.mm_frame.proofs.DisjointRowsLaw.{AreRowsTo}
 use Rattle.mm_frame.proofs.disjoint_index.rows_of.Given as goal
 
 abbrev pub invariant-loop-symbol : goal.invariant-loop-symbol

@@ -1,6 +1,6 @@
 use Rattle.std.proofs.Common.{rules, arith}
 use Rattle.std.proofs.lemmas.Grind.{common_steps}
-use Rattle.mm_machine.proofs.DisjointLaw.{either_disjoint, either_insert_keeps_disjoint}
+use Rattle.mm_machine.proofs.CachedPairsLaw.{either_disjoint, either_insert_keeps_disjoint}
 use Rattle.mm_machine.proofs.rule_test.are_disjoint.Goals as goal
 
 pub returns-then-has-clause-tells_disjoint : goal.returns-then-has-clause-tells_disjoint

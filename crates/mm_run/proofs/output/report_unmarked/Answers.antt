@@ -1,6 +1,6 @@
 use Rattle.mm_report.specs.CitingRows.{citing_rows_of}
 use Rattle.mm_report.specs.Reports.{unmarked_report_of}
-use Rattle.mm_run.proofs.RowsLaw.{unmarked_is_output}
+use Rattle.mm_run.proofs.ReportLaw.{unmarked_is_output}
 use Rattle.mm_run.proofs.CitationsLaw.{are_citations_of}
 use Rattle.mm_run.proofs.output.report_unmarked.Goals as goal
 

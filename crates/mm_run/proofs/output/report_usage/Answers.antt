@@ -1,6 +1,6 @@
 use Rattle.mm_report.specs.CitingRows.{citing_rows_of}
 use Rattle.mm_report.specs.Reports.{report_of}
-use Rattle.mm_run.proofs.RowsLaw.{table_is_output}
+use Rattle.mm_run.proofs.ReportLaw.{table_is_output}
 use Rattle.mm_run.proofs.CitationsLaw.{are_citations_of}
 use Rattle.mm_run.proofs.output.report_usage.Goals as goal
 

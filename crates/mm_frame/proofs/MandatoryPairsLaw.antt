@@ -20,7 +20,8 @@ use Rattle.mm_database.proofs.DisjointIndexLaw.{earlier_is_before}
 use Rattle.mm_spec.proofs.MemberLaw.{member_range}
 use Rattle.mm_outline.specs.Blocks.{BlockLists, IsBlocks}
 use Rattle.mm_database.specs.DisjointIndex.{has_symbol_by_width, is_disjoint_by_width}
-use Rattle.mm_database.specs.DisjointIndex.{has_narrow_pair, is_narrow, is_active_local, IsRowOfPairs}
+use Rattle.mm_database.specs.DisjointIndex.{has_narrow_pair, is_narrow, is_active_local}
+use Rattle.mm_database.specs.DisjointIndex.{IsRowOfPairs}
 use Rattle.mm_database.specs.DisjointIndex.{row_of}
 use Rattle.mm_database.specs.Pairs.{has_pair, AreRising}
 use Rattle.mm_database.proofs.TogetherLaw.{HasBoth, together_from_both, both_from_together}
