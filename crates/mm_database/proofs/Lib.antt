@@ -6,16 +6,15 @@
 -- were joined (`joined_with_one_more`, `joined_lists_are_part`, `ListsLaw.antt` of `mm_lists`):
 -- labels and proofs (`label_is_retained` and `proof_is_retained`, `RetainedWordsLaw.antt`), and the
 -- labels of theorems (`spaced_slice`, `SpacedLaw.antt`). A frame is found by its index, which stays
--- its own
--- as frames are added (`frame_at_index` and `frames_at_push_frame`, `FrameIndicesLaw.antt`).
--- A narrow `$d` of two variables is found in a row by `last_pair_answers` (`RowSearchLaw.antt`): its
--- last pair before a statement answers for all. `are_together` finds a wide one by
--- `none_before_x_end` and `none_before_y_end` (`DisjointIndexLaw.antt`), among pairs that begin
--- where `StartsLaw.antt` says, and `found_is_together` (`TogetherLaw.antt`) says what both answer;
--- `near_are_together` (`NearLaw.antt`) says it of a `$d` found shortly before a statement.
--- `labels_counted` and others (`OpenAsAxiomsLaw.antt`) transfer what is known of the statements
--- that were read to these as they count. `typecode_is_compared` (`TypecodeLaw.antt`) says what
--- `has_chosen_typecode` compares.
+-- its own as frames are added (`frame_at_index` and `frames_at_push_frame`,
+-- `FrameIndicesLaw.antt`). A narrow `$d` of two variables is found in a row by `last_pair_answers`
+-- (`RowSearchLaw.antt`): its last pair before a statement answers for all. `are_together` finds a
+-- wide one by `none_before_x_end` and `none_before_y_end` (`DisjointIndexLaw.antt`), among pairs
+-- that begin where `StartsLaw.antt` says, and `found_is_together` (`TogetherLaw.antt`) says what
+-- both answer; `near_are_together` (`NearLaw.antt`) says it of a `$d` found shortly before a
+-- statement. `labels_counted` and others (`OpenAsAxiomsLaw.antt`) transfer what is known of the
+-- statements that were read to these as they count. `typecode_is_compared` (`TypecodeLaw.antt`)
+-- says what `has_chosen_typecode` compares.
 pub mod SymbolsLaw
 pub mod TypecodeLaw
 pub mod NamesLaw

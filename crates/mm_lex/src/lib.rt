@@ -73,7 +73,7 @@ pub fn lex_alone<A: Allocator + Copy>(alloc: A, text: &[u8]) -> Result<Lexed<A>,
     if text.len() > TEXT_LIMIT {
         return Ok(lexed_too_long(alloc));
     }
-    let room = text.len() / BYTES_PER_TOKEN + 1;
-    let whole = lex_piece_with_room(alloc, text, 0, text.len(), room)?;
+    let capacity = text.len() / BYTES_PER_TOKEN + 1;
+    let whole = lex_piece_with_room(alloc, text, 0, text.len(), capacity)?;
     Ok(whole.into_lexed())
 }

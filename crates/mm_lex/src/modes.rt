@@ -66,13 +66,13 @@ impl<A: Allocator + Copy> ModeReading<A> {
         }
     }
 
-    /// A reading of no words yet. Its list has room for `room` tokens if there is that much memory,
-    /// so that it needn't be moved as it grows.
-    pub fn with_room(alloc: A, open_comment: CommentState, room: usize) -> ModeReading<A>
+    /// A reading of no words yet. Its list has room for `capacity` tokens if there is that much
+    /// memory, so that it needn't be moved as it grows.
+    pub fn with_room(alloc: A, open_comment: CommentState, capacity: usize) -> ModeReading<A>
         ensures { (p : ℕ) → side_reading p (side result) ≡ start (resolved p open_comment) }
     {
         let mut reading = ModeReading::new(alloc, open_comment);
-        match reading.tokens.reserve(room) {
+        match reading.tokens.reserve(capacity) {
             Ok(()) => {}
             Err(_) => {}
         }

@@ -145,14 +145,14 @@ impl<A: Allocator> Between<A> {
     }
 }
 
-/// The words that begin between two places, read in both modes. `room` is the number of tokens for
-/// which memory is reserved at first.
+/// The words that begin between two places, read in both modes. `capacity` is the number of tokens
+/// for which memory is reserved at first.
 fn lex_between<A: Allocator + Copy>(
     alloc: A,
     text: &[u8],
     head_end: usize,
     tail_start: usize,
-    room: usize,
+    capacity: usize,
 ) -> Result<Between<A>, AllocError>
     requires head_le_tail { head_end ≤ tail_start }
     requires tail_le_length { tail_start ≤ length text.now }
@@ -163,7 +163,7 @@ fn lex_between<A: Allocator + Copy>(
         (λ between. AreReadings text.now (words_between text.now head_end tail_start)
         (side between.outside) (side between.inside)) }
 {
-    let mut outside = ModeReading::with_room(alloc, CommentState::Nowhere, room);
+    let mut outside = ModeReading::with_room(alloc, CommentState::Nowhere, capacity);
     let mut inside = ModeReading::new(alloc, CommentState::Before);
     let mut scanner = WordScanner::new(text, head_end);
     while inside.fault.is_none()
@@ -187,14 +187,14 @@ fn lex_between<A: Allocator + Copy>(
     })
 }
 
-/// The summary of the stretch of a text from `from` up to `to`, as [`lex_piece`] makes it. `room`
-/// is the number of tokens for which memory is reserved at first.
+/// The summary of the stretch of a text from `from` up to `to`, as [`lex_piece`] makes it.
+/// `capacity` is the number of tokens for which memory is reserved at first.
 pub(crate) fn lex_piece_with_room<A: Allocator + Copy>(
     alloc: A,
     text: &[u8],
     from: usize,
     to: usize,
-    room: usize,
+    capacity: usize,
 ) -> Result<Piece<A>, AllocError>
     requires from_le_to { from ≤ to }
     requires to_le_length { to ≤ length text.now }
@@ -206,7 +206,7 @@ pub(crate) fn lex_piece_with_room<A: Allocator + Copy>(
     let between = match bounds(text, from, to) {
         None => None,
         Some((head_end, tail_start)) => {
-            Some(lex_between(alloc, text, head_end, tail_start, room)?)
+            Some(lex_between(alloc, text, head_end, tail_start, capacity)?)
         },
     };
     Ok(Piece {

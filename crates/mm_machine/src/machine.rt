@@ -46,7 +46,7 @@ pub struct Machine<A: Allocator> {
     /// For each slot the index at which its mark may be in `marks`.
     slots: Vec<u32, A>,
     /// Where the bodies of a formula are written.
-    room: Vec<Body, A>,
+    buffer: Vec<Body, A>,
     /// Where formulas are listed.
     lists: SymbolLists<A>,
     /// The variables of the premises of a step, if their formulas are long.
@@ -65,7 +65,7 @@ impl<A: Allocator> Drop for Machine<A> {
             marked: _,
             floor: _,
             slots: _,
-            room: _,
+            buffer: _,
             lists: _,
             distinct: _,
             owners: _,
@@ -124,7 +124,7 @@ impl<A: Allocator> Machine<A> {
             marked: Vec::new(alloc),
             floor: 0,
             slots,
-            room: Vec::new(alloc),
+            buffer: Vec::new(alloc),
             lists: SymbolLists::new(alloc),
             distinct: DistinctVariables::new(alloc, database.symbol_count() as usize)?,
             owners: Owners::new(alloc, database)?,
@@ -140,7 +140,7 @@ impl<A: Allocator> Machine<A> {
         empty(&mut self.marks);
         empty(&mut self.marked);
         self.floor = 0;
-        empty(&mut self.room);
+        empty(&mut self.buffer);
         self.lists.empty();
         self.distinct.empty();
         self.owners.clear();
@@ -272,7 +272,7 @@ impl<A: Allocator> Machine<A> {
             self.floor,
             &mut self.nodes,
             &mut self.stack,
-            &mut self.room,
+            &mut self.buffer,
             &mut self.lists,
             &mut self.distinct,
             &self.owners,

@@ -94,7 +94,7 @@ fn replace_by_parts<A: Allocator>(
     floor: usize,
     nodes: &mut Nodes<A>,
     stack: &mut Vec<Entry, A>,
-    room: &mut [Body],
+    buffer: &mut [Body],
 ) -> Result<(), StepRefused>
     requires is_stack { IsStack nodes.old stack.old.items }
     requires below_le_length { below ≤ vec_len stack.old }
@@ -102,7 +102,7 @@ fn replace_by_parts<A: Allocator>(
     requires typecode_is_symbol { typecode < first_node }
     requires variables_in_range { All (IsVariableBelow (length (drop below stack.old.items)))
         parts.now }
-    requires has_room { length parts.now ≤ length room.old }
+    requires has_room { length parts.now ≤ length buffer.old }
     ensures is_stack { IsStack nodes.new stack.new.items }
     ensures nodes_are_kept { Extends (take floor nodes.old) nodes.new }
     ensures entries_are { OnOk result
@@ -117,7 +117,7 @@ fn replace_by_parts<A: Allocator>(
     ensures stay_masked { StayMasked (Constant typecode ∷ parts.now) nodes.old stack.old.items
         nodes.new stack.new.items }
 {
-    match fill(nodes, &stack[below..], parts, room) {
+    match fill(nodes, &stack[below..], parts, buffer) {
         None => Err(StepRefused::Fault(Reason::TooLong)),
         Some(filled) => {
             if filled.length >= FORMULA_LIMIT {
@@ -125,7 +125,7 @@ fn replace_by_parts<A: Allocator>(
             }
             let least = floor.max(filled.needed);
             let keep = nodes_to_keep(nodes, stack, below, least);
-            let bodies = &room[..filled.count];
+            let bodies = &buffer[..filled.count];
             let first = Body::symbol(typecode.number());
             let count = filled.length as u32;
             replace_entries(nodes, stack, below, keep, first, bodies, count, filled.mask)?;
@@ -143,7 +143,7 @@ fn replace_by_formula<A: Allocator>(
     floor: usize,
     nodes: &mut Nodes<A>,
     stack: &mut Vec<Entry, A>,
-    room: &mut [Body],
+    buffer: &mut [Body],
     symbols: &mut Vec<Body, A>,
 ) -> Result<(), StepRefused>
     requires is_stack { IsStack nodes.old stack.old.items }
@@ -151,7 +151,7 @@ fn replace_by_formula<A: Allocator>(
     requires floor_le_count { floor ≤ length nodes.old }
     requires variables_in_range { All (IsVariableBelow (length (drop below stack.old.items)))
         formula.now }
-    requires has_room { length formula.now ≤ length room.old }
+    requires has_room { length formula.now ≤ length buffer.old }
     ensures is_stack { IsStack nodes.new stack.new.items }
     ensures nodes_are_kept { Extends (take floor nodes.old) nodes.new }
     ensures entries_are { OnOk result
@@ -168,7 +168,7 @@ fn replace_by_formula<A: Allocator>(
     match first_constant(formula) {
         None => replace_by_listed(below, formula, floor, nodes, stack, symbols),
         Some(typecode) => {
-            replace_by_parts(below, typecode, &formula[1..], floor, nodes, stack, room)
+            replace_by_parts(below, typecode, &formula[1..], floor, nodes, stack, buffer)
         }
     }
 }
@@ -183,7 +183,7 @@ pub fn apply_rule<A: Allocator>(
     floor: usize,
     nodes: &mut Nodes<A>,
     stack: &mut Vec<Entry, A>,
-    room: &mut Vec<Body, A>,
+    buffer: &mut Vec<Body, A>,
     lists: &mut SymbolLists<A>,
     distinct: &mut DistinctVariables<A>,
     owners: &Owners<A>,
@@ -219,14 +219,14 @@ pub fn apply_rule<A: Allocator>(
         (entry_formulas nodes.old stack.old.items))) }
 {
     let formula = rule.formula();
-    make_room(rule.parts.len().max(formula.len()), room)?;
+    make_room(rule.parts.len().max(formula.len()), buffer)?;
     match test_rule(
-        database, theorem, rule, nodes, stack, room, lists, distinct, owners, cache,
+        database, theorem, rule, nodes, stack, buffer, lists, distinct, owners, cache,
     ) {
         Err(refused) => Err(refused),
         Ok(below) => {
             let symbols = &mut lists.bodies;
-            replace_by_formula(below, formula, floor, nodes, stack, room, symbols)
+            replace_by_formula(below, formula, floor, nodes, stack, buffer, symbols)
         }
     }
 }

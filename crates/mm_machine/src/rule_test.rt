@@ -510,7 +510,7 @@ pub fn test_rule<A: Allocator>(
     rule: &Rule,
     nodes: &mut Nodes<A>,
     stack: &[Entry],
-    room: &mut [Body],
+    buffer: &mut [Body],
     lists: &mut SymbolLists<A>,
     distinct: &mut DistinctVariables<A>,
     owners: &Owners<A>,
@@ -521,7 +521,7 @@ pub fn test_rule<A: Allocator>(
     requires are_entries { All (IsEntry nodes.old) stack.now }
     requires formulas_in_range { AreInRange (length (symbol_names database.now.statements))
         (entry_formulas nodes.old stack.now) }
-    requires has_room { length rule.now.parts ≤ length room.old }
+    requires has_room { length rule.now.parts ≤ length buffer.old }
     requires are_variables { AreVariablesOf database.now.statements owners.now.variable_flags }
     requires owners_in_range { All (λ s. s < length (symbol_names database.now.statements))
         owners.now.symbols }
@@ -529,7 +529,7 @@ pub fn test_rule<A: Allocator>(
         (entry_masks stack.now) (entry_formulas nodes.old stack.now) }
     requires cached_are_disjoint { AreDisjointAt database.now.statements theorem cache.old }
     ensures nodes_unchanged { nodes.new ≡ nodes.old }
-    ensures length_stays { length room.new ≡ length room.old }
+    ensures length_stays { length buffer.new ≡ length buffer.old }
     ensures cached_are_disjoint { AreDisjointAt database.now.statements theorem cache.new }
     ensures tests_rule { TestsRule database.now.statements theorem rule.now nodes.old stack.now
         result }
@@ -540,7 +540,7 @@ pub fn test_rule<A: Allocator>(
     }
     let below = stack.len() - hypotheses.len();
     let premises = &stack[below..];
-    let is_match = premises_match(nodes, rule, premises, room, &mut lists.bodies)?;
+    let is_match = premises_match(nodes, rule, premises, buffer, &mut lists.bodies)?;
     if !is_match {
         return Err(StepRefused::Fault(Reason::Unmatched));
     }

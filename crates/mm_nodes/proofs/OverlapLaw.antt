@@ -55,7 +55,7 @@ module _ (u v : List ℕ) where
     pub agree_apart : q + length v ≤ p → Agree u p v q
     agree_apart apart n p_le n_lt_p q_le n_lt_q = absurd (omega (arith, apart, p_le, n_lt_q))
 
-    -- both begin at other places that are as far from each other
+    -- both begin at other indices that are as far from each other
     module _ (offset : ℕ) (q_is : p + offset ≡ q) where
       pub agree_moved : Agree u 0 v offset → Agree u p v q
       agree_moved agree n p_le n_lt_p q_le n_lt_q =
@@ -114,7 +114,7 @@ pub holds_of_itself : (nodes : List (List ℕ)) (o : Overlap) → o.offset ≡ 0
     → Holds nodes o
 holds_of_itself nodes o no_offset same = grind (arith, common_steps)
 
--- what an overlap says of bodies that begin at two places
+-- what an overlap says of bodies that begin at two indices
 module _ (nodes : List (List ℕ)) (o : Overlap) (a b p q : ℕ) (first_is : o.first ≡ a)
     (second_is : o.second ≡ b) (q_is : p + o.offset ≡ q) where
   pub agree_if_holds : Holds nodes o → Agree (string_of nodes a) p (string_of nodes b) q
@@ -324,7 +324,7 @@ module _ {nodes : List (List ℕ)} {Statement : Type 0} {pending pending' seen s
 
 -- ---- the parts of one string, over another
 
--- Of bodies, the strings of the first stand before place `at`, and the rest is left. That the first
+-- Of bodies, the strings of the first stand before index `at`, and the rest is left. That the first
 -- agree with the other body comes to what was added.
 pub record PartsBefore (bodies : List ℕ) (heads : List Head) (parts : Segment)
     (start other other_start : ℕ) (pending pending' seen seen' : List Overlap) (rest : Segment)

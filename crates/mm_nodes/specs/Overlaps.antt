@@ -3,8 +3,8 @@ use Rattle.std.specs.Prelude.{ℕ, ◌+◌, ◌-◌, ◌<◌, ◌≤◌, ◌≡�
 use Rattle.mm_nodes.specs.declared.facts.Overlap.{Overlap}
 use Rattle.mm_nodes.specs.Strings.{string_of, IsBody}
 
--- Two strings, of which one begins at place p and the other at place q, have the same symbol at
--- each place that is in both.
+-- Two strings, of which one begins at index p and the other at index q, have the same symbol at
+-- each index that is in both.
 abbrev pub Agree : List ℕ → ℕ → List ℕ → ℕ → Type 0
 Agree u p v q =
     (n : ℕ) → p ≤ n → n < p + length u → q ≤ n → n < q + length v

@@ -61,6 +61,6 @@ MayPutOff s later later' =
     ⊎ (later' ≡ later ++ segment (s.start + 1) s.end ∷ [])
 
 -- the segment has the bodies of the node
-abbrev pub IsPlaceOf : List Head → ℕ → Segment → Type 0
-IsPlaceOf heads i s =
+abbrev pub IsSegmentOf : List Head → ℕ → Segment → Type 0
+IsSegmentOf heads i s =
     (s.start ≡ (get_or heads i no_head).start) × (s.end ≡ (get_or heads i no_head).end)

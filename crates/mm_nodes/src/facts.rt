@@ -81,8 +81,8 @@ fn require<A: Allocator>(
     Ok(())
 }
 
-/// Puts off the facts from which it follows that bodies, of which the first begins at place
-/// `start`, have the same symbols as a body that begins at place `other_start`.
+/// Puts off the facts from which it follows that bodies, of which the first begins at symbol
+/// `start`, have the same symbols as a body that begins at symbol `other_start`.
 fn require_parts<A: Allocator>(
     heads: &[Head],
     bodies: &[Body],
@@ -120,7 +120,7 @@ fn require_parts<A: Allocator>(
     Ok(())
 }
 
-/// How two bodies lie over each other that begin at these places.
+/// How two bodies lie over each other that begin at these symbols.
 fn between(one: Body, at: usize, other: Body, other_at: usize) -> Overlap
     requires at_lt { at < other_at + 2 ^ 32 }
     requires other_at_lt { other_at < at + 2 ^ 32 }
