@@ -18,7 +18,7 @@ use Rattle.mm_check.proofs.ForestsLaw.{last_tree}
 abbrev pub flag_at : List Bool → ℕ → Bool
 flag_at flags n = get_or flags n false
 
--- ---- nodes of rows
+-- ---- nodes of forests
 
 pub tree_count_join : (ts us : Trees) → tree_count (ts ⧺ us) ≡ tree_count ts + tree_count us
 tree_count_join ts none = omega arith
@@ -206,16 +206,16 @@ module _ (counts : ℕ → ℕ → Bool) (forest_after : ℕ → Trees) where
             (λ n n_lt_count flag_is_set. sym (flag_of_front ws us xs n
             (omega (arith, n_lt_count, flag_count_is))) ∙ flag_is_set) has_node
 
-        node_of_row : HasNode counts (flag_at (ws ++ vs)) (ts ⧺ cs) a
+        node_of_joined : HasNode counts (flag_at (ws ++ vs)) (ts ⧺ cs) a
             → IsToBeFound i (ws ++ vs) step_flags a
-        node_of_row has_node = inl (subst (λ t. HasNode counts (flag_at (ws ++ vs)) t a) (sym
+        node_of_joined has_node = inl (subst (λ t. HasNode counts (flag_at (ws ++ vs)) t a) (sym
             forest_before_is) has_node)
 
         found_below : b ≡ true → (a ≡ l) ⊎ HasNode counts (counts l) cs a
             → ((b ≡ true) × (a ≡ l)) ⊎ IsToBeFound i (ws ++ vs) step_flags a
         found_below b_is_true (inl is_label_or_child) = inl (b_is_true, is_label_or_child)
         found_below b_is_true (inr is_label_or_child) =
-            inr (node_of_row (node_of_right counts (flag_at (ws ++ vs)) ts cs a
+            inr (node_of_joined (node_of_right counts (flag_at (ws ++ vs)) ts cs a
             (node_by_more_roots counts (counts l) (λ n. flag_at (ws ++ vs) (tree_count ts + n)) cs a
             (λ n n_lt_count n_counts. flag_after n ∙ counted_are_flagged n n_lt_count b_is_true
             n_counts) is_label_or_child)))
@@ -225,7 +225,7 @@ module _ (counts : ℕ → ℕ → Bool) (forest_after : ℕ → Trees) where
         found_before_step (inl to_be_found) =
             elim (subst (λ t. HasNode counts (flag_at (ws ++ flag ∷ [])) t a) forest_is
             to_be_found) [
-              | inl has_node ↦ inr (node_of_row
+              | inl has_node ↦ inr (node_of_joined
                   (node_of_left counts (flag_at (ws ++ vs)) ts cs a (node_of_left_trees (flag ∷ [])
                   vs
                   has_node)))

@@ -54,18 +54,19 @@ forest_next forests later next_forest = grind (arith, common_steps)
 module _ (c : Context) where
   -- Step n makes a tree of the last ones of the forest before it, or adds a copy of the tree that
   -- an earlier step ended.
-  abbrev pub IsMove : List Trees → ℕ → Step → Type 0
-  IsMove forests n (label l) =
+  abbrev pub IsForestStep : List Trees → ℕ → Step → Type 0
+  IsForestStep forests n (label l) =
       (ts : Trees) × (f : Formula) × (cs : Trees) × (forest_at forests (suc n) ≡ more ts l f cs)
       × (forest_at forests n ≡ ts ⧺ cs) × Follows c (c.referent l) (formulas cs) f
-  IsMove forests n (marked j) =
+  IsForestStep forests n (marked j) =
       (j < n) × (l : ℕ) × (f : Formula) × (cs : Trees) × (forest_at forests (suc n) ≡ more
       (forest_at forests n) l f cs) × (last_tree (forest_at forests (suc j)) ≡ tree l f cs)
 
   -- each of the steps, from step n on
-  abbrev pub AreMoves : List Trees → ℕ → List Step → Type 0
-  AreMoves forests n [] = Unit {0}
-  AreMoves forests n (s ∷ steps) = IsMove forests n s × AreMoves forests (suc n) steps
+  abbrev pub AreForestSteps : List Trees → ℕ → List Step → Type 0
+  AreForestSteps forests n [] = Unit {0}
+  AreForestSteps forests n (s ∷ steps) =
+      IsForestStep forests n s × AreForestSteps forests (suc n) steps
 
   joined_forest_derives : (ts us : Trees) → AreDerivations c ts → AreDerivations c us
       → AreDerivations c (ts ⧺ us)
@@ -73,59 +74,61 @@ module _ (c : Context) where
   joined_forest_derives ts (more us l f cs) ts_derive us_derive =
       (joined_forest_derives ts us ts_derive us_derive.0, us_derive.1, us_derive.2)
 
-  abbrev RowOf : List ℕ → Type 0
-  RowOf labels = (r : Trees) × AreDerivations c r × (postfix r ≡ labels)
+  abbrev ForestOf : List ℕ → Type 0
+  ForestOf labels = (r : Trees) × AreDerivations c r × (postfix r ≡ labels)
 
   -- the first labels of a forest are those of a forest
-  row_of_front : (forest : Trees) (labels rest_labels : List ℕ) → AreDerivations c forest
-      → postfix forest ≡ labels ++ rest_labels → RowOf labels
-  row_of_front none [] rest_labels derives postfix_is = (none, tt, refl)
-  row_of_front none (x ∷ labels) rest_labels are_derivations postfix_is = absurd (cc)
-  row_of_front (more ts l f cs) labels rest_labels derives postfix_is =
-      row_is (cut_two_ways (postfix ts) (postfix cs ++ l ∷ []) labels rest_labels postfix_is)
-      (λ k front_is. row_of_front ts labels k derives.0 front_is)
-      (λ labels' k front_is. row_of_front cs labels' k derives.1 front_is)
+  forest_of_front : (forest : Trees) (labels rest_labels : List ℕ) → AreDerivations c forest
+      → postfix forest ≡ labels ++ rest_labels → ForestOf labels
+  forest_of_front none [] rest_labels derives postfix_is = (none, tt, refl)
+  forest_of_front none (x ∷ labels) rest_labels are_derivations postfix_is = absurd (cc)
+  forest_of_front (more ts l f cs) labels rest_labels derives postfix_is =
+      forest_by_cut (cut_two_ways (postfix ts) (postfix cs ++ l ∷ []) labels rest_labels postfix_is)
+      (λ k front_is. forest_of_front ts labels k derives.0 front_is)
+      (λ labels' k front_is. forest_of_front cs labels' k derives.1 front_is)
     where
-      row_of_whole_tree : (k m : List ℕ) → labels ≡ postfix ts ++ k → k ≡ postfix cs ++ m → l ∷ []
-          ≡ m ++ rest_labels → RowOf labels
-      row_of_whole_tree k [] labels_are rest_is label_is = (
+      forest_of_whole_tree : (k m : List ℕ) → labels ≡ postfix ts ++ k → k ≡ postfix cs ++ m
+          → l ∷ [] ≡ m ++ rest_labels → ForestOf labels
+      forest_of_whole_tree k [] labels_are rest_is label_is = (
         ts ⧺ cs,
         joined_forest_derives ts cs derives.0 derives.1,
         postfix_join ts cs
             ∙ ap (λ x. postfix ts ++ x) (sym (append-nil (postfix cs)) ∙ sym rest_is)
             ∙ sym labels_are,
       )
-      row_of_whole_tree k (x ∷ []) labels_are rest_is label_is =
+      forest_of_whole_tree k (x ∷ []) labels_are rest_is label_is =
           let l_is_x : l ≡ x = cc in (
             more ts l f cs,
             derives,
             ap (λ y. postfix ts ++ (postfix cs ++ y ∷ [])) l_is_x
                 ∙ ap (λ y. postfix ts ++ y) (sym rest_is) ∙ sym labels_are,
           )
-      row_of_whole_tree k (x ∷ y ∷ m) labels_are rest_is label_is = absurd
+      forest_of_whole_tree k (x ∷ y ∷ m) labels_are rest_is label_is = absurd
           (omega (arith, ap length label_is))
 
-      row_in_children : (k : List ℕ) → labels ≡ postfix ts ++ k
+      forest_in_children : (k : List ℕ) → labels ≡ postfix ts ++ k
           → ((m : List ℕ) × (postfix cs ≡ k ++ m))
           ⊎ ((m : List ℕ) × (k ≡ postfix cs ++ m) × (l ∷ [] ≡ m ++ rest_labels))
-          → ((labels' k : List ℕ) → postfix cs ≡ labels' ++ k → RowOf labels') → RowOf labels
-      row_in_children k labels_are (inl cut) row_of_part =
-          let row = row_of_part k cut.0 cut.1 in (
-            ts ⧺ row.0,
-            joined_forest_derives ts row.0 derives.0 row.1,
-            postfix_join ts row.0
-                ∙ ap (λ x. postfix ts ++ x) row.2 ∙ sym labels_are,
+          → ((labels' k : List ℕ) → postfix cs ≡ labels' ++ k → ForestOf labels') → ForestOf labels
+      forest_in_children k labels_are (inl cut) forest_of_part =
+          let front = forest_of_part k cut.0 cut.1 in (
+            ts ⧺ front.0,
+            joined_forest_derives ts front.0 derives.0 front.1,
+            postfix_join ts front.0
+                ∙ ap (λ x. postfix ts ++ x) front.2 ∙ sym labels_are,
           )
-      row_in_children k labels_are (inr cut) row_of_part = row_of_whole_tree k cut.0 labels_are
+      forest_in_children k labels_are (inr cut) forest_of_part =
+          forest_of_whole_tree k cut.0 labels_are
           cut.1 cut.2
 
-      row_is : ((k : List ℕ) × (postfix ts ≡ labels ++ k))
+      forest_by_cut : ((k : List ℕ) × (postfix ts ≡ labels ++ k))
           ⊎ ((k : List ℕ) × (labels ≡ postfix ts ++ k) × (postfix cs ++ l ∷ [] ≡ k ++ rest_labels))
-          → ((k : List ℕ) → postfix ts ≡ labels ++ k → RowOf labels)
-          → ((labels' k : List ℕ) → postfix cs ≡ labels' ++ k → RowOf labels') → RowOf labels
-      row_is (inl cut) row_of_part in_children = row_of_part cut.0 cut.1
-      row_is (inr cut) row_of_part in_children =
-          row_in_children cut.0 cut.1 (cut_two_ways (postfix cs) (l ∷ []) cut.0 rest_labels cut.2)
+          → ((k : List ℕ) → postfix ts ≡ labels ++ k → ForestOf labels)
+          → ((labels' k : List ℕ) → postfix cs ≡ labels' ++ k → ForestOf labels') → ForestOf labels
+      forest_by_cut (inl cut) forest_of_part in_children = forest_of_part cut.0 cut.1
+      forest_by_cut (inr cut) forest_of_part in_children =
+          forest_in_children cut.0 cut.1 (cut_two_ways (postfix cs) (l ∷ []) cut.0 rest_labels
+          cut.2)
           in_children
 
   -- the lists after the steps so far are those of these forests
@@ -159,7 +162,7 @@ module _ (c : Context) where
     move_label : (forests : List Trees) (n : ℕ) (forest next_forest : Trees) (l : ℕ)
         → AreDerivations c forest → AreDerivations c next_forest
         → postfix next_forest ≡ postfix forest ++ l ∷ [] → forest_at forests n ≡ forest
-        → forest_at forests (suc n) ≡ next_forest → IsMove forests n (label l)
+        → forest_at forests (suc n) ≡ next_forest → IsForestStep forests n (label l)
     move_label forests n forest none l derives next_derives postfix_is forest_is next_is =
         absurd (omega (arith, ap length postfix_is, length-append (postfix forest) (l ∷ [])))
     move_label forests n forest (more ts k f cs) l derives next_derives postfix_is forest_is next_is
@@ -182,7 +185,7 @@ module _ (c : Context) where
         (j : ℕ) → AreListsOf lists forests → AreDerivations c forest → AreDerivations c next_forest
         → Adds c lists (postfix forest) (marked j) (postfix next_forest)
         → forest_at forests (length forests) ≡ forest
-        → IsMove (forests ++ next_forest ∷ later) (length forests) (marked j)
+        → IsForestStep (forests ++ next_forest ∷ later) (length forests) (marked j)
     move_marked lists forests later forest next_forest j are_lists derives next_derives adds
         forest_is =
         let at_j = list_is_postfix lists forests j adds.0 are_lists adds.2 in
@@ -192,7 +195,8 @@ module _ (c : Context) where
         copy repeated.0 repeated.1 repeated.3 forests_equal at_j.0
       where
         copy : (r : Trees) → AreDerivations c r → IsLastTree r adds.1 → get_or forests j none ≡ r
-            → j < length forests → IsMove (forests ++ next_forest ∷ later) (length forests) (marked
+            → j < length forests
+            → IsForestStep (forests ++ next_forest ∷ later) (length forests) (marked
             j)
         copy none derives_r is_last forests_equal j_lt_length_forests = absurd is_last
         copy (more ts l f cs) derives_r list_is_last_tree forests_equal j_lt_length_forests = (
@@ -214,7 +218,7 @@ module _ (c : Context) where
         (s : Step)
         → AreListsOf lists forests → AreDerivations c forest → AreDerivations c next_forest
         → Adds c lists (postfix forest) s (postfix next_forest) → forest_at forests (length forests)
-        ≡ forest → IsMove (forests ++ next_forest ∷ later) (length forests) s
+        ≡ forest → IsForestStep (forests ++ next_forest ∷ later) (length forests) s
     move_at_end lists forests later forest next_forest (label l) are_lists derives next_derives adds
         forest_is =
         move_label (forests ++ next_forest ∷ later) (length forests) forest next_forest l derives
@@ -228,7 +232,7 @@ module _ (c : Context) where
     -- the forests after the steps that are left
     record HasRest (forests : List Trees) (steps : List Step) (d : Trees) : Type 0 where
       pub later : List Trees
-      pub are_moves : AreMoves (forests ++ later) (length forests) steps
+      pub are_forest_steps : AreForestSteps (forests ++ later) (length forests) steps
       pub ends_in_d : forest_at (forests ++ later) (length forests + length steps) ≡ d
 
     -- one forest more
@@ -243,12 +247,13 @@ module _ (c : Context) where
     rest_after_step lists forests forest d s steps are_lists derives forest_is new_labels adds
         next_forest next_derives postfix_is has_rest_after = record {
           later = next_forest ∷ later;
-          are_moves = (
+          are_forest_steps = (
             move_at_end lists forests later forest next_forest s are_lists derives next_derives
                 (subst (Adds c lists (postfix forest) s) (sym postfix_is) adds) forest_is,
-            subst (λ n. AreMoves (forests ++ next_forest ∷ later) n steps) length_is_suc
-                (subst (λ z. AreMoves z (length (forests ++ next_forest ∷ [])) steps) lists_regroup
-                has_rest.are_moves),
+            subst (λ n. AreForestSteps (forests ++ next_forest ∷ later) n steps) length_is_suc
+                (subst (λ z. AreForestSteps z (length (forests ++ next_forest ∷ [])) steps)
+                lists_regroup
+                has_rest.are_forest_steps),
           );
           ends_in_d =
               ap (forest_at (forests ++ next_forest ∷ later)) length_splits
@@ -281,7 +286,7 @@ module _ (c : Context) where
         let length_is : length forests + 0 ≡ length forests = omega arith in
         record {
           later = [];
-          are_moves = tt;
+          are_forest_steps = tt;
           ends_in_d =
               ap (forest_at (forests ++ [])) length_is
               ∙ forest_front forests [] (length forests) (omega arith) ∙ forest_is
@@ -290,32 +295,35 @@ module _ (c : Context) where
     has_rest_from (s ∷ steps) lists forests forest d are_lists derives forest_is d_derives expands =
         let extension =
         expansion_grows c steps (lists ++ expands.0 ∷ []) expands.0 (postfix d) expands.2 in
-        let row = row_of_front d expands.0 extension.0 d_derives extension.1 in
+        let front = forest_of_front d expands.0 extension.0 d_derives extension.1 in
         rest_after_step lists forests forest d s steps are_lists derives forest_is expands.0
-        expands.1 row.0 row.1 row.2 (λ next_is. has_rest_from steps (lists ++ expands.0 ∷ [])
-        (forests ++ row.0 ∷ []) row.0 d (lists_push lists forests expands.0 row.0 are_lists row.1
-        row.2) row.1 next_is d_derives (subst (λ z. Expands c (lists ++ expands.0 ∷ []) z steps
-        (postfix d)) (sym row.2) expands.2))
+        expands.1 front.0 front.1 front.2 (λ next_is. has_rest_from steps (lists ++ expands.0 ∷ [])
+        (forests ++ front.0 ∷ []) front.0 d (lists_push lists forests expands.0 front.0 are_lists
+        front.1
+        front.2) front.1 next_is d_derives (subst (λ z. Expands c (lists ++ expands.0 ∷ []) z steps
+        (postfix d)) (sym front.2) expands.2))
 
     -- a proof's forests
     pub proof_has_forests : (steps : List Step) (f : Formula) (d : Trees) → Derives c steps f d
-        → (forests : List Trees) × AreMoves forests 0 steps × (forest_at forests (length steps) ≡ d)
+        → (forests : List Trees) × AreForestSteps forests 0 steps × (forest_at forests (length
+        steps) ≡ d)
     proof_has_forests steps f d derivation =
         let has_rest = has_rest_from steps [] [] none d tt tt refl derivation.3 derivation.4 in
         let length_is : length steps ≡ 0 + length steps = omega arith in (
           has_rest.later,
-          has_rest.are_moves,
+          has_rest.are_forest_steps,
           ap (forest_at has_rest.later) length_is
               ∙ has_rest.ends_in_d,
         )
 
   -- one of the steps
-  pub move_at : (forests : List Trees) (n : ℕ) (steps : List Step) (i : ℕ) → i < length steps
-      → AreMoves forests n steps → IsMove forests (n + i) (get_or steps i (label 0))
-  move_at forests n [] i i_lt_length are_moves = absurd (omega arith)
-  move_at forests n (s ∷ steps) zero i_lt_length are_moves =
-      let n_is : n ≡ n + 0 = omega arith in subst (λ k. IsMove forests k s) n_is are_moves.0
-  move_at forests n (s ∷ steps) (suc i) i_lt_length are_moves =
+  pub forest_step_at : (forests : List Trees) (n : ℕ) (steps : List Step) (i : ℕ) → i < length steps
+      → AreForestSteps forests n steps → IsForestStep forests (n + i) (get_or steps i (label 0))
+  forest_step_at forests n [] i i_lt_length are_forest_steps = absurd (omega arith)
+  forest_step_at forests n (s ∷ steps) zero i_lt_length are_forest_steps =
+      let n_is : n ≡ n + 0 = omega arith in subst (λ k. IsForestStep forests k s) n_is
+      are_forest_steps.0
+  forest_step_at forests n (s ∷ steps) (suc i) i_lt_length are_forest_steps =
       let index_is : suc n + i ≡ n + suc i = omega arith in
-      subst (λ k. IsMove forests k (get_or steps i (label 0))) index_is
-      (move_at forests (suc n) steps i (omega arith) are_moves.1)
+      subst (λ k. IsForestStep forests k (get_or steps i (label 0))) index_is
+      (forest_step_at forests (suc n) steps i (omega arith) are_forest_steps.1)

@@ -13,7 +13,7 @@ use Rattle.mm_spec.specs.Laws.Stack.{IsCompleteReferent, label_entries}
 use Rattle.mm_rule.specs.Assertions.{is_assertion_at}
 use Rattle.mm_machine.specs.DisjointCache.{KnownPairs}
 use Rattle.mm_machine.specs.State.{MachineState, machine_state, applied}
-use Rattle.mm_machine.specs.Applied.{IsRefusalOf}
+use Rattle.mm_machine.specs.Applied.{IsStepRefusalOf}
 use Rattle.mm_machine.specs.declared.reason.StepRefused.{StepRefused}
 use Rattle.mm_check.specs.Checker.{CheckerState, checker_state, Performs, IsStepRefusal}
 use Rattle.mm_check.proofs.CompilerStateLaw.{assertion_rule}
@@ -68,8 +68,8 @@ module _ (db : List Statement) (t : ℕ) where
         both_hold x true equality = sym (ap (is_assertion_at db) (eqb-true x a equality)
             ∙ is_assertion)
 
-    pub refusal_is_of_step : (e : StepRefused) → IsRefusalOf e (applied db t a c.machine.stack)
+    pub refusal_is_of_step : (e : StepRefused) → IsStepRefusalOf e (applied db t a c.machine.stack)
         → IsStepRefusal db t (label a) c e
     refusal_is_of_step e is_refusal =
-        λ ends agree. subst (IsRefusalOf e) (sym (ap (λ r. label_entries (context_at db t) r
+        λ ends agree. subst (IsStepRefusalOf e) (sym (ap (λ r. label_entries (context_at db t) r
         c.machine.stack) (assertion_rule db t a is_assertion rule_is_complete))) is_refusal

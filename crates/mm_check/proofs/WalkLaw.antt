@@ -29,7 +29,8 @@ use Rattle.mm_check.specs.Flags.{child_flags, taken_flags, step_flags_after}
 use Rattle.mm_check.specs.Reached.{steps_of}
 use Rattle.mm_check.proofs.CompilerStateLaw.{assertion_rule, hypothesis_rule}
 use Rattle.mm_check.proofs.ReachLaw.{step_at_is_good}
-use Rattle.mm_check.proofs.ForestsLaw.{forest_at, IsMove, AreMoves, move_at, proof_has_forests}
+use Rattle.mm_check.proofs.ForestsLaw.{forest_at, IsForestStep, AreForestSteps, forest_step_at}
+use Rattle.mm_check.proofs.ForestsLaw.{proof_has_forests}
 use Rattle.mm_check.proofs.BackLaw.{flag_at, tree_count_join, step_flags_count, IsToBeFound}
 use Rattle.mm_check.proofs.BackLaw.{label_back, marked_back}
 
@@ -39,7 +40,7 @@ pub record AreFoundFrom (db : List Statement) (t : ℕ) (steps : List PlacedStep
   pub derivation : Trees
   pub is_proof : IsProof db t derivation
   pub forests : List Trees
-  pub are_moves : AreMoves (context_at db t) forests 0 (steps_of steps)
+  pub are_forest_steps : AreForestSteps (context_at db t) forests 0 (steps_of steps)
   pub step_flags_fit : length step_flags ≡ length steps
   pub entry_flags_fit : length entry_flags ≡ tree_count (forest_at forests i)
   pub are_assertions : (a : ℕ) → is_member noted a ≡ true → is_assertion_at db a ≡ true
@@ -134,7 +135,7 @@ module _ (db : List Statement) (t : ℕ) (steps : List PlacedStep) (i : ℕ) (ws
         → IsToBeFound (child_counts db true) (forest_at are_found.forests) (suc i) (ws ++ flag ∷ [])
         step_flags a ↔ (((b ≡ true) × (is_labelled_step s a ≡ true)) ⊎ IsFoundBefore s a)
 
-  step_is_undone : (s : Step) → IsMove (context_at db t) are_found.forests i s
+  step_is_undone : (s : Step) → IsForestStep (context_at db t) are_found.forests i s
       → IsGoodStep (context_at db t) i s → IsUndone s
   step_is_undone (label l) (ts, f, cs, forest_is, forest_before_is, follows) is_good = record {
     entry_flags_fit =
@@ -212,7 +213,7 @@ module _ (db : List Statement) (t : ℕ) (steps : List PlacedStep) (i : ℕ) (ws
     derivation = are_found.derivation;
     is_proof = are_found.is_proof;
     forests = are_found.forests;
-    are_moves = are_found.are_moves;
+    are_forest_steps = are_found.are_forest_steps;
     step_flags_fit = step_flags_count b s step_flags ∙ are_found.step_flags_fit;
     entry_flags_fit = is_undone.entry_flags_fit;
     are_assertions =
@@ -252,17 +253,19 @@ module _ (db : List Statement) (t : ℕ) (steps : List PlacedStep) (i : ℕ) (ws
     );
   }
     where
-      is_move : IsMove (context_at db t) are_found.forests i s
-      is_move =
+      is_forest_step : IsForestStep (context_at db t) are_found.forests i s
+      is_forest_step =
           let sum_is_i : 0 + i ≡ i = omega arith in
-          subst (IsMove (context_at db t) are_found.forests i) (get_or-map (λ s. s.step) steps i
+          subst (IsForestStep (context_at db t) are_found.forests i) (get_or-map (λ s. s.step) steps
+          i
           (placed 0 (label 0)) (label 0) i_lt_length ∙ sym s_is)
-          (subst (λ n. IsMove (context_at db t) are_found.forests n (get_or (steps_of steps) i
-          (label 0))) sum_is_i (move_at (context_at db t) are_found.forests 0 (steps_of steps) i
-          (omega (arith, length-map steps (λ s. s.step), i_lt_length)) are_found.are_moves))
+          (subst (λ n. IsForestStep (context_at db t) are_found.forests n (get_or (steps_of steps) i
+          (label 0))) sum_is_i (forest_step_at (context_at db t) are_found.forests 0 (steps_of
+          steps) i
+          (omega (arith, length-map steps (λ s. s.step), i_lt_length)) are_found.are_forest_steps))
 
       is_undone : IsUndone s
-      is_undone = step_is_undone s is_move (step_at_is_good (context_at db t) steps i i s
+      is_undone = step_is_undone s is_forest_step (step_at_is_good (context_at db t) steps i i s
           i_lt_length are_good refl s_is)
 
       noted_stays : (a : ℕ) → is_member noted a ≡ true → is_member out a ≡ true
@@ -280,7 +283,7 @@ module _ (db : List Statement) (t : ℕ) (steps : List PlacedStep) (i : ℕ) (ws
 
 -- the forest after a step is not empty
 has_tree_after_step : (context : Context) (forests : List Trees) (i : ℕ) (s : Step)
-    → IsMove context forests i s → 0 < tree_count (forest_at forests (suc i))
+    → IsForestStep context forests i s → 0 < tree_count (forest_at forests (suc i))
 has_tree_after_step context forests i s h1 = grind (arith, common_steps)
 
 module _ (db : List Statement) (t : ℕ) (steps : List PlacedStep) (n i : ℕ)
@@ -291,9 +294,9 @@ module _ (db : List Statement) (t : ℕ) (steps : List PlacedStep) (n i : ℕ)
   has_entry_flag =
       let index_is : n ≡ suc (0 + i) = omega (arith, n_is) in
       let has_tree = has_tree_after_step (context_at db t) are_found.forests (0 + i)
-      (get_or (steps_of steps) i (label 0)) (move_at (context_at db t) are_found.forests 0
+      (get_or (steps_of steps) i (label 0)) (forest_step_at (context_at db t) are_found.forests 0
       (steps_of steps) i (omega (arith, length-map steps (λ s. s.step), i_lt_length))
-      are_found.are_moves) in
+      are_found.are_forest_steps) in
       let flags_fit = are_found.entry_flags_fit in
       omega (
         arith,
@@ -340,14 +343,14 @@ module _ (db : List Statement) (t : ℕ) (steps : List PlacedStep) (is_complete 
         derives_formula = subst (λ ss. Derives (context_at db t) (steps_of ss) (formula_at db t) d)
             (sym steps_are) derives
 
-        found_from_forests : ((forests : List Trees) × AreMoves (context_at db t) forests 0
+        found_from_forests : ((forests : List Trees) × AreForestSteps (context_at db t) forests 0
             (steps_of steps) × (forest_at forests (length (steps_of steps)) ≡ d))
             → AreFoundFrom db t steps (length steps) entry_flags step_flags noted
-        found_from_forests (forests, are_moves, ends_in_d) = record {
+        found_from_forests (forests, are_forest_steps, ends_in_d) = record {
           derivation = d;
           is_proof = derives;
           forests = forests;
-          are_moves = are_moves;
+          are_forest_steps = are_forest_steps;
           step_flags_fit = ap length step_flags_are ∙ length_replicate_is (length steps);
           entry_flags_fit = ap length entry_flags_are ∙ sym (ap tree_count (forest_is_d
               ∙ derives_formula.2));

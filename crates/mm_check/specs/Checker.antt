@@ -11,7 +11,7 @@ use Rattle.mm_rules.specs.Rules.{RuleLists, AreRules}
 use Rattle.mm_machine.specs.DisjointCache.{KnownPairs, AreDisjointAt}
 use Rattle.mm_machine.specs.Masks.{AreVariablesOf}
 use Rattle.mm_machine.specs.State.{MachineState}
-use Rattle.mm_machine.specs.Applied.{IsRefusalOf}
+use Rattle.mm_machine.specs.Applied.{IsStepRefusalOf}
 use Rattle.mm_machine.specs.declared.reason.StepRefused.{StepRefused}
 use Rattle.mm_check.specs.Contract.{is_labelled_step}
 use Rattle.mm_check.specs.Reached.{HasRun, AreEndFormulas, AreStepsOf}
@@ -77,4 +77,4 @@ pub record Performs (db : List Statement) (t : ℕ) (step : Step) (old new : Che
 abbrev pub IsStepRefusal : List Statement → ℕ → Step → CheckerState → StepRefused → Type 0
 IsStepRefusal db t step c e =
     (ends : List Formula) → AreEndFormulas ends c.machine.marks c.machine.formulas
-    → IsRefusalOf e (step_entries (context_at db t) step ends c.machine.stack)
+    → IsStepRefusalOf e (step_entries (context_at db t) step ends c.machine.stack)

@@ -141,7 +141,7 @@ impl<'a, A: Allocator> Database<'a, A> {
 
     /// Returns the place of a statement's first token, a byte offset from 0, if that is its label,
     /// or `None` if it has none.
-    pub fn label_at(&self, statement: u32) -> Option<u32>
+    pub fn label_place(&self, statement: u32) -> Option<u32>
         requires { statement < length self.now.statements }
         ensures { result
             ≡ option_map (λ t. t.at)

@@ -5,8 +5,8 @@ ghost use Rattle.std.specs.Prelude.{IfOk, OnOk, IsSome, get_or, length};
 ghost use Rattle.mm_database.specs.Frames.{mandatory_in, shifted_index};
 ghost use Rattle.mm_outline.specs.Blocks.{never};
 
+use crate::capacity::with_expected_capacity;
 use crate::disjoint_index::DisjointIndex;
-use crate::room::with_room;
 use mm_outline::blocks::NEVER;
 use mm_outline::symbol::Sym;
 use std::alloc::{AllocError, Allocator};
@@ -66,8 +66,8 @@ impl<A: Allocator + Copy> Frames<A> {
         ensures { result ≡ [] }
     {
         Frames {
-            list: with_room(alloc, statements),
-            indices: with_room(alloc, statements),
+            list: with_expected_capacity(alloc, statements),
+            indices: with_expected_capacity(alloc, statements),
         }
     }
 }

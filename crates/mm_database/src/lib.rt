@@ -14,7 +14,6 @@ pub mod names;
 mod near;
 mod ordered_names;
 pub mod reading;
-pub mod room;
 pub mod statement_lists;
 pub mod statements;
 pub mod tables;

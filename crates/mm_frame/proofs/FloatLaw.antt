@@ -26,7 +26,7 @@ use Rattle.mm_spec.proofs.FaultlessLaw.{both_are_empty, no_least_no_faults}
 use Rattle.mm_outline.specs.Typed.{has_word, typed_words}
 use Rattle.mm_database.specs.ParsedStatements.{IsSound, typed_variable_at}
 use Rattle.mm_outline.proofs.FaultlessLaw.{faultless_floating_is_new}
-use Rattle.mm_outline.proofs.AmongLaw.{typed_word_is_typing, word_of_active_is_any}
+use Rattle.mm_outline.proofs.ActiveWordsLaw.{typed_word_is_typing, word_of_active_is_any}
 
 -- a word that has an index is there
 pub word_at_index_of : (w : Bytes) (ws : List Bytes) → index_of w ws < length ws

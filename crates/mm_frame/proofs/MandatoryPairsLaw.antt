@@ -26,7 +26,7 @@ use Rattle.mm_database.specs.DisjointIndex.{row_of}
 use Rattle.mm_database.specs.Pairs.{has_pair, AreRising}
 use Rattle.mm_database.proofs.TogetherLaw.{HasBoth, together_from_both, both_from_together}
 use Rattle.mm_database.proofs.TogetherLaw.{row_is_together, narrow_is_in_row}
-use Rattle.mm_frame.specs.Together.{has_later, is_later_in_rows}
+use Rattle.mm_frame.specs.Together.{has_later, is_higher_variable_in_rows}
 use Rattle.mm_frame.proofs.HypothesesLaw.{mandatory_has_name}
 use Rattle.mm_frame.proofs.PairsLaw.{has_mapped_pair, mapped_are_sorted}
 use Rattle.mm_frame.proofs.PairsLaw.{sorted_with_same_members_equal, has_filtered_pair}
@@ -237,7 +237,7 @@ module _ (db : List Statement) (b : BlockLists) (are_blocks : IsBlocks db b) (k 
 
     -- whether they are in one `$d`
     abbrev pub in_one : ℕ → ℕ → Bool
-    in_one x y = is_later_in_rows b rows variables k x y || together x y
+    in_one x y = is_higher_variable_in_rows b rows variables k x y || together x y
 
     member_is_in_range : (x : ℕ) → is_member vs x ≡ true
         → is_member (range_with_len 0 count) x ≡ true
@@ -304,7 +304,8 @@ module _ (db : List Statement) (b : BlockLists) (are_blocks : IsBlocks db b) (k 
           };
         }
 
-    later_in_rows_are_mandatory : (x y : ℕ) → is_later_in_rows b rows variables k x y ≡ true
+    later_in_rows_are_mandatory : (x y : ℕ)
+        → is_higher_variable_in_rows b rows variables k x y ≡ true
         → AreMandatory x y
     later_in_rows_are_mandatory x y is_later = record {
       x_lt_y = grind (arith, nat_tests, is_later);
@@ -335,7 +336,8 @@ module _ (db : List Statement) (b : BlockLists) (are_blocks : IsBlocks db b) (k 
         && (is_member (range_with_len 0 count) x && is_member (range_with_len 0 count) y))
         ≡ true
     left_to_right x y are_in_one =
-        elim (or_cases (is_later_in_rows b rows variables k x y) (together x y) are_in_one) [
+        elim (or_cases (is_higher_variable_in_rows b rows variables k x y) (together x y)
+        are_in_one) [
           | inl is_later ↦ mandatory_are_wanted x y (later_in_rows_are_mandatory x y is_later)
           | inr are_together ↦ mandatory_are_wanted x y (together_are_mandatory x y are_together)
         ]

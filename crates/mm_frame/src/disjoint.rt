@@ -9,7 +9,8 @@ ghost use Rattle.mm_database.specs.DisjointIndex.{is_active_local, is_active_in_
 ghost use Rattle.mm_database.specs.DisjointIndex.{IsRow};
 ghost use Rattle.mm_frame.specs.Hypotheses.{AreStamps};
 ghost use Rattle.mm_frame.specs.Sources.{AreSources};
-ghost use Rattle.mm_frame.specs.Together.{has_later, is_later_in_row, is_later_in_rows};
+ghost use Rattle.mm_frame.specs.Together.{has_later, is_higher_variable_in_row};
+ghost use Rattle.mm_frame.specs.Together.{is_higher_variable_in_rows};
 ghost use Rattle.mm_database.specs.Pairs.{has_pair, AreRising};
 
 use crate::disjoint_index::sort_and_dedup_pairs;
@@ -114,7 +115,7 @@ fn is_higher_in_row<A: Allocator>(
 
 /// Appends the pairs of a symbol and those of the variables that are higher and that its row has
 /// with an active `$d`. Each variable is looked up in the row.
-fn add_found<A: Allocator>(
+fn add_looked_up<A: Allocator>(
     blocks: &Blocks<A>,
     row: &[(u32, u32)],
     low: u32,
@@ -127,7 +128,7 @@ fn add_found<A: Allocator>(
         ((x y : ℕ)
         → has_pair pairs.new.items x y
         ≡ (has_pair pairs.old.items x y
-        || (nat_eq x low && is_later_in_row blocks.now row.now low variables.now at y))) }
+        || (nat_eq x low && is_higher_variable_in_row blocks.now row.now low variables.now at y))) }
 {
     for variable in variables {
         if is_higher_in_row(blocks, row, low, variable.number(), at) {
@@ -138,7 +139,7 @@ fn add_found<A: Allocator>(
 }
 
 /// Whether a symbol is one of the variables, which have the stamp.
-fn is_marked(marks: &[u32], stamp: u32, variables: &[Sym], symbol: u32) -> bool
+fn has_stamp(marks: &[u32], stamp: u32, variables: &[Sym], symbol: u32) -> bool
     requires variables_lt_count { All (λ s. s < length marks.now) variables.now }
     requires are_stamps { AreStamps (length marks.now) stamp marks.now variables.now }
     ensures { result ≡ is_member variables.now symbol }
@@ -151,7 +152,7 @@ fn is_marked(marks: &[u32], stamp: u32, variables: &[Sym], symbol: u32) -> bool
 
 /// Whether a pair of a row has an active `$d` and a variable that is higher than `low`. The
 /// variables have the stamp.
-fn is_active_pair<A: Allocator>(
+fn is_active_higher_pair<A: Allocator>(
     blocks: &Blocks<A>,
     low: u32,
     marks: &[u32],
@@ -169,11 +170,11 @@ fn is_active_pair<A: Allocator>(
         && (is_member variables.now pair.0 && is_active_local blocks.now pair.1 at)) }
 {
     low < pair.0
-        && is_marked(marks, stamp, variables, pair.0)
+        && has_stamp(marks, stamp, variables, pair.0)
         && (pair.1 < at && blocks.is_block_open(pair.1, at))
 }
 
-/// The same as [`add_found`] by a walk over the row. The variables have the stamp.
+/// The same as [`add_looked_up`] by a walk over the row. The variables have the stamp.
 fn add_walked<A: Allocator>(
     blocks: &Blocks<A>,
     row: &[(u32, u32)],
@@ -191,10 +192,10 @@ fn add_walked<A: Allocator>(
         ((x y : ℕ)
         → has_pair pairs.new.items x y
         ≡ (has_pair pairs.old.items x y
-        || (nat_eq x low && is_later_in_row blocks.now row.now low variables.now at y))) }
+        || (nat_eq x low && is_higher_variable_in_row blocks.now row.now low variables.now at y))) }
 {
     for pair in row {
-        if is_active_pair(blocks, low, marks, stamp, variables, at, *pair) {
+        if is_active_higher_pair(blocks, low, marks, stamp, variables, at, *pair) {
             pairs.push((low, pair.0))?;
         }
     }
@@ -220,7 +221,7 @@ fn add_narrow<A: Allocator>(
         ((x y : ℕ)
         → has_pair pairs.new.items x y
         ≡ (has_pair pairs.old.items x y
-        || is_later_in_rows blocks.now disjoint_index.now.rows variables.now at x y)) }
+        || is_higher_variable_in_rows blocks.now disjoint_index.now.rows variables.now at x y)) }
 {
     for variable in variables {
         let row = disjoint_index.row(*variable);
@@ -228,7 +229,7 @@ fn add_narrow<A: Allocator>(
         if row.len() <= variables.len() {
             add_walked(blocks, row, low, marks, stamp, variables, at, pairs)?;
         } else {
-            add_found(blocks, row, low, variables, at, pairs)?;
+            add_looked_up(blocks, row, low, variables, at, pairs)?;
         }
     }
     Ok(())

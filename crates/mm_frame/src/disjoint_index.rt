@@ -218,7 +218,7 @@ fn list_row<A: Allocator>(
 }
 
 /// Returns the row of each symbol.
-fn rows_of<A: Allocator + Copy>(
+fn disjoint_rows<A: Allocator + Copy>(
     alloc: A,
     statements: &Statements<A>,
 ) -> Result<Lists<(u32, u32), A>, AllocError>
@@ -249,7 +249,7 @@ pub(crate) fn disjoint_index_of<A: Allocator + Copy>(
     ensures { IfOk result
         (λ m. IsDisjointIndex statements.now.list statements.now.blocks m) }
 {
-    let rows = rows_of(alloc, statements)?;
+    let rows = disjoint_rows(alloc, statements)?;
     let by_symbol = pairs_by_symbol(alloc, statements, false)?;
     let skips = skips_of(alloc, statements.blocks(), &by_symbol)?;
     let starts = starts_of(alloc, &by_symbol)?;

@@ -83,7 +83,7 @@ role_inside : (word : List ℕ) → RoleInside word
 unfolding role_of
 role_inside word = search (rules, arith, cases_Bool, role_is_closing, role_is_comment)
 
--- ---- a well-begun row is read as its tokens and its open comment
+-- ---- a well-begun list of words is read as its tokens and its open comment
 
 reading_comment_words : (text : List ℕ) (p : ℕ) (ws us : List Word) → AreCommentWords text ws
     → reading text (Some p) (ws ++ us) ≡ reading text (Some p) us
@@ -126,7 +126,7 @@ pub IsWellBegun_reading : (text : List ℕ) (ws ts : List Word) (c : Option ℕ)
 IsWellBegun_reading text ws ts c is_well_begun =
     search (rules, arith, reading_append, reading_lexemes, reading_last_comment, append-nil)
 
--- ---- a reading without a fault is of a well-begun row
+-- ---- a reading without a fault is of a well-begun list of words
 
 AreCommentWords_push : (text : List ℕ) (ws : List Word) (w : Word) → AreCommentWords text ws
     → is_comment_word (bytes_of text w) ≡ true → AreCommentWords text (ws ++ w ∷ [])

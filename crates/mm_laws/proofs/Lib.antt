@@ -12,15 +12,15 @@
 -- (`SpelledStepsLaw.antt`), or by what `OpenedLaw` of `mm_spec` says of each selection.
 -- `long_texts_are_refused` (`LongTextLaw.antt`) gives the one output of a text above the limit.
 -- `lines_tell_assertions` (`ToldLaw.antt`) splits equal lines at the same places.
--- `ExamplesLaw.antt`, `VectorsLaw.antt`, `OutputsLaw.antt` and `LinesLaw.antt` work out small
--- texts. Of `mm_spec` it cites `words_are_words_of`, `longest_is_what_is_read`, `reads_complete`,
--- `mandatory_is_typed` and `counted_complete`.
+-- `ExamplesLaw.antt`, `VectorsLaw.antt`, `OutputsLaw.antt` and `LinesExamplesLaw.antt` work out
+-- small texts. Of `mm_spec` it cites `words_are_words_of`, `longest_is_what_is_read`,
+-- `reads_complete`, `mandatory_is_typed` and `counted_complete`.
 pub mod ReaderLaw
 pub mod ReadLaw
 pub mod ExamplesLaw
 pub mod VectorsLaw
 pub mod OutputsLaw
-pub mod LinesLaw
+pub mod LinesExamplesLaw
 pub mod ToldLaw
 pub mod SpelledLinesLaw
 pub mod GrammarLaw

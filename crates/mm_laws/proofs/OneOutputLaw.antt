@@ -31,7 +31,7 @@ use Rattle.mm_spec.specs.Lexed.{LexedText, lexed_of}
 use Rattle.mm_spec.specs.Output.{TextFault, StopsReading, IsRead, ProofFault, proof_end}
 use Rattle.mm_spec.specs.Output.{is_theorem_at, AllAreValid, FirstProofFault, FirstFault}
 use Rattle.mm_spec.specs.Output.{HasNoFault, theorems, columns, open_theorem_count, IsRowOf}
-use Rattle.mm_spec.specs.Output.{AreCited, IsCitingRowOf, told, IsReportOf, IsOutput}
+use Rattle.mm_spec.specs.Output.{AreCited, IsCitingRowOf, told_lines, IsReportOf, IsOutput}
 use Rattle.mm_spec.specs.Assertion.{label_at}
 use Rattle.mm_spec.specs.Laws.Stack.{IsCompleteReferent}
 use Rattle.mm_laws.proofs.ExactLaw.{step_stops_if_fails}
@@ -465,6 +465,6 @@ output_is_unique_for_text text request a b (inr is_output_a) (inr is_output_b) =
     (reading_is_unique (length text) (lexed_of text) is_output_a.0 is_output_b.0 None None
     is_output_a.1.0 is_output_b.1.0).0 in
     report_is_unique (open_as_axioms request.with_open is_output_b.0)
-    (open_theorem_count is_output_b.0 request) (told is_output_b.0 request) request a b
+    (open_theorem_count is_output_b.0 request) (told_lines is_output_b.0 request) request a b
     (subst (λ d. IsReportOf (open_as_axioms request.with_open d) (open_theorem_count d request)
-    (told d request) request a) databases_equal is_output_a.2) is_output_b.2
+    (told_lines d request) request a) databases_equal is_output_a.2) is_output_b.2

@@ -5,7 +5,7 @@ use Rattle.mm_spec.specs.Statement.{Statement}
 use Rattle.mm_spec.specs.Laws.Complete.{AreComplete}
 use Rattle.mm_spec.specs.Request.{Request}
 use Rattle.mm_spec.specs.Lexed.{LexedText, lexed_of}
-use Rattle.mm_spec.specs.Output.{theorems, AllAreValid, open_theorem_count, told, IsReportOf}
+use Rattle.mm_spec.specs.Output.{theorems, AllAreValid, open_theorem_count, told_lines, IsReportOf}
 use Rattle.mm_spec.specs.Output.{IsOutput}
 use Rattle.mm_laws.specs.Laws.FirstFaults.{IsSoundOrFaulty}
 use Rattle.mm_laws.specs.Laws.Cells.{AreDecided}
@@ -51,6 +51,6 @@ output_exists_for_text text request =
         (reads_complete (length text) (lexed_of text) has_no_fault.0 None has_no_fault.1.0) in
         let report =
         report_exists (open_as_axioms request.with_open has_no_fault.0)
-        (open_theorem_count has_no_fault.0 request) (told has_no_fault.0 request) request
+        (open_theorem_count has_no_fault.0 request) (told_lines has_no_fault.0 request) request
         all_complete has_no_fault.1.1 in
         (report.0, inr (has_no_fault.0, has_no_fault.1, report.1))

@@ -34,7 +34,7 @@ use Rattle.mm_spec.proofs.ReadingsLaw.{reading_closing, reading_comment, reading
 use Rattle.mm_spec.proofs.ReadingsLaw.{reading_end}
 use Rattle.mm_spec.proofs.WordsLaw.{words_of_are_words}
 use Rattle.mm_spec.proofs.LexedLaw.{tokens_of_long, tokens_of_read}
-use Rattle.mm_laws.specs.Laws.Told.{is_gap, is_colon, IsPlainWord, AreSpelled, ReadIsSpelled}
+use Rattle.mm_laws.specs.Laws.Told.{is_gap, is_colon, IsLineWord, AreSpelled, ReadIsSpelled}
 
 -- ---- the bytes of words
 
@@ -56,7 +56,7 @@ token_has_no_gap : (w : Bytes) → is_token w ≡ true → list_any is_gap w ≡
 unfolding is_token is_clean is_printable
 token_has_no_gap w passes = search (rules, arith, none_if_all, is_no_gap, and_parts)
 
-label_is_plain : (w : Bytes) → is_label w ≡ true → IsPlainWord w
+label_is_plain : (w : Bytes) → is_label w ≡ true → IsLineWord w
 label_is_plain w passes = search (rules, arith, none_if_all, is_no_gap, differs)
 
 label_has_no_colon : (w : Bytes) → is_label w ≡ true → list_any is_colon w ≡ false
@@ -134,17 +134,17 @@ all_split P (x ∷ xs) ys (holds, later) = grind (arith, common_steps, (all_spli
 
 -- a statement whose words are spelled as the lines need it
 record IsSpelled (s : Statement) : Type 0 where
-  label : IsPlainWord (flat_map (λ w. w) (label_words s))
+  label : IsLineWord (flat_map (λ w. w) (label_words s))
   label_without_colon : list_any is_colon (flat_map (λ w. w) (label_words s)) ≡ false
-  symbols : AllByRecursion IsPlainWord (words (symbols_of s))
+  symbols : AllByRecursion IsLineWord (words (symbols_of s))
   start : unwrap_or (option_map (λ t. t.at) (label_of s)) 0 < 2 ^ 31
   end : end_at s < 2 ^ 31
 
-no_label_is_plain : IsPlainWord []
+no_label_is_plain : IsLineWord []
 no_label_is_plain = record { no_gap = refl; no_dollar = refl }
 
 plain_symbols : (xs : List Token) → AllByRecursion IsTextToken xs → is_plain xs ≡ true
-    → AllByRecursion IsPlainWord (words xs)
+    → AllByRecursion IsLineWord (words xs)
 plain_symbols [] are_tokens plain = tt
 plain_symbols (x ∷ xs) are_tokens plain =
     let parts = and_parts (not (has_dollar x.word)) (is_plain xs) plain in (
@@ -156,21 +156,22 @@ plain_symbols (x ∷ xs) are_tokens plain =
     )
 
 -- a statement without a label
-unlabelled : (s : Statement) (xs : List Token) (t : Token) → label_of s ≡ None
+unlabelled_is_spelled : (s : Statement) (xs : List Token) (t : Token) → label_of s ≡ None
     → symbols_of s ≡ xs → AllByRecursion IsTextToken xs → is_plain xs ≡ true
     → IsTextToken t → end_at s ≡ t.at → IsSpelled s
-unlabelled s xs t no_label symbols_are are_tokens plain last end_is =
+unlabelled_is_spelled s xs t no_label symbols_are are_tokens plain last end_is =
     search (rules, arith, no_label_is_plain, plain_symbols)
 
 -- a statement with a label
-labelled : (s : Statement) (l : Token) (xs : List Token) (t : Token) → label_of s ≡ Some l
-    → symbols_of s ≡ xs → IsTextToken l → is_label l.word ≡ true
+labelled_is_spelled : (s : Statement) (l : Token) (xs : List Token) (t : Token)
+    → label_of s ≡ Some l → symbols_of s ≡ xs → IsTextToken l → is_label l.word ≡ true
     → AllByRecursion IsTextToken xs → is_plain xs ≡ true → IsTextToken t → end_at s ≡ t.at
     → IsSpelled s
-labelled s l xs t label_is symbols_are label_token spelled are_tokens plain last end_is = record {
-  label = rw (label_is, label_words, append-nil l.word) (label_is_plain l.word spelled);
+labelled_is_spelled s l xs t label_is symbols_are label_token is_label_word are_tokens plain last
+    end_is = record {
+  label = rw (label_is, label_words, append-nil l.word) (label_is_plain l.word is_label_word);
   label_without_colon =
-      rw (label_is, label_words, append-nil l.word) (label_has_no_colon l.word spelled);
+      rw (label_is, label_words, append-nil l.word) (label_has_no_colon l.word is_label_word);
   symbols = rw symbols_are (plain_symbols xs are_tokens plain);
   start = rw label_is label_token.place;
   end = omega (arith, last.place, end_is);
@@ -181,47 +182,57 @@ complete_parts : (a b c : Bool) → (a && b && c) ≡ true
 complete_parts a b c complete = grind (arith, common_steps, and_parts)
 
 -- a complete statement without a label: its keyword, its symbols and its `$.`
-without_label : (s : Statement) (k : ℕ) (xs : List Token) (d : ℕ) (keyword : Bytes)
+complete_unlabelled_is_spelled : (s : Statement) (k : ℕ) (xs : List Token) (d : ℕ) (keyword : Bytes)
     → label_of s ≡ None → symbols_of s ≡ xs → end_at s ≡ d
     → AllByRecursion IsTextToken (token k keyword ∷ (xs ++ token d (codes "$.") ∷ []))
     → is_complete s ≡ true → IsSpelled s
-without_label s k xs d keyword no_label symbols_are end_is are_tokens complete =
+complete_unlabelled_is_spelled s k xs d keyword no_label symbols_are end_is are_tokens complete =
     let parts = complete_parts _ (is_plain (symbols_of s)) _ complete in
     let tokens = all_split IsTextToken xs (token d (codes "$.") ∷ []) are_tokens.1 in
-    unlabelled s xs (token d (codes "$.")) no_label symbols_are tokens.0
+    unlabelled_is_spelled s xs (token d (codes "$.")) no_label symbols_are tokens.0
     (sym (ap is_plain symbols_are) ∙ parts.1.0) tokens.1.0 end_is
 
 -- a complete statement with a label
-with_label : (s : Statement) (l : Token) (k : ℕ) (xs : List Token) (d : ℕ) (keyword : Bytes)
+complete_labelled_is_spelled : (s : Statement) (l : Token) (k : ℕ) (xs : List Token) (d : ℕ)
+    (keyword : Bytes)
     → label_of s ≡ Some l → symbols_of s ≡ xs → end_at s ≡ d
     → AllByRecursion IsTextToken (l ∷ token k keyword ∷ (xs ++ token d (codes "$.") ∷ []))
     → is_complete s ≡ true → IsSpelled s
-with_label s l k xs d keyword label_is symbols_are end_is are_tokens complete =
+complete_labelled_is_spelled s l k xs d keyword label_is symbols_are end_is are_tokens complete =
     let parts = complete_parts (is_label_if_any (label_of s)) (is_plain (symbols_of s)) _ complete
     in
     let tokens = all_split IsTextToken xs (token d (codes "$.") ∷ []) are_tokens.1.1 in
-    labelled s l xs (token d (codes "$.")) label_is symbols_are are_tokens.0
+    labelled_is_spelled s l xs (token d (codes "$.")) label_is symbols_are are_tokens.0
     (sym (ap is_label_if_any label_is) ∙ parts.0) tokens.0
     (sym (ap is_plain symbols_are) ∙ parts.1.0) tokens.1.0 end_is
 
 -- a complete statement of tokens
 statement_is_spelled : (s : Statement) → AllByRecursion IsTextToken (spelling_of s)
     → is_complete s ≡ true → IsSpelled s
-statement_is_spelled (constants k xs d) are_tokens complete = search (rules, arith, without_label)
-statement_is_spelled (variables k xs d) are_tokens complete = search (rules, arith, without_label)
-statement_is_spelled (disjoint k xs d) are_tokens complete = search (rules, arith, without_label)
-statement_is_spelled (floating l k xs d) are_tokens complete = search (rules, arith, with_label)
-statement_is_spelled (essential l k xs d) are_tokens complete = search (rules, arith, with_label)
-statement_is_spelled (axiomatic l k xs d) are_tokens complete = search (rules, arith, with_label)
+statement_is_spelled (constants k xs d) are_tokens complete =
+    search (rules, arith, complete_unlabelled_is_spelled)
+statement_is_spelled (variables k xs d) are_tokens complete =
+    search (rules, arith, complete_unlabelled_is_spelled)
+statement_is_spelled (disjoint k xs d) are_tokens complete =
+    search (rules, arith, complete_unlabelled_is_spelled)
+statement_is_spelled (floating l k xs d) are_tokens complete =
+    search (rules, arith, complete_labelled_is_spelled)
+statement_is_spelled (essential l k xs d) are_tokens complete =
+    search (rules, arith, complete_labelled_is_spelled)
+statement_is_spelled (axiomatic l k xs d) are_tokens complete =
+    search (rules, arith, complete_labelled_is_spelled)
 statement_is_spelled (provable l k xs e ps d) are_tokens complete =
     let parts = complete_parts (is_label l.word) (is_plain xs) (is_plain ps) complete in
     let formula_and_proof =
     all_split IsTextToken xs (token e (codes "$=") ∷ (ps ++ token d (codes "$.") ∷ []))
     are_tokens.1.1 in
-    labelled _ l xs (token d (codes "$.")) refl refl are_tokens.0 parts.0 formula_and_proof.0
+    labelled_is_spelled _ l xs (token d (codes "$.")) refl refl are_tokens.0 parts.0
+    formula_and_proof.0
     parts.1.0 (all_split IsTextToken ps (token d (codes "$.") ∷ []) formula_and_proof.1.1).1.0 refl
-statement_is_spelled (opening k) are_tokens complete = grind (arith, common_steps, unlabelled)
-statement_is_spelled (closing k) are_tokens complete = grind (arith, common_steps, unlabelled)
+statement_is_spelled (opening k) are_tokens complete =
+    grind (arith, common_steps, unlabelled_is_spelled)
+statement_is_spelled (closing k) are_tokens complete =
+    grind (arith, common_steps, unlabelled_is_spelled)
 
 all_statements_are_spelled : (ss : List Statement)
     → AllByRecursion IsTextToken (flat_map spelling_of ss) → list_all is_complete ss ≡ true
@@ -256,17 +267,17 @@ module _ {X : Type 0} (Q : X → Type 0) (P : Option X → Type 0) where
   of_got of_none of_some (x ∷ xs) are_q (suc i) = of_got of_none of_some xs are_q.1 i
 
 declared_words : (s : Statement) → IsSpelled s
-    → AllByRecursion IsPlainWord (constants_of s ++ variables_of s)
+    → AllByRecursion IsLineWord (constants_of s ++ variables_of s)
 declared_words s h1 = grind (arith, common_steps, append-nil)
 
 all_declared : (db : List Statement) → AllByRecursion IsSpelled db
-    → AllByRecursion IsPlainWord (flat_map (λ s. constants_of s ++ variables_of s) db)
+    → AllByRecursion IsLineWord (flat_map (λ s. constants_of s ++ variables_of s) db)
 all_declared [] are_spelled = tt
 all_declared (s ∷ db) are_spelled =
     grind (arith, common_steps, all_of_both, declared_words, (all_declared db are_spelled.1))
 
-first_are_plain : (earlier ws : List Bytes) → AllByRecursion IsPlainWord ws
-    → AllByRecursion IsPlainWord (first_occurrences earlier ws)
+first_are_plain : (earlier ws : List Bytes) → AllByRecursion IsLineWord ws
+    → AllByRecursion IsLineWord (first_occurrences earlier ws)
 first_are_plain earlier [] are_plain = tt
 first_are_plain earlier (w ∷ ws) are_plain =
     grind (
@@ -284,13 +295,13 @@ label_in_is s = ap (flat_map (λ w. w)) (append-nil (label_words s))
 
 spelled_database : (db : List Statement) → AllByRecursion IsSpelled db → AreSpelled db
 spelled_database db are_spelled = record {
-  labels = of_got IsSpelled (λ o. IsPlainWord (label_in o)) no_label_is_plain
-      (λ s spelled. subst IsPlainWord (sym (label_in_is s)) spelled.label) db are_spelled;
+  labels = of_got IsSpelled (λ o. IsLineWord (label_in o)) no_label_is_plain
+      (λ s spelled. subst IsLineWord (sym (label_in_is s)) spelled.label) db are_spelled;
   labels_without_colon =
       of_got IsSpelled (λ o. list_any is_colon (label_in o) ≡ false) refl
       (λ s spelled. ap (list_any is_colon) (label_in_is s) ∙ spelled.label_without_colon) db
       are_spelled;
-  names = of_got IsPlainWord (λ o. IsPlainWord (unwrap_or o [])) no_label_is_plain
+  names = of_got IsLineWord (λ o. IsLineWord (unwrap_or o [])) no_label_is_plain
       (λ w plain. plain) _ (first_are_plain [] _ (all_declared db are_spelled));
   places = λ k. (
     of_got IsSpelled (λ o. unwrap_or (option_map (λ t. t.at) (option_and_then label_of o)) 0 < 2 ^

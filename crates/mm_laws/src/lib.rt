@@ -11,7 +11,7 @@
 //! edit, named after the mistake. The statements of the laws are in files of their own
 //! (`specs/Laws`), so that a change of one is tried without the others being read again. Small
 //! texts for which the definitions are worked out are in `proofs/` (`ExamplesLaw`, `VectorsLaw`,
-//! `OutputsLaw`, `LinesLaw`).
+//! `OutputsLaw`, `LinesExamplesLaw`).
 //!
 //! A law of what is read (`WhereRead`) holds of the statements as they count: with open theorems as
 //! axioms, and without.

@@ -28,7 +28,7 @@ fn first_white(text: &[u8], from: usize, to: usize) -> usize
     place
 }
 
-/// The place after the last white-space byte before `to`, or `from` if there is none after it.
+/// The place after the last white-space byte before `to`, or `from` if there is none from there on.
 #[tactic(auto, unfolding(mm_spec::specs::Words::white_at))]
 fn after_white(text: &[u8], from: usize, to: usize) -> usize
     requires from_le_to { from ≤ to }
@@ -50,7 +50,7 @@ fn after_white(text: &[u8], from: usize, to: usize) -> usize
 
 /// The places between which the words of a stretch are known: the end of its head and the beginning
 /// of its tail. `None` if the stretch is unbroken.
-pub fn bounds(text: &[u8], from: usize, to: usize) -> Option<(usize, usize)>
+pub fn head_and_tail(text: &[u8], from: usize, to: usize) -> Option<(usize, usize)>
     requires from_le_to { from ≤ to }
     requires to_le_length { to ≤ length text.now }
     ensures { MatchOption result (IsUnbroken text.now from to)

@@ -16,7 +16,7 @@ mod roles;
 mod scanner;
 
 use crate::batches::read_text;
-use crate::pieces::lex_piece_with_room;
+use crate::pieces::lex_piece_with_capacity;
 pub use cuts::{Cuts, CutsFault};
 use mm_spec::TEXT_LIMIT;
 pub use mm_spec::{Code, Fault, Lexed, Word};
@@ -74,6 +74,6 @@ pub fn lex_alone<A: Allocator + Copy>(alloc: A, text: &[u8]) -> Result<Lexed<A>,
         return Ok(lexed_too_long(alloc));
     }
     let capacity = text.len() / BYTES_PER_TOKEN + 1;
-    let whole = lex_piece_with_room(alloc, text, 0, text.len(), capacity)?;
+    let whole = lex_piece_with_capacity(alloc, text, 0, text.len(), capacity)?;
     Ok(whole.into_lexed())
 }

@@ -66,9 +66,13 @@ impl<A: Allocator + Copy> ModeReading<A> {
         }
     }
 
-    /// A reading of no words yet. Its list has room for `capacity` tokens if there is that much
+    /// A reading of no words yet. Its list has capacity for `capacity` tokens if there is that much
     /// memory, so that it needn't be moved as it grows.
-    pub fn with_room(alloc: A, open_comment: CommentState, capacity: usize) -> ModeReading<A>
+    pub fn with_expected_capacity(
+        alloc: A,
+        open_comment: CommentState,
+        capacity: usize,
+    ) -> ModeReading<A>
         ensures { (p : ℕ) → side_reading p (side result) ≡ start (resolved p open_comment) }
     {
         let mut reading = ModeReading::new(alloc, open_comment);

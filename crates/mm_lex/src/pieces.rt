@@ -10,7 +10,7 @@ ghost use Rattle.mm_lex.specs.Stretches.{joined_word};
 ghost use Rattle.mm_spec.specs.Lexed.{fault_in, lexical_fault, tokens_of};
 ghost use Rattle.mm_spec.specs.Words.{words_between};
 
-use crate::ends::bounds;
+use crate::ends::head_and_tail;
 use crate::modes::{CommentState, ModeReading, NOT_KNOWN_PLAIN};
 use crate::scanner::WordScanner;
 use crate::{Code, Fault, Lexed, TEXT_LIMIT, Word};
@@ -163,7 +163,7 @@ fn lex_between<A: Allocator + Copy>(
         (λ between. AreReadings text.now (words_between text.now head_end tail_start)
         (side between.outside) (side between.inside)) }
 {
-    let mut outside = ModeReading::with_room(alloc, CommentState::Nowhere, capacity);
+    let mut outside = ModeReading::with_expected_capacity(alloc, CommentState::Nowhere, capacity);
     let mut inside = ModeReading::new(alloc, CommentState::Before);
     let mut scanner = WordScanner::new(text, head_end);
     while inside.fault.is_none()
@@ -189,7 +189,7 @@ fn lex_between<A: Allocator + Copy>(
 
 /// The summary of the stretch of a text from `from` up to `to`, as [`lex_piece`] makes it.
 /// `capacity` is the number of tokens for which memory is reserved at first.
-pub(crate) fn lex_piece_with_room<A: Allocator + Copy>(
+pub(crate) fn lex_piece_with_capacity<A: Allocator + Copy>(
     alloc: A,
     text: &[u8],
     from: usize,
@@ -203,7 +203,7 @@ pub(crate) fn lex_piece_with_room<A: Allocator + Copy>(
     ensures to_is { IfOk result (λ piece. piece.to ≡ to) }
     ensures is_summary { IfOk result (IsSummary text.now) }
 {
-    let between = match bounds(text, from, to) {
+    let between = match head_and_tail(text, from, to) {
         None => None,
         Some((head_end, tail_start)) => {
             Some(lex_between(alloc, text, head_end, tail_start, capacity)?)
@@ -232,7 +232,7 @@ pub fn lex_piece<A: Allocator + Copy>(
     ensures is_summary { IfOk result (IsSummary text.now) }
 {
     // There is at least a byte between two words.
-    lex_piece_with_room(alloc, text, from, to, (to - from) / 2 + 1)
+    lex_piece_with_capacity(alloc, text, from, to, (to - from) / 2 + 1)
 }
 
 /// What is between the head of one stretch and the tail of the next.

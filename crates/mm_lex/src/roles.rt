@@ -125,7 +125,7 @@ fn role_outside(word: &[u8]) -> Role
 }
 
 /// The place of the first byte in the word that isn't printable.
-fn first_bad(word: &[u8]) -> Option<usize>
+fn first_unprintable(word: &[u8]) -> Option<usize>
     ensures is_position { result ≡ position (λ b. not (is_printable b)) word.now }
     ensures is_within_word { IfSome result (λ i. i < length word.now) }
 {
@@ -138,7 +138,7 @@ pub fn word_fault(in_comment: bool, at: u32, word: &[u8]) -> Fault
     requires { at + length word.now < 2 ^ 32 }
     ensures { result ≡ fault_of in_comment at word.now }
 {
-    match first_bad(word) {
+    match first_unprintable(word) {
         Some(i) => Fault {
             at: at + i as u32,
             code: Code::BadByte,

@@ -49,6 +49,7 @@ struct Masks {
     stops: u64,
 }
 
+/// The masks of a block: of the first 64 bytes, or of all if there are fewer.
 #[inline(always)]
 fn masks_of(bytes: &[u8]) -> Masks
     ensures white_is { result.white ≡ mask is_white (take 64 bytes.now) }

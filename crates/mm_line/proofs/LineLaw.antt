@@ -43,7 +43,7 @@ use Rattle.mm_spec.specs.Derivation.{is_member}
 use Rattle.mm_line.specs.Lines.{IsCommand, IsFormRule, IsFlag, IsHelpOrVersion, IsLineRefusal}
 use Rattle.mm_line.specs.Lines.{has_known_names, sections_in, command_of, flag_rule, number_rule}
 use Rattle.mm_line.specs.Lines.{text_rule, file_rule, form_rule, form_word, form_words, AreReadAs}
-use Rattle.mm_line.specs.Found.{Finds, HasForm, HasNumber, IsBadOrMemory, IsRefusalOf}
+use Rattle.mm_line.specs.Found.{Finds, HasForm, HasNumber, IsBadOrMemory, IsRefusalForKind}
 use Rattle.mm_line.proofs.EntryLaw.{Defaulted, default_is_read, empty_is_nil, rule_of_argument_is}
 use Rattle.mm_line.proofs.EntryLaw.{simple_leaves_out}
 use Rattle.mm_plan.specs.declared.Cutting.TheVariants.{Count}
@@ -115,7 +115,7 @@ help_is_not_memory kind (inr is_asking) is_memory =
 pub refusal_is_line_refusal : (app : App) (words : List Text) (e : Error) (r : LineRefused)
     → IsCommand app
     → (takes app words ≡ true → kind_of e ≡ OutOfMemory)
-    → HasKind (fault_of app words) e → IsRefusalOf (kind_of e) r → IsLineRefusal words r
+    → HasKind (fault_of app words) e → IsRefusalForKind (kind_of e) r → IsLineRefusal words r
 refusal_is_line_refusal app words e Memory app_is passes kind is_for = tt
 refusal_is_line_refusal app words e (Help text) app_is passes kind is_for =
     (app, app_is, not_taken (takes app words) refl, kind_of e, among_faults kind, is_for)

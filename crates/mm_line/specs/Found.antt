@@ -34,10 +34,10 @@ pub record Finds (words : List Text) (m : ArgMatches) : Type 0 where
   pub form : HasForm m
 
 -- the refusal that an error of this kind leads to
-abbrev pub IsRefusalOf : ErrorKind → LineRefused → Type 0
-IsRefusalOf kind (Help text) = IsHelpOrVersion kind
-IsRefusalOf kind (Bad text) = (¬ IsHelpOrVersion kind) × (kind ≢ OutOfMemory)
-IsRefusalOf kind Memory = kind ≡ OutOfMemory
+abbrev pub IsRefusalForKind : ErrorKind → LineRefused → Type 0
+IsRefusalForKind kind (Help text) = IsHelpOrVersion kind
+IsRefusalForKind kind (Bad text) = (¬ IsHelpOrVersion kind) × (kind ≢ OutOfMemory)
+IsRefusalForKind kind Memory = kind ≡ OutOfMemory
 
 -- the words have a fault, or there is no memory
 abbrev pub IsBadOrMemory : LineRefused → Type 0

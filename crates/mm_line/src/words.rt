@@ -5,7 +5,7 @@ ghost use Rattle.std.specs.Prelude.{true, false};
 ghost use Rattle.std.specs.String.{string_bytes};
 ghost use Rattle.std.specs.Str.Parse.{digits_value, without_leading_plus};
 ghost use Rattle.clap.specs.Words.{app_of, first_value, found_of, kind_of, one_text, rule_of};
-ghost use Rattle.mm_line.specs.Found.{Finds, HasForm, HasNumber, IsBadOrMemory, IsRefusalOf};
+ghost use Rattle.mm_line.specs.Found.{Finds, HasForm, HasNumber, IsBadOrMemory, IsRefusalForKind};
 ghost use Rattle.mm_line.specs.Lines.{IsCommand, IsFormRule, IsLineRefusal};
 ghost use Rattle.mm_line.specs.Lines.{AreReadAs};
 ghost use Rattle.mm_line.specs.Lines.{file_rule, flag_rule, form_word, number_rule, text_rule};
@@ -143,7 +143,7 @@ fn command<'a>(alloc: Global) -> Result<Command<'a>, AllocError>
 
 /// Turns an error of clap into a refusal.
 fn refusal_of(alloc: Global, error: &Error) -> Result<LineRefused, AllocError>
-    ensures { IfOk result (IsRefusalOf (kind_of error.now)) }
+    ensures { IfOk result (IsRefusalForKind (kind_of error.now)) }
 {
     let text = error.to_string(alloc)?;
     Ok(match error.kind() {

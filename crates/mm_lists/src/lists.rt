@@ -82,10 +82,10 @@ impl<T, A: Allocator> Lists<T, A> {
         }
     }
 
-    /// No lists, with room for so many lists that have so many elements together, so that they
-    /// needn't be moved as they grow. Room that is never used takes no physical memory. If there
-    /// isn't memory for the room, the lists begin without it.
-    pub fn with_room(alloc: A, list_count: usize, item_count: usize) -> Self
+    /// No lists, with capacity for so many lists that have so many elements together, so that they
+    /// needn't be moved as they grow. Capacity that is never used takes no physical memory. If
+    /// there isn't memory for it, the lists begin without it.
+    pub fn with_expected_capacity(alloc: A, list_count: usize, item_count: usize) -> Self
     where
         A: Copy,
         ensures { result ≡ [] }

@@ -26,7 +26,7 @@ use Rattle.mm_rule.specs.Rule.{floating_index, parts_of, stored_part_count, all_
 use Rattle.mm_rule.specs.Rule.{IsCompiled}
 use Rattle.mm_machine.specs.Filled.{body_string_at, filled_part, filled_parts}
 use Rattle.mm_machine.specs.State.{applied}
-use Rattle.mm_rule.proofs.FirstLaw.{floating_index_lt_length, substitution_is_tail_at_index}
+use Rattle.mm_rule.proofs.FirstFloatLaw.{floating_index_lt_length, substitution_is_tail_at_index}
 use Rattle.mm_machine.proofs.FilledLaw.{symbol_string_is}
 
 pub entry_formula_is_at : (nodes : List (List ℕ)) (es : List Entry) (j : ℕ) → j < length es

@@ -12,7 +12,8 @@ use Rattle.mm_spec.specs.Derivation.{are_disjoint, is_disjoint_from}
 use Rattle.mm_spec.specs.Citation.{context_at}
 use Rattle.mm_machine.specs.declared.flag_rows.TheConstants.{ROW_LENGTH}
 use Rattle.mm_machine.specs.FlagRows.{RowsOfFlags, flag_rows, flag_at, AreApartAt}
-use Rattle.mm_machine.specs.FlagRows.{AreRowsDisjointAt, StayDisjoint, StayDisjointWith, Extends}
+use Rattle.mm_machine.specs.FlagRows.{AreRowsDisjointAt, StayDisjoint, StayDisjointWith}
+use Rattle.mm_machine.specs.FlagRows.{ExtendsSymbols}
 use Rattle.mm_machine.specs.FlagRows.{IsColumnOf, AreColumnsOf, HasFlags}
 
 never_set : (m i : ℕ) → get_or (replicate m false) i false ≡ true → ⊥
@@ -112,12 +113,12 @@ pub flagged_are_disjoint : (db : List Statement) (t : ℕ) (r : RowsOfFlags) (s 
 flagged_are_disjoint db t r s columns others disjoint are_columns has_flags =
     grind (arith, nat_tests, list_all_from_each)
 
-column_stays : (symbols symbols' : List ℕ) (column s : ℕ) → Extends symbols symbols'
+column_stays : (symbols symbols' : List ℕ) (column s : ℕ) → ExtendsSymbols symbols symbols'
     → IsColumnOf symbols column s → IsColumnOf symbols' column s
 column_stays symbols symbols' column s h1 h2 =
     grind (arith, common_steps, length-append, get_or_append_left)
 
-pub columns_stay : (symbols symbols' columns others : List ℕ) → Extends symbols symbols'
+pub columns_stay : (symbols symbols' columns others : List ℕ) → ExtendsSymbols symbols symbols'
     → AreColumnsOf symbols columns others → AreColumnsOf symbols' columns others
 columns_stay symbols symbols' columns others extends are_columns =
     grind (arith, common_steps, column_stays)

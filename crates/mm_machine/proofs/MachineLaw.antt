@@ -19,7 +19,7 @@ use Rattle.mm_machine.specs.Entries.{entry_formulas}
 use Rattle.mm_machine.specs.State.{MachineState, machine_state, with_mark, Repeats, IsMachine}
 use Rattle.mm_machine.specs.State.{applied}
 use Rattle.mm_machine.specs.declared.reason.StepRefused.{StepRefused}
-use Rattle.mm_machine.specs.Applied.{IsRefusalOf, AnswersStep}
+use Rattle.mm_machine.specs.Applied.{IsStepRefusalOf, AnswersStep}
 use Rattle.mm_machine.proofs.EntryLaw.{entries_are_kept, formulas_are_kept, entry_formulas_push}
 use Rattle.mm_machine.proofs.EntryTestLaw.{formula_le_limit}
 use Rattle.mm_machine.proofs.MarksLaw.{rising_push}
@@ -238,7 +238,7 @@ one_formula nodes stack e h1 h2 = grind (arith, common_steps)
 -- the answer of a step that changes the entries alone
 pub is_applied_if_kept : {T : Type 0} (db : List Statement) (t a : ℕ) (s s' : MachineState)
     → (r : Result T StepRefused) → OnOk r (applied db t a s.stack ≡ Ok s'.stack)
-    → OnOk r (0 < length s'.stack) → IfErr r (λ e. IsRefusalOf e (applied db t a s.stack))
+    → OnOk r (0 < length s'.stack) → IfErr r (λ e. IsStepRefusalOf e (applied db t a s.stack))
     → s'.marks ≡ s.marks → s'.formulas ≡ s.formulas → s'.variable_flags ≡ s.variable_flags
     → AnswersStep db t a s s' r
 is_applied_if_kept db t a s s' r h1 h2 h3 h4 h5 h6 = grind (arith, common_steps)

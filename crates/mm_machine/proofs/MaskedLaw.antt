@@ -3,10 +3,10 @@ use Rattle.std.proofs.lemmas.Grind.{common_steps}
 use Rattle.std.proofs.Common.{◌≡◌, ℕ, ◌<◌, List, [], ◌∷◌, ◌++◌, length, take, get_or, arith, All}
 use Rattle.std.proofs.Common.{Result, OnOk, OnErr}
 use Rattle.mm_spec.specs.Derivation.{Formula}
-use Rattle.mm_nodes.specs.Strings.{Extends as Keeps}
+use Rattle.mm_nodes.specs.Strings.{Extends}
 use Rattle.mm_machine.specs.declared.entry.Entry.{Entry}
 use Rattle.mm_machine.specs.Entries.{IsStack, AreInRange, entry_formulas}
-use Rattle.mm_machine.specs.FlagRows.{Extends}
+use Rattle.mm_machine.specs.FlagRows.{ExtendsSymbols}
 use Rattle.mm_machine.specs.Masks.{Owned, AreMasked, AreAllMasked, entry_masks}
 use Rattle.mm_machine.specs.State.{IsMaskedMachine}
 use Rattle.mm_machine.proofs.StackLaw.{extends_less}
@@ -25,10 +25,10 @@ module _ {nodes : List (List ℕ)} {stack : List Entry} {marks : List ℕ} {mark
   pub pushed_masked : {T E : Type 0} (r : Result T E) (o' : Owned) (nodes' : List (List ℕ))
       (stack' : List Entry) (below keep m : ℕ) (symbols f : Formula) → o'.variable_flags
       ≡ o.variable_flags
-      → Extends o.symbols o'.symbols → (All (λ s. s < length o.variable_flags) o.symbols
+      → ExtendsSymbols o.symbols o'.symbols → (All (λ s. s < length o.variable_flags) o.symbols
       → All (λ s. s < length o.variable_flags) o'.symbols) → AreMasked o.variable_flags o'.symbols m
       f → All (λ s. s < length o.variable_flags) f → IsStack nodes' stack' → below ≡ length stack
-      → keep ≡ length nodes → symbols ≡ f → Keeps (take keep nodes) nodes'
+      → keep ≡ length nodes → symbols ≡ f → Extends (take keep nodes) nodes'
       → OnOk r (entry_formulas nodes' stack' ≡ take below (entry_formulas nodes stack) ++ symbols
       ∷ []) → OnErr r (entry_formulas nodes' stack' ≡ take below (entry_formulas nodes stack))
       → OnOk r (entry_masks stack' ≡ take below (entry_masks stack) ++ m ∷ [])
@@ -57,7 +57,7 @@ module _ {nodes : List (List ℕ)} {stack : List Entry} {marks : List ℕ} {mark
 
   -- after the step of an assertion
   pub applied_masked : (nodes' : List (List ℕ)) (stack' : List Entry) → IsStack nodes' stack'
-      → Keeps (take floor nodes) nodes'
+      → Extends (take floor nodes) nodes'
       → AreInRange (length o.variable_flags) (entry_formulas nodes' stack')
       → AreAllMasked o.variable_flags o.symbols (entry_masks stack') (entry_formulas nodes' stack')
       → IsMaskedMachine nodes' stack' marks marked floor o

@@ -30,7 +30,7 @@ use Rattle.mm_machine.specs.declared.owners.TheConstants.{OTHERS}
 use Rattle.mm_machine.specs.Entries.{no_entry, entry_formula, entry_formulas}
 use Rattle.mm_machine.specs.Filled.{body_string_at, filled_part, filled_parts, IsFilled}
 use Rattle.mm_machine.specs.declared.entry.Filled.{Filled}
-use Rattle.mm_machine.specs.FlagRows.{Extends}
+use Rattle.mm_machine.specs.FlagRows.{ExtendsSymbols}
 use Rattle.mm_machine.specs.Masks.{AreVariablesOf, HasOwnBit, IsMasked, AreMasked, AreAllMasked}
 use Rattle.mm_machine.specs.Masks.{entry_masks, Includes, IncludesPart, IsNoVariable, StayMasked}
 use Rattle.mm_machine.specs.Masks.{IsApartFrom, AreApart, Owned}
@@ -48,7 +48,8 @@ includes_first m n i is_set = omega (arith, bit_at_or m n i, bit_at-lt n i, is_s
 pub includes_second : (m n : ℕ) → Includes (bit_or m n) n
 includes_second m n i is_set = omega (arith, bit_at_or m n i, bit_at-lt m i, is_set)
 
-module _ (vs : List Bool) (owners owners' : List ℕ) (m n s : ℕ) (extends : Extends owners owners')
+module _ (vs : List Bool) (owners owners' : List ℕ) (m n s : ℕ) (extends : ExtendsSymbols owners
+    owners')
     (includes : Includes n m) where
   pub masked_by_more : IsMasked vs owners m s → IsMasked vs owners' n s
   masked_by_more is_masked is_variable =
@@ -69,20 +70,22 @@ module _ (vs : List Bool) (owners owners' : List ℕ) (m n s : ℕ) (extends : E
 pub itself_included : (m : ℕ) → Includes m m
 itself_included m i is_set = is_set
 
-pub itself_extended : (owners : List ℕ) → Extends owners owners
+pub itself_extended : (owners : List ℕ) → ExtendsSymbols owners owners
 itself_extended owners = ([], sym (append-nil owners))
 
-pub extended_further : (xs ys zs : List ℕ) → Extends xs ys → Extends ys zs → Extends xs zs
+pub extended_further : (xs ys zs : List ℕ) → ExtendsSymbols xs ys → ExtendsSymbols ys zs
+    → ExtendsSymbols xs zs
 extended_further xs ys zs first second = grind (arith, common_steps, append_assoc)
 
 pub formula_masked_by_more : (vs : List Bool) (owners owners' : List ℕ) (m n : ℕ) (f : Formula)
-    → Extends owners owners' → Includes n m → AreMasked vs owners m f → AreMasked vs owners' n f
+    → ExtendsSymbols owners owners' → Includes n m → AreMasked vs owners m f
+    → AreMasked vs owners' n f
 formula_masked_by_more vs owners owners' m n f extends includes are_masked =
     All-weaker (IsMasked vs owners m) (IsMasked vs owners' n)
     (λ s. masked_by_more vs owners owners' m n s extends includes) f are_masked
 
 pub all_masked_by_more : (vs : List Bool) (owners owners' : List ℕ) (ms : List ℕ)
-    (fs : List Formula) → Extends owners owners' → AreAllMasked vs owners ms fs
+    (fs : List Formula) → ExtendsSymbols owners owners' → AreAllMasked vs owners ms fs
     → AreAllMasked vs owners' ms fs
 all_masked_by_more vs owners owners' ms fs extends all_masked i i_lt =
     grind (arith, common_steps, formula_masked_by_more, itself_included)
@@ -148,7 +151,8 @@ pub constant_masked : (vs : List Bool) (owners : List ℕ) (m s : ℕ) → get_o
 constant_masked vs owners m s is_constant is_variable = grind (arith, common_steps, true≢false)
 
 pub mask_more : (vs : List Bool) (owners owners' : List ℕ) (m n : ℕ) (f : List ℕ) (i s : ℕ)
-    → Extends owners owners' → i < length f → s ≡ get_or f i s → AreMasked vs owners m (take i f)
+    → ExtendsSymbols owners owners' → i < length f → s ≡ get_or f i s
+    → AreMasked vs owners m (take i f)
     → IsMasked vs owners' n s → AreMasked vs owners' (bit_or m n) (take (i + 1) f)
 mask_more vs owners owners' m n f i s extends i_lt s_is so_far is_masked =
     subst (AreMasked vs owners' (bit_or m n)) (sym (take_more f i s i_lt))
@@ -470,7 +474,8 @@ module _ {nodes : List (List ℕ)} {stack marked : List Entry} {o : Owned}
     owners_in_range = has_masks.owners_in_range;
   }
 
-  pub masks_with_owners : (o' : Owned) → o'.variable_flags ≡ o.variable_flags → Extends o.symbols
+  pub masks_with_owners : (o' : Owned) → o'.variable_flags ≡ o.variable_flags
+      → ExtendsSymbols o.symbols
       o'.symbols → (All (λ s. s < length o.variable_flags) o.symbols
       → All (λ s. s < length o.variable_flags) o'.symbols) → HasMasks nodes stack marked o'
   masks_with_owners o' variables_stay extends stay_in_range = record {

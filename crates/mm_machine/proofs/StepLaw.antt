@@ -24,7 +24,7 @@ use Rattle.mm_machine.specs.declared.reason.StepRefused.{StepRefused}
 use Rattle.mm_machine.specs.Entries.{no_entry, IsEntry, entry_formula, entry_formulas, AreInRange}
 use Rattle.mm_machine.specs.Filled.{filled_part, filled_parts}
 use Rattle.mm_machine.specs.State.{applied}
-use Rattle.mm_machine.specs.Applied.{entries_after, TestsRule, IsRefusalOf}
+use Rattle.mm_machine.specs.Applied.{entries_after, TestsRule, IsStepRefusalOf}
 use Rattle.mm_machine.proofs.EntryRuleLaw.{entry_formula_is_at}
 use Rattle.mm_machine.proofs.FilledLaw.{symbol_string_is, All_behind, All_flat_map}
 
@@ -203,11 +203,12 @@ module _ (db : List Statement) (t : ℕ) (c : CompiledRule) (nodes nodes' : List
   step_has_entry (Err e) nodes'' stack'' entries_are = tt
 
   pub step_refusal_is_right : {T : Type 0} (r : Result T StepRefused) (nodes'' : List (List ℕ))
-      (stack'' : List Entry) → IfErr r (λ e. IsRefusalOf e (entries_after nodes' stack below parts))
-      → IfErr r (λ e. IsRefusalOf e (applied db t c.assertion (entry_formulas nodes stack)))
+      (stack'' : List Entry)
+      → IfErr r (λ e. IsStepRefusalOf e (entries_after nodes' stack below parts))
+      → IfErr r (λ e. IsStepRefusalOf e (applied db t c.assertion (entry_formulas nodes stack)))
   step_refusal_is_right (Ok x) nodes'' stack'' refused = refused
   step_refusal_is_right (Err e) nodes'' stack'' refused =
-      subst (IsRefusalOf e) (sym applied_is) refused
+      subst (IsStepRefusalOf e) (sym applied_is) refused
 
   pub step_in_range : {T : Type 0} (r : Result T StepRefused) (nodes'' : List (List ℕ))
       (stack'' : List Entry) → IsCompiled db c

@@ -16,9 +16,9 @@ use Rattle.mm_machine.specs.declared.reason.StepRefused.TheVariants.{Fault, Memo
 use Rattle.mm_machine.specs.State.{MachineState, reason_of, applied}
 
 -- a step that was refused for a reason fails for this reason
-abbrev pub IsRefusalOf : StepRefused → Result (List Formula) SpecReason → Type 0
-IsRefusalOf (Fault reason) r = r ≡ Err (reason_of reason)
-IsRefusalOf Memory r = Unit {0}
+abbrev pub IsStepRefusalOf : StepRefused → Result (List Formula) SpecReason → Type 0
+IsStepRefusalOf (Fault reason) r = r ≡ Err (reason_of reason)
+IsStepRefusalOf Memory r = Unit {0}
 
 -- The entries after a step that takes those from index `below` on as its premises, and pushes the
 -- parts with each variable replaced. It fails if that formula is too long.
@@ -37,7 +37,7 @@ TestsRule db t c nodes stack (Ok below) =
     × (applied db t c.assertion (entry_formulas nodes stack)
     ≡ entries_after nodes stack below c.formula)
 TestsRule db t c nodes stack (Err e) =
-    IsRefusalOf e (applied db t c.assertion (entry_formulas nodes stack))
+    IsStepRefusalOf e (applied db t c.assertion (entry_formulas nodes stack))
 
 -- At theorem `t` the step of assertion `a` leads from the state `s` to the state `s'`. It changes
 -- the entries alone, and there is at least the one that it pushes.
@@ -51,5 +51,5 @@ pub record LeadsTo (db : List Statement) (t a : ℕ) (s s' : MachineState) : Typ
 pub record AnswersStep {T : Type 0} (db : List Statement) (t a : ℕ) (s s' : MachineState)
     (answer : Result T StepRefused) : Type 0 where
   pub leads_if_ok : OnOk answer (LeadsTo db t a s s')
-  pub refusal_is_right : IfErr answer (λ e. IsRefusalOf e (applied db t a s.stack))
+  pub refusal_is_right : IfErr answer (λ e. IsStepRefusalOf e (applied db t a s.stack))
   pub variables_stay : s'.variable_flags ≡ s.variable_flags

@@ -40,8 +40,8 @@ pub record StayDisjointWith (s : ℕ) (others : List ℕ) (r r' : RowsOfFlags) :
       → AreRowsDisjointAt db t r → AreRowsDisjointAt db t r'
 
 -- the second list begins with the first
-abbrev pub Extends : List ℕ → List ℕ → Type 0
-Extends xs ys = (more : List ℕ) × (ys ≡ xs ++ more)
+abbrev pub ExtendsSymbols : List ℕ → List ℕ → Type 0
+ExtendsSymbols xs ys = (more : List ℕ) × (ys ≡ xs ++ more)
 
 -- the column is that of the symbol
 pub record IsColumnOf (symbols : List ℕ) (column s : ℕ) : Type 0 where

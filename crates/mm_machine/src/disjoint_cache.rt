@@ -1,7 +1,7 @@
 //! Pairs of symbols that are known to be disjoint at a theorem.
 
 ghost use Rattle.std.specs.Prelude.{◌≡◌, ◌⊎◌, [], ℕ, List, true, IfOk};
-ghost use Rattle.mm_machine.specs.FlagRows.{flag_rows, AreColumnsOf, HasFlags, Extends};
+ghost use Rattle.mm_machine.specs.FlagRows.{flag_rows, AreColumnsOf, HasFlags, ExtendsSymbols};
 ghost use Rattle.mm_spec.specs.Statement.{Statement};
 ghost use Rattle.mm_spec.specs.Derivation.{is_disjoint_from};
 ghost use Rattle.mm_spec.specs.Citation.{context_at};
@@ -145,7 +145,7 @@ impl<A: Allocator> DisjointCache<A> {
         ensures stay_disjoint { (db : List Statement) (t : ℕ)
             → is_disjoint_from (context_at db t) symbol others.now ≡ true
             → AreDisjointAt db t self.old → AreDisjointAt db t self.new }
-        ensures extends { Extends self.old.rows.symbols self.new.rows.symbols }
+        ensures extends { ExtendsSymbols self.old.rows.symbols self.new.rows.symbols }
     {
         self.rows.insert(symbol, others);
     }

@@ -75,10 +75,10 @@ pub fn has_symbols<A: Allocator>(
         (λ r. r ≡ bytes_eq (entry_formula nodes.old premise.now) symbols.now) }
 {
     if symbols.is_empty() {
-        return Ok(is_empty(nodes, premise));
+        return Ok(has_no_symbols(nodes, premise));
     }
     let first = symbols[0];
-    if !is_typed(nodes, Sym::new(first.number()), premise) {
+    if !begins_with_typecode(nodes, Sym::new(first.number()), premise) {
         return Ok(false);
     }
     let count = symbols.len() - 1;
@@ -134,7 +134,7 @@ fn is_wanted_formula<A: Allocator>(
     match first_constant(wanted) {
         None => is_wanted_by_symbols(nodes, premises, wanted, premise, symbols),
         Some(typecode) => {
-            if !is_typed(nodes, typecode, premise) {
+            if !begins_with_typecode(nodes, typecode, premise) {
                 return Ok(false);
             }
             is_body_of(nodes, premises, &wanted[1..], premise, list)
@@ -143,7 +143,7 @@ fn is_wanted_formula<A: Allocator>(
 }
 
 /// Whether the formula of an entry has no symbols.
-fn is_empty<A: Allocator>(_nodes: &Nodes<A>, premise: &Entry) -> bool
+fn has_no_symbols<A: Allocator>(_nodes: &Nodes<A>, premise: &Entry) -> bool
     requires is_entry { IsEntry _nodes.now premise.now }
     ensures { result ≡ bytes_eq (entry_formula _nodes.now premise.now) [] }
 {
@@ -152,7 +152,7 @@ fn is_empty<A: Allocator>(_nodes: &Nodes<A>, premise: &Entry) -> bool
 
 /// Whether an entry begins with the typecode.
 #[inline(always)]
-fn is_typed<A: Allocator>(_nodes: &Nodes<A>, typecode: Sym, premise: &Entry) -> bool
+fn begins_with_typecode<A: Allocator>(_nodes: &Nodes<A>, typecode: Sym, premise: &Entry) -> bool
     requires is_entry { IsEntry _nodes.now premise.now }
     ensures { result
         ≡ bytes_eq (entry_formula _nodes.now premise.now)
@@ -185,7 +185,7 @@ pub fn premises_match<A: Allocator>(
     let mut part_index = 0;
     for (j, hypothesis) in rule.hypotheses.iter().enumerate() {
         let is_fitting = match *hypothesis {
-            Hypothesis::Floating(typecode) => is_typed(nodes, typecode, &premises[j]),
+            Hypothesis::Floating(typecode) => begins_with_typecode(nodes, typecode, &premises[j]),
             Hypothesis::Essential(part_count) => {
                 let end = part_index + part_count as usize;
                 let wanted = &rule.parts[part_index..end];

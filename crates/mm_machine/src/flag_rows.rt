@@ -2,7 +2,7 @@
 
 ghost use Rattle.std.specs.Prelude.{◌≡◌, ◌<◌, ◌∷◌, [], ℕ, length, get_or, true, false, IfSome};
 ghost use Rattle.std.specs.Prelude.{slice_set};
-ghost use Rattle.mm_machine.specs.FlagRows.{flag_rows, AreColumnsOf, HasFlags, Extends};
+ghost use Rattle.mm_machine.specs.FlagRows.{flag_rows, AreColumnsOf, HasFlags, ExtendsSymbols};
 ghost use Rattle.mm_machine.specs.FlagRows.{StayDisjoint, StayDisjointWith};
 
 use mm_database::Sym;
@@ -89,7 +89,7 @@ impl<A: Allocator> FlagRows<A> {
     /// Adds a row without flags, and returns its index; `None` if there is no room for it.
     fn add(&mut self, symbol: Sym) -> Option<usize>
         ensures stay_disjoint { StayDisjoint self.old self.new }
-        ensures extends { Extends self.old.symbols self.new.symbols }
+        ensures extends { ExtendsSymbols self.old.symbols self.new.symbols }
         ensures index_lt_length { IfSome result (λ n. n < length self.new.symbols) }
         ensures index_lt_row_length { IfSome result (λ n. n < ROW_LENGTH) }
         ensures adds_symbol { IfSome result (λ n. get_or self.new.symbols n 0 ≡ symbol) }
@@ -110,7 +110,7 @@ impl<A: Allocator> FlagRows<A> {
     /// The index of a symbol, which gets a row if it has none; `None` if there is no room for it.
     fn find_or_add(&mut self, symbol: Sym) -> Option<usize>
         ensures stay_disjoint { StayDisjoint self.old self.new }
-        ensures extends { Extends self.old.symbols self.new.symbols }
+        ensures extends { ExtendsSymbols self.old.symbols self.new.symbols }
         ensures index_lt_length { IfSome result (λ n. n < length self.new.symbols) }
         ensures index_lt_row_length { IfSome result (λ n. n < ROW_LENGTH) }
         ensures finds_symbol { IfSome result (λ n. get_or self.new.symbols n 0 ≡ symbol) }
@@ -160,7 +160,7 @@ impl<A: Allocator> FlagRows<A> {
     /// Sets the flags of a symbol and others, from which it is disjoint, as far as there is room.
     pub fn insert(&mut self, symbol: Sym, others: &[Sym])
         ensures stay_disjoint { StayDisjointWith symbol others.now self.old self.new }
-        ensures extends { Extends self.old.symbols self.new.symbols }
+        ensures extends { ExtendsSymbols self.old.symbols self.new.symbols }
     {
         match self.find_or_add(symbol) {
             None => {}
@@ -208,7 +208,7 @@ fn add_row<A: Allocator>(
     requires index_lt_row_length { index < ROW_LENGTH }
     ensures stay_disjoint { StayDisjoint (flag_rows symbols.old.items flags.old.items)
         (flag_rows symbols.new.items flags.new.items) }
-    ensures extends { Extends symbols.old.items symbols.new.items }
+    ensures extends { ExtendsSymbols symbols.old.items symbols.new.items }
     ensures index_lt_length { IfSome result (λ n. n < length symbols.new.items) }
     ensures index_lt_row_length { IfSome result (λ n. n < ROW_LENGTH) }
     ensures adds_symbol { IfSome result (λ n. get_or symbols.new.items n 0 ≡ symbol) }

@@ -2,7 +2,7 @@
 
 ghost use Rattle.std.specs.Prelude.{◌≡◌, ◌<◌, ◌≤◌, [], All, length, get_or, IfOk, IfSome};
 ghost use Rattle.mm_machine.specs.Masks.{AreVariablesOf, IsMasked, AreMasked, owned};
-ghost use Rattle.mm_machine.specs.FlagRows.{Extends};
+ghost use Rattle.mm_machine.specs.FlagRows.{ExtendsSymbols};
 
 use mm_database::{Database, Sym};
 use mm_rule::{empty, put_number};
@@ -44,7 +44,10 @@ impl<A: Allocator> Model for Owners<A> {
 }
 
 /// Lists for each symbol of the database whether it is a variable.
-fn variables_of<A: Allocator>(alloc: A, database: &Database<A>) -> Result<Vec<bool, A>, AllocError>
+fn list_variable_flags<A: Allocator>(
+    alloc: A,
+    database: &Database<A>,
+) -> Result<Vec<bool, A>, AllocError>
     ensures { IfOk result (λ v. AreVariablesOf database.now.statements v.items) }
 {
     let mut variables = Vec::new(alloc);
@@ -64,7 +67,7 @@ impl<A: Allocator> Owners<A> {
         ensures no_owners { IfOk result (λ o. o.symbols ≡ []) }
     {
         Ok(Owners {
-            variables: variables_of(alloc, database)?,
+            variables: list_variable_flags(alloc, database)?,
             symbols: Vec::new(alloc),
             slots: vec![in alloc; 0; database.symbol_count() as usize]?,
         })
@@ -110,7 +113,7 @@ impl<A: Allocator> Owners<A> {
     /// Gives a variable a bit, if one is left and there is memory. Returns the index of its bit.
     fn add(&mut self, symbol: Sym) -> usize
         ensures variables_stay { self.new.variable_flags ≡ self.old.variable_flags }
-        ensures extends { Extends self.old.symbols self.new.symbols }
+        ensures extends { ExtendsSymbols self.old.symbols self.new.symbols }
         ensures stay_in_range { symbol < length self.old.variable_flags
             → All (λ s. s < length self.old.variable_flags) self.old.symbols
             → All (λ s. s < length self.old.variable_flags) self.new.symbols }
@@ -136,7 +139,7 @@ impl<A: Allocator> Owners<A> {
     pub fn mask_of_symbol(&mut self, symbol: Sym) -> u64
         requires { symbol < length self.old.variable_flags }
         ensures variables_stay { self.new.variable_flags ≡ self.old.variable_flags }
-        ensures extends { Extends self.old.symbols self.new.symbols }
+        ensures extends { ExtendsSymbols self.old.symbols self.new.symbols }
         ensures stay_in_range { All (λ s. s < length self.old.variable_flags) self.old.symbols
             → All (λ s. s < length self.old.variable_flags) self.new.symbols }
         ensures is_masked { IsMasked self.old.variable_flags self.new.symbols result symbol }
@@ -154,7 +157,7 @@ impl<A: Allocator> Owners<A> {
     pub fn mask_of(&mut self, formula: &[Sym]) -> u64
         requires { All (λ s. s < length self.old.variable_flags) formula.now }
         ensures variables_stay { self.new.variable_flags ≡ self.old.variable_flags }
-        ensures extends { Extends self.old.symbols self.new.symbols }
+        ensures extends { ExtendsSymbols self.old.symbols self.new.symbols }
         ensures stay_in_range { All (λ s. s < length self.old.variable_flags) self.old.symbols
             → All (λ s. s < length self.old.variable_flags) self.new.symbols }
         ensures are_masked { AreMasked self.old.variable_flags self.new.symbols result formula.now }

@@ -10,7 +10,7 @@ ghost use Rattle.mm_machine.specs.DisjointCache.{AreDisjointAt};
 ghost use Rattle.mm_machine.specs.Entries.{IsStack, AreInRange, entry_formulas};
 ghost use Rattle.mm_machine.specs.Masks.{AreVariablesOf, AreAllMasked, StayMasked, entry_masks};
 ghost use Rattle.mm_machine.specs.State.{applied};
-ghost use Rattle.mm_machine.specs.Applied.{IsRefusalOf, entries_after};
+ghost use Rattle.mm_machine.specs.Applied.{IsStepRefusalOf, entries_after};
 
 use crate::disjoint_cache::DisjointCache;
 use crate::distinct::DistinctVariables;
@@ -68,7 +68,7 @@ fn replace_by_listed<A: Allocator>(
         (entries_after nodes.old stack.old.items below formula.now
         ≡ Ok (entry_formulas nodes.new stack.new.items)) }
     ensures refusal_is_right { IfErr result
-        (λ e. IsRefusalOf e (entries_after nodes.old stack.old.items below formula.now)) }
+        (λ e. IsStepRefusalOf e (entries_after nodes.old stack.old.items below formula.now)) }
     ensures stay_in_range { OnErr result ((w : ℕ)
         → AreInRange w (entry_formulas nodes.old stack.old.items)
         → AreInRange w (entry_formulas nodes.new stack.new.items)) }
@@ -109,7 +109,7 @@ fn replace_by_parts<A: Allocator>(
         (entries_after nodes.old stack.old.items below (Constant typecode ∷ parts.now)
         ≡ Ok (entry_formulas nodes.new stack.new.items)) }
     ensures refusal_is_right { IfErr result
-        (λ e. IsRefusalOf e
+        (λ e. IsStepRefusalOf e
         (entries_after nodes.old stack.old.items below (Constant typecode ∷ parts.now))) }
     ensures stay_in_range { OnErr result ((w : ℕ)
         → AreInRange w (entry_formulas nodes.old stack.old.items)
@@ -158,7 +158,7 @@ fn replace_by_formula<A: Allocator>(
         (entries_after nodes.old stack.old.items below formula.now
         ≡ Ok (entry_formulas nodes.new stack.new.items)) }
     ensures refusal_is_right { IfErr result
-        (λ e. IsRefusalOf e (entries_after nodes.old stack.old.items below formula.now)) }
+        (λ e. IsStepRefusalOf e (entries_after nodes.old stack.old.items below formula.now)) }
     ensures stay_in_range { OnErr result ((w : ℕ)
         → AreInRange w (entry_formulas nodes.old stack.old.items)
         → AreInRange w (entry_formulas nodes.new stack.new.items)) }
@@ -214,7 +214,7 @@ pub fn apply_rule<A: Allocator>(
         ≡ Ok (entry_formulas nodes.new stack.new.items)) }
     ensures has_entry { OnOk result (0 < length (entry_formulas nodes.new stack.new.items)) }
     ensures refusal_is_right { IfErr result
-        (λ e. IsRefusalOf e
+        (λ e. IsStepRefusalOf e
         (applied database.now.statements theorem rule.now.assertion
         (entry_formulas nodes.old stack.old.items))) }
 {

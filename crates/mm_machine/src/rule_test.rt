@@ -205,7 +205,7 @@ fn are_all_disjoint_by_rows<A: Allocator>(
 /// Whether each variable of `first` is disjoint from each variable of `second`, which both may be
 /// long.
 #[inline(always)]
-fn are_apart<A: Allocator>(
+fn lists_are_disjoint<A: Allocator>(
     database: &Database<A>,
     theorem: u32,
     first: &[Sym],
@@ -268,7 +268,7 @@ fn pairs_are_disjoint<A: Allocator>(
     for pair in pairs {
         let first = symbols_at(symbols, segments, pair.0);
         let second = symbols_at(symbols, segments, pair.1);
-        if !are_apart(database, theorem, first, second, columns, cache) {
+        if !lists_are_disjoint(database, theorem, first, second, columns, cache) {
             return false;
         }
     }
@@ -383,7 +383,7 @@ fn is_surely_apart_from<A: Allocator>(
 /// Whether all variables of a mask are known to be disjoint from all variables of another: each has
 /// a bit of its own.
 #[inline(always)]
-fn are_apart_by_masks<A: Allocator>(
+fn are_surely_apart<A: Allocator>(
     database: &Database<A>,
     theorem: u32,
     owners: &[Sym],
@@ -466,7 +466,7 @@ fn keeps_disjoint<A: Allocator>(
         let second = premises[pair.1 as usize];
         count = count.saturating_add(bit_pairs(first.mask, second.mask));
         if count <= MAX_SYMBOL_PAIRS
-            && are_apart_by_masks(
+            && are_surely_apart(
                 database,
                 theorem,
                 owners.symbols(),

@@ -8,9 +8,9 @@ use Rattle.mm_outline.specs.Parts.{progress, token_at, IsPartBefore}
 use Rattle.mm_outline.specs.NextStatement.{Leads, tokens_from}
 use Rattle.mm_outline.specs.declared.parts.Part.{Part}
 use Rattle.mm_outline.specs.declared.parts.Part.TheVariants.{Start, Labelled}
-use Rattle.mm_outline.proofs.TurnsLaw.{between_with_one_more}
-use Rattle.mm_outline.proofs.LeadsLaw.{nothing_read_leads_to_itself, leads_one_after_other}
-use Rattle.mm_outline.proofs.LeadsLaw.{continued_leads_on, tokens_from_begin_with}
+use Rattle.mm_outline.proofs.BetweenLaw.{between_with_one_more}
+use Rattle.mm_outline.proofs.ProgressLaw.{nothing_read_leads_to_itself, leads_one_after_other}
+use Rattle.mm_outline.proofs.ProgressLaw.{continued_leads_on, tokens_from_begin_with}
 
 -- a part after a keyword
 abbrev pub TakesWords : Part → Type 0

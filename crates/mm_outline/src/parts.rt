@@ -79,7 +79,7 @@ pub enum Transition {
 }
 
 /// What the token with the index `token_index` does, which has the class `class`.
-#[tactic(auto, using(crate::proofs::TurnsLaw::between_with_one_more))]
+#[tactic(auto, using(crate::proofs::BetweenLaw::between_with_one_more))]
 fn transition_for(
     _text: &[u8],
     _tokens: &[Word],

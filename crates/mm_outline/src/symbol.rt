@@ -1,4 +1,5 @@
-//! The numbers of symbols.
+//! The numbers of symbols. The rest of this crate doesn't use them: they stand here for `mm_scope`,
+//! `mm_frame` and `mm_tell`, and `mm_database` passes them on.
 
 ghost use Rattle.std.specs.Prelude.{◌≡◌, ℕ};
 

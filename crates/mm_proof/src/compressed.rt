@@ -11,7 +11,7 @@ ghost use Rattle.mm_proof.specs.Refused.{StartsWith};
 use crate::labels::usable_label;
 use crate::letters::LettersRead;
 use crate::refused::{ProofRefused, refused};
-use mm_database::room::with_room;
+use mm_database::capacity::with_expected_capacity;
 use mm_database::{Code, Database, Word};
 use mm_steps::Steps;
 use std::alloc::Allocator;
@@ -50,8 +50,8 @@ fn read_labels<A: Allocator>(
     Err(refused(end, Code::OpenBrackets))
 }
 
-/// The minimum number of labels for which room is reserved at first.
-const MIN_LABELS_ROOM: usize = 64;
+/// The least number of labels for which capacity is reserved at first. Most proofs name fewer.
+const MIN_LABEL_CAPACITY: usize = 64;
 
 /// Returns an upper bound of the number of letters of the words: they end at place `end`, and a
 /// place is a byte offset.
@@ -86,7 +86,7 @@ pub(crate) fn read_compressed<A: Allocator + Copy>(
         (compressed_faults database.now.statements theorem end
         (bracketed (as_tokens database.now.text words.now))) e) }
 {
-    let mut labels = with_room(alloc, words.len().max(MIN_LABELS_ROOM));
+    let mut labels = with_expected_capacity(alloc, words.len().max(MIN_LABEL_CAPACITY));
     labels.extend_from_slice(database.frame(theorem).hyps.as_slice())?;
     let label_count = read_labels(database, theorem, words, end, &mut labels)?;
     let letter_words = &words[label_count + 1..];

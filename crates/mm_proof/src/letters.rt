@@ -16,14 +16,14 @@ ghost use Rattle.mm_proof.specs.Refused.{StartsWith};
 
 use crate::digits::{LetterKind, letter_of, with_digit};
 use crate::refused::{ProofRefused, refused};
-use mm_database::room::with_room;
+use mm_database::capacity::with_expected_capacity;
 use mm_database::{Code, Word};
 use mm_steps::{Step, Steps};
 use std::alloc::{AllocError, Allocator};
 use std::marker::Model;
 
-/// The number of marks for which room is reserved at first. Most proofs have fewer.
-const MARKS_ROOM: usize = 64;
+/// The number of marks for which capacity is reserved at first. Most proofs have fewer.
+const MARK_CAPACITY: usize = 64;
 
 /// The number to which the next letter belongs, if that is a letter of a number.
 #[derive(Clone, Copy)]
@@ -91,7 +91,7 @@ impl<A: Allocator> LettersRead<A> {
     {
         LettersRead {
             labels,
-            marks: with_room(alloc, MARKS_ROOM),
+            marks: with_expected_capacity(alloc, MARK_CAPACITY),
             steps: Steps::none(alloc, theorem, max_letters),
         }
     }

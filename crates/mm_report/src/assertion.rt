@@ -60,7 +60,7 @@ fn start_place<D: Allocator>(database: &Database<'_, D>, statement: u32) -> u64
     requires { statement < length database.now.statements }
     ensures { result ≡ start_place database.now.statements statement }
 {
-    match database.label_at(statement) {
+    match database.label_place(statement) {
         Some(at) => u64::from(at),
         None => 0,
     }

@@ -23,7 +23,7 @@ use Rattle.mm_rule.specs.declared.rule.Hypothesis.TheVariants.{Floating, Essenti
 use Rattle.mm_rules.specs.Rules.{AreCovered, AreFloatingIndices, AreCompiled, indexed_parts}
 use Rattle.mm_rules.specs.Rules.{indexed_pairs}
 use Rattle.mm_rule.specs.Assertions.{as_pairs, is_assertion_at}
-use Rattle.mm_rule.proofs.FirstLaw.{floating_index_lt_length}
+use Rattle.mm_rule.proofs.FirstFloatLaw.{floating_index_lt_length}
 
 -- the map of the first i + 1 elements is that of the first i, followed by the value of the next one
 pub map_take_more : {X Y : Type 0} (f : X → Y) (xs : List X) (i : ℕ) (d : X) → i < length xs

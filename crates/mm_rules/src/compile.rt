@@ -18,7 +18,7 @@ use std::marker::Model;
 
 /// The variable of a hypothesis that has the form of a `$f`: a constant and a variable. `None` for
 /// any other hypothesis.
-fn variable_of<A: Allocator>(database: &Database<A>, hypothesis: u32) -> Option<Sym>
+fn bound_variable<A: Allocator>(database: &Database<A>, hypothesis: u32) -> Option<Sym>
     requires { hypothesis < length database.now.statements }
     ensures binds_variable { IfSome result
         (λ y. (y < length (symbol_names database.now.statements))
@@ -48,7 +48,7 @@ fn set_index(indices: &mut [u32], variable: Sym, index: u32)
 }
 
 /// The index of a variable's `$f`.
-fn index_of(indices: &[u32], variable: Sym) -> u32
+fn index_of_floating(indices: &[u32], variable: Sym) -> u32
     requires { variable < length indices.now }
     ensures { result ≡ get_or indices.now variable 0 }
 {
@@ -69,7 +69,7 @@ fn index_variables<A: Allocator>(database: &Database<A>, mandatory: &[u32], indi
     let mut j = mandatory.len();
     while 0 < j {
         j -= 1;
-        match variable_of(database, mandatory[j]) {
+        match bound_variable(database, mandatory[j]) {
             Some(variable) => set_index(indices, variable, j as u32),
             None => {}
         }
@@ -84,7 +84,7 @@ fn compile_symbol<A: Allocator>(database: &Database<A>, indices: &[u32], symbol:
     ensures { result ≡ indexed_part database.now.statements indices.now symbol }
 {
     if database.is_variable(symbol) {
-        PackedPart::variable(index_of(indices, symbol))
+        PackedPart::variable(index_of_floating(indices, symbol))
     } else {
         PackedPart::constant(symbol)
     }
@@ -130,7 +130,7 @@ fn is_first_floating<A: Allocator>(
     formula.len() == 2
         && !database.is_variable(formula[0])
         && database.is_variable(formula[1])
-        && index_of(indices, formula[1]) as usize == index
+        && index_of_floating(indices, formula[1]) as usize == index
 }
 
 /// Builds what the hypotheses require, in lists that are emptied first.
@@ -182,8 +182,8 @@ fn compile_pairs<A: Allocator>(
 {
     empty(pairs);
     for pair in symbol_pairs {
-        let low = index_of(indices, pair.0);
-        let high = index_of(indices, pair.1);
+        let low = index_of_floating(indices, pair.0);
+        let high = index_of_floating(indices, pair.1);
         pairs.push((low, high))?;
     }
     Ok(())

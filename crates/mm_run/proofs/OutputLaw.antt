@@ -10,7 +10,7 @@ use Rattle.mm_spec.specs.Request.{Request}
 use Rattle.mm_spec.specs.Lexed.{lexed_of}
 use Rattle.mm_spec.specs.Statement.{Statement}
 use Rattle.mm_spec.specs.Assertion.{statement_lines}
-use Rattle.mm_spec.specs.Output.{columns, HasNoFault, is_open_at, told, IsReportOf, IsOutput}
+use Rattle.mm_spec.specs.Output.{columns, HasNoFault, is_open_at, told_lines, IsReportOf, IsOutput}
 use Rattle.mm_database.specs.Database.{Contents}
 use Rattle.mm_report.specs.Reports.{open_theorem_count}
 use Rattle.mm_report.specs.Told.{told_of}
@@ -31,7 +31,7 @@ open_theorems_are d true only axioms is_counted axioms_are =
 open_theorems_are d false only axioms is_counted axioms_are = refl
 
 told_are : (d : Contents) (request : Request) → IsCounted request.with_open d
-    → told_of d request.only ≡ told d.read request
+    → told_of d request.only ≡ told_lines d.read request
 told_are d request is_counted =
     ap₂ (λ (b : Bool) (db : List Statement). statement_lines db (is_open_at d.read b) request.only)
     is_counted.flag_is is_counted.statements_are
@@ -47,7 +47,7 @@ is_output request d axioms bytes is_counted has_no_fault axioms_are is_report =
     inr (
       d.read,
       has_no_fault,
-      subst (λ o. IsReportOf (open_as_axioms request.with_open d.read) o (told d.read request)
+      subst (λ o. IsReportOf (open_as_axioms request.with_open d.read) o (told_lines d.read request)
           request
           bytes)
           (open_theorems_are d request.with_open request.only axioms is_counted axioms_are)

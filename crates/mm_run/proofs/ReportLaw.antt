@@ -122,11 +122,11 @@ is_report request db opened told c axioms m have_citations axioms_are is_matrix 
     }
 
 -- the report of a database's marks is the output of its text
-pub table_is_output : (request : Request) (d : Contents) (c : Citing) (axioms : List ℕ)
+pub marks_are_output : (request : Request) (d : Contents) (c : Citing) (axioms : List ℕ)
     → (m : Marks) → IsFaultless request.essential request.with_open d c
     → axioms ≡ columns d.statements request.only → IsMatrix c axioms m
     → IsOutput d.text request (report_of request d axioms m (citing_rows_of request d c))
-table_is_output request d c axioms m is_faultless axioms_are is_matrix =
+marks_are_output request d c axioms m is_faultless axioms_are is_matrix =
     is_output request d axioms _ is_faultless.is_counted is_faultless.has_no_fault axioms_are
     (is_report request d.statements (open_theorem_count request.with_open d axioms)
     (told_of d request.only) c axioms m is_faultless.have_citations axioms_are is_matrix)

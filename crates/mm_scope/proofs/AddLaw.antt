@@ -30,7 +30,7 @@ use Rattle.mm_scope.proofs.JudgeLaw.{bytes_eq_sym}
 use Rattle.mm_outline.proofs.FaultlessLaw.{faultless_constant_is_new, faultless_floating_is_new}
 use Rattle.mm_outline.proofs.FaultlessLaw.{faultless_variable_is_new}
 use Rattle.mm_scope.proofs.KnowsLaw.{no_active_statement_has_word}
-use Rattle.mm_outline.proofs.AmongLaw.{typed_word_is_typing}
+use Rattle.mm_outline.proofs.ActiveWordsLaw.{typed_word_is_typing}
 use Rattle.mm_scope.proofs.LabelsLaw.{labels_after_statement, label_stands_for_nothing}
 use Rattle.mm_scope.proofs.WordEntryLaw.{entry_is_unchanged, entry_of_new_constant}
 use Rattle.mm_scope.proofs.WordEntryLaw.{entry_of_new_variable, entry_of_typed_variable}

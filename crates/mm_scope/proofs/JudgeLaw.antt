@@ -16,7 +16,7 @@ use Rattle.mm_spec.specs.Lawful.{faults_at, faults_at_each, floating_faults, is_
 use Rattle.mm_spec.specs.Lawful.{lesser}
 use Rattle.mm_spec.specs.declared.Word as spec
 use Rattle.mm_outline.specs.Parts.{between, token_at}
-use Rattle.mm_outline.proofs.TurnsLaw.{between_with_one_more, nothing_between_place_and_itself}
+use Rattle.mm_outline.proofs.BetweenLaw.{between_with_one_more, nothing_between_place_and_itself}
 use Rattle.mm_spec.specs.declared.Code.{Code}
 use Rattle.mm_spec.specs.declared.Code.TheVariants.{BadFloating}
 

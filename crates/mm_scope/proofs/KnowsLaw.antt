@@ -24,7 +24,7 @@ use Rattle.mm_database.specs.Names.{is_constant_in, is_variable_in}
 use Rattle.mm_database.specs.declared.names.Symbol.{Symbol}
 use Rattle.mm_scope.proofs.LatestLaw.{in_active_iff_latest_active}
 use Rattle.mm_spec.proofs.ListLaw.{none_passes_no_any}
-use Rattle.mm_outline.proofs.AmongLaw.{word_of_active_is_any, typed_word_is_typing}
+use Rattle.mm_outline.proofs.ActiveWordsLaw.{word_of_active_is_any, typed_word_is_typing}
 use Rattle.mm_scope.proofs.OpenLaw.{latest_active_is_open, declarations_are_local}
 use Rattle.mm_scope.proofs.OpenLaw.{typings_are_local}
 

@@ -40,11 +40,11 @@ module _ (db : List Statement) (s : Statement) (find new : List ℕ → Option �
   labelled_at_last_is_labelled w = rw (list_any, get_at_seam db s []) (or-false (is_labelled w s))
 
   -- a statement that is labelled is one before the last, or the last
-  place_of_labelled : (w : Bytes) (k : ℕ)
+  labelled_is_earlier_or_last : (w : Bytes) (k : ℕ)
       → list_any (is_labelled w) (statement_at (db ++ s ∷ []) k) ≡ true
       → ((k < length db) × (list_any (is_labelled w) (statement_at db k) ≡ true))
       ⊎ ((k ≡ length db) × (is_labelled w s ≡ true))
-  place_of_labelled w k w_labels_k = elim (cases_lt k (length db)) [
+  labelled_is_earlier_or_last w k w_labels_k = elim (cases_lt k (length db)) [
     | inl k_lt_length ↦ inl
         (k_lt_length, sym (labelled_before_is_unchanged w k k_lt_length) ∙ w_labels_k)
     | inr length_le_k ↦
@@ -114,14 +114,14 @@ module _ (db : List Statement) (s : Statement) (find new : List ℕ → Option �
         ]
       ];
       label_is_unique = λ w j k w_labels_j w_labels_k.
-          elim (place_of_labelled w j w_labels_j) [
-            | inl (j_lt_length, w_labelled_j) ↦ elim (place_of_labelled w k w_labels_k) [
+          elim (labelled_is_earlier_or_last w j w_labels_j) [
+            | inl (j_lt_length, w_labelled_j) ↦ elim (labelled_is_earlier_or_last w k w_labels_k) [
               | inl (k_lt_length, w_labelled_k) ↦
                   labels_of_db.label_is_unique w j k w_labelled_j w_labelled_k
               | inr (k_is_last, w_labels_s) ↦
                   absurd (no_earlier_label w j w_labelled_j w_labels_s)
             ]
-            | inr (j_is_last, w_labels_s) ↦ elim (place_of_labelled w k w_labels_k) [
+            | inr (j_is_last, w_labels_s) ↦ elim (labelled_is_earlier_or_last w k w_labels_k) [
               | inl (k_lt_length, w_labelled_k) ↦
                   absurd (no_earlier_label w k w_labelled_k w_labels_s)
               | inr (k_is_last, w_labels_s) ↦ j_is_last ∙ sym k_is_last

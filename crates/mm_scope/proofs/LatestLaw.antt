@@ -11,7 +11,7 @@ use Rattle.mm_spec.proofs.LocalLaw.{get_front, get_at_seam}
 use Rattle.std.proofs.lemmas.Bool.{lt-ltb, cases_lt}
 use Rattle.mm_spec.proofs.FindsLaw.{range_any}
 use Rattle.mm_spec.proofs.ListLaw.{none_passes_no_any}
-use Rattle.mm_outline.proofs.AmongLaw.{word_of_active_is_any}
+use Rattle.mm_outline.proofs.ActiveWordsLaw.{word_of_active_is_any}
 use Rattle.mm_outline.proofs.BlocksLaw.{open_after_one_more}
 use Rattle.mm_scope.specs.WordEntry.{Latest}
 use Rattle.mm_outline.specs.Typed.{has_word}

@@ -16,7 +16,7 @@ use Rattle.mm_spec.specs.declared.Word as spec
 use Rattle.mm_database.specs.Numbered.{AreNumbered}
 use Rattle.mm_outline.specs.Parts.{between, token_at}
 use Rattle.mm_spec.proofs.FindsLaw.{formula_at_place}
-use Rattle.mm_outline.proofs.TurnsLaw.{between_with_one_more, nothing_between_place_and_itself}
+use Rattle.mm_outline.proofs.BetweenLaw.{between_with_one_more, nothing_between_place_and_itself}
 use Rattle.mm_lists.specs.Lists.{with_end}
 use Rattle.mm_database.specs.Names.{with_name}
 use Rattle.mm_lists.proofs.ListsLaw.{joined_with_one_more}

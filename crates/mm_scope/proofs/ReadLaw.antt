@@ -30,7 +30,7 @@ use Rattle.mm_outline.specs.declared.parts.Outline.{Outline}
 use Rattle.std.proofs.lemmas.List.{length-map}
 use Rattle.mm_outline.specs.declared.parts.Part.{Part}
 use Rattle.mm_outline.specs.declared.parts.Part.TheVariants.{Start}
-use Rattle.mm_outline.proofs.LeadsLaw.{leads_one_after_other}
+use Rattle.mm_outline.proofs.ProgressLaw.{leads_one_after_other}
 use Rattle.mm_spec.proofs.ShapeLaw.{count_of_list_and_last}
 
 -- the tokens before `token_index` are those of lawful statements, after which so many blocks are

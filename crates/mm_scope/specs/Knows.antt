@@ -1,4 +1,5 @@
--- What is known of words as symbols and as labels is what the definitions say of them.
+-- What is known of words as symbols and as labels is what the definitions say of them; and what is
+-- wrong with the words of a `$c`, `$v`, `$d` or `$f`.
 use Rattle.std.specs.Prelude.{◌≡◌, ℕ, Bool, true, false, ◌&&◌, not, List, Option, None, Some}
 use Rattle.std.specs.Prelude.{bytes_eq, is_some, nat_eq}
 use Rattle.mm_spec.specs.Text.{Bytes, is_in, fault}

@@ -58,8 +58,8 @@ module _ {A : Type 0} where
 
   -- after the next statement there is its fault; if it has none, the statement was added to what
   -- had been read, otherwise nothing was
-  pub record HasTaken (text : List ℕ) (tokens : List Word) (before : List Outline) (open_blocks : ℕ)
-      (o : Outline) (r : Outlined A) : Type 0 where
+  pub record HasReadNext (text : List ℕ) (tokens : List Word) (before : List Outline)
+      (open_blocks : ℕ) (o : Outline) (r : Outlined A) : Type 0 where
     pub fault : r.fault
         ≡ least (scope_faults (names_before (statements text tokens before) (length before))
         open_blocks

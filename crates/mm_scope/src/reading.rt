@@ -9,7 +9,7 @@ ghost use Rattle.mm_outline.specs.Parts.{AreWithin, IsOutline, depth_after, stat
 ghost use Rattle.mm_outline.specs.Tokens.{AreTokens};
 ghost use Rattle.mm_outline.specs.Statements.{end_fault_of, lexed, statements};
 ghost use Rattle.mm_scope.specs.Scopes.{IsAmong, IsScopeAfter, names_in};
-ghost use Rattle.mm_scope.specs.ReadSoFar.{HasTaken, IsReadSoFar, MayTake, formulas_of};
+ghost use Rattle.mm_scope.specs.ReadSoFar.{HasReadNext, IsReadSoFar, MayTake, formulas_of};
 ghost use Rattle.mm_scope.specs.ReadSoFar.{read_so_far, reading_of};
 
 use crate::scope::Scope;
@@ -158,7 +158,7 @@ impl<'a, A: Allocator + Copy> Outlined<'a, A> {
         requires may_take { MayTake (statements text.now tokens.now self.old.outlines.items) depth
             (statement_of text.now tokens.now outline) }
         ensures { OnOk result
-            (HasTaken text.now tokens.now self.old.outlines.items depth outline self.new) }
+            (HasReadNext text.now tokens.now self.old.outlines.items depth outline self.new) }
     {
         let number_count = self.symbols.len();
         self.fault = self

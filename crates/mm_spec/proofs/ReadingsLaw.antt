@@ -1,4 +1,4 @@
--- Rows of words read, one word after another.
+-- Lists of words read, one word after another.
 use Rattle.std.proofs.Common.{rules, arith, ◌≡◌, ℕ, Bool, true, false, if◌then◌else◌, List, [], ◌∷◌}
 use Rattle.std.proofs.Common.{◌++◌, Option, Some, None, is_some, refl, append_assoc}
 use Rattle.std.proofs.lemmas.Grind.{common_steps}

@@ -63,11 +63,12 @@ abbrev pub dummies : List Statement → ℕ → List ℕ
 dummies db k =
     filter (is_variable_of db (dummy_floats db k)) (range_with_len 0 (length (symbol_names db)))
 
--- the mandatory variables and the dummy variables of statement k, by their numbers in ascending
--- order
+-- whether x is a mandatory variable or a dummy variable of statement k
 abbrev pub is_used : List Statement → ℕ → ℕ → Bool
 is_used db k x = is_variable_of db (mandatory_floats db k ++ dummy_floats db k) x
 
+-- the mandatory variables and the dummy variables of statement k, by their numbers in ascending
+-- order
 abbrev pub used : List Statement → ℕ → List ℕ
 used db k = filter (is_used db k) (range_with_len 0 (length (symbol_names db)))
 

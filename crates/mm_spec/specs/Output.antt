@@ -145,9 +145,9 @@ open_theorem_count db request =
 abbrev pub is_open_at : List Statement → (with_open : Bool) → ℕ → Bool
 is_open_at db with_open j = with_open && list_any is_open_theorem (statement_at db j)
 
--- the lines of the statements, as these count
-abbrev pub told : List Statement → Request → List ℕ
-told db request =
+-- the bytes of the section of the statements: open theorems count as axioms if the request says so
+abbrev pub told_lines : List Statement → Request → List ℕ
+told_lines db request =
     statement_lines (open_as_axioms request.with_open db) (is_open_at db request.with_open)
     request.only
 
@@ -171,5 +171,4 @@ IsOutput text request bytes =
     × (bytes ≡ refusal text f))
     ⊎ ((db : List Statement) × HasNoFault (length text) (lexed_of text) request.with_open db
     × IsReportOf (open_as_axioms request.with_open db) (open_theorem_count db request)
-    (told db request)
-    request bytes)
+    (told_lines db request) request bytes)

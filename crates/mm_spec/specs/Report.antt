@@ -102,9 +102,9 @@ usage_lines rows column [] = []
 usage_lines rows column (l ∷ ls) = usage_line rows column l ++ usage_lines rows (column + 1) ls
 
 -- the version of the format that has this form
-abbrev pub version : Form → ℕ
-version One = 1
-version Two = 2
+abbrev pub format_version : Form → ℕ
+format_version One = 1
+format_version Two = 2
 
 -- the line that says how many columns are open theorems, if these count as axioms
 abbrev pub open_line : Option ℕ → List ℕ
@@ -115,7 +115,7 @@ open_line (Some n) = head_line (codes "open") n
 -- count as axioms, and the number of theorems
 abbrev pub head : Form → ℕ → Option ℕ → ℕ → List ℕ
 head form axioms open_theorems theorems =
-    head_line (codes "mmdepend") (version form) ++ head_line (codes "axioms") axioms
+    head_line (codes "mmdepend") (format_version form) ++ head_line (codes "axioms") axioms
     ++ open_line open_theorems ++ head_line (codes "theorems") theorems
 
 -- the report requested, with these labels of columns, these rows, these rows of citations, and

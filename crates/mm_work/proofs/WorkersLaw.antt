@@ -365,7 +365,7 @@ unrecorded_drops (suc n) i v w recorded_rises i_below_n i_unrecorded_before i_re
         )
 
 module _ {A : Type 0} (job : Job A) where
-  -- one worker's seat
+  -- what was gathered when only the first worker's findings are there
   pub gathered_of_first : (w : WorkerState A) (gs : List (Findings A)) → gs ≡ w.findings
       ∷ [] → IsDone job w → w.findings.short_of_memory ≡ false → AreGathered job w.seat gs
   gathered_of_first w gs gs_are is_done not_short =

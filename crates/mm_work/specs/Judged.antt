@@ -51,9 +51,9 @@ abbrev pub HasFault : List Statement → ℕ → Fault → Type 0
 HasFault db t f = ProofFault db t (proof_end (slice_get db t)) f
 
 -- if the refusal is a fault, it is that of the theorem's proof
-abbrev pub IsRefusalOf : List Statement → ℕ → VerifyRefused → Type 0
-IsRefusalOf db t (FaultOf f) = HasFault db t f
-IsRefusalOf db t Memory = Unit {0}
+abbrev pub IsVerifyRefusalOf : List Statement → ℕ → VerifyRefused → Type 0
+IsVerifyRefusalOf db t (FaultOf f) = HasFault db t f
+IsVerifyRefusalOf db t Memory = Unit {0}
 
 -- what was found: the citations of all theorems, or the first fault of a proof
 module _ {A : Type 0} where

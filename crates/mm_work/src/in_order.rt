@@ -48,7 +48,7 @@ pub(crate) fn check_in_order<'a, A: Allocator + Copy>(
     // The number isn't needed, but the proof needs what `len` promises of the database.
     let _ = database.len();
     let mut checker = Checker::new(alloc, database, rules)?;
-    let mut lists = Lists::with_room(
+    let mut lists = Lists::with_expected_capacity(
         alloc,
         database.theorems().len(),
         citation_capacity(database),

@@ -83,7 +83,11 @@ pub(crate) fn merge<'d, A: Allocator + Copy>(
     // Only the contract uses `essential`: it says by which nodes the citations were found.
     let _ = essential;
     let positions = positions_of(alloc, all_findings, database.theorems().len())?;
-    let mut lists = Lists::with_room(alloc, positions.len(), citation_count(all_findings));
+    let mut lists = Lists::with_expected_capacity(
+        alloc,
+        positions.len(),
+        citation_count(all_findings),
+    );
     for position in &positions {
         lists.push(all_findings[position.worker].cites.get(position.list))?;
     }

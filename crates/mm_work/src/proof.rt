@@ -3,7 +3,7 @@
 ghost use Rattle.std.specs.Prelude.{◌≡◌, IfOk, IfErr, IsTrue};
 ghost use Rattle.mm_check.specs.Checker.{IsMadeFor};
 ghost use Rattle.mm_spec.specs.Output.{is_theorem_at};
-ghost use Rattle.mm_work.specs.Judged.{HasCitations, IsRefusalOf};
+ghost use Rattle.mm_work.specs.Judged.{HasCitations, IsVerifyRefusalOf};
 
 use mm_check::{CheckRefused, Checked, Checker};
 use mm_database::Database;
@@ -34,7 +34,8 @@ pub(crate) fn verify<'a, A: Allocator + Copy>(
     ensures made_for { IsMadeFor database.now.statements checker.new }
     ensures has_citations { IfOk result
         (λ checked. HasCitations database.now.statements essential theorem checked.cites) }
-    ensures refusal_is_right { IfErr result (λ e. IsRefusalOf database.now.statements theorem e) }
+    ensures refusal_is_right { IfErr result
+        (λ e. IsVerifyRefusalOf database.now.statements theorem e) }
 {
     let steps = match read_proof(alloc, database, theorem) {
         Ok(steps) => steps,

@@ -60,7 +60,7 @@ impl<A: Allocator> Findings<A> {
     {
         Findings {
             valid: Vec::new(alloc),
-            cites: Lists::with_room(alloc, theorems, citation_capacity),
+            cites: Lists::with_expected_capacity(alloc, theorems, citation_capacity),
             faulty: None,
             short_of_memory: false,
         }

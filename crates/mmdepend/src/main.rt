@@ -25,6 +25,7 @@ struct NoWords {
     message: &'static str,
 }
 
+/// The status of `Ending::NoMemory`, and its message after the prefix.
 const OUT_OF_MEMORY: NoWords = NoWords {
     status: 4,
     message: "out of memory",

@@ -1,4 +1,4 @@
-//! The calls that compute rows, on the database with two theorems.
+//! The calls that compute rows, and the one that computes waves, on the database with two theorems.
 
 use super::proofs::database_of;
 use super::{MOST_GROWTHS, was_refused};

@@ -85,15 +85,15 @@ abbrev pub is_colon : ℕ → Bool
 is_colon b = b == 58
 
 -- a word within a line: it has no line feed, no space and no `$`
-pub record IsPlainWord (w : Bytes) : Type 0 where
+pub record IsLineWord (w : Bytes) : Type 0 where
   pub no_gap : list_any is_gap w ≡ false
   pub no_dollar : has_dollar w ≡ false
 
 -- labels and names of symbols are such words, labels have no `:`, and places have 64 bits
 pub record AreSpelled (db : List Statement) : Type 0 where
-  pub labels : (j : ℕ) → IsPlainWord (label_at db j)
+  pub labels : (j : ℕ) → IsLineWord (label_at db j)
   pub labels_without_colon : (j : ℕ) → list_any is_colon (label_at db j) ≡ false
-  pub names : (x : ℕ) → IsPlainWord (name_at db x)
+  pub names : (x : ℕ) → IsLineWord (name_at db x)
   pub places : (k : ℕ) → (start_place db k < 2 ^ 64) × (end_place db k < 2 ^ 64)
 
 -- databases with the same lines have the same assertions

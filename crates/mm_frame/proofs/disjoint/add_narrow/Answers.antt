@@ -2,10 +2,10 @@ use Rattle.std.proofs.Common.{◌≡◌, ◌∙◌, ◌&&◌, ◌||◌, ℕ, Lis
 use Rattle.mm_spec.specs.Derivation.{is_member}
 use Rattle.mm_database.specs.Pairs.{has_pair}
 use Rattle.mm_database.specs.DisjointIndex.{row_of}
-use Rattle.mm_frame.specs.Together.{is_later_in_row}
+use Rattle.mm_frame.specs.Together.{is_higher_variable_in_row}
 use Rattle.mm_frame.proofs.LoopsLaw.{none_so_far, passing_with_next_element}
 use Rattle.mm_frame.proofs.disjoint.add_narrow.Goals.{then-row-variables+in_ok-add_walked}
-use Rattle.mm_frame.proofs.disjoint.add_narrow.Goals.{else-row-variables+in_ok-add_found}
+use Rattle.mm_frame.proofs.disjoint.add_narrow.Goals.{else-row-variables+in_ok-add_looked_up}
 use Rattle.mm_frame.proofs.disjoint.add_narrow.Goals as goal
 
 pub loop-variable-init : goal.loop-variable-init
@@ -22,23 +22,24 @@ loop-variable-preserved g c = λ x y.
     let qs = c.if-row-variables.pairs.items in
     let step : has_pair qs x y ≡ (has_pair ps x y
     || (nat_eq x c.number-low.result
-    && is_later_in_row b c.row-row.result.now c.number-low.result vs at y)) =
+    && is_higher_variable_in_row b c.row-row.result.now c.number-low.result vs at y)) =
     elim c.if-row-variables.branch [
       | then-row-variables+in_ok-add_walked w ↦
           ap (λ v. has_pair v.items x y) w.pairs-is ∙ w.in_ok-add_walked.ensures x y
-      | else-row-variables+in_ok-add_found w ↦
-          ap (λ v. has_pair v.items x y) w.pairs-is ∙ w.in_ok-add_found.ensures x y
+      | else-row-variables+in_ok-add_looked_up w ↦
+          ap (λ v. has_pair v.items x y) w.pairs-is ∙ w.in_ok-add_looked_up.ensures x y
     ] in
-    passing_with_next_element (λ (z : ℕ). is_later_in_row b (row_of rows z) z vs at y) vs
+    passing_with_next_element (λ (z : ℕ). is_higher_variable_in_row b (row_of rows z) z vs at y) vs
     c.loop-variable.variable-index s s x _ _ _ c.loop-variable-test.true c.variable-item.is
     (c.loop-variable.invariant x y)
     (step ∙ ap₂ (λ (r : List (ℕ × ℕ)) (l : ℕ). has_pair ps x y
-    || (nat_eq x l && is_later_in_row b r l vs at y)) c.row-row.ensures c.number-low.ensures)
+    || (nat_eq x l && is_higher_variable_in_row b r l vs at y)) c.row-row.ensures
+    c.number-low.ensures)
 
 pub returns : goal.returns
 returns g c = λ x y.
     c.loop-variable.invariant x y
     ∙ ap (λ (xs : List ℕ). has_pair c.args.pairs.now.items x y
-    || (is_member xs x && is_later_in_row c.args.blocks.now
+    || (is_member xs x && is_higher_variable_in_row c.args.blocks.now
     (row_of c.args.disjoint_index.now.rows x) x c.args.variables.now c.args.at y))
     (take_all c.loop-variable.variable-index c.args.variables.now c.loop-variable-test.false)

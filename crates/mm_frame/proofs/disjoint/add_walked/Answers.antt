@@ -6,8 +6,8 @@ use Rattle.mm_database.specs.Pairs.{has_pair}
 use Rattle.mm_database.specs.DisjointIndex.{is_active_local}
 use Rattle.mm_frame.proofs.LoopsLaw.{none_so_far, any_with_next_element, pair_if_passing}
 use Rattle.mm_frame.proofs.LoopsLaw.{no_pair_if_failing, walked_in_row}
-use Rattle.mm_frame.proofs.disjoint.add_walked.Goals.{then-is_active_pair+in_ok-push}
-use Rattle.mm_frame.proofs.disjoint.add_walked.Goals.{else-is_active_pair}
+use Rattle.mm_frame.proofs.disjoint.add_walked.Goals.{then-is_active_higher_pair+in_ok-push}
+use Rattle.mm_frame.proofs.disjoint.add_walked.Goals.{else-is_active_higher_pair}
 use Rattle.mm_frame.proofs.disjoint.add_walked.Goals as goal
 
 pub loop-pair-init : goal.loop-pair-init
@@ -22,17 +22,17 @@ loop-pair-preserved g c = λ x y.
     let passes : ℕ × ℕ → Bool = λ (p : ℕ × ℕ). nat_lt low p.0
     && (is_member c.args.variables.now p.0 && is_active_local c.args.blocks.now p.1 c.args.at) in
     let next : ℕ × ℕ = get_or row i (0, 0) in
-    let qs = c.if-is_active_pair.pairs.items in
+    let qs = c.if-is_active_higher_pair.pairs.items in
     let step : has_pair qs x y
     ≡ (has_pair ps x y || (nat_eq y next.0 && (nat_eq x low && passes next))) =
-    elim c.if-is_active_pair.branch [
-      | then-is_active_pair+in_ok-push w ↦
+    elim c.if-is_active_higher_pair.branch [
+      | then-is_active_higher_pair+in_ok-push w ↦
           pair_if_passing ps qs low next.0 x y (passes next)
-          (sym c.is_active_pair.ensures ∙ w.if-is_active_pair.true)
+          (sym c.is_active_higher_pair.ensures ∙ w.if-is_active_higher_pair.true)
           (ap (λ v. v.items) w.pairs-is ∙ w.in_ok-push.ensures.items)
-      | else-is_active_pair w ↦
+      | else-is_active_higher_pair w ↦
           no_pair_if_failing ps qs low next.0 x y (passes next)
-          (sym c.is_active_pair.ensures ∙ w.if-is_active_pair.false)
+          (sym c.is_active_higher_pair.ensures ∙ w.if-is_active_higher_pair.false)
           (ap (λ v. v.items) w.pairs-is)
     ] in
     any_with_next_element (λ (p : ℕ × ℕ). nat_eq y p.0 && (nat_eq x low && passes p)) row i (0, 0)

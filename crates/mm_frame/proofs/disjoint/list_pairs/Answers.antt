@@ -3,7 +3,7 @@ use Rattle.std.specs.List.{list_any}
 use Rattle.mm_spec.specs.Derivation.{is_member}
 use Rattle.mm_database.specs.DisjointIndex.{is_active_local}
 use Rattle.mm_database.specs.Pairs.{has_pair}
-use Rattle.mm_frame.specs.Together.{has_later, is_later_in_rows}
+use Rattle.mm_frame.specs.Together.{has_later, is_higher_variable_in_rows}
 use Rattle.mm_frame.proofs.MandatoryPairsLaw.{pairs_are_mandatory_pairs}
 use Rattle.mm_frame.proofs.HypothesesLaw.{variables_have_names}
 use Rattle.mm_frame.proofs.disjoint.list_pairs.Goals as goal
@@ -43,4 +43,4 @@ returns g c =
     c.sort_and_dedup_pairs.new.pairs.items)
     (rw (← c.blocks-blocks.ensures.blocks_are) (c.in_ok-add_narrow.ensures x y)
     ∙ ap (λ (xs : List (ℕ × ℕ)). has_pair xs x y
-    || is_later_in_rows b index.rows variables k x y) c.clear-2.ensures.items))
+    || is_higher_variable_in_rows b index.rows variables k x y) c.clear-2.ensures.items))

@@ -21,9 +21,9 @@ is_equal-requires-clause-are_bodies g c =
     1 u (All-weaker (λ s. s < first_node) (λ s. s < first_node + length nodes) (λ s s_lt. omega
     (arith, s_lt)) u c.requires.are_symbols))
 
-pub returns-then-not-is_typed-clause-tells_equal :
-    goal.returns-then-not-is_typed-clause-tells_equal
-returns-then-not-is_typed-clause-tells_equal g c =
+pub returns-then-not-begins_with_typecode-clause-tells_equal :
+    goal.returns-then-not-begins_with_typecode-clause-tells_equal
+returns-then-not-begins_with_typecode-clause-tells_equal g c =
     search (rules, arith, begins_with, not_wanted_if_not_typed, bytes_eq)
 
 pub returns-clause-tells_equal : goal.returns-clause-tells_equal
@@ -35,7 +35,7 @@ returns-clause-tells_equal g c =
     (ap (bytes_eq (string_of nodes e.body)) (ap (joined_string_of nodes) (take_rest u 1)
     ∙ joined_symbols nodes (drop 1 u) (All-drop (λ s. s < first_node) 1 u c.requires.are_symbols))
     ∙ wanted_if_typed nodes e c.requires.is_entry c.new.result (drop 1 u)
-    (sym c.if-not-is_typed.false ∙ c.is_typed.ensures)
+    (sym c.if-not-begins_with_typecode.false ∙ c.begins_with_typecode.ensures)
     ∙ ap (bytes_eq (entry_formula nodes e)) (sym (begins_with u c.index-symbols-0.result
     (grind (arith, nat_tests)) c.index-symbols-0.is ∙ ap (λ s. s ∷ drop 1 u)
     (sym (c.new.ensures ∙ c.number.ensures))))) c.is_equal.ensures.tells_equal

@@ -9,12 +9,12 @@ pub is_body_of-requires-clause-variables_in_range :
     goal.is_body_of-requires-clause-variables_in_range
 is_body_of-requires-clause-variables_in_range g c = search (rules, arith, All-take, All-drop)
 
-pub returns-then-not-is_typed-clause-tells_equal :
-    goal.returns-then-not-is_typed-clause-tells_equal
-returns-then-not-is_typed-clause-tells_equal g c =
+pub returns-then-not-begins_with_typecode-clause-tells_equal :
+    goal.returns-then-not-begins_with_typecode-clause-tells_equal
+returns-then-not-begins_with_typecode-clause-tells_equal g c =
     search (rules, arith, not_wanted_if_not_typed, bytes_eq)
 
-pub returns-else-not-is_typed-clause-tells_equal :
-    goal.returns-else-not-is_typed-clause-tells_equal
-returns-else-not-is_typed-clause-tells_equal g c =
+pub returns-else-not-begins_with_typecode-clause-tells_equal :
+    goal.returns-else-not-begins_with_typecode-clause-tells_equal
+returns-else-not-begins_with_typecode-clause-tells_equal g c =
     grind (arith, common_steps, bytes_eq, take_rest, wanted_if_typed)

@@ -1,7 +1,7 @@
 use Rattle.std.proofs.Common.{rules, List, ℕ, All, Ok, sym, subst, arith}
 use Rattle.std.proofs.lemmas.Grind.{common_steps}
 use Rattle.mm_machine.specs.declared.entry.Entry.{Entry}
-use Rattle.mm_machine.specs.Applied.{TestsRule, IsRefusalOf}
+use Rattle.mm_machine.specs.Applied.{TestsRule, IsStepRefusalOf}
 use Rattle.mm_machine.specs.State.{applied}
 use Rattle.mm_machine.specs.Entries.{entry_formulas}
 use Rattle.mm_machine.proofs.StackLaw.{extends_unchanged, extends_fewer}
@@ -20,7 +20,8 @@ returns-in-Err-clause-nodes_are_kept g c = search (rules, arith, extends_unchang
 
 pub returns-in-Err-clause-refusal_is_right : goal.returns-in-Err-clause-refusal_is_right
 returns-in-Err-clause-refusal_is_right g c =
-    subst (λ (es : List Entry). IsRefusalOf c.in-Err.refused (applied c.args.database.now.statements
+    subst (λ (es : List Entry). IsStepRefusalOf c.in-Err.refused (applied
+        c.args.database.now.statements
     c.args.theorem c.args.rule.now.assertion (entry_formulas c.args.nodes.now es)))
     c.deref.ensures.value c.in-Err.ensures.tests_rule
 

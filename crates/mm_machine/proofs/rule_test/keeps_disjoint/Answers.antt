@@ -63,8 +63,8 @@ returns-then-not-are_disjoint-clause-tells_disjoint g c =
       c.if-not-are_disjoint.true,
     )
 
-pub loop-pair-preserved-then-are_apart_by_masks : goal.loop-pair-preserved-then-are_apart_by_masks
-loop-pair-preserved-then-are_apart_by_masks g c =
+pub loop-pair-preserved-then-are_surely_apart : goal.loop-pair-preserved-then-are_surely_apart
+loop-pair-preserved-then-are_surely_apart g c =
     let db = c.args.database.now.statements in
     let w = length (symbol_names db) in
     let vs = c.args.owners.now.variable_flags in
@@ -88,10 +88,10 @@ loop-pair-preserved-then-are_apart_by_masks g c =
           ∙ get_or_default es p.0 e no_entry in_range.0)) (subst (λ m. AreApart db c.args.theorem
           owners e.mask m) (ap (λ x. x.mask) (c.index-premises-pair-in-loop-pair.is
           ∙ get_or_default es p.1 f no_entry in_range.1)) (subst (λ (os : List ℕ). AreApart db
-          c.args.theorem os e.mask f.mask) c.symbols.ensures (c.are_apart_by_masks.ensures.are_apart
-          c.if-are_apart_by_masks.true)))) (body_masked vs owners nodes es p.0 c.requires.are_masked
+          c.args.theorem os e.mask f.mask) c.symbols.ensures (c.are_surely_apart.ensures.are_apart
+          c.if-are_surely_apart.true)))) (body_masked vs owners nodes es p.0 c.requires.are_masked
           in_range.0) (body_in_range w nodes es p.0 c.requires.formulas_in_range in_range.0)
           (body_masked vs owners nodes es p.1 c.requires.are_masked in_range.1)
           (body_in_range w nodes es p.1 c.requires.formulas_in_range in_range.1));
-      cache = c.are_apart_by_masks.ensures.cached_are_disjoint;
+      cache = c.are_surely_apart.ensures.cached_are_disjoint;
     }

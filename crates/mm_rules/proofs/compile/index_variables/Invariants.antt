@@ -1,6 +1,6 @@
 use Rattle.std.proofs.Common.{◌≡◌, ◌≤◌, length, drop, map}
 use Rattle.mm_spec.specs.Frame.{symbol_names, formula_at}
-use Rattle.mm_rule.proofs.FirstLaw.{AreIndicesFrom}
+use Rattle.mm_rule.proofs.FirstFloatLaw.{AreIndicesFrom}
 use Rattle.mm_rules.specs.Rules.{AreShortIndices}
 use Rattle.mm_rules.proofs.compile.index_variables.Given as goal
 

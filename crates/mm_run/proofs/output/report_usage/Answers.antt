@@ -1,6 +1,6 @@
 use Rattle.mm_report.specs.CitingRows.{citing_rows_of}
 use Rattle.mm_report.specs.Reports.{report_of}
-use Rattle.mm_run.proofs.ReportLaw.{table_is_output}
+use Rattle.mm_run.proofs.ReportLaw.{marks_are_output}
 use Rattle.mm_run.proofs.CitationsLaw.{are_citations_of}
 use Rattle.mm_run.proofs.output.report_usage.Goals as goal
 
@@ -18,7 +18,7 @@ returns-in-Ok g c =
       (d.read, c.requires.is_faultless.has_no_fault),
       (
         report_of request d c.args.chosen.now c.args.matrix.now (citing_rows_of request d citing),
-        table_is_output request d citing c.args.chosen.now c.args.matrix.now
+        marks_are_output request d citing c.args.chosen.now c.args.matrix.now
             c.requires.is_faultless c.requires.columns_are c.requires.is_matrix,
         c.in-Ok.ensures.report_is_written,
       ),
@@ -32,7 +32,7 @@ returns-in-Err g c =
     let is_prefix = c.in-Err.ensures.prefix_is_written in (
       report_of request d c.args.chosen.now c.args.matrix.now (citing_rows_of request d citing),
       is_prefix.0,
-      table_is_output request d citing c.args.chosen.now c.args.matrix.now
+      marks_are_output request d citing c.args.chosen.now c.args.matrix.now
           c.requires.is_faultless c.requires.columns_are c.requires.is_matrix,
       is_prefix.1,
     )

@@ -1,7 +1,7 @@
 use Rattle.std.proofs.Common.{◌≡◌, ℕ, List, length, get_or, sym, ap, subst, arith, IsTrue}
 use Rattle.mm_spec.specs.Output.{theorems, is_theorem_at}
 use Rattle.mm_database.proofs.SpacedLaw.{theorems_are}
-use Rattle.mm_work.specs.Judged.{HaveCitationsUpTo, HasFault, IsRefusalOf, HasCitations}
+use Rattle.mm_work.specs.Judged.{HaveCitationsUpTo, HasFault, IsVerifyRefusalOf, HasCitations}
 use Rattle.mm_work.specs.Judged.{IsFirstFault}
 use Rattle.mm_spec.specs.declared.Fault.{Fault}
 use Rattle.mm_work.specs.declared.proof.VerifyRefused.{VerifyRefused}
@@ -42,7 +42,8 @@ returns-in-Err-Fault g c =
     ))
     (subst (λ (ts : List ℕ). HasFault db (get_or ts i 0) c.in-Err-Fault.fault)
     c.theorems-theorems.ensures.theorems
-    (subst (λ (e : VerifyRefused). IsRefusalOf db (get_or c.theorems-theorems.result.now i 0) e)
+    (subst (λ (e : VerifyRefused). IsVerifyRefusalOf db (get_or c.theorems-theorems.result.now i 0)
+    e)
     c.in-Err-Fault.field-0-is c.in-Err-Fault.ensures.refusal_is_right)))
 
 pub loop-theorem-preserved : goal.loop-theorem-preserved

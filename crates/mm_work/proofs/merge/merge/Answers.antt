@@ -114,6 +114,6 @@ positions_of-requires g c = λ k d k_lt_length.
 
 pub loop-position-init : goal.loop-position-init
 loop-position-init g c = record {
-  list_count_is = ap length c.with_room-lists.ensures;
+  list_count_is = ap length c.with_expected_capacity-lists.ensures;
   each_has_citations = λ i i_lt_0. absurd (omega arith);
 }

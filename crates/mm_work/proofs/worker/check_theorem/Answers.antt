@@ -2,7 +2,7 @@ use Rattle.std.proofs.Common.{ℕ, ◌++◌, ◌∷◌, [], List, Option, get_or
 use Rattle.std.proofs.Common.{IsTrue, ◌<◌, length, true≢false}
 use Rattle.mm_spec.specs.Output.{is_theorem_at}
 use Rattle.mm_database.proofs.SpacedLaw.{theorems_are}
-use Rattle.mm_work.specs.Judged.{IsRefusalOf, HasFault, HasCitations}
+use Rattle.mm_work.specs.Judged.{IsVerifyRefusalOf, HasFault, HasCitations}
 use Rattle.mm_work.specs.declared.proof.VerifyRefused.{VerifyRefused}
 use Rattle.mm_work.specs.declared.worker.IndexedFault.{IndexedFault}
 use Rattle.mm_work.proofs.worker.check_theorem.Goals as goal
@@ -63,7 +63,7 @@ returns-in-Err-Fault-clause-finds_fault g c = λ not_short not_valid.
       fault = c.in-Err-Fault.fault;
       has_fault =
           subst (λ (ts : List ℕ). HasFault db (get_or ts c.args.index 0) c.in-Err-Fault.fault)
-          c.theorems.ensures.theorems (subst (λ (e : VerifyRefused). IsRefusalOf db
+          c.theorems.ensures.theorems (subst (λ (e : VerifyRefused). IsVerifyRefusalOf db
           (get_or c.theorems.result.now c.args.index 0) e)
           c.in-Err-Fault.field-0-is c.in-Err-Fault.ensures.refusal_is_right);
       valid_are = refl {A = List ℕ};

@@ -1,7 +1,7 @@
 use Rattle.std.proofs.Common.{rules, arith, ◌≡◌, Ok, subst}
 use Rattle.std.proofs.lemmas.Result.{err_from_is_err_and}
 use Rattle.mm_machine.specs.State.{applied}
-use Rattle.mm_machine.specs.Applied.{IsRefusalOf}
+use Rattle.mm_machine.specs.Applied.{IsStepRefusalOf}
 use Rattle.mm_check.specs.Checker.{checker_state}
 use Rattle.mm_check.proofs.StepLaw.{applied_step_performs, refusal_is_of_step}
 use Rattle.mm_check.proofs.checker.Checker.apply.Goals.{in-Ok-add, in-Err-add}
@@ -23,7 +23,7 @@ returns-in_err-apply-clause-refusal_is_right g c =
     let refusal_is = err_from_is_err_and c.from_residual.result c.from_residual.ensures.1 in
     rw (refusal_is.1, refusal_is.2, ← c.self.view_is) (refusal_is_of_step db t
     (checker_state i.machine i.rules.now i.noted i.cache) c.args.assertion
-    c.requires.rule_is_complete c.requires.is_assertion e (subst (λ a. IsRefusalOf e
+    c.requires.rule_is_complete c.requires.is_assertion e (subst (λ a. IsStepRefusalOf e
     (applied db t a i.machine.stack)) c.held_or_compiled-rule.ensures.assertion_is
     c.in_err-apply.ensures.is_applied.refusal_is_right))
 

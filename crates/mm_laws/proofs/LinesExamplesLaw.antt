@@ -9,7 +9,7 @@ use Rattle.mm_spec.specs.Derivation.{pair}
 use Rattle.mm_spec.specs.Assertion.{dummies, dummy_pairs, assertion_line}
 use Rattle.mm_spec.specs.Report.{line}
 use Rattle.mm_spec.specs.Request.{without_options}
-use Rattle.mm_spec.specs.Output.{told}
+use Rattle.mm_spec.specs.Output.{told_lines}
 use Rattle.mm_laws.proofs.ReaderLaw.{statements}
 
 abbrev told_text : List ℕ
@@ -26,6 +26,7 @@ dummies_of_a : dummies told_db 8 ≡ 3 ∷ []
 unfolding statements
 dummies_of_a = refl
 
+-- statement 8 is a; its symbols 2 and 3 are x and y
 pairs_of_a : dummy_pairs told_db 8 ≡ pair 2 3 ∷ []
 unfolding statements
 pairs_of_a = refl
@@ -46,14 +47,15 @@ unfolding statements digits
 line_of_b = refl
 
 -- with the flag the open theorem is told as one
-all_lines : told (statements told_text) (record without_options { with_open = true })
+all_lines : told_lines (statements told_text) (record without_options { with_open = true })
     ≡ line (codes "e:a:21:30: $a t")
     ++ line (codes "a:p:83:103: $f fx t x $e h |- x $v y $d x y $p |- x")
     ++ line (codes "b:o:123:140: $f gx t x $p |- x")
 unfolding statements digits
 all_lines = refl
 
-lines_of_typecode : told (statements told_text) (record without_options { only = Some (codes "t") })
+lines_of_typecode :
+    told_lines (statements told_text) (record without_options { only = Some (codes "t") })
     ≡ line (codes "e:a:21:30: $a t")
 unfolding statements digits
 lines_of_typecode = refl

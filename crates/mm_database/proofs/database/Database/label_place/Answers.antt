@@ -3,7 +3,7 @@ use Rattle.std.proofs.lemmas.Grind.{common_steps}
 use Rattle.mm_database.proofs.DatabaseLaw.{as_many_statements}
 use Rattle.mm_database.proofs.RetainedWordsLaw.{k_lt_retained_count, some_are_retained}
 use Rattle.mm_database.proofs.RetainedWordsLaw.{label_is_retained, label_missing}
-use Rattle.mm_database.proofs.database.Database.label_at.Goals as goal
+use Rattle.mm_database.proofs.database.Database.label_place.Goals as goal
 
 pub kind-requires : goal.kind-requires
 kind-requires g c = grind (arith, common_steps, as_many_statements, c.self.view_is, c.requires)

@@ -1,6 +1,6 @@
 use Rattle.std.proofs.Common.{◌∙◌, ◌++◌, ◌∷◌, [], ap, arith}
 use Rattle.mm_frame.proofs.DisjointRowsLaw.{rows_of_all, rows_with_next}
-use Rattle.mm_frame.proofs.disjoint_index.rows_of.Goals as goal
+use Rattle.mm_frame.proofs.disjoint_index.disjoint_rows.Goals as goal
 
 pub loop-symbol-preserved : goal.loop-symbol-preserved
 loop-symbol-preserved g c =

@@ -2,7 +2,7 @@ use Rattle.std.proofs.Common.{◌∙◌, length, sym, true≢false}
 use Rattle.std.proofs.lemmas.Bool.{false_from_ne_true, lt-ltb}
 use Rattle.mm_spec.specs.Derivation.{is_member}
 use Rattle.mm_frame.proofs.ChainsLaw.{member_lt_bound}
-use Rattle.mm_frame.proofs.disjoint.is_marked.Goals as goal
+use Rattle.mm_frame.proofs.disjoint.has_stamp.Goals as goal
 
 pub returns-in-None : goal.returns-in-None
 returns-in-None c =

@@ -5,7 +5,7 @@ use Rattle.std.proofs.lemmas.List.{get_or_default}
 use Rattle.mm_machine.specs.declared.owners.TheConstants.{OTHERS}
 use Rattle.mm_machine.specs.Masks.{IsApartFrom}
 use Rattle.mm_machine.proofs.OwnersLaw.{all_to_come, one_less, none_to_come}
-use Rattle.mm_machine.proofs.rule_test.are_apart_by_masks.Goals as goal
+use Rattle.mm_machine.proofs.rule_test.are_surely_apart.Goals as goal
 
 pub loop-bit-init : goal.loop-bit-init
 loop-bit-init g c = grind (arith, common_steps, all_to_come, c.requires.cached_are_disjoint)

@@ -1,6 +1,6 @@
 use Rattle.std.proofs.Common.{◌≡◌, ℕ, ◌<◌, ◌≤◌, length, get_or, false}
 use Rattle.mm_spec.specs.Frame.{is_variable_number, symbol_names}
-use Rattle.mm_machine.proofs.owners.variables_of.Given as goal
+use Rattle.mm_machine.proofs.owners.list_variable_flags.Given as goal
 
 abbrev pub invariant-loop-number : goal.invariant-loop-number
 invariant-loop-number g l = record {

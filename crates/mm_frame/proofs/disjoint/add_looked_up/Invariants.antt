@@ -2,7 +2,7 @@ use Rattle.std.proofs.Common.{◌≡◌, ℕ, ◌&&◌, ◌||◌, take, nat_eq, 
 use Rattle.mm_spec.specs.Derivation.{is_member}
 use Rattle.mm_database.specs.Pairs.{has_pair}
 use Rattle.mm_database.specs.DisjointIndex.{is_active_in_row}
-use Rattle.mm_frame.proofs.disjoint.add_found.Given as goal
+use Rattle.mm_frame.proofs.disjoint.add_looked_up.Given as goal
 
 abbrev pub invariant-loop-variable : goal.invariant-loop-variable
 invariant-loop-variable g l =

@@ -4,9 +4,9 @@ use Rattle.mm_database.specs.Pairs.{has_pair}
 use Rattle.mm_database.specs.DisjointIndex.{is_active_in_row}
 use Rattle.mm_frame.proofs.LoopsLaw.{none_so_far, passing_with_next_element, pair_if_passing}
 use Rattle.mm_frame.proofs.LoopsLaw.{no_pair_if_failing, and_swap}
-use Rattle.mm_frame.proofs.disjoint.add_found.Goals.{then-is_higher_in_row+in_ok-push}
-use Rattle.mm_frame.proofs.disjoint.add_found.Goals.{else-is_higher_in_row}
-use Rattle.mm_frame.proofs.disjoint.add_found.Goals as goal
+use Rattle.mm_frame.proofs.disjoint.add_looked_up.Goals.{then-is_higher_in_row+in_ok-push}
+use Rattle.mm_frame.proofs.disjoint.add_looked_up.Goals.{else-is_higher_in_row}
+use Rattle.mm_frame.proofs.disjoint.add_looked_up.Goals as goal
 
 pub loop-variable-init : goal.loop-variable-init
 loop-variable-init g c = λ x y. none_so_far (has_pair c.args.pairs.now.items x y)
