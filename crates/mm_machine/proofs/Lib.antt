@@ -10,7 +10,7 @@ pub mod MarksLaw
 mod OwnersLaw
 mod FilledLaw
 mod EntryFitLaw
-mod EntryTestLaw
+mod EntryMatchLaw
 mod EntryRuleLaw
 mod EntryLaw
 mod StackLaw

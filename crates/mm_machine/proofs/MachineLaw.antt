@@ -21,7 +21,7 @@ use Rattle.mm_machine.specs.State.{applied}
 use Rattle.mm_machine.specs.declared.reason.StepRefused.{StepRefused}
 use Rattle.mm_machine.specs.Applied.{IsStepRefusalOf, AnswersStep}
 use Rattle.mm_machine.proofs.EntryLaw.{entries_are_kept, formulas_are_kept, entry_formulas_push}
-use Rattle.mm_machine.proofs.EntryTestLaw.{formula_le_limit}
+use Rattle.mm_machine.proofs.EntryMatchLaw.{formula_le_limit}
 use Rattle.mm_machine.proofs.MarksLaw.{rising_push}
 use Rattle.mm_machine.proofs.StackLaw.{no_stack, stack_pushed, extends_less}
 use Rattle.mm_machine.proofs.StepLaw.{formula_at_in_range, replaced_in_range}

@@ -13,15 +13,15 @@
 mod disjoint_cache;
 mod distinct;
 mod entry;
+mod entry_match;
 mod entry_stack;
-mod entry_test;
 mod flag_rows;
 mod flat;
 mod machine;
 mod owners;
 mod reason;
+mod rule_conditions;
 mod rule_step;
-mod rule_test;
 
 pub use disjoint_cache::DisjointCache;
 pub use machine::Machine;

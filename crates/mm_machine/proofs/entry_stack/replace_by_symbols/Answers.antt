@@ -6,7 +6,7 @@ use Rattle.std.proofs.lemmas.Bool.Decides.{nat_tests}
 use Rattle.std.proofs.lemmas.List.Elements.{All-take, All-drop, All-weaker}
 use Rattle.mm_nodes.specs.Strings.{first_node, joined_string_of}
 use Rattle.mm_machine.specs.Entries.{entry_formulas}
-use Rattle.mm_machine.proofs.EntryTestLaw.{begins_with}
+use Rattle.mm_machine.proofs.EntryMatchLaw.{begins_with}
 use Rattle.mm_machine.proofs.StackLaw.{extends_unchanged}
 use Rattle.mm_machine.proofs.StepLaw.{joined_symbols}
 use Rattle.mm_machine.proofs.entry_stack.replace_by_symbols.Goals as goal

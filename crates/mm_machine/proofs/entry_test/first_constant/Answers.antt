@@ -1,6 +1,0 @@
-use Rattle.std.proofs.Common.{rules, arith}
-use Rattle.mm_machine.proofs.EntryTestLaw.{begins_with}
-use Rattle.mm_machine.proofs.entry_test.first_constant.Goals as goal
-
-pub returns-in-Constant-clause-is_first : goal.returns-in-Constant-clause-is_first
-returns-in-Constant-clause-is_first c = search (rules, arith, begins_with)
