@@ -13,7 +13,7 @@ from query.cli import parser_of
 from query.commands import command, names
 from query.tests.world import TOP, built_program, program
 
-SOURCE = "crates/mm_line/src/words.rt"
+SOURCE = "crates/mm_line/src/options.rt"
 
 
 @dataclass(frozen=True)

@@ -5,8 +5,8 @@
 #![tactic(auto)]
 
 mod command_line;
+mod options;
 mod sections;
-mod words;
 
 pub use command_line::{Line, LineRefused};
-pub use words::line;
+pub use options::line;

@@ -10,8 +10,8 @@ use Rattle.mm_spec.specs.CompressedProof.{is_last_letter}
 use Rattle.std.specs.Result.{OkIff, result_ok}
 use Rattle.std.proofs.lemmas.List.Folds.{list_all_at}
 use Rattle.std.proofs.lemmas.List.{same_from_push}
-use Rattle.mm_proof.specs.declared.digits.LetterKind.{LetterKind}
-use Rattle.mm_proof.specs.declared.digits.LetterKind.TheVariants.{Early}
+use Rattle.mm_proof.specs.declared.numerals.LetterKind.{LetterKind}
+use Rattle.mm_proof.specs.declared.numerals.LetterKind.TheVariants.{Early}
 use Rattle.mm_proof.specs.Number.{IsNumber, HasLetterKind, saturated}
 
 -- the bytes of letters

@@ -4,9 +4,9 @@ use Rattle.std.specs.Prelude.{◌≡◌, ℕ, ◌-◌, min, true, false, ◌==�
 use Rattle.std.specs.List.{list_all}
 use Rattle.mm_spec.specs.CompressedProof.{Group, is_early_letter, is_last_letter, mark_letter}
 use Rattle.mm_spec.specs.CompressedProof.{unknown_letter, value}
-use Rattle.mm_proof.specs.declared.digits.LetterKind.{LetterKind}
-use Rattle.mm_proof.specs.declared.digits.LetterKind.TheVariants.{Early, Last, Mark, UnknownStep}
-use Rattle.mm_proof.specs.declared.digits.LetterKind.TheVariants.{Other}
+use Rattle.mm_proof.specs.declared.numerals.LetterKind.{LetterKind}
+use Rattle.mm_proof.specs.declared.numerals.LetterKind.TheVariants.{Early, Last, Mark, UnknownStep}
+use Rattle.mm_proof.specs.declared.numerals.LetterKind.TheVariants.{Other}
 
 -- the word consists of early letters followed by a last one, and has this value
 pub record IsNumber (word : List ℕ) (n : ℕ) : Type 0 where

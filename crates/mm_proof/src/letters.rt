@@ -7,14 +7,14 @@ ghost use Rattle.mm_spec.specs.CompressedProof.{letters_of, letter_faults, mark_
 ghost use Rattle.mm_outline.specs.Parts.{as_tokens, AreWithin};
 ghost use Rattle.mm_steps.specs.TheoremSteps.{theorem_steps, as_step, IsEarlier};
 ghost use Rattle.mm_proof.specs.Number.{HasLetterKind, saturated};
-ghost use Rattle.mm_proof.specs.declared.digits.LetterKind.TheVariants.{Last};
+ghost use Rattle.mm_proof.specs.declared.numerals.LetterKind.TheVariants.{Last};
 ghost use Rattle.mm_proof.specs.Letters.{letters_state, letter, with_number, step_as_list};
 ghost use Rattle.mm_proof.specs.Letters.{if_begun, AreInOrder, StandsAt, IsReadUpTo, BeginsAt};
 ghost use Rattle.mm_proof.specs.Letters.{word_letters, ReadsLetters, ReadsAllLetters};
 ghost use Rattle.mm_proof.specs.Letters.{RefusesLetters};
 ghost use Rattle.mm_proof.specs.Refused.{StartsWith};
 
-use crate::digits::{LetterKind, letter_of, with_digit};
+use crate::numerals::{LetterKind, letter_of, with_digit};
 use crate::refused::{ProofRefused, refused};
 use mm_database::capacity::with_expected_capacity;
 use mm_database::{Code, Word};

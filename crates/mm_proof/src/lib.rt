@@ -8,14 +8,14 @@
 #![tactic(auto)]
 
 mod compressed;
-mod digits;
 mod labels;
 mod letters;
+mod numerals;
 mod reader;
 mod refused;
 
-pub use digits::number;
 pub use mm_database::{Code, Fault};
 pub use mm_steps::{Step, Steps};
+pub use numerals::number;
 pub use reader::read_proof;
 pub use refused::ProofRefused;

@@ -7,10 +7,10 @@
 //! compiled in `mm_rules` and applied in `mm_machine`, which are proved side by side.
 #![tactic(auto)]
 
-mod frames;
-mod lists;
+mod referents;
+mod reused_lists;
 mod rule;
 
-pub use frames::{formula, is_assertion, is_essential_hypothesis, mandatory_hypotheses, pairs};
-pub use lists::{empty, put_number};
+pub use referents::{formula, is_assertion, is_essential_hypothesis, mandatory_hypotheses, pairs};
+pub use reused_lists::{empty, put_number};
 pub use rule::{Hypothesis, PackedPart, Rule, RulePart};

@@ -5,9 +5,9 @@
 #![tactic(auto)]
 
 mod dummies;
-mod labels;
-mod lists;
 mod pairs;
+mod proof_labels;
+mod rising_lists;
 mod variables;
 
 pub use dummies::Dummies;

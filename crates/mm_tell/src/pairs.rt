@@ -7,7 +7,7 @@ ghost use Rattle.std.specs.List.Sorted.{IsStrictlyIncreasing};
 ghost use Rattle.mm_spec.specs.Derivation.{pair, is_member};
 ghost use Rattle.mm_spec.specs.Assertion.{dummies, used, is_with_dummy, dummy_pairs};
 
-use crate::lists::has_number;
+use crate::rising_lists::has_number;
 use mm_database::Database;
 use mm_outline::symbol::Sym;
 use std::alloc::{AllocError, Allocator};

@@ -10,8 +10,8 @@ ghost use Rattle.mm_spec.specs.Assertion.{dummies, dummy_floats, is_variable_of,
 ghost use Rattle.mm_outline.specs.Parts.{as_tokens, AreWithin};
 ghost use Rattle.mm_tell.specs.Named.{as_list, float_variable, names_dummy};
 
-use crate::labels::label_words;
-use crate::lists::{has_number, sort_and_dedup};
+use crate::proof_labels::label_words;
+use crate::rising_lists::{has_number, sort_and_dedup};
 use mm_database::Database;
 use mm_outline::parts::Kind;
 use mm_spec::Word;

@@ -4,7 +4,7 @@ ghost use Rattle.std.specs.Prelude.{IfSome, false};
 ghost use Rattle.mm_run.specs.Judging.{IsJudgedText};
 
 use super::proofs::{are_cited, database_of, is_judged};
-use super::words::is_lexed;
+use super::reading::is_lexed;
 use super::{MOST_GROWTHS, WITHOUT_OPEN, was_refused};
 use crate::heap::Refusing;
 use crate::texts::{CITED_TWICE, CITED_TWICE_REPORT, CITED_TWICE_STATEMENTS, FIRST_TEXT};

@@ -5,7 +5,7 @@
 ghost use Rattle.std.specs.Prelude.{◌≡◌, IfOk};
 ghost use Rattle.mm_spec.specs.Lexed.{tokens_of, lexical_fault};
 
-use super::words::{CUT_AT, is_summary};
+use super::reading::{CUT_AT, is_summary};
 use super::{MOST_GROWTHS, WITHOUT_OPEN, was_refused};
 use crate::heap::Refusing;
 use crate::texts::{DISJOINT, FIRST_TEXT};

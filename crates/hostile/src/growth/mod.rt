@@ -10,9 +10,9 @@ mod given;
 mod lists;
 mod names;
 mod proofs;
+mod reading;
 mod rows;
 mod runs;
-mod words;
 
 use crate::heap::Refusing;
 use std::alloc::Allocator;

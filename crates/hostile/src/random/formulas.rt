@@ -1,7 +1,7 @@
 //! Random formulas, with the proofs that they are formulas.
 
 use super::chance::Chance;
-use super::words::{Word, Words};
+use super::reading::{Word, Words};
 use std::alloc::Global;
 
 /// The variables.

@@ -3,7 +3,7 @@ use Rattle.std.proofs.lemmas.List.{take_all}
 use Rattle.mm_spec.specs.declared.Word.{Word}
 use Rattle.mm_outline.specs.Parts.{token_of}
 use Rattle.mm_tell.proofs.BracketLaw.{labels_up_to_bracket, all_are_labels}
-use Rattle.mm_tell.proofs.labels.label_count.Goals as goal
+use Rattle.mm_tell.proofs.proof_labels.label_count.Goals as goal
 
 pub returns-then-eq-clause-are_labels : goal.returns-then-eq-clause-are_labels
 returns-then-eq-clause-are_labels c =

@@ -2,7 +2,7 @@ use Rattle.std.proofs.Common.{◌<◌, length, All, ap, sym, ◌∙◌, subst, a
 use Rattle.mm_spec.specs.Citation.{is_assertion}
 use Rattle.mm_outline.proofs.StatementsLaw.{passing_lt_length}
 use Rattle.mm_rule.proofs.FrameLaw.{hypotheses_lt_length, hypotheses_le_k}
-use Rattle.mm_rule.proofs.frames.mandatory_hypotheses.Goals as goal
+use Rattle.mm_rule.proofs.referents.mandatory_hypotheses.Goals as goal
 
 pub returns-clause-hypotheses_lt_length : goal.returns-clause-hypotheses_lt_length
 returns-clause-hypotheses_lt_length g c =

@@ -2,7 +2,7 @@ use Rattle.std.proofs.Common.{◌≡◌, ◌+◌, ◌*◌, ◌-◌, take, fold, 
 use Rattle.std.specs.List.{list_all}
 use Rattle.mm_spec.specs.CompressedProof.{is_early_letter}
 use Rattle.mm_proof.specs.Number.{saturated}
-use Rattle.mm_proof.proofs.digits.number.Given as goal
+use Rattle.mm_proof.proofs.numerals.number.Given as goal
 
 abbrev pub invariant-loop-byte : goal.invariant-loop-byte
 invariant-loop-byte l = record {

@@ -1,6 +1,6 @@
 use Rattle.std.proofs.Common.{refl, rules}
 use Rattle.mm_line.proofs.LineLaw.{line_is_read, sections_refused}
-use Rattle.mm_line.proofs.words.line.Goals as goal
+use Rattle.mm_line.proofs.options.line.Goals as goal
 
 pub returns-clause-is_read : goal.returns-clause-is_read
 returns-clause-is_read g c =

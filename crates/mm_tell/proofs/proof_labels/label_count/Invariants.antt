@@ -2,7 +2,7 @@ use Rattle.std.proofs.Common.{◌≡◌, ℕ, ◌<◌, false, get_or, codes}
 use Rattle.std.specs.Prelude.{bytes_eq}
 use Rattle.mm_spec.specs.declared.Word.{Word}
 use Rattle.mm_outline.specs.Parts.{token_of}
-use Rattle.mm_tell.proofs.labels.label_count.Given as goal
+use Rattle.mm_tell.proofs.proof_labels.label_count.Given as goal
 
 abbrev pub invariant-loop-i : goal.invariant-loop-i
 invariant-loop-i l =

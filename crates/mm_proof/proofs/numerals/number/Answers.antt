@@ -5,7 +5,7 @@ use Rattle.mm_spec.specs.CompressedProof.{is_early_letter}
 use Rattle.mm_proof.specs.Number.{saturated}
 use Rattle.mm_proof.proofs.NumberLaw.{no_number_with_late_byte, saturated_is_number}
 use Rattle.mm_proof.proofs.NumberLaw.{saturated_is_too_large, early_bytes}
-use Rattle.mm_proof.proofs.digits.number.Goals as goal
+use Rattle.mm_proof.proofs.numerals.number.Goals as goal
 
 pub returns-in_default-letter_of-clause-is_too_large :
     goal.returns-in_default-letter_of-clause-is_too_large

@@ -6,7 +6,7 @@ use Rattle.clap.specs.Simple.{App, app_of, app_of_fields, new_app}
 use Rattle.clap.specs.declared.builder.arg.Arg.{Arg}
 use Rattle.mm_line.specs.Lines.{command_of, form_rule, app_with_name}
 use Rattle.mm_line.proofs.LineLaw.{app_with_added_rules, added_rules_are_command, the_rules}
-use Rattle.mm_line.proofs.words.command.Goals as goal
+use Rattle.mm_line.proofs.options.command.Goals as goal
 
 pub returns : goal.returns
 unfolding command_of

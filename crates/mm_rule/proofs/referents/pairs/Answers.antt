@@ -2,7 +2,7 @@ use Rattle.std.proofs.Common.{ap, ◌∙◌}
 use Rattle.mm_rule.specs.Assertions.{as_pairs}
 use Rattle.mm_rule.proofs.FrameLaw.{pairs_lt_symbol_count}
 use Rattle.mm_rule.proofs.DisjointLaw.{frame_pairs_are_disjoint}
-use Rattle.mm_rule.proofs.frames.pairs.Goals as goal
+use Rattle.mm_rule.proofs.referents.pairs.Goals as goal
 
 pub returns-clause-pairs_in_range : goal.returns-clause-pairs_in_range
 returns-clause-pairs_in_range g c =

@@ -3,7 +3,7 @@ use Rattle.std.specs.List.{dedup}
 use Rattle.std.proofs.lemmas.List.Filters.{dedup_is}
 use Rattle.std.proofs.lemmas.Map.Keys.{IsStrictlyIncreasing-dedup}
 use Rattle.mm_spec.proofs.ListLaw.{sort_and_dedup_keeps_members}
-use Rattle.mm_tell.proofs.lists.sort_and_dedup.Goals as goal
+use Rattle.mm_tell.proofs.rising_lists.sort_and_dedup.Goals as goal
 
 pub returns-clause-rises : goal.returns-clause-rises
 returns-clause-rises g c =

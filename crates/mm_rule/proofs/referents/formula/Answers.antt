@@ -1,6 +1,6 @@
 use Rattle.mm_spec.specs.Citation.{is_assertion}
 use Rattle.mm_outline.proofs.StatementsLaw.{passing_lt_length}
-use Rattle.mm_rule.proofs.frames.formula.Goals as goal
+use Rattle.mm_rule.proofs.referents.formula.Goals as goal
 
 pub formula-requires : goal.formula-requires
 formula-requires g c =

@@ -1,6 +1,6 @@
 use Rattle.mm_line.proofs.LineLaw.{parsed_matches_are_found, refusal_is_line_refusal}
 use Rattle.mm_line.proofs.LineLaw.{command_app_is_simple_and_free}
-use Rattle.mm_line.proofs.words.find_matches.Goals as goal
+use Rattle.mm_line.proofs.options.find_matches.Goals as goal
 
 pub returns-in-Ok-clause-are_found : goal.returns-in-Ok-clause-are_found
 returns-in-Ok-clause-are_found g c =

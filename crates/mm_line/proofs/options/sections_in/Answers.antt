@@ -3,7 +3,7 @@ use Rattle.clap.specs.Words.{first_value, found_of}
 use Rattle.mm_spec.specs.Text.{is_in}
 use Rattle.mm_line.specs.Lines.{names_in, section_names}
 use Rattle.mm_line.proofs.NamesLaw.{all_pass, one_fails}
-use Rattle.mm_line.proofs.words.sections_in.Goals as goal
+use Rattle.mm_line.proofs.options.sections_in.Goals as goal
 
 pub returns-in_ok-unknown_section-in-Some-unknown_name-clause-has_unknown_name :
     goal.returns-in_ok-unknown_section-in-Some-unknown_name-clause-has_unknown_name
