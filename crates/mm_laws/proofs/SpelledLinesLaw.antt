@@ -169,13 +169,13 @@ labelled_is_spelled : (s : Statement) (l : Token) (xs : List Token) (t : Token)
     → IsSpelled s
 labelled_is_spelled s l xs t label_is symbols_are label_token is_label_word are_tokens plain last
     end_is = record {
-  label = rw (label_is, label_words, append-nil l.word) (label_is_plain l.word is_label_word);
-  label_without_colon =
-      rw (label_is, label_words, append-nil l.word) (label_has_no_colon l.word is_label_word);
-  symbols = rw symbols_are (plain_symbols xs are_tokens plain);
-  start = rw label_is label_token.place;
-  end = omega (arith, last.place, end_is);
-}
+      label = rw (label_is, label_words, append-nil l.word) (label_is_plain l.word is_label_word);
+      label_without_colon =
+          rw (label_is, label_words, append-nil l.word) (label_has_no_colon l.word is_label_word);
+      symbols = rw symbols_are (plain_symbols xs are_tokens plain);
+      start = rw label_is label_token.place;
+      end = omega (arith, last.place, end_is);
+    }
 
 complete_parts : (a b c : Bool) → (a && b && c) ≡ true
     → (a ≡ true) × ((b ≡ true) × (c ≡ true))
