@@ -4,6 +4,7 @@
 //! statements (`Rattle.mm_database.specs.Database.IsDatabase`).
 #![tactic(auto)]
 
+pub mod capacity;
 mod chosen_typecode;
 pub mod database;
 pub mod disjoint_index;
