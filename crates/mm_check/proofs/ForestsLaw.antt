@@ -53,7 +53,8 @@ forest_next forests later next_forest = grind (arith, common_steps)
 
 module _ (c : Context) where
   -- Step n makes a tree of the last ones of the forest before it, or adds a copy of the tree that
-  -- an earlier step ended.
+  -- an earlier step ended. Here ts are the trees that stay, and cs those that become the children
+  -- of the new one; l is its label, and f its formula.
   abbrev pub IsForestStep : List Trees → ℕ → Step → Type 0
   IsForestStep forests n (label l) =
       (ts : Trees) × (f : Formula) × (cs : Trees) × (forest_at forests (suc n) ≡ more ts l f cs)

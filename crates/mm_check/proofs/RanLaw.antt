@@ -21,7 +21,7 @@ use Rattle.mm_check.specs.Contract.{IsReady, IsRefusalOfSomeStep, refusal_at}
 use Rattle.mm_check.specs.Checker.{CheckerState, checker_state, IsAtTheorem, HasPerformed, Performs}
 use Rattle.mm_check.specs.Checker.{IsStepRefusal}
 use Rattle.mm_check.specs.Reached.{IsReached, HasRun, AreEndFormulas, steps_of}
-use Rattle.mm_check.proofs.ReachLaw.{no_step_reached, reached_after_step, take_step}
+use Rattle.mm_check.proofs.ReachLaw.{no_steps_are_reached, reached_after_step, take_step}
 use Rattle.mm_check.proofs.ReachLaw.{step_at_is_good, failing_step_refuses}
 
 get_of_front : (ends later : List Formula) (j : ℕ) (f : Formula) → slice_get ends j ≡ Some f
@@ -201,4 +201,4 @@ pub no_step_has_run : (db : List Statement) (t : ℕ) (steps : List PlacedStep) 
     → (noted : List ℕ) → (w : List Bool)
     → s ≡ machine_state [] [] [] w → noted ≡ [] → HasRun db t steps 0 s noted
 no_step_has_run db t steps s noted w s_is noted_is_nil =
-    grind (arith, common_steps, no_step_reached, All-nil)
+    grind (arith, common_steps, no_steps_are_reached, All-nil)

@@ -214,10 +214,11 @@ pub take_step : (steps : List PlacedStep) (i : ℕ) → i < length steps
     → steps_of (take (i + 1) steps) ≡ steps_of (take i steps) ++ (step_at steps i).step ∷ []
 take_step steps i i_lt_length = grind (arith, common_steps, take_more, map-append)
 
--- no step so far
-pub no_step_reached : (db : List Statement) (t : ℕ) (stack ends : List Formula) (noted : List ℕ)
+-- before the first step the state is reached by no steps
+pub no_steps_are_reached : (db : List Statement) (t : ℕ) (stack ends : List Formula)
+    (noted : List ℕ)
     → stack ≡ [] → ends ≡ [] → noted ≡ [] → IsReached db t [] stack ends noted
-no_step_reached db t stack ends noted stack_is_nil ends_is_nil noted_is_nil =
+no_steps_are_reached db t stack ends noted stack_is_nil ends_is_nil noted_is_nil =
     rw (stack_is_nil, ends_is_nil, noted_is_nil)
     (record {
       forest = none;

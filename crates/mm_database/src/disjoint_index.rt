@@ -1,6 +1,7 @@
 //! The `$d` statements by their variables. Two variables are looked up by one binary search among
 //! the narrow `$d` of the lower of them. Of wide `$d`, which have too many pairs of variables to
 //! list them, the cost depends on those that have one of the two.
+//! Here `at` is the number of the statement at which something is active, not a place of the text.
 
 ghost use Rattle.std.specs.Prelude.{◌≡◌, ◌≢◌, ◌<◌, ◌≤◌, ◌+◌, ◌-◌, ◌&&◌, ◌||◌, ℕ, OnOk};
 ghost use Rattle.std.specs.Prelude.{length, get_or, nat_eq, nat_lt, nat_le, true, false};

@@ -12,7 +12,7 @@ use std::marker::Model;
 
 /// What is known of a symbol. Of a constant only the first field means anything.
 #[derive(Clone, Copy, Drop)]
-pub struct Symbol<'a> {
+pub struct SymbolEntry<'a> {
     pub is_variable: bool,
     /// The statement that declared the variable last.
     pub declaration: u32,
@@ -24,7 +24,7 @@ pub struct Symbol<'a> {
 
 /// The symbols and the labels.
 pub struct NameTable<'a, A: Allocator> {
-    symbols: NameMap<'a, Symbol<'a>, A>,
+    symbols: NameMap<'a, SymbolEntry<'a>, A>,
     labels: NameMap<'a, u32, A>,
 }
 
@@ -81,7 +81,7 @@ impl<'a, A: Allocator> NameTable<'a, A> {
 
 impl<'a, A: Allocator + Copy> NameTable<'a, A> {
     /// Returns what is known of a word as a symbol, or `None` if it isn't a symbol.
-    pub fn symbol(&self, word: &[u8]) -> Option<Symbol<'a>>
+    pub fn symbol(&self, word: &[u8]) -> Option<SymbolEntry<'a>>
         ensures { result ≡ find self.now.symbols word.now }
     {
         let (_, known) = self.numbered(word);
@@ -91,7 +91,7 @@ impl<'a, A: Allocator + Copy> NameTable<'a, A> {
     /// Returns the symbol's number, in the order of first declarations, and what is known of it. If
     /// the word isn't a symbol, returns the count of symbols and `None`.
     #[inline(always)]
-    pub fn numbered(&self, word: &[u8]) -> (usize, Option<Symbol<'a>>)
+    pub fn numbered(&self, word: &[u8]) -> (usize, Option<SymbolEntry<'a>>)
         ensures number_is_index { result.0 ≡ index_of word.now (names_of self.now.symbols) }
         ensures symbol_is_found { result.1 ≡ find self.now.symbols word.now }
     {
@@ -107,7 +107,7 @@ impl<'a, A: Allocator + Copy> NameTable<'a, A> {
     }
 
     /// Sets the entry of the symbol with this name. A new symbol gets the next number.
-    pub fn set_symbol(&mut self, word: &'a [u8], symbol: Symbol<'a>) -> Result<(), AllocError>
+    pub fn set_symbol(&mut self, word: &'a [u8], symbol: SymbolEntry<'a>) -> Result<(), AllocError>
         ensures symbol_is_set { OnOk result
             ((w : List ℕ)
             → find self.new.symbols w

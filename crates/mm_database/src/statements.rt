@@ -1,4 +1,5 @@
 //! The statements of a text as they were read, with their blocks and the numbers of their symbols.
+//! Here `at` is the number of the statement at which something is active, not a place of the text.
 
 ghost use Rattle.std.specs.Prelude.{◌≡◌, ◌<◌, ◌≤◌, ◌^◌, All, Some, length, slice_get};
 ghost use Rattle.std.specs.List.{list_any};

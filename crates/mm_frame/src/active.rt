@@ -1,4 +1,5 @@
 //! The last active `$e` at each statement. The others are found from it, since blocks are nested.
+//! Here `at` is the number of the statement at which something is active, not a place of the text.
 
 ghost use Rattle.std.specs.Prelude.{◌≡◌, ◌<◌, ◌≤◌, ℕ, IfOk, OnOk, length, slice_index};
 ghost use Rattle.mm_spec.specs.Derivation.{is_member};

@@ -1,4 +1,5 @@
 //! The mandatory pairs of disjoint variables of assertions.
+//! Here `at` is the number of the statement at which something is active, not a place of the text.
 
 ghost use Rattle.std.specs.Prelude.{◌≡◌, ◌<◌, ◌+◌, ◌&&◌, ◌||◌, ℕ, OnOk, IfOk, All, length};
 ghost use Rattle.std.specs.Prelude.{get_or, map, nat_eq, nat_lt};
@@ -44,7 +45,7 @@ fn add_later_pairs<A: Allocator>(
 
 /// Appends all pairs of variables that are in the same statement, the lower variable first.
 /// `by_statement` has pairs of a statement and a variable that it has.
-fn add_together<A: Allocator>(
+fn add_pairs_by_statement<A: Allocator>(
     by_statement: &[(u32, u32)],
     pairs: &mut Vec<(u32, u32), A>,
 ) -> Result<(), AllocError>
@@ -279,7 +280,7 @@ pub(crate) fn list_pairs<A: Allocator>(
         assertion,
         pairs,
     )?;
-    add_together(variables_by_statement, pairs)?;
+    add_pairs_by_statement(variables_by_statement, pairs)?;
     sort_and_dedup_pairs(pairs);
     Ok(())
 }

@@ -133,7 +133,7 @@ all_split P [] ys all_hold = (tt, all_hold)
 all_split P (x ∷ xs) ys (holds, later) = grind (arith, common_steps, (all_split P xs ys later))
 
 -- a statement whose words are spelled as the lines need it
-record IsSpelled (s : Statement) : Type 0 where
+record FitsLines (s : Statement) : Type 0 where
   label : IsLineWord (flat_map (λ w. w) (label_words s))
   label_without_colon : list_any is_colon (flat_map (λ w. w) (label_words s)) ≡ false
   symbols : AllByRecursion IsLineWord (words (symbols_of s))
@@ -143,36 +143,37 @@ record IsSpelled (s : Statement) : Type 0 where
 no_label_is_plain : IsLineWord []
 no_label_is_plain = record { no_gap = refl; no_dollar = refl }
 
-plain_symbols : (xs : List Token) → AllByRecursion IsTextToken xs → is_plain xs ≡ true
+-- tokens that are plain are words that a line can have
+tokens_are_line_words : (xs : List Token) → AllByRecursion IsTextToken xs → is_plain xs ≡ true
     → AllByRecursion IsLineWord (words xs)
-plain_symbols [] are_tokens plain = tt
-plain_symbols (x ∷ xs) are_tokens plain =
+tokens_are_line_words [] are_tokens plain = tt
+tokens_are_line_words (x ∷ xs) are_tokens plain =
     let parts = and_parts (not (has_dollar x.word)) (is_plain xs) plain in (
       record {
         no_gap = token_has_no_gap x.word are_tokens.0.is_token;
         no_dollar = not-true (has_dollar x.word) parts.0;
       },
-      plain_symbols xs are_tokens.1 parts.1,
+      tokens_are_line_words xs are_tokens.1 parts.1,
     )
 
 -- a statement without a label
 unlabelled_is_spelled : (s : Statement) (xs : List Token) (t : Token) → label_of s ≡ None
     → symbols_of s ≡ xs → AllByRecursion IsTextToken xs → is_plain xs ≡ true
-    → IsTextToken t → end_at s ≡ t.at → IsSpelled s
+    → IsTextToken t → end_at s ≡ t.at → FitsLines s
 unlabelled_is_spelled s xs t no_label symbols_are are_tokens plain last end_is =
-    search (rules, arith, no_label_is_plain, plain_symbols)
+    search (rules, arith, no_label_is_plain, tokens_are_line_words)
 
 -- a statement with a label
 labelled_is_spelled : (s : Statement) (l : Token) (xs : List Token) (t : Token)
     → label_of s ≡ Some l → symbols_of s ≡ xs → IsTextToken l → is_label l.word ≡ true
     → AllByRecursion IsTextToken xs → is_plain xs ≡ true → IsTextToken t → end_at s ≡ t.at
-    → IsSpelled s
+    → FitsLines s
 labelled_is_spelled s l xs t label_is symbols_are label_token is_label_word are_tokens plain last
     end_is = record {
       label = rw (label_is, label_words, append-nil l.word) (label_is_plain l.word is_label_word);
       label_without_colon =
           rw (label_is, label_words, append-nil l.word) (label_has_no_colon l.word is_label_word);
-      symbols = rw symbols_are (plain_symbols xs are_tokens plain);
+      symbols = rw symbols_are (tokens_are_line_words xs are_tokens plain);
       start = rw label_is label_token.place;
       end = omega (arith, last.place, end_is);
     }
@@ -185,7 +186,7 @@ complete_parts a b c complete = grind (arith, common_steps, and_parts)
 complete_unlabelled_is_spelled : (s : Statement) (k : ℕ) (xs : List Token) (d : ℕ) (keyword : Bytes)
     → label_of s ≡ None → symbols_of s ≡ xs → end_at s ≡ d
     → AllByRecursion IsTextToken (token k keyword ∷ (xs ++ token d (codes "$.") ∷ []))
-    → is_complete s ≡ true → IsSpelled s
+    → is_complete s ≡ true → FitsLines s
 complete_unlabelled_is_spelled s k xs d keyword no_label symbols_are end_is are_tokens complete =
     let parts = complete_parts _ (is_plain (symbols_of s)) _ complete in
     let tokens = all_split IsTextToken xs (token d (codes "$.") ∷ []) are_tokens.1 in
@@ -197,7 +198,7 @@ complete_labelled_is_spelled : (s : Statement) (l : Token) (k : ℕ) (xs : List 
     (keyword : Bytes)
     → label_of s ≡ Some l → symbols_of s ≡ xs → end_at s ≡ d
     → AllByRecursion IsTextToken (l ∷ token k keyword ∷ (xs ++ token d (codes "$.") ∷ []))
-    → is_complete s ≡ true → IsSpelled s
+    → is_complete s ≡ true → FitsLines s
 complete_labelled_is_spelled s l k xs d keyword label_is symbols_are end_is are_tokens complete =
     let parts = complete_parts (is_label_if_any (label_of s)) (is_plain (symbols_of s)) _ complete
     in
@@ -208,7 +209,7 @@ complete_labelled_is_spelled s l k xs d keyword label_is symbols_are end_is are_
 
 -- a complete statement of tokens
 statement_is_spelled : (s : Statement) → AllByRecursion IsTextToken (spelling_of s)
-    → is_complete s ≡ true → IsSpelled s
+    → is_complete s ≡ true → FitsLines s
 statement_is_spelled (constants k xs d) are_tokens complete =
     search (rules, arith, complete_unlabelled_is_spelled)
 statement_is_spelled (variables k xs d) are_tokens complete =
@@ -236,7 +237,7 @@ statement_is_spelled (closing k) are_tokens complete =
 
 all_statements_are_spelled : (ss : List Statement)
     → AllByRecursion IsTextToken (flat_map spelling_of ss) → list_all is_complete ss ≡ true
-    → AllByRecursion IsSpelled ss
+    → AllByRecursion FitsLines ss
 all_statements_are_spelled [] are_tokens complete = tt
 all_statements_are_spelled (s ∷ ss) are_tokens complete =
     let parts = and_parts (is_complete s) (list_all is_complete ss) complete in
@@ -245,11 +246,11 @@ all_statements_are_spelled (s ∷ ss) are_tokens complete =
 
 -- ---- statements as they count
 
-open_is_spelled : (s : Statement) → IsSpelled s → IsSpelled (as_axiom s)
+open_is_spelled : (s : Statement) → FitsLines s → FitsLines (as_axiom s)
 open_is_spelled s h1 = grind (arith, common_steps)
 
-counted_are_spelled : (with_open : Bool) (db : List Statement) → AllByRecursion IsSpelled db
-    → AllByRecursion IsSpelled (open_as_axioms with_open db)
+counted_are_spelled : (with_open : Bool) (db : List Statement) → AllByRecursion FitsLines db
+    → AllByRecursion FitsLines (open_as_axioms with_open db)
 counted_are_spelled false db are_spelled = are_spelled
 counted_are_spelled true [] are_spelled = tt
 counted_are_spelled true (s ∷ db) are_spelled =
@@ -266,11 +267,11 @@ module _ {X : Type 0} (Q : X → Type 0) (P : Option X → Type 0) where
   of_got of_none of_some (x ∷ xs) are_q zero = of_some x are_q.0
   of_got of_none of_some (x ∷ xs) are_q (suc i) = of_got of_none of_some xs are_q.1 i
 
-declared_words : (s : Statement) → IsSpelled s
+declared_words : (s : Statement) → FitsLines s
     → AllByRecursion IsLineWord (constants_of s ++ variables_of s)
 declared_words s h1 = grind (arith, common_steps, append-nil)
 
-all_declared : (db : List Statement) → AllByRecursion IsSpelled db
+all_declared : (db : List Statement) → AllByRecursion FitsLines db
     → AllByRecursion IsLineWord (flat_map (λ s. constants_of s ++ variables_of s) db)
 all_declared [] are_spelled = tt
 all_declared (s ∷ db) are_spelled =
@@ -293,20 +294,20 @@ label_in o = flat_map (λ w. w) (flat_map label_words (elim o [ None ↦ [] | So
 label_in_is : (s : Statement) → label_in (Some s) ≡ flat_map (λ w. w) (label_words s)
 label_in_is s = ap (flat_map (λ w. w)) (append-nil (label_words s))
 
-spelled_database : (db : List Statement) → AllByRecursion IsSpelled db → AreSpelled db
+spelled_database : (db : List Statement) → AllByRecursion FitsLines db → AreSpelled db
 spelled_database db are_spelled = record {
-  labels = of_got IsSpelled (λ o. IsLineWord (label_in o)) no_label_is_plain
+  labels = of_got FitsLines (λ o. IsLineWord (label_in o)) no_label_is_plain
       (λ s spelled. subst IsLineWord (sym (label_in_is s)) spelled.label) db are_spelled;
   labels_without_colon =
-      of_got IsSpelled (λ o. list_any is_colon (label_in o) ≡ false) refl
+      of_got FitsLines (λ o. list_any is_colon (label_in o) ≡ false) refl
       (λ s spelled. ap (list_any is_colon) (label_in_is s) ∙ spelled.label_without_colon) db
       are_spelled;
   names = of_got IsLineWord (λ o. IsLineWord (unwrap_or o [])) no_label_is_plain
       (λ w plain. plain) _ (first_are_plain [] _ (all_declared db are_spelled));
   places = λ k. (
-    of_got IsSpelled (λ o. unwrap_or (option_map (λ t. t.at) (option_and_then label_of o)) 0 < 2 ^
+    of_got FitsLines (λ o. unwrap_or (option_map (λ t. t.at) (option_and_then label_of o)) 0 < 2 ^
         64) (omega arith) (λ s spelled. omega (arith, spelled.start)) db are_spelled k,
-    of_got IsSpelled (λ o. unwrap_or (option_map end_at o) 0 + 2 < 2 ^ 64) (omega arith)
+    of_got FitsLines (λ o. unwrap_or (option_map end_at o) 0 + 2 < 2 ^ 64) (omega arith)
         (λ s spelled. omega (arith, spelled.end)) db are_spelled k,
   );
 }
@@ -314,7 +315,7 @@ spelled_database db are_spelled = record {
 pub read_is_spelled : ReadIsSpelled
 read_is_spelled text db fault is_read with_open =
     spelled_database (open_as_axioms with_open db) (counted_are_spelled with_open db
-    (all_split IsSpelled db is_read.rest (subst (AllByRecursion IsSpelled) is_read.splits
+    (all_split FitsLines db is_read.rest (subst (AllByRecursion FitsLines) is_read.splits
     (all_statements_are_spelled is_read.statements
     (all_split IsTextToken (flat_map spelling_of is_read.statements) is_read.are_statements.rest
     (subst (AllByRecursion IsTextToken) is_read.are_statements.splits

@@ -49,8 +49,8 @@ call_of has_only only sections form essential with_open =
 
 -- the sections that a number has as bits: 1 the matrix, 2 the counts, 4 the usage, 8 the citations,
 -- 16 the statements
-abbrev pub sections_of : ℕ → Option Sections
-sections_of n =
+abbrev pub sections_with_bits : ℕ → Option Sections
+sections_with_bits n =
     if n == 0 || nat_le 32 n then None
     else Some (record {
       matrix = n % 2 == 1;
@@ -71,7 +71,7 @@ IsText (Some bytes) = IsUtf8 bytes
 
 -- the call asks for this request
 pub record Asks (call : Call) (request : Request) : Type 0 where
-  pub sections_are : sections_of call.sections ≡ Some request.sections
+  pub sections_are : sections_with_bits call.sections ≡ Some request.sections
   pub form_is : form_of call.form ≡ Some request.form
   pub only_is : request.only ≡ call.only
   pub is_text : IsText call.only
@@ -80,9 +80,9 @@ pub record Asks (call : Call) (request : Request) : Type 0 where
 
 -- the call asks for none, and the status says why
 abbrev pub Refuses : Status → Call → Type 0
-Refuses NoSuchRequest call = (sections_of call.sections ≡ None) ⊎ (form_of call.form ≡ None)
+Refuses NoSuchRequest call = (sections_with_bits call.sections ≡ None) ⊎ (form_of call.form ≡ None)
 Refuses TypecodeNotUtf8 call =
-    (sections_of call.sections ≢ None) × (form_of call.form ≢ None) × ¬ IsText call.only
+    (sections_with_bits call.sections ≢ None) × (form_of call.form ≢ None) × ¬ IsText call.only
 Refuses _ call = ⊥
 
 -- the request that a call asks for, or the status that says why it asks for none

@@ -1,14 +1,14 @@
 //! What a call requests.
 
 ghost use Rattle.std.specs.Prelude.{◌≡◌};
-ghost use Rattle.mm_library.specs.Calls.{IsAnswer, call_of, form_of, sections_of};
+ghost use Rattle.mm_library.specs.Calls.{IsAnswer, call_of, form_of, sections_with_bits};
 
 use crate::status::Status;
 use mm_spec::{Form, Request, Sections};
 
 /// The sections of a report, by their bits; at least one.
 fn sections(bits: u32) -> Option<Sections>
-    ensures { result ≡ sections_of bits }
+    ensures { result ≡ sections_with_bits bits }
 {
     if bits == 0 || 32 <= bits {
         return None;

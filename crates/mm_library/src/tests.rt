@@ -44,6 +44,12 @@ const UNKNOWN_BIT: u32 = 33;
 
 const FORM_1: u32 = 1;
 
+/// A theorem cites by all nodes of its proof.
+const BY_ALL_NODES: bool = false;
+
+/// Open theorems don't count as axioms.
+const WITHOUT_OPEN: bool = false;
+
 const ACCEPTED: u32 = 0;
 
 const REFUSED: u32 = 1;
@@ -102,8 +108,8 @@ fn called(memory: Global, units: usize, text: &[u8], only: &[u8], sections: u32)
         !only.is_empty(),
         sections,
         FORM_1,
-        false,
-        false,
+        BY_ALL_NODES,
+        WITHOUT_OPEN,
         &mut out,
         &mut written,
     );
@@ -204,8 +210,8 @@ fn outputs_of_every_length(rt: HostRuntime) {
             false,
             DEFAULT,
             FORM_1,
-            false,
-            false,
+            BY_ALL_NODES,
+            WITHOUT_OPEN,
             &mut out[..len],
             &mut written,
         );

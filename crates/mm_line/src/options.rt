@@ -22,6 +22,7 @@ use mm_version::VERSION;
 use std::alloc::{AllocError, Global};
 use std::convert::AsStr;
 
+/// The names that `--report` takes, for the message of clap: `section_names` of `Lines.antt`.
 static SECTION_NAMES: [&str; 6] = [
     "all",
     "matrix",
@@ -40,7 +41,8 @@ Status: 0 accepted, 1 refused, 2 invalid command line, 3 reading or writing fail
 4 out of memory. For 2 to 4 the standard error says why.
 The codes of faults (E00 to E45) are explained in docs/FAULTS.md.";
 
-/// An option with a whole number from 1 to 64, 4 by default.
+/// An option with a whole number from 1 to 64, which are the limits of workers and pieces in
+/// `mm_spec`, and 4 by default.
 fn number_option<'a>(alloc: Global, name: &'a str, help: &'a str) -> Arg<'a>
     ensures { rule_of result ≡ number_rule name.entry.now }
 {

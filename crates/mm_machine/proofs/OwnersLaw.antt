@@ -33,7 +33,7 @@ use Rattle.mm_machine.specs.declared.entry.Filled.{Filled}
 use Rattle.mm_machine.specs.FlagRows.{ExtendsSymbols}
 use Rattle.mm_machine.specs.Masks.{AreVariablesOf, HasOwnBit, IsMasked, AreMasked, AreAllMasked}
 use Rattle.mm_machine.specs.Masks.{entry_masks, Includes, IncludesPart, IsNoVariable, StayMasked}
-use Rattle.mm_machine.specs.Masks.{IsApartFrom, AreApart, Owned}
+use Rattle.mm_machine.specs.Masks.{IsDisjointFromMask, AreDisjointMasks, Owned}
 use Rattle.mm_machine.proofs.DistinctLaw.{constant_is_disjoint_from, is_disjoint_from_constant}
 use Rattle.mm_machine.specs.State.{HasMasks}
 use Rattle.mm_machine.proofs.EntryRuleLaw.{entry_formula_is_at}
@@ -430,7 +430,7 @@ module _ (db : List Statement) (t : ℕ) (vs : List Bool) (owners : List ℕ)
             ∙ is_constant)
       ]
 
-  apart_from_formula : (s m : ℕ) (v : List ℕ) → IsApartFrom db t owners s m
+  apart_from_formula : (s m : ℕ) (v : List ℕ) → IsDisjointFromMask db t owners s m
       → AreMasked vs owners m v → All (λ r. r < w) v → is_disjoint_from (context_at db t) s v ≡ true
   apart_from_formula s m v is_apart v_masked v_below =
       list_all-from_AllPass (are_disjoint (context_at db t) s) v
@@ -442,7 +442,7 @@ module _ (db : List Statement) (t : ℕ) (vs : List Bool) (owners : List ℕ)
         | inr is_constant ↦ is_disjoint_from_constant db t s (get_or v k d) is_constant
       ])
 
-  pub disjoint_if_apart : (m n : ℕ) (u v : List ℕ) → AreApart db t owners m n
+  pub disjoint_if_apart : (m n : ℕ) (u v : List ℕ) → AreDisjointMasks db t owners m n
       → AreMasked vs owners m u → All (λ r. r < w) u → AreMasked vs owners n v → All (λ r. r < w) v
       → are_all_disjoint (context_at db t) u v ≡ true
   disjoint_if_apart m n u v are_apart u_masked u_below v_masked v_below =
@@ -450,7 +450,7 @@ module _ (db : List Statement) (t : ℕ) (vs : List Bool) (owners : List ℕ)
       (λ k d k_lt. elim (own_or_constant m (get_or u k d) (u_masked k d k_lt) (u_below k d k_lt)
       (λ other. omega (arith, (are_apart OTHERS (omega arith) other).0))) [
         | inl own ↦
-            apart_from_formula (get_or u k d) n v (subst (λ o. IsApartFrom db t owners o n)
+            apart_from_formula (get_or u k d) n v (subst (λ o. IsDisjointFromMask db t owners o n)
             own.is_owner (are_apart own.index (omega (arith, own.index_lt_others)) own.is_set).1)
             v_masked v_below
         | inr is_constant ↦ constant_is_disjoint_from db t (get_or u k d) is_constant v

@@ -73,13 +73,13 @@ pub record StayMasked (parts : List RulePart) (nodes : List (List ℕ)) (es : Li
       → AreAllMasked vs owners (entry_masks es') (entry_formulas nodes' es')
 
 -- the variables of a mask, each of which has a bit of its own, are disjoint from a symbol
-abbrev pub IsApartFrom : List Statement → ℕ → List ℕ → ℕ → ℕ → Type 0
-IsApartFrom db t owners s mask =
+abbrev pub IsDisjointFromMask : List Statement → ℕ → List ℕ → ℕ → ℕ → Type 0
+IsDisjointFromMask db t owners s mask =
     (i : ℕ) → i ≤ OTHERS → bit_at mask i ≡ 1
     → (i < OTHERS) × (are_disjoint (context_at db t) s (get_or owners i 0) ≡ true)
 
 -- the variables of two masks, each of which has a bit of its own, are disjoint
-abbrev pub AreApart : List Statement → ℕ → List ℕ → ℕ → ℕ → Type 0
-AreApart db t owners first second =
+abbrev pub AreDisjointMasks : List Statement → ℕ → List ℕ → ℕ → ℕ → Type 0
+AreDisjointMasks db t owners first second =
     (i : ℕ) → i ≤ OTHERS → bit_at first i ≡ 1
-    → (i < OTHERS) × IsApartFrom db t owners (get_or owners i 0) second
+    → (i < OTHERS) × IsDisjointFromMask db t owners (get_or owners i 0) second

@@ -152,7 +152,7 @@ pub fn replace_entries<A: Allocator>(
 /// Replaces the entries from index `below` on by one whose formula has no symbols.
 #[cold]
 #[inline(never)]
-fn replace_by_nothing<A: Allocator>(
+fn replace_by_empty_formula<A: Allocator>(
     nodes: &Nodes<A>,
     stack: &mut Vec<Entry, A>,
     below: usize,
@@ -255,7 +255,7 @@ pub fn replace_by_symbols<A: Allocator>(
         (entry_masks stack.new.items ≡ take below (entry_masks stack.old.items)) }
 {
     if symbols.is_empty() {
-        return replace_by_nothing(nodes, stack, below, mask);
+        return replace_by_empty_formula(nodes, stack, below, mask);
     }
     let count = symbols.len() - 1;
     let first = symbols[0];

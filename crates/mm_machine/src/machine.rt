@@ -28,7 +28,8 @@ use mm_spec::FORMULA_LIMIT;
 use std::alloc::{AllocError, Allocator};
 use std::marker::Model;
 
-/// How many slots say where marks are. The slot of a mark is the index of its step modulo this.
+/// How many slots say where marks are; they take 16 kB. The slot of a mark is the index of its step
+/// modulo this.
 const MARK_SLOTS: usize = 4_096;
 
 /// The entries, and the formulas of the marked steps so far. A node stays as long as a marked step,

@@ -16,7 +16,7 @@ ghost use Rattle.mm_machine.specs.Distinct.{IsSegment, segment_at};
 ghost use Rattle.mm_machine.specs.Entries.{IsEntry, AreInRange, entry_formulas};
 ghost use Rattle.mm_machine.specs.Filled.{body_string_at};
 ghost use Rattle.mm_machine.specs.Masks.{AreVariablesOf, AreAllMasked, AreMasked, entry_masks};
-ghost use Rattle.mm_machine.specs.Masks.{IsApartFrom, AreApart};
+ghost use Rattle.mm_machine.specs.Masks.{IsDisjointFromMask, AreDisjointMasks};
 ghost use Rattle.mm_machine.specs.Applied.{TestsRule};
 
 use crate::disjoint_cache::DisjointCache;
@@ -346,7 +346,7 @@ fn bodies_are_disjoint<A: Allocator>(
 
 /// Whether a symbol is known to be disjoint from all variables of a mask: each has its own bit.
 #[inline(always)]
-fn is_surely_apart_from<A: Allocator>(
+fn is_known_disjoint_from_mask<A: Allocator>(
     database: &Database<A>,
     theorem: u32,
     symbol: Sym,
@@ -360,7 +360,7 @@ fn is_surely_apart_from<A: Allocator>(
         owners.now }
     requires cached_are_disjoint { AreDisjointAt database.now.statements theorem cache.old }
     ensures are_apart { result ≡ true
-        → IsApartFrom database.now.statements theorem owners.now symbol mask }
+        → IsDisjointFromMask database.now.statements theorem owners.now symbol mask }
     ensures cached_are_disjoint { AreDisjointAt database.now.statements theorem cache.new }
 {
     let mut rest = mask;
@@ -383,7 +383,7 @@ fn is_surely_apart_from<A: Allocator>(
 /// Whether all variables of a mask are known to be disjoint from all variables of another: each has
 /// a bit of its own.
 #[inline(always)]
-fn are_surely_apart<A: Allocator>(
+fn are_known_disjoint_masks<A: Allocator>(
     database: &Database<A>,
     theorem: u32,
     owners: &[Sym],
@@ -396,7 +396,7 @@ fn are_surely_apart<A: Allocator>(
         owners.now }
     requires cached_are_disjoint { AreDisjointAt database.now.statements theorem cache.old }
     ensures are_apart { result ≡ true
-        → AreApart database.now.statements theorem owners.now first second }
+        → AreDisjointMasks database.now.statements theorem owners.now first second }
     ensures cached_are_disjoint { AreDisjointAt database.now.statements theorem cache.new }
 {
     if (first | second) >> OTHERS != 0 {
@@ -411,7 +411,7 @@ fn are_surely_apart<A: Allocator>(
         if index >= OTHERS || index >= owners.len() {
             return false;
         }
-        if !is_surely_apart_from(database, theorem, owners[index], owners, second, cache) {
+        if !is_known_disjoint_from_mask(database, theorem, owners[index], owners, second, cache) {
             return false;
         }
         rest &= !(1u64 << index);
@@ -466,7 +466,7 @@ fn keeps_disjoint<A: Allocator>(
         let second = premises[pair.1 as usize];
         count = count.saturating_add(bit_pairs(first.mask, second.mask));
         if count <= MAX_SYMBOL_PAIRS
-            && are_surely_apart(
+            && are_known_disjoint_masks(
                 database,
                 theorem,
                 owners.symbols(),

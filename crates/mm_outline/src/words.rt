@@ -1,4 +1,4 @@
-//! What a word is, by its bytes.
+//! What a word is, by its bytes: which keyword, or whether it may be a label.
 
 ghost use Rattle.std.specs.Prelude.{◌≡◌, codes};
 ghost use Rattle.mm_spec.specs.Text.{has_dollar, is_label as spec_is_label};
@@ -7,7 +7,7 @@ ghost use Rattle.mm_spec.specs.Laws.Table.{class};
 ghost use Rattle.mm_outline.specs.Parts.{class_of};
 ghost use Rattle.mm_outline.specs.Tokens.{FirstByteShowsDollar};
 
-/// What a token is: a keyword, a word without a `$` (`Plain`), or any other word with one.
+/// What a word is: a keyword, a word without a `$` (`Plain`), or any other word with one.
 #[derive(Clone, Copy)]
 pub enum Class {
     Constant,

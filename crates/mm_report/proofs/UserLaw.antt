@@ -14,7 +14,7 @@ use Rattle.mm_spec.specs.Text.{Bytes}
 use Rattle.mm_spec.specs.Report.{Row, separated, mark_at, users, usage_line, usage_lines}
 use Rattle.mm_rows.specs.Marks.{Marks, mark, IsAbove, first_after}
 use Rattle.mm_rows.proofs.TableLaw.{above_is_from_first, from_first_is_above}
-use Rattle.mm_report.specs.Rows.{row_of, after_label}
+use Rattle.mm_report.specs.Rows.{report_row_of, after_label}
 use Rattle.mm_report.proofs.SentLaw.{range_append}
 
 -- if the test passes for all items, all are selected
@@ -78,10 +78,10 @@ separated_append (r ∷ rs) ss rs_not_empty =
 pub spaced_run_is_rows : (m : Marks) (labels : List Bytes) (from to : ℕ) → from ≤ to
     → to ≤ length labels
     → flat_map (λ (l : Bytes). 32 ∷ l) (slice_range labels from to)
-    ≡ spaced (map (λ i. row_of m (get_or labels i []) i) (range_with_len from (to - from)))
+    ≡ spaced (map (λ i. report_row_of m (get_or labels i []) i) (range_with_len from (to - from)))
 spaced_run_is_rows m labels from to from_le_to to_le_length =
     let numbers : List ℕ = range_with_len from (to - from) in
-    let row : ℕ → Row = λ i. row_of m (get_or labels i []) i in
+    let row : ℕ → Row = λ i. report_row_of m (get_or labels i []) i in
     ap (flat_map (λ (l : Bytes). 32 ∷ l))
     (sym (pick_l-range_with_len [] labels from (to - from) (omega arith)))
     ∙ flat_map-map (λ (l : Bytes). 32 ∷ l) (λ i. get_or labels i []) numbers
@@ -90,7 +90,7 @@ spaced_run_is_rows m labels from to from_le_to to_le_length =
 module _ (m : Marks) (labels : ℕ → Bytes) (j : ℕ) where
   -- the row of a theorem
   abbrev pub row : ℕ → Row
-  row i = row_of m (labels i) i
+  row i = report_row_of m (labels i) i
 
   -- the theorems below n that are marked in the column
   abbrev pub users_before : ℕ → List Row

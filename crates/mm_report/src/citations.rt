@@ -171,7 +171,7 @@ fn send_unmarked<W: Write, A: Allocator, C: Allocator, D: Allocator>(
 /// requested. If open theorems count as axioms, the report says how many columns they are. It
 /// allocates no memory. Returns `WriteFailed` if a write failed or accepted no byte of a piece that
 /// wasn't empty; then a prefix of the report has been written.
-pub fn write_unmarked<'a, W: Write, A: Allocator, C: Allocator, V: Allocator, D: Allocator>(
+pub fn write_without_marks<'a, W: Write, A: Allocator, C: Allocator, V: Allocator, D: Allocator>(
     to: &mut W,
     request: &Request<'_>,
     database: &Database<'a, D>,

@@ -21,7 +21,7 @@ use Rattle.mm_spec.proofs.OpenedLaw.{counted_complete}
 use Rattle.mm_spec.proofs.RestsLaw.{rows_of as rows_of_theorems}
 use Rattle.mm_work.specs.Citing.{Citing, HasCitation, theorem_at}
 use Rattle.mm_rows.specs.Marks.{Marks, mark, IsMatrix}
-use Rattle.mm_report.specs.Rows.{row_of, rows_of, marks_of}
+use Rattle.mm_report.specs.Rows.{report_row_of, rows_of, marks_of}
 use Rattle.mm_report.specs.Reports.{open_theorem_count, report_of}
 use Rattle.mm_report.specs.CitingRows.{citing_rows, citing_rows_of}
 use Rattle.mm_report.specs.Reports.{unmarked_report_of}
@@ -83,7 +83,7 @@ module _ (db : List Statement) (request : Request) (c : Citing) (m : Marks)
       (rows_of m (map (label_at db) (theorems db)))
   rows_are =
       let names = map (label_at db) (theorems db) in
-      let f = λ (i : ℕ). row_of m (get_or names i []) i in
+      let f = λ (i : ℕ). report_row_of m (get_or names i []) i in
       let row_count_is = is_matrix.rows_are in
       let counts_equal = ap (λ (ts : List ℕ). length ts) theorems_are in
       let rows_length_is = length-map-range_with_len f 0 m.rows in

@@ -17,7 +17,7 @@ use crate::judged_text::{JudgedText, judged_text};
 use mm_database::Database;
 use mm_lex::lex;
 use mm_plan::Plan;
-use mm_report::{Request, write_refusal, write_requested_report, write_rows, write_unmarked};
+use mm_report::{Request, write_refusal, write_requested_report, write_rows, write_without_marks};
 use mm_rows::{Columns, MarkedRows, Matrix, marked_rows, matrix};
 use mm_spec::Fault;
 use mm_stmt::read_owned;
@@ -58,7 +58,7 @@ fn report_unmarked<'a, A: Allocator, W: Write>(
     ensures { Wrote result database.now.text request.now (W.contents to.old)
         (W.contents to.new) }
 {
-    match write_unmarked(to, request, database, chosen, citations, dummy_lists) {
+    match write_without_marks(to, request, database, chosen, citations, dummy_lists) {
         Ok(()) => RunEnd::Accepted,
         Err(_) => RunEnd::WriteFailed,
     }

@@ -21,7 +21,7 @@ use Rattle.mm_scope.specs.WordEntry.{gives_other_typecode, is_constant_entry, en
 use Rattle.mm_scope.specs.WordEntry.{label_after}
 use Rattle.mm_outline.specs.Parts.{statement_between}
 use Rattle.mm_scope.specs.ReadSoFar.{KnowsStatements}
-use Rattle.mm_database.specs.declared.names.Symbol.{Symbol}
+use Rattle.mm_database.specs.declared.names.SymbolEntry.{SymbolEntry}
 use Rattle.mm_outline.specs.declared.parts.Kind.{Kind}
 use Rattle.mm_outline.specs.declared.parts.Kind.TheVariants as kind
 use Rattle.mm_outline.proofs.BlocksLaw.{blocks_after_other, blocks_after_opening}
@@ -182,14 +182,14 @@ blocks_after text ws db b are_blocks db_lt_never k p m e closed_block_was_open =
 
 -- the code knows what it has to know after one lawful statement more
 pub knows_after_statement : (text : List ℕ) (ws : List spec.Word) {db : List Statement}
-    {look : List ℕ → Option Symbol} {labels : List ℕ → Option ℕ} {b : BlockLists}
+    {look : List ℕ → Option SymbolEntry} {labels : List ℕ → Option ℕ} {b : BlockLists}
     → KnowsStatements db look labels b → length db < never → (k : Kind) (p m e : ℕ)
     → least (scope_faults (names_before db (length db)) (depth db (length db))
     (statement_between text ws k p m e))
     ≡ None
     → (is_closing (statement_between text ws k p m e) ≡ true → 0 < depth db (length db))
     → {c : BlockLists} → c ≡ pushed k b → {statement : ℕ} → statement ≡ length b.block_of
-    → (new : List ℕ → Option Symbol)
+    → (new : List ℕ → Option SymbolEntry)
     → ((w : List ℕ)
     → entry_of (new w) ≡ entry_after statement (statement_between text ws k p m e) w
     (entry_of (look w)))

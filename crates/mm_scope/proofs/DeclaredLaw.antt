@@ -5,7 +5,7 @@ use Rattle.std.proofs.lemmas.Slice.Eq.{bytes_eq-Decides}
 use Rattle.std.proofs.Math.Bool.{or-false}
 use Rattle.mm_spec.specs.Text.{is_in, words}
 use Rattle.mm_spec.specs.declared.Word.{Word}
-use Rattle.mm_database.specs.declared.names.Symbol.{Symbol}
+use Rattle.mm_database.specs.declared.names.SymbolEntry.{SymbolEntry}
 use Rattle.mm_outline.specs.Parts.{between, token_at}
 use Rattle.mm_scope.specs.WordEntry.{WordEntry, entry_of, declared_entry}
 use Rattle.mm_scope.proofs.JudgeLaw.{in_between_push}
@@ -18,8 +18,8 @@ module _ (text : List ℕ) (ws : List Word) (from i : ℕ) (from_le_i : from ≤
 
   -- if the entries are those after the words up to i, and the next one is declared, they are those
   -- after the words up to i + 1
-  pub declared_with_next_word : (v : Bool) (n : ℕ) (s : Symbol) (old cur new : List ℕ
-      → Option Symbol)
+  pub declared_with_next_word : (v : Bool) (n : ℕ) (s : SymbolEntry) (old cur new : List ℕ
+      → Option SymbolEntry)
       → ((w : List ℕ) → new w ≡ (if bytes_eq next_word w then Some s else cur w))
       → entry_of (Some s) ≡ declared_entry v n next_word (entry_of (cur next_word))
       → ((w : List ℕ)

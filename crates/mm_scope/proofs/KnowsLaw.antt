@@ -21,7 +21,7 @@ use Rattle.mm_scope.specs.WordEntry.{is_variable_entry}
 use Rattle.mm_outline.specs.Typed.{has_word, typed_words}
 use Rattle.mm_scope.specs.ReadSoFar.{KnowsStatements}
 use Rattle.mm_database.specs.Names.{is_constant_in, is_variable_in}
-use Rattle.mm_database.specs.declared.names.Symbol.{Symbol}
+use Rattle.mm_database.specs.declared.names.SymbolEntry.{SymbolEntry}
 use Rattle.mm_scope.proofs.LatestLaw.{in_active_iff_latest_active}
 use Rattle.mm_spec.proofs.ListLaw.{none_passes_no_any}
 use Rattle.mm_outline.proofs.ActiveWordsLaw.{word_of_active_is_any, typed_word_is_typing}
@@ -59,7 +59,7 @@ module _ (db : List Statement) (b : BlockLists) (are_blocks : IsBlocks db b)
     (db_lt_never : length db < never)
     (w : Bytes) where
   -- a word is an active variable exactly if its entry says so
-  in_active_is_active_variable : (o : Option Symbol) → IsEntryOf db w (entry_of o)
+  in_active_is_active_variable : (o : Option SymbolEntry) → IsEntryOf db w (entry_of o)
       → is_in w (flat_map variables_of (active_statements db (length db)))
       ≡ judge.is_active_variable (is_open_in b) o
   in_active_is_active_variable None is_entry =
@@ -79,7 +79,7 @@ module _ (db : List Statement) (b : BlockLists) (are_blocks : IsBlocks db b)
           (is_entry.variable_is_known ∙ is_variable_is_v)
 
   -- a word has an active `$f` exactly if its entry says so
-  in_active_is_typed_here : (o : Option Symbol) → IsEntryOf db w (entry_of o)
+  in_active_is_typed_here : (o : Option SymbolEntry) → IsEntryOf db w (entry_of o)
       → is_in w (flat_map typed_words (active_statements db (length db)))
       ≡ is_typed_here (is_open_in b) o
   in_active_is_typed_here None is_entry =
@@ -99,7 +99,7 @@ module _ (db : List Statement) (b : BlockLists) (are_blocks : IsBlocks db b)
   ]
 
 -- an entry says the same as what is known of the word
-entry_is_known : (o : Option Symbol)
+entry_is_known : (o : Option SymbolEntry)
     → (is_constant_entry (entry_of o) ≡ is_constant_in o)
     × (is_variable_entry (entry_of o) ≡ is_variable_in o)
     × ((c : Bytes)
@@ -108,7 +108,7 @@ entry_is_known : (o : Option Symbol)
 entry_is_known o = grind (arith, common_steps)
 
 -- the names before the next statement are those that are known
-pub scope_knows_names : (db : List Statement) (look : List ℕ → Option Symbol) (labels : List ℕ
+pub scope_knows_names : (db : List Statement) (look : List ℕ → Option SymbolEntry) (labels : List ℕ
     → Option ℕ)
     → (b : BlockLists)
     → KnowsStatements db look labels b → length db < never
@@ -129,7 +129,7 @@ scope_knows_names db look labels b knows db_lt_never =
     }
 
 -- what is the least fault by the names that are known is so by the names before the next statement
-pub least_before_next : {db : List Statement} {look : List ℕ → Option Symbol}
+pub least_before_next : {db : List Statement} {look : List ℕ → Option SymbolEntry}
     {labels : List ℕ → Option ℕ} {b : BlockLists} (rule : Names → List Fault)
     {found : Option Fault} → KnowsStatements db look labels b → length db < 2 ^ 31
     → ((n : Names) → Knows n look labels (is_open_in b) → found ≡ least (rule n))

@@ -5,7 +5,7 @@ use Rattle.std.proofs.Common.{Option, bytes_eq, if◌then◌else◌, refl, ap, a
 use Rattle.std.proofs.lemmas.Slice.Eq.{bytes_eq-Decides}
 use Rattle.mm_spec.specs.Text.{Token}
 use Rattle.mm_spec.specs.declared.Word.{Word}
-use Rattle.mm_database.specs.declared.names.Symbol.{Symbol}
+use Rattle.mm_database.specs.declared.names.SymbolEntry.{SymbolEntry}
 use Rattle.mm_outline.specs.Parts.{between, token_at}
 use Rattle.mm_scope.specs.WordEntry.{WordEntry, entry_of, typed_entry, typed_after}
 use Rattle.mm_scope.proofs.JudgeLaw.{between_is_two_tokens, length_between}
@@ -27,7 +27,7 @@ module _ (text : List ℕ) (ws : List Word) (k j : ℕ) (j_le_length : j ≤ len
       omega (arith, between_length, length_is_2, k_lt_j)))
 
   -- two symbols
-  pub typed_after_two_symbols : j - k ≡ 3 → (n : ℕ) (old mid new : List ℕ → Option Symbol)
+  pub typed_after_two_symbols : j - k ≡ 3 → (n : ℕ) (old mid new : List ℕ → Option SymbolEntry)
       → ((w : List ℕ) → mid w ≡ old w)
       → ((w : List ℕ)
       → entry_of (new w)

@@ -13,29 +13,29 @@ use Rattle.mm_outline.specs.Blocks.{never}
 use Rattle.mm_outline.specs.declared.parts.Kind.{Kind}
 use Rattle.mm_outline.specs.declared.parts.Kind.TheVariants.{Constants, Variables, Disjoint}
 use Rattle.mm_database.specs.Names.{is_constant_in, is_variable_in}
-use Rattle.mm_database.specs.declared.names.Symbol.{Symbol}
+use Rattle.mm_database.specs.declared.names.SymbolEntry.{SymbolEntry}
 
 -- whether what is known of a word makes it a variable that is active, that has an active `$f`, or
 -- that an earlier `$f` gave another typecode, by which statements are in open blocks
 module _ (is_open : ℕ → Bool) where
-  abbrev pub is_active_symbol : Symbol → Bool
+  abbrev pub is_active_symbol : SymbolEntry → Bool
   is_active_symbol s = s.is_variable && is_open s.declaration
 
-  abbrev pub is_active_variable : Option Symbol → Bool
+  abbrev pub is_active_variable : Option SymbolEntry → Bool
   is_active_variable None = false
   is_active_variable (Some s) = is_active_symbol s
 
-  abbrev pub is_typed_here : Option Symbol → Bool
+  abbrev pub is_typed_here : Option SymbolEntry → Bool
   is_typed_here None = false
   is_typed_here (Some s) = is_open s.typing
 
-abbrev pub has_other_typecode : Bytes → Option Symbol → Bool
+abbrev pub has_other_typecode : Bytes → Option SymbolEntry → Bool
 has_other_typecode c None = false
 has_other_typecode c (Some s) = not (nat_eq s.typing never) && not (bytes_eq c s.typecode.now)
 
 -- the names are those that are known: `look` says what is known of a word as a symbol, `labels` the
 -- statement of a label, and `is_open` whether the block of a statement is open
-pub record Knows (n : Names) (look : Bytes → Option Symbol) (labels : Bytes → Option ℕ)
+pub record Knows (n : Names) (look : Bytes → Option SymbolEntry) (labels : Bytes → Option ℕ)
     (is_open : ℕ → Bool) : Type 0 where
   pub constants : (w : Bytes) → is_in w n.constants ≡ is_constant_in (look w)
   pub all_variables : (w : Bytes) → is_in w n.all_variables ≡ is_variable_in (look w)
@@ -46,6 +46,8 @@ pub record Knows (n : Names) (look : Bytes → Option Symbol) (labels : Bytes �
       → is_typed n w ≡ is_typed_here is_open (look w)
   pub other_typecode : (c w : Bytes) → is_active_variable is_open (look w) ≡ true
       → is_typed_otherwise n c w ≡ has_other_typecode c (look w)
+
+-- ---- faults of words
 
 -- the fault with a code at a place, if there is a code
 abbrev pub fault_at : ℕ → Option Code → Option Fault

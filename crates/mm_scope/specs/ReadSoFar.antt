@@ -20,10 +20,10 @@ use Rattle.mm_database.specs.declared.reading.Reading.{Reading}
 use Rattle.mm_spec.specs.Text.{is_in}
 use Rattle.mm_scope.specs.WordEntry.{IsEntryOf, entry_of}
 use Rattle.mm_database.specs.Labels.{AreLabels}
-use Rattle.mm_database.specs.declared.names.Symbol.{Symbol}
+use Rattle.mm_database.specs.declared.names.SymbolEntry.{SymbolEntry}
 
 -- the code knows what is before the next statement
-pub record KnowsStatements (db : List Statement) (look : List ℕ → Option Symbol)
+pub record KnowsStatements (db : List Statement) (look : List ℕ → Option SymbolEntry)
     (labels : List ℕ → Option ℕ) (b : BlockLists) : Type 0 where
   pub blocks : IsBlocks db b
   pub symbols : (w : List ℕ) → IsEntryOf db w (entry_of (look w))
@@ -32,7 +32,7 @@ pub record KnowsStatements (db : List Statement) (look : List ℕ → Option Sym
 
 -- all that has been read after some statements: names, blocks, and the symbols by their numbers
 pub record ReadSoFar : Type 0 where
-  pub look : List ℕ → Option Symbol
+  pub look : List ℕ → Option SymbolEntry
   pub labels : List ℕ → Option ℕ
   pub blocks : BlockLists
   pub names : List (List ℕ)
@@ -57,7 +57,8 @@ module _ {A : Type 0} where
   }
 
   -- after the next statement there is its fault; if it has none, the statement was added to what
-  -- had been read, otherwise nothing was
+  -- had been read, otherwise nothing was. The statement's outline is `o`, and `r` is what has been
+  -- read after it.
   pub record HasReadNext (text : List ℕ) (tokens : List Word) (before : List Outline)
       (open_blocks : ℕ) (o : Outline) (r : Outlined A) : Type 0 where
     pub fault : r.fault

@@ -12,7 +12,7 @@ use Rattle.mm_outline.specs.Blocks.{is_open_in}
 use Rattle.mm_outline.specs.Parts.{AreWithin, IsOutline, between}
 use Rattle.mm_outline.specs.declared.parts.Outline.{Outline}
 use Rattle.mm_database.specs.Names.{find, names_of}
-use Rattle.mm_database.specs.declared.names.Symbol.{Symbol}
+use Rattle.mm_database.specs.declared.names.SymbolEntry.{SymbolEntry}
 use Rattle.mm_scope.specs.declared.scope.Scope.{Scope}
 use Rattle.mm_scope.specs.Knows.{Knows, fault_at}
 use Rattle.mm_scope.specs.WordEntry.{WordEntry, entry_of}
@@ -40,7 +40,7 @@ MayFollow db s =
 
 module _ {A : Type 0} where
   -- what is known of a word as a symbol, the statement of a label, and the names of the symbols
-  abbrev pub symbol_in : Scope A → List ℕ → Option Symbol
+  abbrev pub symbol_in : Scope A → List ℕ → Option SymbolEntry
   symbol_in s = find s.names.symbols
 
   abbrev pub word_entry_in : Scope A → List ℕ → Option WordEntry

@@ -7,7 +7,7 @@ use Rattle.mm_spec.specs.Statement.{Statement, constants, variables, floating}
 use Rattle.mm_spec.specs.Scope.{Typing, active_at, constants_of, variables_of, typings_of}
 use Rattle.mm_outline.specs.Blocks.{never}
 use Rattle.mm_outline.specs.Typed.{has_word, typed_words}
-use Rattle.mm_database.specs.declared.names.Symbol.{Symbol}
+use Rattle.mm_database.specs.declared.names.SymbolEntry.{SymbolEntry}
 
 -- what is known of a symbol: whether it is a variable, the statement that declared it last, the
 -- last `$f` that typed it, or `never`, and its typecode, as bytes; as long as no `$f` has typed it,
@@ -26,7 +26,7 @@ entry is_variable declaration typing typecode = record {
   typecode = typecode;
 }
 
-abbrev pub entry_of : Option Symbol → Option WordEntry
+abbrev pub entry_of : Option SymbolEntry → Option WordEntry
 entry_of None = None
 entry_of (Some s) = Some (entry s.is_variable s.declaration s.typing s.typecode.now)
 

@@ -18,7 +18,7 @@ ghost use Rattle.mm_scope.specs.Scopes.{Declares, IsAmong, IsLeastCode, IsLeastF
 ghost use Rattle.mm_scope.specs.Scopes.{IsScopeAfter, IsNextScope, declared_words, listed_words};
 ghost use Rattle.mm_scope.specs.Scopes.{symbol_in, word_entry_in, label_in, names_in};
 
-use mm_database::names::{NameTable, Symbol};
+use mm_database::names::{NameTable, SymbolEntry};
 use mm_outline::blocks::{Blocks, NEVER};
 use mm_outline::parts::{Kind, Outline};
 use mm_spec::{Code, Word};
@@ -33,14 +33,14 @@ pub struct Scope<'a, A: Allocator> {
 
 impl<'a, A: Allocator + Copy> Scope<'a, A> {
     /// Whether the symbol is an active variable.
-    fn is_active(&self, symbol: Symbol<'a>) -> bool
+    fn is_active(&self, symbol: SymbolEntry<'a>) -> bool
         ensures { result ≡ is_active_symbol (is_open_in self.now.blocks) symbol.entry }
     {
         symbol.is_variable && self.blocks.is_still_open(symbol.declaration)
     }
 
     /// Whether the symbol has an active `$f`.
-    fn is_typed(&self, symbol: Symbol<'a>) -> bool
+    fn is_typed(&self, symbol: SymbolEntry<'a>) -> bool
         ensures { result ≡ is_open_in self.now.blocks symbol.entry.typing }
     {
         self.blocks.is_still_open(symbol.typing)
@@ -48,7 +48,7 @@ impl<'a, A: Allocator + Copy> Scope<'a, A> {
 
     /// Returns what is wrong with a word as a symbol of a formula after the typecode. `word_symbol`
     /// is what is known of the word.
-    pub(crate) fn symbol_code(&self, word_symbol: Option<Symbol<'a>>) -> Option<Code>
+    pub(crate) fn symbol_code(&self, word_symbol: Option<SymbolEntry<'a>>) -> Option<Code>
         ensures { (word : List ℕ)
             → symbol_in self.now word ≡ word_symbol.entry
             → IsLeastCode self.now (λ n. symbol_codes n [] word) result }
@@ -86,7 +86,7 @@ impl<'a, A: Allocator + Copy> Scope<'a, A> {
 
     /// Returns what is wrong with a word as a typecode. `word_symbol` is what is
     /// known of the word.
-    pub(crate) fn typecode_fault_code(word_symbol: Option<Symbol<'a>>) -> Option<Code>
+    pub(crate) fn typecode_fault_code(word_symbol: Option<SymbolEntry<'a>>) -> Option<Code>
         ensures { (place : ℕ)
             → fault_at place result
             ≡ least (faults_at place (when (not (is_constant_in word_symbol.entry)) BadTypecode)) }
@@ -98,7 +98,7 @@ impl<'a, A: Allocator + Copy> Scope<'a, A> {
     }
 
     /// Returns what is wrong with the typecode for the variable of a `$f`.
-    pub(crate) fn floating_code(&self, typecode: &[u8], symbol: Symbol<'a>) -> Option<Code>
+    pub(crate) fn floating_code(&self, typecode: &[u8], symbol: SymbolEntry<'a>) -> Option<Code>
         ensures { (word : List ℕ)
             → symbol_in self.now word ≡ Some symbol.entry
             → is_active_symbol (is_open_in self.now.blocks) symbol.entry ≡ true
@@ -179,19 +179,19 @@ fn declared_symbol<'a, A: Allocator + Copy>(
     is_variable: bool,
     statement: u32,
     word: &'a [u8],
-) -> Symbol<'a>
+) -> SymbolEntry<'a>
     ensures { entry_of (Some result)
         ≡ declared_entry is_variable statement word.entry.now
         (entry_of (find_in names.now.symbols word.entry.now)) }
 {
     match names.symbol(word) {
-        Some(old) => Symbol {
+        Some(old) => SymbolEntry {
             is_variable,
             declaration: statement,
             typing: old.typing,
             typecode: old.typecode,
         },
-        None => Symbol {
+        None => SymbolEntry {
             is_variable,
             declaration: statement,
             typing: NEVER,
@@ -322,7 +322,7 @@ impl<'a, A: Allocator + Copy> Scope<'a, A> {
         let word = variable_token.bytes(text);
         match self.names.symbol(word) {
             Some(old) => {
-                let symbol = Symbol {
+                let symbol = SymbolEntry {
                     is_variable: old.is_variable,
                     declaration: old.declaration,
                     typing: statement,

@@ -12,7 +12,7 @@ use Rattle.mm_outline.specs.Parts.{statement_of, token_of}
 use Rattle.mm_outline.specs.Statements.{lexed, statements}
 use Rattle.mm_scope.specs.ReadSoFar.{KnowsStatements}
 use Rattle.mm_database.specs.ParsedStatements.{IsSound}
-use Rattle.mm_database.specs.declared.names.Symbol.{Symbol}
+use Rattle.mm_database.specs.declared.names.SymbolEntry.{SymbolEntry}
 use Rattle.mm_outline.specs.declared.parts.Outline.{Outline}
 use Rattle.mm_scope.proofs.BoundsLaw.{symbols_le_tokens}
 use Rattle.mm_stmt.proofs.SoundLaw.{read_is_sound}
@@ -47,7 +47,7 @@ module _ (text : List ℕ) (ws : List Word) (os : List Outline) (lexical fault :
       omega (arith, lengths_equal, symbols_are_few, token_count_is, words_lt_2_31)
 
   -- they are sound
-  pub statements_are_sound : (look : List ℕ → Option Symbol) (labels : List ℕ → Option ℕ)
+  pub statements_are_sound : (look : List ℕ → Option SymbolEntry) (labels : List ℕ → Option ℕ)
       (b : BlockLists)
       → KnowsStatements (statements text ws os) look labels b → length os < 2 ^ 31
       → IsSound (statements text ws os)

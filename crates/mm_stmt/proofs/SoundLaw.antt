@@ -17,7 +17,7 @@ use Rattle.mm_outline.specs.Blocks.{BlockLists}
 use Rattle.mm_scope.specs.WordEntry.{WordEntry, entry_of, is_constant_entry, is_variable_entry}
 use Rattle.mm_scope.specs.ReadSoFar.{KnowsStatements}
 use Rattle.mm_database.specs.ParsedStatements.{IsSound}
-use Rattle.mm_database.specs.declared.names.Symbol.{Symbol}
+use Rattle.mm_database.specs.declared.names.SymbolEntry.{SymbolEntry}
 use Rattle.mm_scope.proofs.BoundsLaw.{symbols_have_names}
 
 constant_is_no_variable : (x : Option WordEntry) → is_constant_entry x ≡ true
@@ -26,7 +26,7 @@ constant_is_no_variable None is_constant = refl
 constant_is_no_variable (Some is_constant) is_constant_e =
     not-true is_constant.is_variable is_constant_e
 
-pub known_lawful_is_sound : (db : List Statement) (look : List ℕ → Option Symbol)
+pub known_lawful_is_sound : (db : List Statement) (look : List ℕ → Option SymbolEntry)
     (labels : List ℕ → Option ℕ)
     → (b : BlockLists)
     → KnowsStatements db look labels b → length db < 2 ^ 31
@@ -57,7 +57,7 @@ read_is_lawful len x db fault is_read k k_lt_length =
 
 pub read_is_sound : (len : ℕ) (x : LexedText) (db : List Statement) (fault : Option Fault)
     → IsRead len x db fault
-    → (look : List ℕ → Option Symbol) (labels : List ℕ → Option ℕ) (b : BlockLists)
+    → (look : List ℕ → Option SymbolEntry) (labels : List ℕ → Option ℕ) (b : BlockLists)
     → KnowsStatements db look labels b → length db < 2 ^ 31 → IsSound db
 read_is_sound len x db fault is_read look labels b knows statements_lt_2_31 =
     let lawful = read_is_lawful len x db fault is_read in
@@ -66,7 +66,7 @@ read_is_sound len x db fault is_read look labels b knows statements_lt_2_31 =
     (slice_get-get_or db k (opening 0) k_lt_length))
 
 -- the marks of the variables are those that the map has
-marked_as_known : (x : Option Symbol) → is_variable_in x ≡ is_variable_entry (entry_of x)
+marked_as_known : (x : Option SymbolEntry) → is_variable_in x ≡ is_variable_entry (entry_of x)
 marked_as_known None = refl
 marked_as_known (Some s) = refl
 
@@ -78,7 +78,8 @@ pub record AreSymbols (db : List Statement) (names : List (List ℕ))
   pub kinds_tell_variables : (s : ℕ) → s < length names
       → get_or kinds s false ≡ is_variable_number db s
 
-pub are_symbols : (db : List Statement) (look : List ℕ → Option Symbol) (labels : List ℕ → Option ℕ)
+pub are_symbols : (db : List Statement) (look : List ℕ → Option SymbolEntry)
+    (labels : List ℕ → Option ℕ)
     → (b : BlockLists)
     → KnowsStatements db look labels b → (names : List (List ℕ)) (kinds : List Bool)
     → names ≡ symbol_names db

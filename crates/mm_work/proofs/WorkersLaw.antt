@@ -319,30 +319,30 @@ abbrev pub unrecorded : ℕ → View → ℕ
 unrecorded zero v = 0
 unrecorded (suc n) v = cond (times_recorded n v == 0) 1 0 + unrecorded n v
 
--- a number more in the record
-zero_test_falls : (a b : ℕ) → a ≤ b → cond (b == 0) 1 0 ≤ cond (a == 0) 1 0
-zero_test_falls a b = grind (arith, nat_tests)
+zero_test_no_more : (a b : ℕ) → a ≤ b → cond (b == 0) 1 0 ≤ cond (a == 0) 1 0
+zero_test_no_more a b = grind (arith, nat_tests)
 
-unrecorded_falls : (n : ℕ) (v w : View) → ((x : ℕ) → times_recorded x v ≤ times_recorded x w)
+-- where the record has each number at least as often, no more numbers are unrecorded
+unrecorded_no_more : (n : ℕ) (v w : View) → ((x : ℕ) → times_recorded x v ≤ times_recorded x w)
     → unrecorded n w ≤ unrecorded n v
-unrecorded_falls zero v w recorded_rises = omega arith
-unrecorded_falls (suc n) v w recorded_rises =
+unrecorded_no_more zero v w recorded_rises = omega arith
+unrecorded_no_more (suc n) v w recorded_rises =
     omega (
       arith,
-      unrecorded_falls n v w recorded_rises,
-      zero_test_falls (times_recorded n v)
+      unrecorded_no_more n v w recorded_rises,
+      zero_test_no_more (times_recorded n v)
           (times_recorded n w) (recorded_rises n),
     )
 
-zero_test_drops : (a b : ℕ) → a ≡ 0 → 0 < b → cond (b == 0) 1 0 < cond (a == 0) 1 0
-zero_test_drops a b = grind (arith, nat_tests)
+zero_test_less : (a b : ℕ) → a ≡ 0 → 0 < b → cond (b == 0) 1 0 < cond (a == 0) 1 0
+zero_test_less a b = grind (arith, nat_tests)
 
-pub unrecorded_drops : (n i : ℕ) (v w : View) → ((x : ℕ) → times_recorded x v ≤ times_recorded x w)
+pub unrecorded_fewer : (n i : ℕ) (v w : View) → ((x : ℕ) → times_recorded x v ≤ times_recorded x w)
     → i < n → times_recorded i v ≡ 0 → 0 < times_recorded i w → unrecorded n w < unrecorded n v
-unrecorded_drops zero i v w recorded_rises i_lt_0 i_unrecorded_before i_recorded_after = absurd
+unrecorded_fewer zero i v w recorded_rises i_lt_0 i_unrecorded_before i_recorded_after = absurd
     (omega arith)
-unrecorded_drops (suc n) i v w recorded_rises i_below_n i_unrecorded_before i_recorded_after =
-    unrecorded_lt (cases_lt i n) (λ i_lt_n. unrecorded_drops n i v w recorded_rises i_lt_n
+unrecorded_fewer (suc n) i v w recorded_rises i_below_n i_unrecorded_before i_recorded_after =
+    unrecorded_lt (cases_lt i n) (λ i_lt_n. unrecorded_fewer n i v w recorded_rises i_lt_n
     i_unrecorded_before i_recorded_after)
   where
     unrecorded_lt : (i < n) ⊎ (n ≤ i) → (i < n → unrecorded n w < unrecorded n v)
@@ -351,15 +351,15 @@ unrecorded_drops (suc n) i v w recorded_rises i_below_n i_unrecorded_before i_re
         omega (
           arith,
           drops_if_lt i_lt_n,
-          zero_test_falls (times_recorded n v) (times_recorded n w)
+          zero_test_no_more (times_recorded n v) (times_recorded n w)
               (recorded_rises n),
         )
     unrecorded_lt (inr n_le_i) drops_if_lt =
         let i_is_n : i ≡ n = omega (arith, i_below_n, n_le_i) in
         omega (
           arith,
-          unrecorded_falls n v w recorded_rises,
-          zero_test_drops (times_recorded n v)
+          unrecorded_no_more n v w recorded_rises,
+          zero_test_less (times_recorded n v)
               (times_recorded n w) (subst (λ k. times_recorded k v ≡ 0) i_is_n i_unrecorded_before)
               (subst (λ k. 0 < times_recorded k w) i_is_n i_recorded_after),
         )
@@ -455,7 +455,7 @@ pub unrecorded_drops_after_draw : (n i : ℕ) (v w u : View) → v.open_number �
     → w ≡ record v { open_number = Some i } → i < n → ((x : ℕ) → 0 < times_recorded x v → x < i)
     → ((x : ℕ) → times_recorded x u ≡ times_recorded x w) → unrecorded n u < unrecorded n v
 unrecorded_drops_after_draw n i v w u no_number_open w_is i_lt_n i_above_recorded record_stays =
-    unrecorded_drops n i v u recorded_no_less i_lt_n unrecorded_before recorded_after
+    unrecorded_fewer n i v u recorded_no_less i_lt_n unrecorded_before recorded_after
   where
     record_when_open : (x : ℕ) → times_recorded x w
         ≡ cond (i == x) 1 0 + times_in x v.settled + times_in x v.reported + times_in x

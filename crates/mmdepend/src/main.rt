@@ -31,6 +31,7 @@ const OUT_OF_MEMORY: NoWords = NoWords {
     message: "out of memory",
 };
 
+/// The status of `Ending::Misread`, and its message after the prefix.
 const NOT_UTF8: NoWords = NoWords {
     status: 2,
     message: "a word of the command line isn't UTF-8",

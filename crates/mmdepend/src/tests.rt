@@ -42,8 +42,8 @@ struct LimitedWriter {
     fails: bool,
 }
 
-/// A writer that is closed from its first call on.
-fn closed() -> LimitedWriter {
+/// A writer that fails from its first call on.
+fn failing_writer() -> LimitedWriter {
     LimitedWriter {
         bytes_left: 0,
         fails: true,
@@ -217,7 +217,14 @@ fn a_message_that_cannot_be_written_leaves_the_status(rt: HostRuntime) {
     ] {
         let mut text = FIRST;
         let mut written = Vec::new(alloc);
-        let ended_with = status(&rt, alloc, words, &mut text, &mut written, &mut closed());
+        let ended_with = status(
+            &rt,
+            alloc,
+            words,
+            &mut text,
+            &mut written,
+            &mut failing_writer(),
+        );
         assert_eq!(rt; ended_with, exit_status);
         assert_eq!(rt; written.len(), 0);
     }
@@ -233,8 +240,8 @@ fn both_outputs_closed(rt: HostRuntime) {
             rt.alloc(),
             words,
             &mut text,
-            &mut closed(),
-            &mut closed(),
+            &mut failing_writer(),
+            &mut failing_writer(),
         );
         assert_eq!(rt; ended_with, WRITE_FAILED);
     }

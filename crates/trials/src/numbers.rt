@@ -1,3 +1,5 @@
+//! Numbers in the letters of compressed proofs.
+
 use mm_proof::number;
 use std::rt::HostRuntime;
 

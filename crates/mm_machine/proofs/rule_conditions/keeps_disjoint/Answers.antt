@@ -10,7 +10,7 @@ use Rattle.mm_spec.specs.Frame.{symbol_names}
 use Rattle.mm_nodes.specs.Strings.{string_of}
 use Rattle.mm_machine.specs.Entries.{no_entry}
 use Rattle.mm_machine.specs.Filled.{body_string_at}
-use Rattle.mm_machine.specs.Masks.{AreApart}
+use Rattle.mm_machine.specs.Masks.{AreDisjointMasks}
 use Rattle.mm_machine.proofs.OwnersLaw.{list_all_next, disjoint_if_apart, body_masked}
 use Rattle.mm_machine.proofs.StepLaw.{body_in_range}
 use Rattle.mm_machine.proofs.rule_conditions.keeps_disjoint.Goals as goal
@@ -63,8 +63,9 @@ returns-then-not-are_disjoint-clause-tells_disjoint g c =
       c.if-not-are_disjoint.true,
     )
 
-pub loop-pair-preserved-then-are_surely_apart : goal.loop-pair-preserved-then-are_surely_apart
-loop-pair-preserved-then-are_surely_apart g c =
+pub loop-pair-preserved-then-are_known_disjoint_masks :
+    goal.loop-pair-preserved-then-are_known_disjoint_masks
+loop-pair-preserved-then-are_known_disjoint_masks g c =
     let db = c.args.database.now.statements in
     let w = length (symbol_names db) in
     let vs = c.args.owners.now.variable_flags in
@@ -83,15 +84,19 @@ loop-pair-preserved-then-are_surely_apart g c =
           c.loop-pair.pair-index (0, 0) c.loop-pair-test.true c.loop-pair.invariant.so_far
           (disjoint_if_apart db c.args.theorem vs owners c.requires.are_variables
           (get_or es p.0 no_entry).mask (get_or es p.1 no_entry).mask (body_string_at nodes es p.0)
-          (body_string_at nodes es p.1) (subst (λ m. AreApart db c.args.theorem owners m
+          (body_string_at nodes es p.1) (subst (λ m. AreDisjointMasks db c.args.theorem owners m
           (get_or es p.1 no_entry).mask) (ap (λ x. x.mask) (c.index-premises-pair.is
-          ∙ get_or_default es p.0 e no_entry in_range.0)) (subst (λ m. AreApart db c.args.theorem
+          ∙ get_or_default es p.0 e no_entry in_range.0)) (subst (λ m. AreDisjointMasks db
+          c.args.theorem
           owners e.mask m) (ap (λ x. x.mask) (c.index-premises-pair-in-loop-pair.is
-          ∙ get_or_default es p.1 f no_entry in_range.1)) (subst (λ (os : List ℕ). AreApart db
-          c.args.theorem os e.mask f.mask) c.symbols.ensures (c.are_surely_apart.ensures.are_apart
-          c.if-are_surely_apart.true)))) (body_masked vs owners nodes es p.0 c.requires.are_masked
+          ∙ get_or_default es p.1 f no_entry in_range.1)) (subst (λ (os : List ℕ). AreDisjointMasks
+          db
+          c.args.theorem os e.mask f.mask) c.symbols.ensures
+          (c.are_known_disjoint_masks.ensures.are_apart
+          c.if-are_known_disjoint_masks.true)))) (body_masked vs owners nodes es p.0
+          c.requires.are_masked
           in_range.0) (body_in_range w nodes es p.0 c.requires.formulas_in_range in_range.0)
           (body_masked vs owners nodes es p.1 c.requires.are_masked in_range.1)
           (body_in_range w nodes es p.1 c.requires.formulas_in_range in_range.1));
-      cache = c.are_surely_apart.ensures.cached_are_disjoint;
+      cache = c.are_known_disjoint_masks.ensures.cached_are_disjoint;
     }

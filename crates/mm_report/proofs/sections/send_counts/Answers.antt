@@ -2,7 +2,7 @@ use Rattle.mm_report.proofs.AssertionLaw.{sent_row}
 use Rattle.std.proofs.Common.{◌≡◌, ◌<◌, [], arith, length}
 use Rattle.std.specs.Prelude.{slice_index_or}
 use Rattle.mm_spec.specs.Report.{count_line}
-use Rattle.mm_report.specs.Rows.{row_of}
+use Rattle.mm_report.specs.Rows.{report_row_of}
 use Rattle.mm_report.proofs.SentLaw.{sent_nothing}
 use Rattle.mm_report.proofs.sections.send_counts.Goals as goal
 
@@ -20,7 +20,7 @@ loop-row-preserved g c =
       row_le_rows = omega arith;
       sent =
           sent_row count_line
-          (λ k. row_of c.args.marked.now (slice_index_or c.args.labels.now k []) k)
+          (λ k. report_row_of c.args.marked.now (slice_index_or c.args.labels.now k []) k)
           c.loop-row.invariant.sent
           (rw c.label.ensures at c.send_count_line.ensures);
     }

@@ -4,8 +4,9 @@ use Rattle.mm_run.proofs.ReportLaw.{unmarked_is_output}
 use Rattle.mm_run.proofs.CitationsLaw.{are_citations_of}
 use Rattle.mm_run.proofs.output.report_unmarked.Goals as goal
 
-pub write_unmarked-requires-clause-are_citations : goal.write_unmarked-requires-clause-are_citations
-write_unmarked-requires-clause-are_citations g c =
+pub write_without_marks-requires-clause-are_citations :
+    goal.write_without_marks-requires-clause-are_citations
+write_without_marks-requires-clause-are_citations g c =
     are_citations_of c.args.database.now.statements c.args.request.now c.args.citations.now
     c.requires.is_faultless.have_citations
 

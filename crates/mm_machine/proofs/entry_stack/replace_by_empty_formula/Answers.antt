@@ -6,7 +6,7 @@ use Rattle.mm_machine.proofs.EntryLaw.{nothing_is_entry, nothing_formula, entry_
 use Rattle.mm_machine.proofs.EntryLaw.{entry_formulas_push}
 use Rattle.mm_machine.proofs.OwnersLaw.{masks_take, masks_push}
 use Rattle.mm_machine.proofs.StackLaw.{stack_cut, stack_pushed, on_err}
-use Rattle.mm_machine.proofs.entry_stack.replace_by_nothing.Goals as goal
+use Rattle.mm_machine.proofs.entry_stack.replace_by_empty_formula.Goals as goal
 
 pub returns-in_err-push-clause-is_stack : goal.returns-in_err-push-clause-is_stack
 returns-in_err-push-clause-is_stack g c = search (rules, arith, stack_cut)

@@ -1,5 +1,5 @@
 use Rattle.mm_report.proofs.SentLaw.{sent_both, written_by_result}
-use Rattle.mm_report.proofs.citations.write_unmarked.Goals as goal
+use Rattle.mm_report.proofs.citations.write_without_marks.Goals as goal
 
 pub returns : goal.returns
 returns g c =

@@ -6,7 +6,7 @@ use Rattle.mm_spec.specs.Derivation.{are_disjoint}
 use Rattle.mm_spec.specs.Citation.{context_at}
 use Rattle.mm_machine.specs.declared.owners.TheConstants.{OTHERS}
 use Rattle.mm_machine.proofs.OwnersLaw.{all_to_come, one_less, none_to_come}
-use Rattle.mm_machine.proofs.rule_conditions.is_surely_apart_from.Goals as goal
+use Rattle.mm_machine.proofs.rule_conditions.is_known_disjoint_from_mask.Goals as goal
 
 pub loop-bit-init : goal.loop-bit-init
 loop-bit-init g c = grind (arith, common_steps, all_to_come, c.requires.cached_are_disjoint)

@@ -3,7 +3,7 @@ use Rattle.std.specs.List.{list_any}
 use Rattle.mm_database.specs.Pairs.{has_pair}
 use Rattle.mm_frame.specs.Together.{has_later}
 use Rattle.mm_frame.proofs.LoopsLaw.{none_so_far, any_with_next_element}
-use Rattle.mm_frame.proofs.disjoint.add_together.Goals as goal
+use Rattle.mm_frame.proofs.disjoint.add_pairs_by_statement.Goals as goal
 
 pub loop-index-init : goal.loop-index-init
 loop-index-init g c = λ x y. none_so_far (has_pair c.args.pairs.now.items x y)
