@@ -1,5 +1,4 @@
-//! The calls that take options of a request, each in one place, so that a new option changes this
-//! file and no other test of memory.
+//! The calls that take options of a request, each in one place.
 
 ghost use Rattle.std.specs.Prelude.{◌≡◌, ◌≤◌, [], IfOk, IsTrue};
 ghost use Rattle.mm_spec.specs.Citation.{steps_at, reading_faults_at};
