@@ -14,9 +14,7 @@ BUILT = ("MMDEPEND", "LIBRARY", "WEB")
 
 
 def build_wheel(
-    wheel_directory: str,
-    config_settings: object = None,
-    metadata_directory: str | None = None,
+    wheel_directory: str, config_settings: object = None, metadata_directory: str | None = None
 ) -> str:
     """Makes the wheel in a folder, and returns its name: what pip calls."""
     del config_settings, metadata_directory
@@ -26,8 +24,8 @@ def build_wheel(
             f"mmdepend: a clone is installed only where it can be proved and built; {missing[0]} "
             "is missing: install the wheel that ./package makes, or see README.md"
         )
-    with tempfile.TemporaryDirectory() as room:
-        command = [str(TOP / "package"), room]
+    with tempfile.TemporaryDirectory() as folder:
+        command = [str(TOP / "package"), folder]
         run = subprocess.run(command, stdout=subprocess.PIPE, text=True, check=False)
         if run.returncode != 0:
             sys.exit(run.returncode)

@@ -55,17 +55,17 @@ def make(packed: Packed, folder: Path) -> Path:
     """Makes the package in a folder, and returns its path."""
     path = folder / f"mmdepend-{packed.version}.tgz"
     with tempfile.TemporaryDirectory() as name:
-        room = Path(name)
-        package = room / "package"
+        temporary = Path(name)
+        package = temporary / "package"
         packed.copy([*LICENCES, "CHANGELOG.md", "docs", "mmdepend.mjs", "mmdepend.html"], package)
         for part in ("index.js", "index.d.ts", "mmdepend.wasm"):
             put_copy(packed.folder / "module" / part, package / part)
         put(package / "README.md", README.format(summary=SUMMARY))
         put(package / "package.json", manifest(packed.version))
         settle(package, packed.time)
-        plain = room / "tar"
+        plain = temporary / "tar"
         order = ["--format=ustar", "--sort=name", "--owner=0", "--group=0", "--numeric-owner"]
-        subprocess.run(["tar", "-C", room, *order, "-cf", plain, "package"], check=True)
+        subprocess.run(["tar", "-C", temporary, *order, "-cf", plain, "package"], check=True)
         with open(path, "wb") as out:
             subprocess.run(["gzip", "-9", "-n", "-c", plain], stdout=out, check=True)
     return path

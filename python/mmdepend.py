@@ -154,8 +154,8 @@ def library() -> ctypes.CDLL:
     beside = [folder / name for folder in (here, here.parent / "lib") for name in NAMES]
     places = [named] if named else [str(path) for path in beside if path.exists()]
     found = ctypes.util.find_library("mmdepend") if not places else None
-    for place in [*places, *([found] if found else [])]:
-        loaded = ctypes.CDLL(place)
+    for path in [*places, *([found] if found else [])]:
+        loaded = ctypes.CDLL(path)
         loaded.mmdepend_report.restype = ctypes.c_uint32
         loaded.mmdepend_report.argtypes = ARGUMENTS
         loaded.mmdepend_version.restype = ctypes.c_size_t

@@ -19,7 +19,7 @@ def without_comments(data: bytes) -> bytes:
     return COMMENT.sub(lambda match: b" " * len(match[0]), data)
 
 
-def statement_of(bare_text: bytes, label: str, after: bytes) -> re.Match[bytes] | None:
+def match_behind(bare_text: bytes, label: str, after: bytes) -> re.Match[bytes] | None:
     """Where a label stands, and after it what a pattern says; None where it doesn't."""
     name = re.escape(label.encode("latin-1", "replace"))
     for match in re.finditer(name + rb"\s++" + after, bare_text):
@@ -30,13 +30,13 @@ def statement_of(bare_text: bytes, label: str, after: bytes) -> re.Match[bytes] 
 
 def declared_at(bare_text: bytes, label: str) -> int | None:
     """The place of the label of a statement; None where there is none of this label."""
-    match = statement_of(bare_text, label, rb"\$[aefp]\s")
+    match = match_behind(bare_text, label, rb"\$[aefp]\s")
     return None if match is None else match.start()
 
 
 def floating(bare_text: bytes, label: str) -> list[str]:
     """The typecode and the variable of a `$f` statement. KeyError where there is none."""
-    match = statement_of(bare_text, label, rb"\$f\s([^$]*+)\$\.")
+    match = match_behind(bare_text, label, rb"\$f\s([^$]*+)\$\.")
     if match is None:
         raise KeyError(label)
     return match[1].decode("latin-1").split()
@@ -44,7 +44,7 @@ def floating(bare_text: bytes, label: str) -> list[str]:
 
 def proof_of(bare_text: bytes, label: str) -> Stretch | None:
     """Where the proof of a theorem stands, between `$=` and `$.`; None where there is none."""
-    match = statement_of(bare_text, label, rb"\$p\s[^$]*+\$=([^$]*+)\$\.")
+    match = match_behind(bare_text, label, rb"\$p\s[^$]*+\$=([^$]*+)\$\.")
     return None if match is None else match.span(1)
 
 

@@ -78,7 +78,7 @@ def stands(old: Text, new: Text, to_old: Mapping[str, str]) -> list[Stand]:
 
 def rising(common: Sequence[Stand]) -> list[Stand]:
     """As many of them as possible that stand in the same order in both databases."""
-    return [common[place] for place in longest_rising([each.number for each in common])]
+    return [common[index] for index in longest_rising([each.number for each in common])]
 
 
 def owners_of(stayed: Sequence[Stand]) -> dict[int, int]:

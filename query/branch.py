@@ -203,19 +203,19 @@ def asked_of(
     here, after = (objects.content(tree, path) for tree in (places.tip, places.new))
     if wish.is_config_of_new:
         note = f"what is asked stands in {shown(path)} of the branch itself"
-        return Asked(read(after, path), (), (note,) if here != after else (), {path: path})
+        return Asked(config_of(after, path), (), (note,) if here != after else (), {path: path})
     if here is None and path != FILE_NAME:
         raise NoAnswer(
             f"{shown(path)}: the branch brings it, and the base has none; --config-of-new takes it"
         )
     name = path if here == after else f"{short(places.tip)}:{path}"
-    config = read(here, name)
+    config = config_of(here, name)
     before = here if places.old == places.tip else objects.content(places.old, path)
-    findings, notes = compared(read(before, path) if before != here else config, after, path)
+    findings, notes = compared(config_of(before, path) if before != here else config, after, path)
     return Asked(config, findings, notes if before != after else (), {name: path, path: path})
 
 
-def read(data: bytes | None, name: str) -> Config:
+def config_of(data: bytes | None, name: str) -> Config:
     """What a file says; the defaults where there is none."""
     return Config() if data is None else read_config(data, name)
 
@@ -226,7 +226,7 @@ def compared(
     """The findings of the rule `config` for a file of NEW, and a note where it is another one than
     that of OLD and asks nothing less."""
     try:
-        new = read(after, name)
+        new = config_of(after, name)
     except Misread as why:
         return (Finding("config", name, why.line, "", "", why.reason),), ()
     note = f"{shown(name)} isn't that of the base; what it asks counts once the base has it"

@@ -31,25 +31,25 @@ OWN = re.compile(r"[0-9a-f]{40}|\.new-[0-9]+-[0-9a-f]+")
 """The names of files that are made here."""
 
 
-def folder() -> str | None:
+def results_folder() -> str | None:
     """The folder of kept results; None where the user has none."""
     base = secret.base_folder("XDG_CACHE_HOME", ".cache")
     return None if base is None else os.path.join(base, "mmquery")
 
 
-def wrong() -> str | None:
+def why_unusable() -> str | None:
     """Why nothing is kept or taken; None where it may be."""
-    place, path = folder(), secret.place()
-    if place is None or path is None:
+    folder, path = results_folder(), secret.location()
+    if folder is None or path is None:
         return "HOME isn't set"
-    wrong_place = secret.wrong_folder(place)
-    return secret.wrong_secret(path) if wrong_place is None else f"{place}: {wrong_place}"
+    wrong_folder = secret.wrong_folder(folder)
+    return secret.wrong_secret(path) if wrong_folder is None else f"{folder}: {wrong_folder}"
 
 
 def own_folder() -> str | None:
     """The folder, where it is the user's own."""
-    place = folder()
-    return None if place is None or secret.wrong_folder(place) is not None else place
+    folder = results_folder()
+    return None if folder is None or secret.wrong_folder(folder) is not None else folder
 
 
 def packed(parts: dict[str, bytes]) -> bytes:
@@ -59,12 +59,12 @@ def packed(parts: dict[str, bytes]) -> bytes:
 
 
 def unpacked(data: bytes, start: int = 0) -> dict[str, bytes]:
-    """The parts of a result, which begins at a place. It is one that was made here."""
-    place = data.index(b"\n", start) + 1
+    """The parts of a result, which begins at a place of the data. It is one that was made here."""
+    end = data.index(b"\n", start) + 1
     parts: dict[str, bytes] = {}
-    for name, size in json.loads(data[start:place]):
-        parts[name] = data[place : place + size]
-        place += size
+    for name, size in json.loads(data[start:end]):
+        parts[name] = data[end : end + size]
+        end += size
     return parts
 
 
@@ -79,10 +79,10 @@ def code_of(key: str, sealed_by: bytes, data: bytes | memoryview) -> bytes:
 def read_whole(path: str) -> bytes:
     """The bytes of a file that is the user's own, and notes that it was used. OSError where it
     isn't, or can't be read."""
-    descriptor = secret.opened(path)
+    descriptor = secret.opened_file(path)
     with open(descriptor, "rb", buffering=0) as file:
         state = os.fstat(descriptor)
-        if secret.wrong_owner(state, 0o022) is not None or state.st_size > MOST_CACHE_BYTES:
+        if secret.wrong_owner(state, secret.OTHERS_WRITE) or state.st_size > MOST_CACHE_BYTES:
             raise OSError("isn't the user's own")
         system.note_use(descriptor)
         return file.readall()
@@ -91,11 +91,11 @@ def read_whole(path: str) -> bytes:
 def load(key: str) -> dict[str, bytes] | None:
     """The parts of the result that is kept under a key; None where there is none that was kept by
     the user."""
-    place, sealed_by = own_folder(), secret.read()
-    if place is None or sealed_by is None:
+    folder, sealed_by = own_folder(), secret.read()
+    if folder is None or sealed_by is None:
         return None
     try:
-        data = read_whole(os.path.join(place, key))
+        data = read_whole(os.path.join(folder, key))
     except OSError:
         return None
     start = len(FORM) + CODE
@@ -107,25 +107,25 @@ def load(key: str) -> dict[str, bytes] | None:
 
 def store(key: str, parts: dict[str, bytes]) -> None:
     """Keeps a result under a key, if it can be."""
-    place = own_folder()
+    folder = own_folder()
     data = packed(parts)
-    if place is None or len(data) > MOST_CACHE_BYTES // 2:
+    if folder is None or len(data) > MOST_CACHE_BYTES // 2:
         return
-    sealed_by = secret.made()
+    sealed_by = secret.read_or_make()
     if sealed_by is None:
         return
     with suppress(OSError):
-        os.makedirs(place, mode=0o700, exist_ok=True)
-        make_room(place, len(data))
-        with replacing(os.path.join(place, key), NEW) as new:
+        os.makedirs(folder, mode=0o700, exist_ok=True)
+        make_room(folder, len(data))
+        with replacing(os.path.join(folder, key), NEW) as new:
             fill(new, FORM + code_of(key, sealed_by, data) + data, 0o600)
 
 
-def entries(place: str) -> list[tuple[float, int, str]]:
+def entries(folder: str) -> list[tuple[float, int, str]]:
     """The results in the folder: when each was last used, its size and its path; the oldest first.
     Files of other names aren't touched."""
     found = []
-    with os.scandir(place) as files:
+    with os.scandir(folder) as files:
         for file in files:
             if OWN.fullmatch(file.name) and file.is_file(follow_symlinks=False):
                 # What another process is about to keep may have got its name since the folder was
@@ -136,10 +136,10 @@ def entries(place: str) -> list[tuple[float, int, str]]:
     return sorted(found)
 
 
-def make_room(place: str, size: int) -> None:
+def make_room(folder: str, size: int) -> None:
     """Removes what was used longest ago until so many bytes more are within the limit, and
     unfinished files that were left behind."""
-    found = entries(place)
+    found = entries(folder)
     total = sum(each[1] for each in found) + size
     before = time.time() - OLD_NEW
     for used, length, path in found:
@@ -152,9 +152,9 @@ def make_room(place: str, size: int) -> None:
 
 def clear() -> None:
     """Removes all that is kept. OSError where that fails."""
-    place = own_folder()
-    if place is None or not os.path.isdir(place):
+    folder = own_folder()
+    if folder is None or not os.path.isdir(folder):
         return
-    for _, _, path in entries(place):
+    for _, _, path in entries(folder):
         with suppress(FileNotFoundError):
             os.unlink(path)

@@ -82,10 +82,10 @@ def sides(old: Database, new: Database) -> tuple[Side, Side]:
     OLD."""
     progress.now(f"verifying {old.name} and {new.name}")
     if any(each.uses_cache and not each.is_report for each in (old, new)):
-        secret.made()  # here, since a process of its own may be ended while it makes one
+        secret.read_or_make()  # here, since a process of its own may be ended while it makes one
     task = None if old.is_report else begun(partial(prepare, old))
     try:
-        text, failed = read(new)
+        text, failed = read_statements(new)
         if task is not None:
             take(old, task.result())
     finally:
@@ -98,7 +98,7 @@ def sides(old: Database, new: Database) -> tuple[Side, Side]:
     return first, Side(new.dependence(), text)
 
 
-def read(database: Database) -> tuple[Text | None, NoAnswer | None]:
+def read_statements(database: Database) -> tuple[Text | None, NoAnswer | None]:
     """What stands in a database; of a report nothing. And why it can't be read, if that is so."""
     if database.is_report:
         return None, None

@@ -23,7 +23,7 @@ FORMS: dict[int | str | None, str] = {None: "{}", "+": "{}..", "*": "[{}..]", "?
 """How a word is written in a usage line, by how many of it are taken."""
 
 
-def usage_of(parser: Parser, name: str) -> str:
+def usage_line(parser: Parser, name: str) -> str:
     """The usage line of a command: the options that it needs, and its words. `LABEL..` is one or
     several, and what stands in brackets may be left out."""
     parts = [f"mmquery {name} [OPTIONS]"]
@@ -41,7 +41,7 @@ def parser_of(chosen: Command) -> Parser:
     """The parser of a command, with the options that all have."""
     parser = Parser()
     chosen.configure(parser)
-    parser.usage = usage_of(parser, chosen.name)
+    parser.usage = usage_line(parser, chosen.name)
     if chosen.formats:
         parser.add_argument(
             "--format",
@@ -59,8 +59,8 @@ def parser_of(chosen: Command) -> Parser:
 def page_of(chosen: Command) -> str:
     """The page of a command."""
     parser = parser_of(chosen)
-    told = summaries()[chosen.name]
-    parser.description = f"{told[0].upper()}{told[1:]}.\n\n{chosen.page.strip()}"
+    about = summaries()[chosen.name]
+    parser.description = f"{about[0].upper()}{about[1:]}.\n\n{chosen.page.strip()}"
     return parser.format_help()
 
 
@@ -68,7 +68,7 @@ def help_page() -> str:
     """The page of `mmquery --help`."""
     lines = ["usage: mmquery COMMAND [OPTIONS] DATABASE [LABEL..]", ""]
     lines += ["Answers questions on a Metamath database, which is verified first.", ""]
-    lines += [f"  {name:12} {told}" for name, told in summaries().items()]
+    lines += [f"  {name:12} {about}" for name, about in summaries().items()]
     lines += [
         "",
         "DATABASE is a file, also one compressed by gzip, bzip2 or xz; - for standard input;",
@@ -128,26 +128,26 @@ def main(words: list[str]) -> NoReturn:
     try:
         status = run(words)
     except NoAnswer as why:
-        status = no_answer(why.told())
+        status = no_answer(why.sentence())
     except MemoryError:
         status = no_answer("out of memory")
     except OSError as error:
-        place = f"{shown(os.fsdecode(error.filename))}: " if error.filename else ""
-        status = no_answer(place + reason(error))
+        about = f"{shown(os.fsdecode(error.filename))}: " if error.filename else ""
+        status = no_answer(about + reason(error))
     except ModuleNotFoundError as error:  # some systems leave out sqlite3, lzma or bz2
         status = no_answer(f"this Python lacks the module {error.name}")
     except Exception as error:  # a traceback would end with status 1, which is the answer no
-        status = no_answer(f"a fault of mmquery itself: {described(error)}")
+        status = no_answer(f"a fault of mmquery itself: {error_line(error)}")
     os._exit(status)
 
 
-def described(error: Exception) -> str:
+def error_line(error: Exception) -> str:
     """An error that nothing was meant to raise, with the place where it was."""
     # It takes 4 milliseconds, and is for faults of ours alone.
     import traceback
 
-    place = traceback.extract_tb(error.__traceback__)[-1]
-    return f"{type(error).__name__}: {error} ({os.path.basename(place.filename)}:{place.lineno})"
+    frame = traceback.extract_tb(error.__traceback__)[-1]
+    return f"{type(error).__name__}: {error} ({os.path.basename(frame.filename)}:{frame.lineno})"
 
 
 def no_answer(why: str) -> int:

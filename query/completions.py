@@ -22,7 +22,7 @@ class Option:
     help: str
 
 
-def options_of(name: str) -> list[Option]:
+def command_options(name: str) -> list[Option]:
     """The options of a command."""
     return [
         Option(
@@ -43,7 +43,7 @@ def first_words(name: str) -> list[str]:
     return [str(choice) for choice in choices[0] or ()] if choices else []
 
 
-def quoted(text: str) -> str:
+def in_shell(text: str) -> str:
     """A text as a word of a shell."""
     return "'" + text.replace("'", "'\\''") + "'"
 
@@ -53,7 +53,7 @@ def choices_by_option() -> dict[str, dict[tuple[str, ...], list[str]]]:
     them."""
     found: dict[str, dict[tuple[str, ...], list[str]]] = {}
     for name in names():
-        for option in options_of(name):
+        for option in command_options(name):
             if option.choices:
                 by = found.setdefault(option.words[0], {})
                 by.setdefault(option.choices, []).append(name)
@@ -83,7 +83,7 @@ def bash() -> str:
             lines.append(f"            {name}:{name}) words='{' '.join(first_words(name))}' ;;")
     lines += ["            *)", "                case ${COMP_WORDS[1]}:$word in"]
     for name in names():
-        every = " ".join(word for option in options_of(name) for word in option.words)
+        every = " ".join(word for option in command_options(name) for word in option.words)
         lines.append(f"                    {name}:-*) words='{every}' ;;")
     lines += [
         "                esac",
@@ -104,13 +104,13 @@ def bash() -> str:
 
 def zsh_option(option: Option) -> str:
     """An option in the form of zsh's `_arguments`."""
-    told = option.help.replace("[", "(").replace("]", ")").replace(":", "\\:")
+    about = option.help.replace("[", "(").replace("]", ")").replace(":", "\\:")
     value = f":value:({' '.join(option.choices)})" if option.choices else ":value:_files"
     value = value if option.takes_value else ""
     parts = []
     for word in option.words:
         sign = "=" if option.takes_value and word.startswith("--") else ""
-        parts.append(quoted(f"*{word}{sign}[{told}]{value}"))
+        parts.append(in_shell(f"*{word}{sign}[{about}]{value}"))
     return " ".join(parts)
 
 
@@ -124,7 +124,7 @@ def zsh() -> str:
         "    local -a commands",
         "    commands=(",
     ]
-    lines += [f"        {quoted(f'{name}:{told}')}" for name, told in summaries().items()]
+    lines += [f"        {in_shell(f'{name}:{about}')}" for name, about in summaries().items()]
     lines += [
         "    )",
         "    if (( CURRENT == 2 )); then",
@@ -139,7 +139,7 @@ def zsh() -> str:
     for name in names():
         lines.append(f"        {name})")
         lines.append("            _arguments \\")
-        lines += [f"                {zsh_option(option)} \\" for option in options_of(name)]
+        lines += [f"                {zsh_option(option)} \\" for option in command_options(name)]
         if first_words(name):
             lines.append(f"                '1:word:({' '.join(first_words(name))})' \\")
         lines += ["                '*:file:_files'", "            ;;"]
@@ -154,11 +154,11 @@ def fish() -> str:
         "# ~/.config/fish/completions.",
         "",
     ]
-    for name, told in summaries().items():
+    for name, about in summaries().items():
         start = f"complete -c mmquery -n __fish_use_subcommand -a {name}"
-        lines.append(f"{start} -d {quoted(told)}")
+        lines.append(f"{start} -d {in_shell(about)}")
     for name in names():
-        for option in options_of(name):
+        for option in command_options(name):
             words = [
                 f"-l {word[2:]}" if word.startswith("--") else f"-s {word[1:]}"
                 for word in option.words
@@ -167,7 +167,7 @@ def fish() -> str:
             value = f" -x -a '{' '.join(option.choices)}'" if option.choices else value
             seen = f"'__fish_seen_subcommand_from {name}'"
             lines.append(
-                f"complete -c mmquery -n {seen} {' '.join(words)}{value} -d {quoted(option.help)}"
+                f"complete -c mmquery -n {seen} {' '.join(words)}{value} -d {in_shell(option.help)}"
             )
         if first_words(name):
             seen = f"'__fish_seen_subcommand_from {name}'"

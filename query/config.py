@@ -227,7 +227,7 @@ class Checker:
             wanted = shape.get(key)
             if wanted is None:
                 raise self.fail(
-                    here, f"there is no key '{shown('.'.join(here))}'{nearest(key, shape)}"
+                    here, f"there is no key '{shown('.'.join(here))}'{close_or_all(key, shape)}"
                 )
             if isinstance(wanted, str):
                 self.check_value(value, wanted, here)
@@ -271,7 +271,7 @@ class Checker:
         raise self.fail(path, f"'{shown(word)}' is {kind}")
 
 
-def nearest(key: str, shape: Shape) -> str:
+def close_or_all(key: str, shape: Shape) -> str:
     """What a message about an unknown key says besides."""
     close = difflib.get_close_matches(key, shape, 1)
     return f"; did you mean '{close[0]}'?" if close else f"; there are {', '.join(shape)}"
@@ -297,14 +297,14 @@ def lines_of(text: str) -> dict[tuple[str, ...], int]:
     table: tuple[str, ...] = ()
     for number, line in enumerate(text.split("\n"), 1):
         if heading := HEADING.match(line):
-            table = keys_of(heading[1])
+            table = keys_in(heading[1])
             found.setdefault(table, number)
         elif key := KEY.match(line):
-            found.setdefault((*table, *keys_of(key[1])), number)
+            found.setdefault((*table, *keys_in(key[1])), number)
     return found
 
 
-def keys_of(dotted: str) -> tuple[str, ...]:
+def keys_in(dotted: str) -> tuple[str, ...]:
     """The keys that a dotted key names."""
     found = re.findall(r"\"([^\"]*)\"|'([^']*)'|([\w-]+)", dotted)
     return tuple("".join(parts) for parts in found)

@@ -10,7 +10,7 @@ from typing import TYPE_CHECKING
 
 from query import cache, program, progress
 from query.assertions import Assertion, Damaged
-from query.errors import NoAnswer, nearest, shown
+from query.errors import NEAR_LABEL, NoAnswer, nearest, shown
 from query.faults import Refused
 from query.graph import Graph, Lists
 from query.marks import Marks, columns_of, mask
@@ -18,8 +18,8 @@ from query.options import Options
 from query.prepared import Prepared
 from query.program import REFUSAL, Program
 from query.report import checked
-from query.source import Source, opened
-from query.told import COUNTS, SECTIONS, counted, told
+from query.source import Source, source_of
+from query.one_run import COUNTS, SECTIONS, head_counts, prepared_of
 
 if TYPE_CHECKING:
     from query.text import Text
@@ -105,13 +105,13 @@ class Dependence:
     def see_theorem(self, label: str) -> None:
         """NoAnswer where there is no theorem of this label."""
         if label not in self.rows:
-            meant = nearest(label, self.rows, 0.8)
+            meant = nearest(label, self.rows, NEAR_LABEL)
             raise NoAnswer(f"{self.name}: has no theorem '{shown(label)}'{meant}")
 
     def see_axiom(self, label: str) -> None:
         """NoAnswer where no axiom of this label is among those chosen."""
         if label not in self.columns:
-            why = self.left_out(label) or nearest(label, self.columns, 0.8)
+            why = self.left_out(label) or nearest(label, self.columns, NEAR_LABEL)
             raise NoAnswer(f"{self.name}: has no axiom{self.which} '{shown(label)}'{why}")
 
     def row(self, label: str) -> int:
@@ -145,7 +145,7 @@ class Database:
     def opened(cls, word: str, options: Options, uses_cache: bool) -> "Database":
         """Reads it. NoAnswer where that can't be done."""
         progress.now(f"reading {shown(word)}")
-        source = opened(word)
+        source = source_of(word)
         if source.is_report() and options.chosen:
             raise NoAnswer(
                 f"{source.name}: a report is as it was made, so {options.chosen} wants a database"
@@ -183,7 +183,7 @@ class Database:
         """The assertion of a label. NoAnswer where there is none."""
         found = self.text.find(label)
         if found is None:
-            meant = nearest(label, self.text.by_label, 0.8)
+            meant = nearest(label, self.text.by_label, NEAR_LABEL)
             raise NoAnswer(f"{self.name}: has no assertion '{shown(label)}'{meant}")
         return found
 
@@ -210,7 +210,7 @@ class Database:
     def key(self) -> str:
         """Under which key the result of the program is kept."""
         options = self.options
-        return key_of(FORM, self.sum, self.program.sum, options.essential, options.open)
+        return result_key(FORM, self.sum, self.program.sum, options.essential, options.open)
 
     @property
     def kept(self) -> Prepared | None:
@@ -229,7 +229,7 @@ class Database:
         data = self.said("--form=2", SECTIONS)
         progress.now(f"reading the report of {self.name}")
         try:
-            found = told(data)
+            found = prepared_of(data)
         except Damaged as why:
             raise NoAnswer(f"{self.name}: {why}") from None
         if self.uses_cache:
@@ -240,7 +240,7 @@ class Database:
         """How many axioms and how many theorems it has. Refused where it is refused."""
         found = self.prepared if self.is_report or self.known else self.kept
         if found is None:
-            return counted(self.said(COUNTS))
+            return head_counts(self.said(COUNTS))
         return found.axioms, len(found.theorems)
 
     def see_statements(self) -> None:
@@ -340,7 +340,7 @@ class Database:
         return chosen
 
 
-def key_of(*words: str | int | None) -> str:
+def result_key(*words: str | int | None) -> str:
     """Under which key the result is kept that these make what it is."""
     return hashlib.blake2b(json.dumps(words).encode(), digest_size=20).hexdigest()
 
@@ -375,13 +375,13 @@ def from_parts(parts: dict[str, bytes]) -> Prepared:
         parts[name].decode().split("\n") if parts[name] else []
         for name in ("theorems", "columns", "typecodes")
     )
-    cites = Lists(numbers_of(parts["places"]), numbers_of(parts["targets"]))
+    cites = Lists(unpacked_numbers(parts["places"]), unpacked_numbers(parts["targets"]))
     marks = Marks(len(theorems), len(columns), parts["marks"])
     statements = parts["statements"]
     return Prepared(theorems, columns, [], marks, cites, len(columns), typecodes, statements)
 
 
-def numbers_of(kept: bytes) -> "array[int]":
+def unpacked_numbers(kept: bytes) -> "array[int]":
     """Numbers that were kept."""
     numbers = array("I")
     numbers.frombytes(kept)

@@ -31,7 +31,7 @@ MOST_LEFT_VARIABLES = 100
 
 
 @dataclass(frozen=True)
-class Verdict:
+class Soundness:
     """What is found of a definition: `is_sound` is None where that isn't judged, and `why` says why
     it isn't sound or isn't judged."""
 
@@ -49,7 +49,7 @@ class NotJudged(Exception):
 
 
 @dataclass(frozen=True)
-class Form:
+class Binding:
     """What a syntax axiom binds, by the numbers of its variables from 0: `free` are those of
     typecode `setvar` that are free in it, and `binds` has for others those in which they are
     bound."""
@@ -58,13 +58,13 @@ class Form:
     binds: Mapping[int, frozenset[int]]
 
 
-def undefined_form(arguments: Sequence[str]) -> Form:
+def undefined_form(arguments: Sequence[str]) -> Binding:
     """What a syntax axiom binds that has no definition."""
     setvars = [number for number, each in enumerate(arguments) if each == SETVAR]
     others = frozenset(number for number, each in enumerate(arguments) if each != SETVAR)
     if not others or len(arguments) > MOST_LEFT_VARIABLES:
-        return Form(frozenset(setvars), {})
-    return Form(frozenset(), dict.fromkeys(setvars, others))
+        return Binding(frozenset(setvars), {})
+    return Binding(frozenset(), dict.fromkeys(setvars, others))
 
 
 @dataclass
@@ -132,8 +132,8 @@ class Definitions:
     def __init__(self, assertions: Sequence[Assertion]) -> None:
         self.assertions = assertions
         self.grammar = Grammar()
-        self.forms: dict[str, Form] = {}
-        self.read: list[Definition | Verdict] = []
+        self.forms: dict[str, Binding] = {}
+        self.read: list[Definition | Soundness] = []
         for one in assertions:
             if is_syntax(one):
                 add_to(self.grammar, one)
@@ -144,18 +144,18 @@ class Definitions:
         known = [each for each in self.read if isinstance(each, Definition)]
         self.uses = Uses(assertions, known)
 
-    def definition(self, one: Assertion) -> Definition | Verdict:
+    def definition(self, one: Assertion) -> Definition | Soundness:
         """A definition, or what is found where it hasn't the right form."""
         symbols, variables = read_as(one.formula, one)
         try:
             tree = self.grammar.tree(WFF, symbols, variables)
             return self.equation(one, symbols, variables, tree)
         except NotRead as why:
-            return Verdict(one.label, None, f"its formula can't be read: {why}")
+            return Soundness(one.label, None, f"its formula can't be read: {why}")
         except NotJudged as why:
-            return Verdict(one.label, None, str(why))
+            return Soundness(one.label, None, str(why))
         except Unsound as why:
-            return Verdict(one.label, False, str(why))
+            return Soundness(one.label, False, str(why))
 
     def equation(
         self, one: Assertion, symbols: list[str], variables: dict[str, str], tree: Tree
@@ -179,12 +179,12 @@ class Definitions:
             raise Unsound("its left side has a variable twice")
         return Definition(one, symbols, variables, tree, tree.rules[left], names, right)
 
-    def verdicts(self) -> Iterator[Verdict]:
+    def verdicts(self) -> Iterator[Soundness]:
         """What is found of each definition, in file order."""
         for each in self.read:
-            yield each if isinstance(each, Verdict) else self.verdict(each)
+            yield each if isinstance(each, Soundness) else self.verdict(each)
 
-    def verdict(self, each: Definition) -> Verdict:
+    def verdict(self, each: Definition) -> Soundness:
         """What is found of a definition of the right form."""
         label = each.one.label
         try:
@@ -192,10 +192,10 @@ class Definitions:
             see_distinct(each)
             self.see_bound(each)
         except Unsound as why:
-            return Verdict(label, False, str(why))
+            return Soundness(label, False, str(why))
         except NotJudged as why:
-            return Verdict(label, None, str(why))
-        return Verdict(label, True)
+            return Soundness(label, None, str(why))
+        return Soundness(label, True)
 
     def see_new(self, each: Definition) -> None:
         """Unsound where the form is used before, or on the right side."""
@@ -222,7 +222,7 @@ class Definitions:
                 raise NotJudged(f"the dummy {name} stands also where nothing binds it")
         if len(each.left) > MOST_LEFT_VARIABLES:
             raise NotJudged(f"the left side has more than {MOST_LEFT_VARIABLES} variables")
-        self.forms[each.defined] = form_of(each, scopes)
+        self.forms[each.defined] = binding_of(each, scopes)
 
     def scopes(self, each: Definition) -> Scopes:
         """What is bound where on the right side."""
@@ -243,7 +243,7 @@ class Definitions:
         return found
 
 
-def form_of(each: Definition, scopes: Scopes) -> Form:
+def binding_of(each: Definition, scopes: Scopes) -> Binding:
     """What the form of a definition binds."""
     setvars = [number for number, name in enumerate(each.left) if each.variables[name] == SETVAR]
     others = [number for number in range(len(each.left)) if number not in setvars]
@@ -255,7 +255,7 @@ def form_of(each: Definition, scopes: Scopes) -> Form:
             other for other in others if scopes.are_within(places[other], name)
         )
     free = frozenset(number for number in setvars if scopes.is_free(each.left[number]))
-    return Form(free, binds)
+    return Binding(free, binds)
 
 
 def see_distinct(each: Definition) -> None:

@@ -8,12 +8,13 @@ from contextlib import suppress
 ALL_COMPARED_WORDS, MOST_COMPARED_WORDS = 500, 20_000
 """So many words are all compared. Of more only those are that begin alike and are about as long, at
 most so many."""
+NEAR_WORD, NEAR_LABEL = 0.5, 0.8  # by difflib's ratio, at least; labels are alike by themselves
 
 
 class NoAnswer(Exception):
     """There is no answer, status 2."""
 
-    def told(self) -> str:
+    def sentence(self) -> str:
         """The one line on standard error, without a prefix."""
         return str(self)
 
@@ -28,11 +29,11 @@ def shown(text: str, kept: str = "") -> str:
     if text.isprintable():
         return text
     return "".join(
-        sign if sign.isprintable() or sign in kept else written(ord(sign)) for sign in text
+        sign if sign.isprintable() or sign in kept else escaped(ord(sign)) for sign in text
     )
 
 
-def nearest(word: str, known: Iterable[str], cutoff: float = 0.5) -> str:
+def nearest(word: str, known: Iterable[str], cutoff: float = NEAR_WORD) -> str:
     """Which of the known words is meant, as the end of a sentence; empty where none is near. One
     that differs in capital letters alone is nearest. Of many words only those are compared that
     begin alike."""
@@ -50,7 +51,7 @@ def nearest(word: str, known: Iterable[str], cutoff: float = 0.5) -> str:
     return f"; did you mean {shown(near[0])}?" if near else ""
 
 
-def written(number: int) -> str:
+def escaped(number: int) -> str:
     """A sign by its number; what stands for a byte that is no UTF-8 as this byte."""
     if number < 0x100:
         return f"\\x{number:02x}"

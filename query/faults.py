@@ -179,7 +179,7 @@ class Refused(NoAnswer):
         named = found if not found or " " in found else f"'{found}'"
         return f"refused {self.code}{named and f' in {named}'}: {self.meaning}"
 
-    def told(self) -> str:
+    def sentence(self) -> str:
         """The place as compilers write it, what is said, and what to do."""
         return f"{self.source.name}:{self.line}:{self.column}: {self.said()}; {self.advice}"
 

@@ -14,7 +14,7 @@ from dataclasses import asdict, dataclass, replace
 from functools import partial
 
 from query import cache, progress, system
-from query.database import Database, key_of, numbers_of
+from query.database import Database, result_key, unpacked_numbers
 from query.errors import NoAnswer, shown
 from query.faults import Refused
 from query.git import short
@@ -24,7 +24,7 @@ from query.objects import Objects
 from query.options import Options
 from query.parallel import Task, begun
 from query.prepared import Prepared
-from query.source import NO_TEXT, Source, unpacked
+from query.source import NO_TEXT, Source, inflated
 
 AT_ONCE = 4
 """So many revisions are judged at once, where there are as many processors."""
@@ -73,7 +73,7 @@ def figures_of(
     try:
         for number in range(len(found)):
             while waiting and len(tasks) < at_once:
-                tasks.append(begun(partial(written, objects, waiting.popleft(), question)))
+                tasks.append(begun(partial(in_json, objects, waiting.popleft(), question)))
             progress.now(f"verifying revision {number + 1} of {len(found)}")
             yield Figures(**json.loads(tasks[0].result()))
             tasks.popleft()
@@ -82,7 +82,7 @@ def figures_of(
             task.stop()
 
 
-def written(objects: Objects, revision: Revision, question: Question) -> bytes:
+def in_json(objects: Objects, revision: Revision, question: Question) -> bytes:
     """What a revision says, as JSON."""
     try:
         found = figures(objects, revision, question)
@@ -98,30 +98,30 @@ def figures(objects: Objects, revision: Revision, question: Question) -> Figures
         data = objects.content(revision.commit, revision.path)
         if data is None:
             return Figures(fault=f"there is no {shown(revision.path)}")
-        source = Source(name, unpacked(name, data))
+        source = Source(name, inflated(name, data))
     except NoAnswer as why:
         return Figures(fault=str(why))
     if source.is_report():
         return Figures(fault=NO_TEXT)
     parts = kept(Database(source, question.options, question.uses_cache), question.theorem)
     columns = parts["axioms"].decode().split("\n") if parts["axioms"] else []
-    numbers = dict(zip(columns, numbers_of(parts["numbers"])))
+    numbers = dict(zip(columns, unpacked_numbers(parts["numbers"])))
     rest = {axiom: numbers[axiom] for axiom in question.axioms if axiom in numbers}
     return Figures(int(parts["theorems"]), rest, parts["has theorem"] == b"1")
 
 
 def kept(database: Database, theorem: str | None) -> dict[str, bytes]:
     """The figures of a database that are kept, or are kept from now on."""
-    key = key_of("figures", FORM, database.key, theorem)
+    key = result_key("figures", FORM, database.key, theorem)
     parts = cache.load(key) if database.uses_cache else None
     if parts is None:
-        parts = counted(database.kept or replace(database, uses_cache=False).of_program(), theorem)
+        parts = in_parts(database.kept or replace(database, uses_cache=False).of_program(), theorem)
         if database.uses_cache:
             cache.store(key, parts)
     return parts
 
 
-def counted(found: Prepared, theorem: str | None) -> dict[str, bytes]:
+def in_parts(found: Prepared, theorem: str | None) -> dict[str, bytes]:
     """The figures for each axiom, in the form in which they are kept."""
     assert found.marks is not None
     has_theorem = theorem is None or theorem in found.theorems

@@ -17,7 +17,7 @@ from fnmatch import fnmatchcase
 from typing import TYPE_CHECKING
 
 from query.errors import NoAnswer, nearest, shown
-from query.lists import words_of
+from query.lists import words_in
 from query.options import Parser
 
 if TYPE_CHECKING:
@@ -61,7 +61,7 @@ class Filters:
             stretches.append((0, database.assertion(self.before).number))
         if self.under is not None:
             stretches.append(chapter(text, name, self.under))
-        boxes = None if self.mathbox is None else mathboxes(text, name, self.mathbox)
+        boxes = None if self.mathbox is None else mathboxes_of(text, name, self.mathbox)
 
         def stands(label: str) -> bool:
             one = text.by_label[label]
@@ -80,7 +80,7 @@ class Filters:
         if self.unlike:
             tests.append(lambda label: not any(fnmatchcase(label, each) for each in self.unlike))
         for path in self.among:
-            labels = {word for _, word in words_of(os.fspath(path))}
+            labels = {word for _, word in words_in(os.fspath(path))}
             tests.append(labels.__contains__)
         return tests
 
@@ -94,7 +94,7 @@ def chapter(text: Text, name: str, number: str) -> tuple[int, int]:
     raise NoAnswer(f"{name}: has no header '{shown(number)}'; `mmquery chapters` numbers them")
 
 
-def mathboxes(text: Text, name: str, owner: str) -> frozenset[int]:
+def mathboxes_of(text: Text, name: str, owner: str) -> frozenset[int]:
     """The mathboxes of this name. NoAnswer where there is none."""
     names = {number: each for _, number, each in text.boxed()}
     found = frozenset(number for number, each in names.items() if each == owner)

@@ -56,17 +56,17 @@ def summary(verdict: Verdict) -> str:
     return f"{answer}: {verdict.database} compared with {verdict.base}"
 
 
-def line_of(finding: Finding) -> str:
+def finding_line(finding: Finding) -> str:
     """A finding as compilers write theirs."""
     numbers = [f":{number}" for number in (finding.line, finding.column) if number]
-    place = finding.file + "".join(numbers)
+    where = finding.file + "".join(numbers)
     label = f"{finding.label}: " if finding.label else ""
-    return shown(f"{place}: {label}{finding.reason} [{finding.rule}]")
+    return shown(f"{where}: {label}{finding.reason} [{finding.rule}]")
 
 
 def as_text(verdict: Verdict) -> str:
     """For people: a line for each finding, then the answer in one."""
-    lines = [line_of(finding) for finding in verdict.findings]
+    lines = [finding_line(finding) for finding in verdict.findings]
     lines += [shown(f"note: {note}") for note in verdict.notes]
     return "".join(line + "\n" for line in (*lines, shown(summary(verdict))))
 
@@ -111,7 +111,7 @@ def as_annotations(verdict: Verdict) -> str:
     return "".join(line + "\n" for line in lines)
 
 
-def plain(text: str) -> str:
+def in_markdown(text: str) -> str:
     """A text in Markdown that shows it as it is, cut where it is long."""
     cut = text if len(text) <= SHOWN_TEXT else text[:SHOWN_TEXT] + " .."
     return MARKS.sub(r"\\\1", shown(cut))
@@ -133,16 +133,16 @@ def as_summary(verdict: Verdict, path: str) -> str:
 def markdown_within(verdict: Verdict, room: int) -> str:
     """The same of no more bytes than there is room, as far as the answer itself allows."""
     lines = Lines(room - ENDING)
-    lines.add(f"### mmquery gate: {plain(summary(verdict))}", "")
+    lines.add(f"### mmquery gate: {in_markdown(summary(verdict))}", "")
     if verdict.findings:
         lines.add("| Rule | Place | Label | Axiom | Reason |", "|---|---|---|---|---|")
     listed = 0
     for finding in verdict.findings[:MOST_ROWS]:
-        place = verdict.path(finding) + (f":{finding.line}" if finding.line else "")
-        words = (finding.rule, place, finding.label, finding.axiom, finding.reason)
-        listed += lines.add("| " + " | ".join(plain(word) for word in words) + " |")
-    told = sum(lines.add("", f"Note: {plain(note)}") for note in verdict.notes)
-    return lines.text() + rest(len(verdict.findings) - listed, len(verdict.notes) - told)
+        where = verdict.path(finding) + (f":{finding.line}" if finding.line else "")
+        words = (finding.rule, where, finding.label, finding.axiom, finding.reason)
+        listed += lines.add("| " + " | ".join(in_markdown(word) for word in words) + " |")
+    noted = sum(lines.add("", f"Note: {in_markdown(note)}") for note in verdict.notes)
+    return lines.text() + rest(len(verdict.findings) - listed, len(verdict.notes) - noted)
 
 
 def rest(findings: int, notes: int) -> str:

@@ -144,7 +144,7 @@ class Repository:
 
     def above(self, whole: Path) -> Path | None:
         """The top as a path names it; None where the path doesn't lead through it."""
-        return next((each for each in reversed(whole.parents) if is_same(each, self.top)), None)
+        return next((each for each in reversed(whole.parents) if are_one(each, self.top)), None)
 
     def has_within(self, word: str) -> bool:
         """Whether a path leads through the top, whatever is a link on the way."""
@@ -152,12 +152,12 @@ class Repository:
 
     def see_plain(self, here: Path, word: str) -> None:
         """NoAnswer where a place on the way to a file isn't simply a part of the working tree."""
-        place = shown(os.path.relpath(here, self.top))
+        relative = shown(os.path.relpath(here, self.top))
         if here.is_symlink():
-            raise NoAnswer(f"{shown(word)}: {place} is a link, and what it names isn't judged")
+            raise NoAnswer(f"{shown(word)}: {relative} is a link, and what it names isn't judged")
         if os.path.lexists(here / ".git") or is_git_folder(here):
             raise NoAnswer(
-                f"{shown(word)}: {place} is a repository or a submodule of its own; go there"
+                f"{shown(word)}: {relative} is a repository or a submodule of its own; go there"
             )
 
     def attributes(self, path: str) -> list[str]:
@@ -205,7 +205,7 @@ def call(
         raise NoAnswer(f"git can't be run: {error.strerror}") from None
 
 
-def is_same(one: Path, other: Path) -> bool:
+def are_one(one: Path, other: Path) -> bool:
     """Whether two paths name the same file or folder."""
     try:
         return one.samefile(other)
@@ -226,7 +226,7 @@ def see_no_link_to_here() -> None:
     """NoAnswer where the shell came to the working folder by a link within a repository: then the
     path that was meant is another one than that of the working folder."""
     here = os.environ.get("PWD", "")
-    if not os.path.isabs(here) or not is_same(Path(here), Path.cwd()):
+    if not os.path.isabs(here) or not are_one(Path(here), Path.cwd()):
         return
     is_within = False
     for each in (*reversed(Path(here).parents), Path(here)):
@@ -268,11 +268,11 @@ def discovered(top: Path) -> Repository:
     if done.returncode != 0 or not folder.is_absolute():
         raise NoAnswer(f"{shown(str(top))}: {said(done)}")
     if is_bare:
-        if not is_same(folder, top):
+        if not are_one(folder, top):
             raise NoAnswer(f"{shown(str(top))}: not the bare repository that git sees")
         return Repository(top, top)
     done = call("rev-parse", "--show-toplevel", folder=top)
     seen = Path(os.fsdecode(done.stdout.removesuffix(b"\n")))
-    if done.returncode != 0 or not is_same(seen, top):
+    if done.returncode != 0 or not are_one(seen, top):
         raise NoAnswer(f"{shown(str(top))}: not the top of the working tree that git sees")
     return Repository(top, folder)

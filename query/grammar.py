@@ -122,10 +122,10 @@ class Grammar:
 
     def tree(self, typecode: str, symbols: Sequence[str], variables: Mapping[str, str]) -> Tree:
         """The tree of a formula of this typecode. NotRead where it has none, or several."""
-        return Reader(self, symbols, variables).tree(typecode)
+        return FormulaReader(self, symbols, variables).tree(typecode)
 
 
-class Reader:
+class FormulaReader:
     """Reads one formula."""
 
     def __init__(
@@ -136,7 +136,7 @@ class Reader:
         self.variables = variables
         self.left = min(MOST_STEPS, STEPS + STEPS_OF_SYMBOL * len(symbols))
         self.items: list[list[Item]] = [[], []]
-        """The items at this place and at the next one, by the last bit of the place."""
+        """The items at this position and at the next one, by the last bit of the position."""
         self.index: list[dict[tuple[int, int], Item]] = [{}, {}]
         self.waiting: list[dict[str, list[Item]]] = [{} for _ in range(len(symbols) + 1)]
         self.known: dict[Part, list[Item | None]] = {}
@@ -145,9 +145,9 @@ class Reader:
     def tree(self, typecode: str) -> Tree:
         """The tree."""
         self.predict(typecode, 0)
-        for place in range(len(self.symbols) + 1):
-            self.read(place)
-            self.items[place & 1], self.index[place & 1] = [], {}
+        for position in range(len(self.symbols) + 1):
+            self.read(position)
+            self.items[position & 1], self.index[position & 1] = [], {}
         return self.tree_of(Part(typecode, 0, len(self.symbols)))
 
     def take(self, steps: int) -> None:
@@ -156,57 +156,57 @@ class Reader:
         if self.left < 0:
             raise NotRead("it takes too long to read")
 
-    def predict(self, typecode: str, place: int) -> None:
-        """Notes that a part of a typecode may begin at a place."""
-        self.waiting[place][typecode] = []
+    def predict(self, typecode: str, position: int) -> None:
+        """Notes that a part of a typecode may begin at a position."""
+        self.waiting[position][typecode] = []
         if typecode in self.grammar.roots:
-            self.put(self.grammar.roots[typecode], place, place)
+            self.put(self.grammar.roots[typecode], position, position)
 
-    def put(self, node: Node, start: int, place: int) -> Item:
-        """The item of a node at a place."""
+    def put(self, node: Node, start: int, position: int) -> Item:
+        """The item of a node at a position."""
         self.take(1)
-        index = self.index[place & 1]
+        index = self.index[position & 1]
         item = index.get((id(node), start))
         if item is None:
             item = index[id(node), start] = Item(node, start)
-            self.items[place & 1].append(item)
+            self.items[position & 1].append(item)
         return item
 
-    def follow(self, item: Item, node: Node, part: Part | None, place: int) -> None:
-        """Adds what follows an item behind a symbol or a part, up to a place."""
-        following = self.put(node, item.start, place)
+    def follow(self, item: Item, node: Node, part: Part | None, position: int) -> None:
+        """Adds what follows an item behind a symbol or a part, up to a position."""
+        following = self.put(node, item.start, position)
         if len(following.before) < 2:
             following.before.append((item, part))
 
-    def read(self, place: int) -> None:
-        """Carries on the items at a place; more of them come meanwhile."""
-        waiting, has_empty = self.waiting[place], self.grammar.has_empty
-        for item in self.items[place & 1]:
+    def read(self, position: int) -> None:
+        """Carries on the items at a position; more of them come meanwhile."""
+        waiting, has_empty = self.waiting[position], self.grammar.has_empty
+        for item in self.items[position & 1]:
             parts = item.node.parts
             if item.node.rule is not None:
-                self.complete(Part(item.node.typecode, item.start, place), item)
+                self.complete(Part(item.node.typecode, item.start, position), item)
             if len(parts) > 1:
                 self.take(len(parts))
             for typecode, node in parts.items():
                 if typecode not in waiting:
-                    self.predict(typecode, place)
+                    self.predict(typecode, position)
                 waiting[typecode].append(item)
-                if has_empty and Part(typecode, place, place) in self.known:
-                    self.follow(item, node, Part(typecode, place, place), place)
-        if place < len(self.symbols):
-            self.read_symbol(place)
+                if has_empty and Part(typecode, position, position) in self.known:
+                    self.follow(item, node, Part(typecode, position, position), position)
+        if position < len(self.symbols):
+            self.read_symbol(position)
 
-    def read_symbol(self, place: int) -> None:
-        """Reads the symbol at a place."""
-        symbol = self.symbols[place]
+    def read_symbol(self, position: int) -> None:
+        """Reads the symbol at a position."""
+        symbol = self.symbols[position]
         typecode = self.variables.get(symbol)
         if typecode is not None:
-            self.complete(Part(typecode, place, place + 1), None)
+            self.complete(Part(typecode, position, position + 1), None)
             return
-        for item in self.items[place & 1]:
+        for item in self.items[position & 1]:
             node = item.node.symbols.get(symbol)
             if node is not None:
-                self.follow(item, node, None, place + 1)
+                self.follow(item, node, None, position + 1)
 
     def complete(self, part: Part, item: Item | None) -> None:
         """Notes a part, and carries on what waits for it."""
@@ -247,11 +247,11 @@ class Reader:
 
 
 def pairs_of(names: Sequence[str]) -> Iterator[tuple[int, int]]:
-    """For each name that was there before its place, and that of its first occurrence."""
+    """For each name that was there before its index, and that of its first occurrence."""
     first: dict[str, int] = {}
-    for place, name in enumerate(names):
-        if first.setdefault(name, place) != place:
-            yield first[name], place
+    for index, name in enumerate(names):
+        if first.setdefault(name, index) != index:
+            yield first[name], index
 
 
 def parts_of(item: Item) -> list[Part]:

@@ -8,7 +8,7 @@ from array import array
 from collections.abc import Iterable, Iterator, Mapping, Set
 from functools import cached_property
 
-from query.errors import NoAnswer, nearest, shown
+from query.errors import NEAR_LABEL, NoAnswer, nearest, shown
 
 
 NOTHING: "array[int]" = array("I")
@@ -88,7 +88,7 @@ class Graph:
     def see(self, label: str) -> None:
         """NoAnswer where there is neither an axiom nor a theorem of this label."""
         if label not in self.index:
-            meant = nearest(label, self.index, 0.8)
+            meant = nearest(label, self.index, NEAR_LABEL)
             raise NoAnswer(
                 f"{self.name}: has neither a theorem nor an axiom '{shown(label)}'{meant}"
             )

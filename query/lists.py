@@ -13,7 +13,7 @@ def add_list(parser: Parser) -> None:
     parser.values("--list", "FILE", "take more LABELs from FILE: words, and comments after #")
 
 
-def words_of(path: str) -> list[tuple[int, str]]:
+def words_in(path: str) -> list[tuple[int, str]]:
     """The words of a file, each with its line from 1. NoAnswer where it can't be read."""
     try:
         with open(path, "rb") as file:
@@ -33,7 +33,7 @@ def labels_of(arguments: argparse.Namespace) -> list[str]:
     """The LABELs of a command, those of its lists too. NoAnswer where a list is empty."""
     labels = list(arguments.labels)
     for path in arguments.list:
-        words = words_of(os.fspath(path))
+        words = words_in(os.fspath(path))
         if not words:
             raise NoAnswer(f"{shown(path)}: the list is empty")
         labels += [word for _, word in words]

@@ -87,7 +87,7 @@ def columns_of(row: int, columns: int) -> list[int]:
     return list(compress(range(columns), signs))
 
 
-def packed(rows: Sequence[int], columns: int) -> Marks:
+def marks_of_rows(rows: Sequence[int], columns: int) -> Marks:
     """The marks of rows given as bits."""
     width = width_of(columns)
     return Marks(len(rows), columns, b"".join(row.to_bytes(width, "big") for row in rows))

@@ -74,7 +74,7 @@ class Objects:
             (self.folder / name).mkdir(parents=True)
         (self.folder / "HEAD").write_text("ref: refs/heads/none\n")
         (self.folder / "info/attributes").write_text(ATTRIBUTES)
-        borrowed = quoted(os.fsencode(self.repository.path("objects")))
+        borrowed = git_path(os.fsencode(self.repository.path("objects")))
         (self.folder / "objects/info/alternates").write_bytes(borrowed + b"\n")
         shallow = self.repository.path("shallow")
         if shallow.is_file():
@@ -137,8 +137,8 @@ class Objects:
         if done.returncode == 0:
             return lines[0].decode("ascii")
         if done.returncode == 1:
-            told = next((line for line in lines if line.startswith(b"CONFLICT")), b"CONFLICT")
-            raise NoAnswer(f"{short(head)} and {short(tip)} can't be merged: {os.fsdecode(told)}")
+            why = next((line for line in lines if line.startswith(b"CONFLICT")), b"CONFLICT")
+            raise NoAnswer(f"{short(head)} and {short(tip)} can't be merged: {os.fsdecode(why)}")
         if b"usage: git merge-tree" in done.stderr:
             raise NoAnswer(
                 "this git can't merge by itself, as git 2.38 and later can; --merge-base compares"
@@ -222,7 +222,7 @@ def fold(name: bytes) -> str:
     return unicodedata.normalize("NFC", os.fsdecode(name)).casefold()
 
 
-def quoted(path: bytes) -> bytes:
+def git_path(path: bytes) -> bytes:
     """A path as git reads it in a list of paths, whatever signs it has."""
     plain = all(32 <= byte < 127 and byte not in b'"\\' for byte in path)
     if plain and not path.startswith(b"#"):

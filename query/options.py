@@ -31,17 +31,17 @@ class Parser(argparse.ArgumentParser):
         self.actions.append(settings.pop("group", super()).add_argument(*names, **settings))
         return self.actions[-1]
 
-    def flag(self, name: str, told: str, **more: Any) -> None:
+    def flag(self, name: str, about: str, **more: Any) -> None:
         """Adds an option without a value."""
-        self.add_argument(name, action="store_true", help=told, **more)
+        self.add_argument(name, action="store_true", help=about, **more)
 
-    def value(self, name: str, metavar: str, told: str, **more: Any) -> None:
+    def value(self, name: str, metavar: str, about: str, **more: Any) -> None:
         """Adds an option with a value."""
-        self.add_argument(name, metavar=metavar, help=told, **more)
+        self.add_argument(name, metavar=metavar, help=about, **more)
 
-    def values(self, name: str, metavar: str, told: str, **more: Any) -> None:
+    def values(self, name: str, metavar: str, about: str, **more: Any) -> None:
         """Adds an option that may be given several times, each time with a value."""
-        self.value(name, metavar, told, action="append", default=[], **more)
+        self.value(name, metavar, about, action="append", default=[], **more)
 
     def exclude(self, *names: str) -> None:
         """Lets only one of these options be given."""
@@ -99,14 +99,14 @@ class Parser(argparse.ArgumentParser):
                 lacking.append(name)
         share = re.match("".join(SHARES[each.nargs] for each in wanted), "." * len(plain))
         if share is None or lacking:
-            told = f"the following arguments are required: {', '.join(lacking)}"
+            wrong = f"the following arguments are required: {', '.join(lacking)}"
         elif share.end() < len(plain):
-            told = f"unrecognized arguments: {' '.join(plain[share.end():])}"
+            wrong = f"unrecognized arguments: {' '.join(plain[share.end():])}"
         else:
-            spans = [share.span(place + 1) for place in range(len(wanted))]
+            spans = [share.span(group) for group in range(1, len(wanted) + 1)]
             shared = [(each, plain[slice(*span)]) for each, span in zip(wanted, spans)]
             return [(each, texts) for each, texts in shared if texts or each.nargs == "*"]
-        raise NoAnswer(f"{shown(told)}; {self.format_usage().strip()}")
+        raise NoAnswer(f"{shown(wrong)}; {self.format_usage().strip()}")
 
 
 def refuse(action: argparse.Action, why: str) -> NoReturn:
@@ -151,7 +151,7 @@ class Options:
         return not self.axioms or label.startswith(self.axioms)
 
 
-def count(word: str) -> int:
+def positive(word: str) -> int:
     """A whole number from 1 to 999999. ArgumentTypeError where the word is none."""
     if not word.isascii() or not word.isdecimal() or not 1 <= len(word) <= 6 or int(word) < 1:
         raise argparse.ArgumentTypeError(f"'{word}' is no number from 1 to 999999")

@@ -103,10 +103,7 @@ class Output:
         self._parts: list[bytes] = []
 
     def table(
-        self,
-        columns: Sequence[str],
-        rows: Iterable[Sequence[Value]],
-        aside: Collection[str] = (),
+        self, columns: Sequence[str], rows: Iterable[Sequence[Value]], aside: Collection[str] = ()
     ) -> None:
         """Adds a table in the format chosen; one in another format than tsv, csv and json as text.
 

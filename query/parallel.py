@@ -117,7 +117,7 @@ def _do(work: Callable[[], bytes], writing: int) -> NoReturn:
         try:
             data = DONE + work()
         except NoAnswer as why:
-            data = WITHOUT_ANSWER + why.told().encode("utf-8", "surrogateescape")
+            data = WITHOUT_ANSWER + why.sentence().encode("utf-8", "surrogateescape")
         view = memoryview(data)
         while view:
             view = view[os.write(writing, view) :]

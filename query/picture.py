@@ -8,6 +8,7 @@ from query.database import Dependence
 
 # Five columns of eight dots for each character from the space to ~, the lowest bit at the top: ten
 # digits a character, and eight characters a line.
+COLUMNS = 5
 FONT = bytes.fromhex(
     "000000000000005F00000007000700147F147F14242A7F2A12231308646236495522500005030000"
     "001C2241000041221C00082A1C2A0808083E08080050300000080808080800606000002010080402"
@@ -24,7 +25,11 @@ FONT = bytes.fromhex(
 )
 WHITE, GREY, BLACK = 255, 160, 0
 ONE = ord("1")
-STEP = 6  # dots across, from one character to the next
+# In dots: from one character to the next, from one line of text to the next, and around all.
+STEP, LINE, MARGIN = COLUMNS + 1, 12, 12
+LEGEND = 2 * MARGIN  # where the texts of the legend begin, behind a box for the shade
+APART, LARGEST_DOT = 10, 16  # dots from a name to the next, at least; a side of a dot, at most
+MOST_LABEL, MOST_AXIOM = 44, 24  # characters of a name beside the picture, and above it
 
 
 class Dots:
@@ -75,8 +80,8 @@ class Canvas:
     def write(self, left: int, top: int, text: str, upwards: bool = False) -> None:
         """Writes a text from its left end, or from its lower end."""
         for number, sign in enumerate(text):
-            place = 5 * (ord(sign if " " <= sign <= "~" else "?") - 32)
-            for x, bits in enumerate(FONT[place : place + 5]):
+            start = COLUMNS * (ord(sign if " " <= sign <= "~" else "?") - 32)
+            for x, bits in enumerate(FONT[start : start + COLUMNS]):
                 for y in range(8):
                     if not bits >> y & 1:
                         continue
@@ -109,26 +114,27 @@ class Axes:
     @property
     def left(self) -> int:
         """How wide the names beside the picture are."""
-        return max((len(name) for _, name in self.down), default=0) * STEP + 12
+        return max((len(name) for _, name in self.down), default=0) * STEP + MARGIN
 
     @property
     def top(self) -> int:
         """How high the names above the picture are."""
-        return max((len(name) for _, name in self.across), default=0) * STEP + 12
+        return max((len(name) for _, name in self.across), default=0) * STEP + MARGIN
 
 
 def axes_of(dots: Dots, names: list[tuple[int, str]], size: int) -> Axes:
     """The names that have room, the first ones of `names` before later ones."""
     axes = Axes(size)
-    taken: dict[int, int] = {}  # of each ten dots down the place of the name that begins in them
+    taken: dict[int, int] = {}  # of each APART dots down where the name begins that is in them
     for row, name in names:
         y = row // dots.high * size
-        near = (taken.get(y // 10 + step) for step in (-1, 0, 1))
-        if all(other is None or abs(y - other) >= 10 for other in near):
-            taken[y // 10] = y
-            axes.down.append((y, name[:44]))
-    for column in range(0, dots.width, -(-10 // size)):
-        axes.across.append((column * size, dots.dependence.axioms[column * dots.wide][:24]))
+        near = (taken.get(y // APART + step) for step in (-1, 0, 1))
+        if all(other is None or abs(y - other) >= APART for other in near):
+            taken[y // APART] = y
+            axes.down.append((y, name[:MOST_LABEL]))
+    for column in range(0, dots.width, -(-APART // size)):
+        name = dots.dependence.axioms[column * dots.wide][:MOST_AXIOM]
+        axes.across.append((column * size, name))
     return axes
 
 
@@ -147,13 +153,13 @@ def drawing(dots: Dots, names: list[tuple[int, str]], across: int, down: int) ->
     what is said of them, the most important first. The dots take at most `across` times `down`
     points.
     """
-    size = max(1, min(across // dots.width, down // dots.height, 16))
+    size = max(1, min(across // dots.width, down // dots.height, LARGEST_DOT))
     axes = axes_of(dots, names, size)
-    told = legend(dots)
+    texts = legend(dots)
     wide, high = dots.width * size, dots.height * size
     left, top = axes.left, axes.top
-    width = max(left + wide + 12, max(map(len, told)) * STEP + 32)
-    canvas = Canvas(width, top + high + 16 + 12 * len(told))
+    width = max(left + wide + MARGIN, max(map(len, texts)) * STEP + 32)
+    canvas = Canvas(width, top + high + 16 + LINE * len(texts))
     canvas.box(left - 1, top - 1, wide + 2, high + 2, GREY)
     canvas.box(left, top, wide, high, WHITE)
     for y, line in enumerate(dots.lines):
@@ -161,9 +167,9 @@ def drawing(dots: Dots, names: list[tuple[int, str]], across: int, down: int) ->
             if dot == "1":
                 canvas.box(left + x * size, top + y * size, size, size, BLACK)
     put_names(canvas, axes)
-    for number, text in enumerate(told):
-        y = top + high + 12 + 12 * number
-        canvas.write(24, y, text)
+    for number, text in enumerate(texts):
+        y = top + high + MARGIN + LINE * number
+        canvas.write(LEGEND, y, text)
         if number:
             canvas.box(11, y - 1, 9, 9, BLACK)
             canvas.box(12, y, 7, 7, BLACK if number == 1 else WHITE)
@@ -172,9 +178,9 @@ def drawing(dots: Dots, names: list[tuple[int, str]], across: int, down: int) ->
 
 def put_names(canvas: Canvas, axes: Axes) -> None:
     """Writes the names along the picture."""
-    middle = min(axes.size, 10) // 2 - 3
+    middle = min(axes.size, APART) // 2 - STEP // 2
     for y, name in axes.down:
-        canvas.write(axes.left - 6 - STEP * len(name), axes.top + y + middle, name)
+        canvas.write(axes.left - STEP * (1 + len(name)), axes.top + y + middle, name)
         canvas.box(axes.left - 5, axes.top + y, 4, 1, BLACK)
     for x, name in axes.across:
         canvas.write(axes.left + x + middle, axes.top - 8, name, upwards=True)

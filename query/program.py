@@ -185,7 +185,7 @@ def report(program: Program, source: Source, words: list[str]) -> bytes:
     the source, NoAnswer where it has no answer."""
     running = over(program, source, words)
     try:
-        answer = judged(source, running)
+        answer = judged_report(source, running)
     finally:
         running.stop()
     source.see_unchanged()
@@ -201,7 +201,7 @@ def over(program: Program, source: Source, words: list[str]) -> Running:
         os.close(descriptor)
 
 
-def judged(source: Source, running: Running) -> bytes:
+def judged_report(source: Source, running: Running) -> bytes:
     """The report of a running program."""
     out, errors, status = running.ended()
     if len(out) > MOST_OUTPUT_BYTES:

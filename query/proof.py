@@ -12,10 +12,10 @@ from query import program
 from query.assertions import Assertion, Hypothesis, assertions_of
 from query.bare import floating, without_comments, without_proofs
 from query.errors import NoAnswer
+from query.letters import NUMBER, number_of
 from query.source import Source
-from query.told import statements_of
+from query.one_run import statements_of
 
-FIRST_LETTER = ord("A")
 MOST_REPLAYED_SYMBOLS = 10_000_000
 """So many symbols are read and written at the most: a short proof may build long formulas."""
 
@@ -27,10 +27,10 @@ class TooLong(Exception):
 class Replay:
     """The stack of a proof while its steps are carried out. An entry is a formula's symbols."""
 
-    def __init__(self, told: list[Assertion], floating: Callable[[str], list[str]]) -> None:
-        self.told = {each.label: each for each in told}
+    def __init__(self, assertions: list[Assertion], floating: Callable[[str], list[str]]) -> None:
+        self.by_label = {each.label: each for each in assertions}
         self.floating = floating
-        self.given = told[-1].frame().hypotheses()
+        self.given = assertions[-1].frame().hypotheses()
         self.named = {each.label: each.formula.split(" ") for each in self.given}
         self.left = MOST_REPLAYED_SYMBOLS
         self.stack: list[list[str]] = []
@@ -45,7 +45,7 @@ class Replay:
 
     def step(self, label: str) -> None:
         """Carries out a step with a label."""
-        assertion = self.told.get(label)
+        assertion = self.by_label.get(label)
         if assertion is None:
             if label not in self.named:
                 self.named[label] = self.floating(label)
@@ -70,20 +70,13 @@ class Replay:
 
     def letters(self, letters: str, labels: list[str]) -> None:
         """Carries out the steps of a compressed proof."""
-        number = 0
-        for letter in letters:
-            value = ord(letter) - FIRST_LETTER
-            if letter == "Z":
+        for number in map(number_of, NUMBER.findall(letters)):
+            if number < 0:
                 self.marked.append(self.stack[-1])
-            elif value < 20:
-                place = 20 * number + value
-                if place < len(labels):
-                    self.step(labels[place])
-                else:
-                    self.stack.append(self.marked[place - len(labels)])
-                number = 0
+            elif number < len(labels):
+                self.step(labels[number])
             else:
-                number = 5 * number + value - 19
+                self.stack.append(self.marked[number - len(labels)])
 
     def carried_out(self, words: list[str]) -> list[str]:
         """The last entry."""
@@ -105,8 +98,8 @@ def proved(source: Source, end: int) -> tuple[str, str] | None:
     before = Source(source.name, without_proofs(bare_text))
     try:
         said = program.report(program.ready(), before, ["--open", "--report=statements"])
-        told = assertions_of(statements_of(said), before.data)
-        found = Replay(told, lambda label: floating(bare_text, label)).carried_out(words)
+        assertions = assertions_of(statements_of(said), before.data)
+        found = Replay(assertions, lambda label: floating(bare_text, label)).carried_out(words)
     except (IndexError, KeyError, ValueError, TooLong, NoAnswer):
         return None
-    return " ".join(found), told[-1].formula
+    return " ".join(found), assertions[-1].formula

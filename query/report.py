@@ -17,7 +17,7 @@ from typing import NoReturn
 from query.assertions import LINE
 from query.errors import NoAnswer, shown
 from query.graph import Lists
-from query.marks import Marks, bit, mask, packed, width_of
+from query.marks import Marks, bit, mask, marks_of_rows, width_of
 from query.prepared import Prepared
 
 SECTIONS = ("matrix", "counts", "usage", "citations", "statements")
@@ -111,7 +111,7 @@ class Report:
         return axioms if name == "usage" else theorems
 
 
-class Reader:
+class SectionReader:
     """Reads the sections of a report, each checked against those read before."""
 
     def __init__(self, report: Report) -> None:
@@ -296,7 +296,7 @@ class CitationReader:
     """Reads the section `citations`, and gives the marks that follow from it: of each theorem
     those of what it cites, and the axioms that it cites."""
 
-    def __init__(self, reader: Reader) -> None:
+    def __init__(self, reader: SectionReader) -> None:
         self.reader = reader
         self.found = reader.found
         first, columns = len(self.found.theorems), len(self.found.columns)
@@ -328,7 +328,7 @@ class CitationReader:
             nodes[self.found.theorems[number]] = number
         self.found.cites = Lists(places, targets)
         self.check_axioms()
-        return packed(bits[: len(self.found.theorems)], len(self.found.columns))
+        return marks_of_rows(bits[: len(self.found.theorems)], len(self.found.columns))
 
     def own_bits(self, cited: list[int]) -> int:
         """The bits of the axioms among what is cited, where `bits` doesn't have them."""
@@ -414,4 +414,4 @@ def of_digits(rows: list[str], form: int) -> bytes | None:
 
 def checked(name: str, data: bytes) -> Prepared:
     """What a text of reports says. NoAnswer where it is damaged or its parts don't fit together."""
-    return Reader(Report(name, data)).read()
+    return SectionReader(Report(name, data)).read()

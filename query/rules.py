@@ -123,11 +123,11 @@ def shown_change(old: str, new: str) -> tuple[str, str]:
 
 def axioms(case: Case) -> Iterator[Finding]:
     """An axiom is new, changed or gone, and isn't allowed."""
-    told = set()
+    judged = set()
     for label, reason in (*axioms_now(case), *axioms_gone(case)):
-        if label not in told and not case.config.allows("axioms", label):
+        if label not in judged and not case.config.allows("axioms", label):
             yield case.finding("axioms", label, reason, label)
-        told.add(label)
+        judged.add(label)
 
 
 def axioms_now(case: Case) -> Iterator[tuple[str, str]]:
@@ -354,15 +354,15 @@ def usages(text: Text) -> Iterator[Usage]:
         words: list[tuple[int, str, bool]] = []
         for token in tokens(TOKEN, body):
             if token[3]:
-                yield from usage_of(text, words, is_ended=True)
+                yield from usage_in(text, words, is_ended=True)
                 words = []
             elif token.lastindex:
                 is_quoted = token.lastindex < 3
                 words.append((start + token.start(), token[token.lastindex], is_quoted))
-        yield from usage_of(text, words, is_ended=False)
+        yield from usage_in(text, words, is_ended=False)
 
 
-def usage_of(text: Text, words: list[tuple[int, str, bool]], *, is_ended: bool) -> Iterator[Usage]:
+def usage_in(text: Text, words: list[tuple[int, str, bool]], *, is_ended: bool) -> Iterator[Usage]:
     """The statement that these words are, where it is a `usage`: place, word, whether quoted."""
     if not words or words[0][1] != "usage" or words[0][2]:
         return
@@ -562,21 +562,21 @@ def judge(case: Case) -> list[Finding]:
     # The processes are copies of this one: what all of them ask for is found before they begin.
     _ = case.comparison.to_new
     size = len(case.text.data)
-    tasks = {rule: begun(partial(packed, case, rule), size) for rule in rules if rule in APART}
+    tasks = {rule: begun(partial(in_bytes, case, rule), size) for rule in rules if rule in APART}
     try:
         found = {rule: list(JUDGES[rule](case)) for rule in rules if rule not in tasks}
-        found |= {rule: unpacked(task.result()) for rule, task in tasks.items()}
+        found |= {rule: of_bytes(task.result()) for rule, task in tasks.items()}
     finally:
         for task in tasks.values():
             task.stop()
     return [one for rule in rules for one in found[rule]]
 
 
-def packed(case: Case, rule: str) -> bytes:
-    """What breaks a rule, as bytes for `unpacked`."""
+def in_bytes(case: Case, rule: str) -> bytes:
+    """What breaks a rule, as bytes for `of_bytes`."""
     return json.dumps([astuple(one) for one in JUDGES[rule](case)]).encode()
 
 
-def unpacked(found: bytes) -> list[Finding]:
-    """What `packed` found."""
+def of_bytes(found: bytes) -> list[Finding]:
+    """The findings that `in_bytes` made bytes of."""
     return [Finding(*fields) for fields in json.loads(found)]

@@ -14,8 +14,9 @@ from pathlib import Path
 from query import system
 from query.output import reason
 
-SIZE = 32
+SIZE = 32  # bytes
 NAME = "secret"
+OTHERS_WRITE, OTHERS_ALL = 0o022, 0o077  # rights of a file that its group and others have
 
 
 def base_folder(variable: str, within_home: str) -> str | None:
@@ -28,7 +29,7 @@ def base_folder(variable: str, within_home: str) -> str | None:
     return os.path.join(home, within_home) if os.path.isabs(home) else None
 
 
-def place() -> str | None:
+def location() -> str | None:
     """Where the secret is; None where the user has no such place."""
     base = base_folder("XDG_CONFIG_HOME", ".config")
     return None if base is None else os.path.join(base, "mmquery", NAME)
@@ -50,7 +51,7 @@ def wrong_folder(path: str) -> str | None:
         return "it is a link"
     if not stat.S_ISDIR(state.st_mode):
         return "it isn't a folder"
-    return wrong_owner(state, 0o022)
+    return wrong_owner(state, OTHERS_WRITE)
 
 
 def wrong_owner(state: os.stat_result, mode: int) -> str | None:
@@ -58,7 +59,7 @@ def wrong_owner(state: os.stat_result, mode: int) -> str | None:
     if state.st_uid != system.user():
         return "it belongs to somebody else"
     if state.st_mode & mode:
-        return "others may change it" if mode == 0o022 else "others may read it"
+        return "others may change it" if mode == OTHERS_WRITE else "others may read it"
     return None
 
 
@@ -72,7 +73,7 @@ def is_in_checkout(path: str) -> bool:
     return False
 
 
-def opened(path: str) -> int:
+def opened_file(path: str) -> int:
     """A file to be read, if it is one and no link. OSError where it isn't."""
     descriptor = system.opened(path)
     if not stat.S_ISREG(os.fstat(descriptor).st_mode):
@@ -87,14 +88,14 @@ def wrong_secret(path: str) -> str | None:
     if wrong is not None:
         return f"{os.path.dirname(path)}: {wrong}"
     try:
-        descriptor = opened(path)
+        descriptor = opened_file(path)
     except FileNotFoundError:
         return None
     except OSError as error:
         return f"{path}: {reason(error)}"
     try:
         state = os.fstat(descriptor)
-        wrong = wrong_owner(state, 0o077)
+        wrong = wrong_owner(state, OTHERS_ALL)
         if wrong is None and state.st_size != SIZE:
             wrong = f"it has {state.st_size} bytes, where {SIZE} are wanted"
         return None if wrong is None else f"{path}: {wrong}"
@@ -104,11 +105,11 @@ def wrong_secret(path: str) -> str | None:
 
 def read() -> bytes | None:
     """The secret; None where there is none that can be used."""
-    path = place()
+    path = location()
     if path is None or wrong_secret(path) is not None:
         return None
     try:
-        descriptor = opened(path)
+        descriptor = opened_file(path)
     except OSError:
         return None
     try:
@@ -118,9 +119,9 @@ def read() -> bytes | None:
     return found if len(found) == SIZE else None
 
 
-def made() -> bytes | None:
+def read_or_make() -> bytes | None:
     """The secret, a new one where there is none yet; None where that can't be."""
-    path = place()
+    path = location()
     if path is None or wrong_secret(path) is not None:
         return None
     if not os.path.lexists(path):

@@ -87,13 +87,13 @@ def stamp_of(descriptor: int) -> tuple[int, ...]:
     return state.st_dev, state.st_ino, state.st_size, state.st_mtime_ns, state.st_ctime_ns
 
 
-def opened(word: str) -> Source:
+def source_of(word: str) -> Source:
     """The bytes that a word DATABASE names. NoAnswer where they can't be read."""
     name = shown(word)
     if word == "-":
-        return Source("standard input", unpacked("standard input", read_all(0, "standard input")))
+        return Source("standard input", inflated("standard input", read_all(0, "standard input")))
     if is_of_git(word):
-        return Source(name, unpacked(name, of_git(word)))
+        return Source(name, inflated(name, of_git(word)))
     try:
         descriptor = os.open(word, system.READING)
     except FileNotFoundError:
@@ -113,7 +113,7 @@ def of_file(word: str, name: str, descriptor: int) -> Source:
         raise NoAnswer(f"{name}: is a folder")
     stamp = stamp_of(descriptor)
     data = read_all(descriptor, name)
-    plain = unpacked(name, data)
+    plain = inflated(name, data)
     if plain is not data or not stat.S_ISREG(mode):
         return Source(name, plain)
     return Source(name, data, os.path.abspath(word), stamp)
@@ -204,7 +204,7 @@ def path_from_top(path: str, repository: "Repository") -> str:
     return repository.path_of(path) if path.startswith(("./", "../")) else path
 
 
-def unpacked(name: str, data: bytes) -> bytes:
+def inflated(name: str, data: bytes) -> bytes:
     """The bytes, or those that they were compressed from. No more than the program reads."""
     try:
         if data.startswith(GZIP):

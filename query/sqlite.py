@@ -194,7 +194,7 @@ def export(content: Content, path: str) -> list[tuple[str, int]]:
     try:
         with replacing(path) as new:
             os.close(os.open(new, system.MAKING, 0o666))
-            return fill(content, new)
+            return fill_tables(content, new)
     except OSError as error:
         raise NoAnswer(f"{name}: {reason(error)}") from None
     except sqlite3.Error as error:
@@ -215,7 +215,7 @@ def insert(connection: sqlite3.Connection, table: str, rows: Iterator[Row]) -> i
     return count
 
 
-def fill(content: Content, path: str) -> list[tuple[str, int]]:
+def fill_tables(content: Content, path: str) -> list[tuple[str, int]]:
     """Makes the tables in an empty file. sqlite3.Error where that can't be done."""
     counts = []
     connection = sqlite3.connect(path)

@@ -72,7 +72,7 @@ def sum_of_pairs(pairs: Iterable[Pair]) -> bytes:
     return sum_of(*total)
 
 
-def is_same(old: Assertion, new: Assertion) -> bool:
+def is_same_statement(old: Assertion, new: Assertion) -> bool:
     """Whether two assertions have the same statement. Most are told by the same line."""
     return old.said == new.said or statement_of(old) == statement_of(new)
 
@@ -161,7 +161,7 @@ class Pairer:
         old = {one.label: one for one in of_kind(self.old.assertions, kind)}
         new = {one.label: one for one in of_kind(self.new.assertions, kind)}
         for label, assertion in new.items():
-            if label in old and is_same(old[label], assertion):
+            if label in old and is_same_statement(old[label], assertion):
                 pairing.origin[label] = label
         kept = set(pairing.origin)
         freed = [one for label, one in old.items() if label not in kept]

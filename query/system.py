@@ -42,7 +42,7 @@ def unnamed() -> int:
         return os.dup(file.fileno())
 
 
-def name_of(descriptor: int) -> str | None:
+def descriptor_path(descriptor: int) -> str | None:
     """By which name another program opens a file of ours that it is given; None where by none."""
     name = f"/dev/fd/{descriptor}"
     return name if os.name == "posix" and os.path.exists(name) else None
@@ -92,10 +92,10 @@ def processors() -> int:
 def memory() -> tuple[int | None, int | None]:
     """How many kilobytes of memory this process takes, and how many are free; None where the system
     doesn't say so."""
-    return told("/proc/self/status", "VmRSS"), told("/proc/meminfo", "MemAvailable")
+    return number_in("/proc/self/status", "VmRSS"), number_in("/proc/meminfo", "MemAvailable")
 
 
-def told(path: str, name: str) -> int | None:
+def number_in(path: str, name: str) -> int | None:
     """A number in a file of the system, by its name; None where there is none."""
     with suppress(OSError), open(path, encoding="ascii", errors="replace") as file:
         for line in file:

@@ -27,9 +27,9 @@ def folder() -> Iterator[Path]:
         signals.forget(number)
 
 
-def remove(place: Path) -> None:
+def remove(folder: Path) -> None:
     """Removes a folder and all that is in it."""
-    shutil.rmtree(place, onerror=_remove_anyway)
+    shutil.rmtree(folder, onerror=_remove_anyway)
 
 
 def _remove_anyway(call: Any, path: str, _: Any) -> None:

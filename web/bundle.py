@@ -58,9 +58,9 @@ def bundled(entry: Path, *flags: str, given: str | None = None) -> str:
     return made.stdout
 
 
-def with_library(library: Path, room: Path) -> Path:
-    """A copy of the scripts in a room, with another file for `library.js`. Returns its folder."""
-    copy = room / "web"
+def with_library(library: Path, folder: Path) -> Path:
+    """A copy of the scripts in a folder, with another file for `library.js`. Returns its folder."""
+    copy = folder / "web"
     shutil.copytree(HERE, copy, ignore=shutil.ignore_patterns("__pycache__"))
     shutil.copy(library, copy / "library.js")
     return copy

@@ -16,7 +16,7 @@ import { visible } from "./packer/visible.js";
 /** So many workers, and so many pieces, are the most of a run: the program says the same. */
 const LARGEST_COUNT = 64;
 const FORMS = ["1", "2"];
-/** The options, as Node reads them; the names of those that have a value are in `SHOWN`. */
+/** The options, as Node reads them; the names of those that have a value are in `WITH_VALUE`. */
 const OPTIONS = /** @type {const} */ ({
     workers: { type: "string" },
     pieces: { type: "string" },
@@ -29,7 +29,7 @@ const OPTIONS = /** @type {const} */ ({
     version: { type: "boolean", short: "V" },
 });
 /** @type {Record<string, string>} */
-const SHOWN = {
+const WITH_VALUE = {
     workers: "--workers <N>",
     pieces: "--pieces <N>",
     only: "--only <T>",
@@ -87,7 +87,7 @@ function misread(message) {
  * @param {string} wanted
  */
 function judge(name, value, isRight, wanted) {
-    if (!isRight) throw misread(`invalid value '${value}' for '${SHOWN[name]}', which is ${wanted}`);
+    if (!isRight) throw misread(`invalid value '${value}' for '${WITH_VALUE[name]}', which is ${wanted}`);
 }
 
 /** Whether a word is a number from 1 to LARGEST_COUNT, as the program reads numbers. */
@@ -120,7 +120,7 @@ class Found {
      */
     addOption(name, rawName, value, isInline) {
         if (!Object.hasOwn(OPTIONS, name)) throw misread(`unexpected argument '${rawName}' found`);
-        if (Object.hasOwn(SHOWN, name)) this.addValue(name, value, isInline);
+        if (Object.hasOwn(WITH_VALUE, name)) this.addValue(name, value, isInline);
         else if (value !== undefined) throw misread(`unexpected value '${value}' for '--${name}' found`);
         else if (name === "help") throw new End("help", HELP);
         else if (name === "version") throw new End("help", `mmdepend ${this.version}\n`);
@@ -134,7 +134,7 @@ class Found {
      */
     addValue(name, value, isInline) {
         if (value === undefined || (!isInline && /^-./s.test(value))) {
-            throw misread(`a value is required for '${SHOWN[name]}' but none was supplied`);
+            throw misread(`a value is required for '${WITH_VALUE[name]}' but none was supplied`);
         }
         if (name === "workers" || name === "pieces") judge(name, value, isCount(value), `a number from 1 to ${LARGEST_COUNT}`);
         if (name === "form") judge(name, value, FORMS.includes(value), FORMS.join(" or "));
@@ -146,7 +146,7 @@ class Found {
      * @param {string} value
      */
     add(name, value) {
-        if (this.values.has(name)) throw misread(`the argument '${SHOWN[name] ?? `--${name}`}' cannot be used multiple times`);
+        if (this.values.has(name)) throw misread(`the argument '${WITH_VALUE[name] ?? `--${name}`}' cannot be used multiple times`);
         this.values.set(name, value);
     }
 

@@ -7,6 +7,7 @@ import { spawnSync } from "node:child_process";
 import * as fs from "node:fs";
 import { basename } from "node:path";
 import { PARTS, compile, report } from "./library.js";
+import { Status } from "./statuses.js";
 
 const [, , modulePath, program, count, seed, ...files] = process.argv;
 const module = await compile(fs.readFileSync(modulePath));
@@ -70,7 +71,7 @@ function words({ report: part, only, form, essential, open }) {
  * @param {Uint8Array} text
  * @param {import("./types.js").Request} request
  */
-function told(text, request) {
+function answerOf(text, request) {
     const run = spawnSync(program, words(request), { input: text, maxBuffer: 1 << 30 });
     return { status: run.status, output: run.stdout };
 }
@@ -83,10 +84,10 @@ function told(text, request) {
  * @param {{ room?: number, most?: number }} [limits]
  */
 async function compared(name, text, request, limits) {
-    const want = told(text, request);
+    const want = answerOf(text, request);
     const got = await report(module, text.length, (bytes) => bytes().set(text), request, limits);
     const isSame = got.status === want.status && Buffer.compare(want.output, got.report) === 0;
-    const isGivenUp = limits?.most !== undefined && got.status === 4 && got.report.length === 0;
+    const isGivenUp = limits?.most !== undefined && got.status === Status.noMemory && got.report.length === 0;
     if (isSame || isGivenUp) {
         runs.passed++;
         return;

@@ -1,12 +1,10 @@
 // One run of the proved library, in Node or in a page. The module has no import: it works in memory that is lent to it,
 // and here that memory is made. It calls nothing, and an instance serves one run alone.
 
+import { Status } from "./statuses.js";
+
 /** @typedef {import("./types.js").Answer} Answer */
 /** @typedef {import("./types.js").Request} Request */
-
-/** Of what the module answers: the output has more bytes than there was place for; the room is too small. */
-const OUT_TOO_SHORT = 3;
-const ROOM_TOO_SMALL = 4;
 
 /** The sections of a report, each with its bit; `all` are the first three. */
 const BITS = { all: 7, matrix: 1, counts: 2, usage: 4, citations: 8, statements: 16 };
@@ -18,7 +16,7 @@ export const PARTS = /** @type {(keyof typeof BITS)[]} */ (Object.keys(BITS));
  */
 const PLAIN = { report: "all", only: null, form: 1, essential: false, open: false };
 /** The memory of a module grows by pages, up to 2^16 of them. */
-const PAGE = 65536;
+const MEMORY_PAGE = 65536;
 const MOST_PAGES = 65536;
 const UNIT = 16;
 /**
@@ -68,7 +66,7 @@ class Memory {
      */
     constructor(memory, most) {
         this.memory = memory;
-        this.most = Math.min(most, MOST_PAGES * PAGE);
+        this.most = Math.min(most, MOST_PAGES * MEMORY_PAGE);
         // The module's own data and its stack come first.
         this.free = memory.buffer.byteLength;
     }
@@ -79,7 +77,7 @@ class Memory {
      */
     reach(end) {
         if (end > this.most) throw new Exhausted();
-        const lacking = Math.ceil((end - this.memory.buffer.byteLength) / PAGE);
+        const lacking = Math.ceil((end - this.memory.buffer.byteLength) / MEMORY_PAGE);
         if (lacking <= 0 || this.grows(lacking)) return;
         for (let pages = lacking >>> 1; pages > 0; pages >>>= 1) this.grows(pages);
         this.most = this.memory.buffer.byteLength;
@@ -125,7 +123,7 @@ class Memory {
  * @param {number} size the text's bytes
  */
 function firstRoom(size) {
-    return upTo(6 * size + 16 * PAGE, PAGE);
+    return upTo(6 * size + 16 * MEMORY_PAGE, MEMORY_PAGE);
 }
 
 /**
@@ -136,7 +134,7 @@ function firstRoom(size) {
 function firstOutput(size, { report, form }) {
     const bits = bitsOf(report);
     const sections = /** @type {(keyof typeof SHARES)[]} */ (Object.keys(SHARES)).filter((name) => bits & BITS[name]);
-    return upTo(size * sections.reduce((sum, name) => sum + SHARES[name][form - 1], 0) + PAGE, PAGE);
+    return upTo(size * sections.reduce((sum, name) => sum + SHARES[name][form - 1], 0) + MEMORY_PAGE, MEMORY_PAGE);
 }
 
 /**
@@ -190,7 +188,7 @@ class Run {
      */
     call(room, output) {
         const { memory, request } = this;
-        const at = upTo(memory.free, PAGE);
+        const at = upTo(memory.free, MEMORY_PAGE);
         const out = at + room;
         memory.reach(out + output);
         this.numbers().set([BigInt(at), BigInt(room / UNIT), 0n]);
@@ -218,8 +216,8 @@ class Run {
 
     /** How many bytes there can be for room and output, in whole pages. */
     get left() {
-        const left = this.memory.most - upTo(this.memory.free, PAGE);
-        return left - (left % PAGE);
+        const left = this.memory.most - upTo(this.memory.free, MEMORY_PAGE);
+        return left - (left % MEMORY_PAGE);
     }
 
     /**
@@ -231,7 +229,7 @@ class Run {
      */
     answer(room) {
         let output = firstOutput(/** @type {number} */ (this.size), this.request);
-        let needed = PAGE;
+        let needed = MEMORY_PAGE;
         let tooSmall = 0;
         for (;;) {
             const { left } = this;
@@ -240,10 +238,10 @@ class Run {
             if (room <= tooSmall) throw new Exhausted();
             const called = this.tried(room, output);
             if (called === null) continue;
-            if (called.status === OUT_TOO_SHORT) output = needed = upTo(called.report, PAGE);
-            else if (called.status === ROOM_TOO_SMALL) {
+            if (called.status === Status.outTooShort) output = needed = upTo(called.report, MEMORY_PAGE);
+            else if (called.status === Status.noMemory) {
                 tooSmall = room;
-                room = upTo((room * 4) / 3, PAGE);
+                room = upTo((room * 4) / 3, MEMORY_PAGE);
             } else return this.answered(called);
         }
     }
@@ -297,7 +295,7 @@ export async function report(module, size, fill, request, limits = {}) {
     } catch (error) {
         if (!(error instanceof Exhausted)) throw error;
         const none = new Uint8Array(0);
-        return { status: 4, report: none, memory: run.memory.memory.buffer.byteLength };
+        return { status: Status.noMemory, report: none, memory: run.memory.memory.buffer.byteLength };
     }
 }
 
@@ -312,6 +310,6 @@ export async function version(module) {
     const memory = /** @type {WebAssembly.Memory} */ (instance.exports.memory);
     const at = memory.buffer.byteLength;
     memory.grow(1);
-    const size = Number(exports.mmdepend_version(BigInt(at), BigInt(PAGE)));
+    const size = Number(exports.mmdepend_version(BigInt(at), BigInt(MEMORY_PAGE)));
     return new TextDecoder().decode(new Uint8Array(memory.buffer, at, size));
 }

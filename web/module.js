@@ -2,23 +2,20 @@
 
 import { readFileSync } from "node:fs";
 import { compile, report as answered, version as versionOf } from "./library.js";
+import { refusalOf } from "./packer/faults.js";
+import { Status } from "./statuses.js";
 
 /** @typedef {import("./types.js").Request} Request */
-
-const REFUSED = 1;
-const NO_MEMORY = 4;
-const REFUSAL = /^refused ([0-9]+):([0-9]+) (E[0-9]{2})\n$/;
 
 /** The database has a fault. Line and column count from 1, in bytes. */
 export class Refused extends Error {
     /** @param {Uint8Array} refusal what the module wrote */
     constructor(refusal) {
-        const said = new TextDecoder().decode(refusal);
-        super(said.trim());
-        const [, line, column, code] = /** @type {RegExpExecArray} */ (REFUSAL.exec(said));
+        super(new TextDecoder().decode(refusal).trim());
+        const { line, column, code } = refusalOf(refusal);
         this.name = "Refused";
-        this.line = Number(line);
-        this.column = Number(column);
+        this.line = line;
+        this.column = column;
         this.code = code;
     }
 }
@@ -43,11 +40,11 @@ export async function report(text, request = {}) {
     if (![undefined, 1, 2].includes(request.form)) throw new TypeError("there is no such form");
     const said = Object.fromEntries(Object.entries(request).filter(([, value]) => value !== undefined));
     const answer = await answered(await core(), text.length, (bytes) => bytes().set(text), said);
-    if (answer.status === REFUSED) throw new Refused(answer.report);
-    if (answer.status === NO_MEMORY) {
+    if (answer.status === Status.refused) throw new Refused(answer.report);
+    if (answer.status === Status.noMemory) {
         throw new RangeError(`out of memory: ${answer.memory} bytes are too few for a text of ${text.length}`);
     }
-    if (answer.status !== 0) throw new TypeError("there is no such section, form or typecode");
+    if (answer.status !== Status.accepted) throw new TypeError("there is no such section, form or typecode");
     return answer.report.slice();
 }
 

@@ -5,8 +5,10 @@ import { inflateRawSync } from "node:zlib";
 import { readWords } from "./command.js";
 import { compile, report, version } from "./library.js";
 import { packWhenAsked } from "./packing.js";
+import { encoded } from "./packer/bytes.js";
 import { page } from "./page.js";
-import { Ending, STDERR, STDOUT, bytesOf, failedBy, join, outOfMemory, piecesOf, sizeOf, writeAll } from "./streams.js";
+import { Status } from "./statuses.js";
+import { Ending, STDERR, STDOUT, failedBy, join, outOfMemory, piecesOf, sizeOf, writeAll } from "./streams.js";
 
 /**
  * What `web/build` puts into the one file of the program, each deflated and in base64: the module, and what the command
@@ -15,13 +17,13 @@ import { Ending, STDERR, STDOUT, bytesOf, failedBy, join, outOfMemory, piecesOf,
  */
 
 /** @param {string} asset */
-function unpacked(asset) {
+function inflated(asset) {
     return inflateRawSync(Buffer.from(asset, "base64"));
 }
 
 /** @param {string} asset */
 function fromJson(asset) {
-    return JSON.parse(new TextDecoder().decode(unpacked(asset)));
+    return JSON.parse(new TextDecoder().decode(inflated(asset)));
 }
 
 /**
@@ -30,20 +32,20 @@ function fromJson(asset) {
  * @param {Assets} assets
  */
 async function status(words, assets) {
-    const bytes = unpacked(assets.module);
+    const bytes = inflated(assets.module);
     if (words[0] === "page") {
         return page(words.slice(1), { module: bytes, shell: fromJson(assets.shell), tables: fromJson(assets.tables) });
     }
     const module = await compile(bytes);
     const line = readWords(words, await version(module));
     if (line.ends === "help") {
-        writeAll(STDOUT, bytesOf(line.text));
+        writeAll(STDOUT, encoded(line.text));
         return 0;
     }
     if (line.ends === "misread") throw new Ending(2, line.text);
     const pieces = piecesOf(line.file);
     const answer = await report(module, sizeOf(pieces), (bytes) => join(pieces, bytes()), line.request);
-    if (answer.status === 4) throw outOfMemory();
+    if (answer.status === Status.noMemory) throw outOfMemory();
     writeAll(STDOUT, answer.report);
     return answer.status;
 }
@@ -74,7 +76,7 @@ export async function main(assets) {
         const ending = endingOf(error);
         process.exitCode = ending.status;
         try {
-            writeAll(STDERR, bytesOf(ending.text));
+            writeAll(STDERR, encoded(ending.text));
         } catch (failed) {
             // There is nobody to tell.
         }

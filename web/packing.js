@@ -36,7 +36,7 @@ export function shared(size) {
  */
 export class Packing {
     /**
-     * @param {keyof typeof PARTS} part
+     * @param {keyof typeof PACKERS} part
      * @param {Uint8Array} source the bytes of the text, which are shared
      */
     constructor(part, source) {
@@ -68,15 +68,15 @@ export class Packing {
  * What packs each part, once it is asked for.
  * @type {Record<"text" | "proofs", (source: Uint8Array, asked: Promise<any>, blocks: Deflating) => Promise<void>>}
  */
-const PARTS = { text: packTextPart, proofs: packProofPart };
+const PACKERS = { text: packTextPart, proofs: packProofPart };
 
 /** What the thread does: waits for its task, and hands over the blocks. */
 export async function packWhenAsked() {
     // Node 18 has it under this name alone.
     globalThis.crypto ??= /** @type {Crypto} */ (webcrypto);
-    const { part, source } = /** @type {{ part: keyof typeof PARTS, source: Uint8Array }} */ (workerData);
+    const { part, source } = /** @type {{ part: keyof typeof PACKERS, source: Uint8Array }} */ (workerData);
     const blocks = new Deflating();
-    await PARTS[part](source, new Promise((resolve) => parentPort.once("message", resolve)), blocks);
+    await PACKERS[part](source, new Promise((resolve) => parentPort.once("message", resolve)), blocks);
     parentPort.postMessage(await blocks.blocks());
 }
 

@@ -6,6 +6,7 @@ import { setFlagsFromString } from "node:v8";
 import { gunzipSync } from "node:zlib";
 import { Deflating } from "./deflating.js";
 import { READING_LIMIT, compile, report } from "./library.js";
+import { encoded } from "./packer/bytes.js";
 import { explained, faultOf, refusalOf } from "./packer/faults.js";
 import { pageFile } from "./packer/file.js";
 import { NoAnswer, packComparison, sideOf } from "./packer/making.js";
@@ -16,7 +17,8 @@ import { UnreadableText, readText } from "./packer/text.js";
 import { visible } from "./packer/visible.js";
 import { Packing, shared } from "./packing.js";
 import { answerOf } from "./program.js";
-import { Ending, STDOUT, bytesOf, join, outOfMemory, piecesOf, sizeOf, writeAll } from "./streams.js";
+import { Status } from "./statuses.js";
+import { Ending, STDOUT, join, outOfMemory, piecesOf, sizeOf, writeAll } from "./streams.js";
 
 /** @typedef {import("./packer/file.js").Shell} Shell */
 /** @typedef {import("./packer/reports.js").Request} Request */
@@ -94,14 +96,12 @@ const GZIP = [0x1f, 0x8b];
 const LARGE = 1 << 23;
 /** Up to which part of the text the main thread packs the proofs. It packs the marks too, and so all threads end together. */
 const FIRST_PART = 0.25;
-/** What the module answers, and the program by its status. */
-const Status = { report: 0, refusal: 1, memory: 4 };
 
 /**
  * What the words ask for.
  * @param {readonly string[]} words
  */
-function readWords(words) {
+function readPageWords(words) {
     try {
         return parseArgs({ args: [...words], options: OPTIONS, allowPositionals: true });
     } catch (error) {
@@ -127,7 +127,7 @@ function nameOf(word) {
  * The text that a word names, unpacked where it is compressed. Its bytes are shared.
  * @param {string} word
  */
-function textOf(word) {
+function loadedText(word) {
     const pieces = piecesOf(word);
     const bytes = shared(sizeOf(pieces));
     join(pieces, bytes);
@@ -197,12 +197,12 @@ async function judgeFor(program, module, size) {
 async function verifiedReport(word, data, request, { judge, tables }) {
     const wanted = /** @type {const} */ ({ only: null, report: "matrix,citations,statements", form: 2 });
     const answer = await judge(data, { ...request, ...wanted });
-    if (answer.status === Status.memory) throw outOfMemory();
-    if (answer.status === Status.refusal) {
+    if (answer.status === Status.noMemory) throw outOfMemory();
+    if (answer.status === Status.refused) {
         const fault = faultOf(data, refusalOf(answer.report));
         throw new Ending(1, `mmdepend: ${explained(visible(word), fault, tables)}\n`);
     }
-    if (answer.status !== Status.report) throw new Error(`the module answers ${answer.status}`);
+    if (answer.status !== Status.accepted) throw new Error(`the module answers ${answer.status}`);
     return sharedCopy(answer.report);
 }
 
@@ -251,7 +251,7 @@ function seeAxioms(labels, { word, axioms }) {
  * @param {Deflating} blocks
  */
 async function packAgainst(naming, now, request, core, blocks) {
-    const data = textOf(naming.word);
+    const data = loadedText(naming.word);
     const older = new Database(naming, data, request, await verifiedReport(naming.word, data, request, core));
     for (const each of [now, older]) if (each.axioms.length === 0) throw lacking(each.word, "has no axiom");
     packComparison(older, now, blocks);
@@ -284,7 +284,7 @@ async function blocksOf({ naming, title, watched, request, older }, data, thread
 
 /**
  * What the words ask for.
- * @param {ReturnType<typeof readWords>} read
+ * @param {ReturnType<typeof readPageWords>} read
  * @returns {Asked}
  */
 function askedBy({ values, positionals }) {
@@ -309,7 +309,7 @@ function askedBy({ values, positionals }) {
  * @param {Tools} tools
  */
 async function made(asked, tools) {
-    const data = textOf(asked.naming.word);
+    const data = loadedText(asked.naming.word);
     const core = { judge: await judgeFor(asked.program, tools.module, data.length), tables: tools.tables };
     // Begun here, they are ready when the text is verified, which takes this thread alone.
     /** @type {Parameters<typeof blocksOf>[2]} */
@@ -331,11 +331,11 @@ async function made(asked, tools) {
  * @param {Tools} tools
  */
 export async function page(words, tools) {
-    const read = readWords(words);
+    const read = readPageWords(words);
     if (read.values.help) {
-        writeAll(STDOUT, bytesOf(HELP));
+        writeAll(STDOUT, encoded(HELP));
         return 0;
     }
-    writeAll(STDOUT, bytesOf(await made(askedBy(read), tools)));
+    writeAll(STDOUT, encoded(await made(askedBy(read), tools)));
     return 0;
 }

@@ -2,7 +2,9 @@
 
 import { spawnSync } from "node:child_process";
 import { READING_LIMIT } from "./library.js";
+import { isRefusal } from "./packer/faults.js";
 import { visible } from "./packer/visible.js";
+import { Status } from "./statuses.js";
 import { Ending, failedBy, outOfMemory } from "./streams.js";
 
 /** @typedef {import("./types.js").Request} Request */
@@ -11,10 +13,6 @@ import { Ending, failedBy, outOfMemory } from "./streams.js";
  * What the program says of a text: its status, as the module has it too, and what it wrote.
  * @typedef {{ status: number, report: Uint8Array }} Said
  */
-
-/** The statuses with an answer. */
-const Status = { report: 0, refusal: 1, memory: 4 };
-const REFUSAL = /^refused [1-9]\d{0,9}:[1-9]\d{0,9} E\d\d\n$/;
 
 /**
  * The words by which the program is asked for a report of its standard input.
@@ -51,8 +49,8 @@ export function answerOf(path, data, request) {
  * @param {Uint8Array} out
  */
 function isAnswer(status, out) {
-    if (status === Status.refusal) return REFUSAL.test(new TextDecoder().decode(out));
-    return status === Status.report || status === Status.memory;
+    if (status === Status.refused) return isRefusal(out);
+    return status === Status.accepted || status === Status.noMemory;
 }
 
 /**

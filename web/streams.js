@@ -31,14 +31,6 @@ export function failedBy(error, code) {
     return error instanceof Error && /** @type {{ code?: string }} */ (error).code === code;
 }
 
-/**
- * A text's bytes.
- * @param {string} text
- */
-export function bytesOf(text) {
-    return new TextEncoder().encode(text);
-}
-
 /** Waits for a moment. */
 function pause() {
     Atomics.wait(new Int32Array(new SharedArrayBuffer(4)), 0, 0, 2);

@@ -74,7 +74,7 @@ INDEX: dict[str, tuple[str, str]] = {
 
 def summaries() -> dict[str, str]:
     """The names of all commands and what each answers, in the order in which they are listed."""
-    return {name: told for name, (_, told) in INDEX.items()}
+    return {name: about for name, (_, about) in INDEX.items()}
 
 
 def names() -> list[str]:

@@ -9,7 +9,7 @@ from query.database import Database
 from query.errors import NoAnswer
 from query.graph import Graph
 from query.output import Value
-from query.options import Parser, add_choice_of_citations, add_database, count, options_of
+from query.options import Parser, add_choice_of_citations, add_database, positive, options_of
 from query.wrappers import wrappers
 
 WHY_PAGE = """
@@ -203,7 +203,7 @@ def configure_frees(parser: Parser) -> None:
     parser.add_argument("on", metavar="ON")
     parser.add_argument("theorems", metavar="THEOREM", nargs="*")
     parser.value(
-        "--most", "N", "without THEOREM: how many are listed (else: 10)", type=count, default=10
+        "--most", "N", "without THEOREM: how many are listed (else: 10)", type=positive, default=10
     )
     add_keep(parser)
     add_choice_of_citations(parser)

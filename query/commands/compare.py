@@ -48,7 +48,7 @@ def configure(parser: Parser) -> None:
     add_choice_of_axioms(parser)
 
 
-def rows_of(pairing: Pairing, kind: str) -> Iterator[Row]:
+def change_rows(pairing: Pairing, kind: str) -> Iterator[Row]:
     """What is new, renamed, changed and gone of the theorems, or of the axioms."""
     for label in pairing.new:
         yield ("new", kind, label, None, None, None, None)
@@ -81,7 +81,7 @@ def axioms_of(comparison: Comparison) -> list[tuple[str | None, str | None]]:
     return found + [(label, None) for label in old if label not in known]
 
 
-def check(comparison: Comparison, labels: list[str]) -> None:
+def see_axioms(comparison: Comparison, labels: list[str]) -> None:
     """Raises NoAnswer where a label is no axiom of either database."""
     sides_of: tuple[Side, Side] = (comparison.old, comparison.new)
     for label in labels:
@@ -93,7 +93,7 @@ def check(comparison: Comparison, labels: list[str]) -> None:
 def about_axioms(comparison: Comparison, named: list[str]) -> Iterator[Row]:
     """The rows about each axiom, or about those named."""
     about: dict[str, list[Row]] = {}
-    for row in rows_of(comparison.axioms, "axiom"):
+    for row in change_rows(comparison.axioms, "axiom"):
         about.setdefault(str(row[2]), []).append(row)
     for old, new in axioms_of(comparison):
         if named and old not in named and new not in named:
@@ -109,10 +109,10 @@ def run(context: Context, arguments: argparse.Namespace) -> int:
     options = options_of(arguments)
     old, new = (context.database(word, options) for word in (arguments.old, arguments.new))
     comparison = Comparison(*sides(old, new))
-    check(comparison, arguments.axiom)
+    see_axioms(comparison, arguments.axiom)
     rows: list[Row] = []
     if not arguments.axiom:
-        rows += rows_of(comparison.theorems, "theorem")
+        rows += change_rows(comparison.theorems, "theorem")
     rows += about_axioms(comparison, arguments.axiom)
     context.table(COLUMNS, rows, f"{old.name} and {new.name} don't differ in this")
     return 0

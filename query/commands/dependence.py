@@ -57,8 +57,8 @@ def add_question(parser: Parser, flags: dict[str, str]) -> None:
     add_database(parser)
     parser.add_argument("labels", metavar="LABEL", nargs="+")
     parser.exclude(*flags)
-    for flag, told in flags.items():
-        parser.flag(flag, told)
+    for flag, about in flags.items():
+        parser.flag(flag, about)
 
 
 def configure_rests(parser: Parser) -> None:
@@ -121,7 +121,7 @@ def put_union(
     already whether these are all of them."""
     table: list[list[Value]] = []
     for number, of in rows.items():
-        table.append([known[number], [labels[place] for place in of]])
+        table.append([known[number], [labels[number] for number in of]])
     context.table([column, "labels"], table, empty, column, aside_of(labels, is_said))
 
 
@@ -149,7 +149,7 @@ def put_apart(context: Context, database: Database, labels: Sequence[str]) -> No
     for column, of in union(rested_on(every, dependence, label) for label in labels).items():
         axiom = dependence.axioms[column]
         kind = "logic" if axiom in logic else "syntax"
-        rows.append([kind, axiom, [labels[place] for place in of]])
+        rows.append([kind, axiom, [labels[number] for number in of]])
     why = f"{database.name}: {shown(' '.join(labels))}: rests on no axiom"
     context.table(["kind", "axiom", "labels"], rows, why, "axiom", aside_of(labels))
 

@@ -6,7 +6,7 @@ from collections.abc import Mapping
 from dataclasses import dataclass, field
 from pathlib import Path
 
-from query.branch import Asked, Wish, branch_of, brought, compared, read
+from query.branch import Asked, Wish, branch_of, brought, compared, config_of
 from query.changes import Comparison, sides
 from query.commands import Command
 from query.config import FILE_NAME, RULES, find_config, load_config
@@ -19,7 +19,7 @@ from query.git import short
 from query.options import Options, Parser, add_database
 from query.output import reason
 from query.rules import Case, Finding, judge
-from query.source import Source, unpacked
+from query.source import Source, inflated
 
 FORMATS = ("text", "json", "github", "markdown")
 ASKED = Options(only=None, open=True)
@@ -88,7 +88,7 @@ def configure(parser: Parser) -> None:
     parser.value("--summary", "FILE", "adds a summary in Markdown to FILE")
 
 
-def opened(source: Source, context: Context) -> Database:
+def database_of(source: Source, context: Context) -> Database:
     """The database of these bytes. NoAnswer where they are a report."""
     source.see_text()
     return Database(source, ASKED, context.uses_cache)
@@ -99,7 +99,7 @@ def between_files(context: Context, old: str, new: str, wish: Wish) -> Request:
     if wish.base is not None or wish.is_merge_base:
         option = "--base" if wish.base is not None else "--merge-base"
         raise NoAnswer(f"gate: {option} goes with one database, not with two")
-    before, after = (opened(context.database(word).source, context) for word in (old, new))
+    before, after = (database_of(context.database(word).source, context) for word in (old, new))
     if old != new and os.path.exists(old) and os.path.exists(new) and os.path.samefile(old, new):
         raise NoAnswer(f"{before.name} and {after.name} are the same file")
     return Request(before, after, before.name, asked_of_files(old, new, wish))
@@ -114,8 +114,8 @@ def asked_of_files(old: str, new: str, wish: Wish) -> Asked:
     of_old, of_new = (None if each is None else each.read_bytes() for each in (before, after))
     name = FILE_NAME if after is None else os.path.relpath(after)
     if wish.is_config_of_new:
-        return Asked(read(of_new, name))
-    config = read(of_old, FILE_NAME if before is None else os.path.relpath(before))
+        return Asked(config_of(of_new, name))
+    config = config_of(of_old, FILE_NAME if before is None else os.path.relpath(before))
     if after is None or of_old == of_new:
         return Asked(config)
     return Asked(config, *compared(config, of_new, name))
@@ -126,13 +126,13 @@ def with_base(context: Context, word: str, wish: Wish) -> Request:
     branch = branch_of(word)
     found = brought(branch, wish)
     name = shown(f"{short(found.commit)}:{branch.path}")
-    old = opened(Source(name, unpacked(name, found.old)), context)
-    new = opened(Source(shown(word), unpacked(shown(word), found.new)), context)
+    old = database_of(Source(name, inflated(name, found.old)), context)
+    new = database_of(Source(shown(word), inflated(shown(word), found.new)), context)
     paths = {**found.asked.paths, new.name: branch.path}
     return Request(old, new, found.base, found.asked, found.notes, paths)
 
 
-def judged(request: Request) -> list[Finding]:
+def judged_request(request: Request) -> list[Finding]:
     """What breaks the rules. That NEW is refused breaks one too."""
     try:
         old, new = sides(request.old, request.new)
@@ -168,7 +168,7 @@ def run(context: Context, arguments: argparse.Namespace) -> int:
     else:
         request = with_base(context, arguments.database, wish)
     rules = tuple(rule for rule in RULES if rule in request.asked.config.rules)
-    found, notes = judged(request), request.all_notes()
+    found, notes = judged_request(request), request.all_notes()
     verdict = Verdict(request.new.name, request.base, rules, found, notes, request.paths)
     if arguments.summary is not None:
         add_summary(arguments.summary, as_summary(verdict, arguments.summary))

@@ -14,7 +14,7 @@ from query.options import (
     add_choice_of_axioms,
     add_choice_of_citations,
     add_database,
-    count,
+    positive,
     options_of,
 )
 
@@ -82,14 +82,14 @@ def chosen_nodes(graph: Graph, label: str | None, on: str | None) -> set[int]:
     return nodes | {start}
 
 
-def theorems_of(graph: Graph, nodes: set[int], downwards: bool) -> list[int]:
+def in_order(graph: Graph, nodes: set[int], downwards: bool) -> list[int]:
     """The theorems among these, in file order or from the last one on."""
     return sorted((node for node in nodes if graph.is_theorem(node)), reverse=downwards)
 
 
 def edges(graph: Graph, nodes: set[int]) -> Iterable[str]:
     """The lines of the form `edges`."""
-    for node in theorems_of(graph, nodes, False):
+    for node in in_order(graph, nodes, False):
         for cited in graph.cites[node]:
             if cited in nodes:
                 yield f"{graph.labels[node]} {graph.labels[cited]}"
@@ -101,7 +101,7 @@ def dot(graph: Graph, nodes: set[int], name: str, downwards: bool) -> Iterable[s
     yield 'digraph "%s" {' % "".join("_" if sign in '"\\\n\r' else sign for sign in name)
     shown: set[int] = set()
     cited_at_all = {cited for node in nodes for cited in graph.cites[node] if cited in nodes}
-    for node in theorems_of(graph, nodes, downwards):
+    for node in in_order(graph, nodes, downwards):
         cites = [cited for cited in graph.cites[node] if cited in nodes]
         for cited in cites:
             if not graph.is_theorem(cited) and cited not in shown:
@@ -121,7 +121,7 @@ def graphml(graph: Graph, nodes: set[int], downwards: bool) -> Iterable[str]:
     yield '<key id="kind" for="node" attr.name="kind" attr.type="string"/>'
     yield '<graph edgedefault="directed">'
     shown: set[int] = set()
-    for node in theorems_of(graph, nodes, downwards):
+    for node in in_order(graph, nodes, downwards):
         yield f'<node id="{labels[node]}"><data key="kind">theorem</data></node>'
         for cited in graph.cites[node]:
             if cited not in nodes:
@@ -138,8 +138,8 @@ def configure_picture(parser: Parser) -> None:
     """The words and options of `picture`."""
     add_database(parser)
     parser.flag("--png", "a PNG file with axes and a legend")
-    parser.value("--across", "N", "at most N dots across (else: 500)", type=count, default=500)
-    parser.value("--down", "N", "at most N dots down (else: 700)", type=count, default=700)
+    parser.value("--across", "N", "at most N dots across (else: 500)", type=positive, default=500)
+    parser.value("--down", "N", "at most N dots down (else: 700)", type=positive, default=700)
     add_choice_of_axioms(parser)
 
 

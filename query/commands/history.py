@@ -75,14 +75,14 @@ def run(context: Context, arguments: argparse.Namespace) -> int:
     question = Question(options_of(arguments), context.uses_cache, tuple(axioms), theorem)
     program.ready()
     if context.uses_cache:
-        secret.made()  # here, since a process of its own may be ended while it makes one
+        secret.read_or_make()  # here, since a process of its own may be ended while it makes one
     with Objects(repository) as objects:
         progress.now(f"looking for the revisions of {shown(word)}")
         found = revisions(objects, within, path)
         if not found:
             context.tell(nothing_in(objects, within, path))
         known = list(zip(found, figures_of(objects, found, question), strict=True))
-    check(known, question, f"{within.word} of {shown(word)}")
+    see_labels(known, question, f"{within.word} of {shown(word)}")
     if repository.is_shallow():
         context.tell("the clone is shallow, so there may be revisions before the first one")
     if theorem is None:
@@ -93,7 +93,7 @@ def run(context: Context, arguments: argparse.Namespace) -> int:
     return 0
 
 
-def check(known: Known, question: Question, name: str) -> None:
+def see_labels(known: Known, question: Question, name: str) -> None:
     """NoAnswer where no revision has an axiom, or the theorem, that is asked for."""
     sound = [each for _, each in known if each.fault is None]
     if not sound:

@@ -38,24 +38,24 @@ def configure(parser: Parser) -> None:
 
 def run(context: Context, arguments: argparse.Namespace) -> int:
     """Answers `cache`."""
-    place = cache.folder()
-    if place is None:
+    folder = cache.results_folder()
+    if folder is None:
         raise NoAnswer("there is no cache folder, since HOME isn't set")
-    wrong = secret.wrong_folder(place)
+    wrong = secret.wrong_folder(folder)
     if arguments.what == "clear" and wrong is not None:
-        raise NoAnswer(f"{shown(place)}: nothing is removed there, since {wrong}")
-    why = cache.wrong()
+        raise NoAnswer(f"{shown(folder)}: nothing is removed there, since {wrong}")
+    why = cache.why_unusable()
     if why is not None:
         context.tell(f"nothing is kept or taken: {why}")
     try:
         if arguments.what == "clear":
             cache.clear()
             return 0
-        files = cache.entries(place) if wrong is None and os.path.isdir(place) else []
+        files = cache.entries(folder) if wrong is None and os.path.isdir(folder) else []
     except OSError as error:
-        raise NoAnswer(f"{shown(place)}: {reason(error)}") from None
+        raise NoAnswer(f"{shown(folder)}: {reason(error)}") from None
     size = sum(file[1] for file in files)
-    context.out.table(COLUMNS, [[shown(place), len(files), size]])
+    context.out.table(COLUMNS, [[shown(folder), len(files), size]])
     return 0
 
 

@@ -44,15 +44,15 @@ def run_move(context: Context, arguments: argparse.Namespace) -> int:
     theorem = graph.theorem(arguments.theorem)
     cited = [text.by_label[graph.labels[node]] for node in graph.cites[theorem]]
     last = max(cited, key=lambda one: one.number, default=None)
-    rows: list[list[Value]] = [["after", *described(text, last)]]
+    rows: list[list[Value]] = [["after", *row_of(text, last)]]
     if arguments.to is not None:
-        place = database.assertion(arguments.to)
-        rows += [[what, *described(text, one)] for what, one in along(graph, text, theorem, place)]
+        target = database.assertion(arguments.to)
+        rows += [[what, *row_of(text, one)] for what, one in along(graph, text, theorem, target)]
     context.out.table(["what", "label", "where", "line"], rows)
     return 0
 
 
-def described(text: Text, one: Assertion | None) -> list[Value]:
+def row_of(text: Text, one: Assertion | None) -> list[Value]:
     """The label of an assertion, where it stands, and its line."""
     if one is None:
         return [None, None, None]
@@ -61,15 +61,15 @@ def described(text: Text, one: Assertion | None) -> list[Value]:
     return [one.label, where, text.line(one.place)]
 
 
-def along(graph: Graph, text: Text, theorem: int, place: Assertion) -> list[tuple[str, Assertion]]:
-    """What goes along with a theorem to before a place, in file order."""
+def along(graph: Graph, text: Text, theorem: int, target: Assertion) -> list[tuple[str, Assertion]]:
+    """What goes along with a theorem to before an assertion, in file order."""
     own = text.by_label[graph.labels[theorem]].number
-    if place.number <= own:
+    if target.number <= own:
         what, nodes = "needs", graph.below([theorem])
     else:
         what, nodes = "user", graph.above([theorem])
     found = [text.by_label[graph.labels[node]] for node in nodes - {theorem}]
-    stretch = range(min(place.number, own), max(place.number, own))
+    stretch = range(min(target.number, own), max(target.number, own))
     return [
         (what, one) for one in sorted(found, key=lambda one: one.number) if one.number in stretch
     ]

@@ -40,14 +40,14 @@ def configure(parser: Parser) -> None:
     add_choice_of_citations(parser)
 
 
-def name_of(word: str) -> str:
+def page_name(word: str) -> str:
     """How the page calls what a word of the command line names."""
     return "standard input" if word == "-" else os.path.basename(word) or word
 
 
-def words_of(arguments: argparse.Namespace) -> list[str]:
+def page_words(arguments: argparse.Namespace) -> list[str]:
     """The options for the program."""
-    words = [f"--name={name_of(arguments.database)}"]
+    words = [f"--name={page_name(arguments.database)}"]
     words += [f"--{name}" for name in ("essential", "open") if getattr(arguments, name)]
     for name in ("only", "title"):
         value = getattr(arguments, name)
@@ -79,7 +79,7 @@ def handed(sources: list[Source]) -> Iterator[tuple[list[str], list[int]]]:
         for source in sources:
             descriptors.append(source.opened())
             opened.callback(os.close, descriptors[-1])
-        names = [name for each in descriptors if (name := system.name_of(each))]
+        names = [name for each in descriptors if (name := system.descriptor_path(each))]
         if len(names) == len(sources):
             yield names, descriptors
             return
@@ -90,12 +90,12 @@ def handed(sources: list[Source]) -> Iterator[tuple[list[str], list[int]]]:
         yield [str(copy) for copy in copies], []
 
 
-def made(databases: list[Database], words: list[str]) -> bytes:
+def made_page(databases: list[Database], words: list[str]) -> bytes:
     """The page that the program makes of the database, beside an older one where there are two.
     NoAnswer where it makes none."""
-    with handed([database.source for database in databases]) as (places, passed):
-        first, *others = places
-        line = [packer(), "page", *words, *(f"--against={place}" for place in others), first]
+    with handed([database.source for database in databases]) as (paths, passed):
+        first, *others = paths
+        line = [packer(), "page", *words, *(f"--against={path}" for path in others), first]
         node = wanted("node", "pages are made by Node 18 or later, and there is no command node")
         running = Running(node, line, None, True, passed, without_node())
         out, errors, status = running.ended()
@@ -104,9 +104,9 @@ def made(databases: list[Database], words: list[str]) -> bytes:
     if status == 0:
         return out
     why = why_ended(errors, status)
-    for database, place in zip(databases, places):
-        if why.startswith(f"{place}:"):
-            raise NoAnswer(database.name + why.removeprefix(place))
+    for database, path in zip(databases, paths):
+        if why.startswith(f"{path}:"):
+            raise NoAnswer(database.name + why.removeprefix(path))
     raise NoAnswer(f"{databases[0].name}: {why}")
 
 
@@ -114,15 +114,15 @@ def run(context: Context, arguments: argparse.Namespace) -> int:
     """Answers."""
     options = Options(only=arguments.only, essential=arguments.essential, open=arguments.open)
     databases = [context.database(arguments.database, options)]
-    words = words_of(arguments)
+    words = page_words(arguments)
     if arguments.against:
         databases.append(context.database(arguments.against, options))
-        words.append(f"--against-name={name_of(arguments.against)}")
+        words.append(f"--against-name={page_name(arguments.against)}")
     for database in databases:
         database.see_text()
     words += words_for(databases[0].program)
     progress.now(f"verifying {databases[0].name}")
-    context.out.write(made(databases, words))
+    context.out.write(made_page(databases, words))
     return 0
 
 

@@ -7,7 +7,7 @@ from query.context import Context
 from query.database import Dependence
 from query.errors import NoAnswer
 from query.lists import add_list, labels_of
-from query.options import Parser, add_choice_of_axioms, add_database, count, options_of
+from query.options import Parser, add_choice_of_axioms, add_database, positive, options_of
 from query.output import Value
 
 TOP_PAGE = """
@@ -54,10 +54,10 @@ theorem  the label of the theorem
 def configure_top(parser: Parser) -> None:
     """The words and options of `top`."""
     add_database(parser)
-    parser.add_argument("number", metavar="N", nargs="?", type=count, help="how many (else: 10)")
+    parser.add_argument("number", metavar="N", nargs="?", type=positive, help="how many (else: 10)")
     parser.exclude("--theorems", "--below", "--against")
     parser.flag("--theorems", "rank theorems, not axioms")
-    parser.value("--below", "B", "all axioms on which fewer than B theorems rest", type=count)
+    parser.value("--below", "B", "all axioms on which fewer than B theorems rest", type=positive)
     parser.value("--against", "OLD", "axioms on which another number rests than in OLD")
     add_choice_of_axioms(parser)
 

@@ -49,7 +49,7 @@ def configure(parser: Parser) -> None:
     parser.flag("--kept", "also labels that end in ALT or OLD, and discouraged")
 
 
-def theorems_of(rules: Rules, with_kept: bool, keeps: Test) -> Iterator[Rule]:
+def candidates(rules: Rules, with_kept: bool, keeps: Test) -> Iterator[Rule]:
     """The theorems that may be listed, of those that pass a test."""
     for one in rules.text.assertions:
         rule = rules[one.number]
@@ -72,7 +72,7 @@ def run(context: Context, arguments: argparse.Namespace) -> int:
     rules = rules_of(database, arguments.only)
     shelf = Shelf(rules, conventions_of(rules, cites_discouraged=kept, cites_old=kept))
     finder = Finder(rules, shelf)
-    found = finder.repeats(theorems_of(rules, kept, context.test()))
+    found = finder.repeats(candidates(rules, kept, context.test()))
     rows = [[one.theorem, one.earlier, one.how] for one in found]
     context.table(
         COLUMNS,

@@ -50,7 +50,7 @@ STATUSES = {
 
 
 @dataclass
-class Change:
+class Outcome:
     """What became of a theorem."""
 
     label: str
@@ -89,7 +89,7 @@ def run(context: Context, arguments: argparse.Namespace) -> int:
     return 0
 
 
-def changes_of(comparison: Comparison) -> list[Change]:
+def changes_of(comparison: Comparison) -> list[Outcome]:
     """What became of each theorem that the change is about."""
     old, new = text_of_side(comparison.old), text_of_side(comparison.new)
     pairing = comparison.theorems
@@ -98,11 +98,11 @@ def changes_of(comparison: Comparison) -> list[Change]:
     moved = out_of_order(
         (label, old.by_label[was].number) for label, was in stands if was is not None
     )
-    found: dict[str, Change] = {}
+    found: dict[str, Outcome] = {}
     for one in new.assertions:
         if one.kind != "p":
             continue
-        change = Change(one.label, bytes=one.end - one.place)
+        change = Outcome(one.label, bytes=one.end - one.place)
         if one.label in fresh:
             change.status = ["new"]
             row = comparison.new.dependence.rows.get(one.label)
@@ -124,7 +124,7 @@ def changes_of(comparison: Comparison) -> list[Change]:
         if change.status:
             found[one.label] = change
     add_shifts(comparison, found)
-    gone = [Change(label, ["gone"], bytes=-length(old, label)) for label in pairing.gone]
+    gone = [Outcome(label, ["gone"], bytes=-length(old, label)) for label in pairing.gone]
     return [*found.values(), *gone]
 
 
@@ -134,7 +134,7 @@ def length(text: Text, label: str) -> int:
     return one.end - one.place
 
 
-def add_shifts(comparison: Comparison, found: dict[str, Change]) -> None:
+def add_shifts(comparison: Comparison, found: dict[str, Outcome]) -> None:
     """Adds which axioms the theorems gained and lost."""
     for axiom in comparison.new.dependence.axioms:
         for shift in comparison.shifts(axiom):
@@ -158,32 +158,29 @@ def out_of_order(numbered: Iterable[tuple[str, int]]) -> set[str]:
     return {label for place, (label, _) in enumerate(pairs) if place not in stayed}
 
 
-def comment(comparison: Comparison, changes: Sequence[Change]) -> str:
+def comment(comparison: Comparison, changes: Sequence[Outcome]) -> str:
     """The comment for a pull request. Labels have no sign that Markdown would read."""
     counts = {word: sum(word in each.status for each in changes) for word in STATUSES}
     parts = [f"{count} {STATUSES[word]}" for word, count in counts.items() if count]
     lines = [f"**Theorems**: {', '.join(parts) if parts else 'no change'}."]
     gained = {axiom: len(comparison.gained(axiom)) for axiom in comparison.new.dependence.axioms}
     lost = {axiom: len(comparison.lost(axiom)) for axiom in comparison.old.dependence.axioms}
-    for words, counts in (
-        ("came to rest on", gained),
-        ("no longer rest on", lost),
-    ):
-        told = [f"`{axiom}` ({count})" for axiom, count in counts.items() if count]
-        if told:
-            more = f" and {len(told) - SHOWN_ROWS} more" if len(told) > SHOWN_ROWS else ""
-            lines += ["", f"Theorems of both {words} {', '.join(told[:SHOWN_ROWS])}{more}."]
+    for words, counts in (("came to rest on", gained), ("no longer rest on", lost)):
+        named = [f"`{axiom}` ({count})" for axiom, count in counts.items() if count]
+        if named:
+            more = f" and {len(named) - SHOWN_ROWS} more" if len(named) > SHOWN_ROWS else ""
+            lines += ["", f"Theorems of both {words} {', '.join(named[:SHOWN_ROWS])}{more}."]
     if changes:
         lines += ["", "| theorem | status | axioms | gained | lost | bytes |"]
         lines += ["|---|---|---|---|---|---|"]
-        lines += [line_of(each) for each in changes[:SHOWN_ROWS]]
+        lines += [table_line(each) for each in changes[:SHOWN_ROWS]]
     if len(changes) > SHOWN_ROWS:
         more = f"{len(changes) - SHOWN_ROWS} more aren't shown"
         lines += ["", f"{more}; `mmquery review` lists them."]
     return "\n".join(lines) + "\n"
 
 
-def line_of(change: Change) -> str:
+def table_line(change: Outcome) -> str:
     """A line of the comment's table."""
     gained = [
         f"`{axiom}` via `{via}`" for axiom, via in zip(change.gained, change.via, strict=True)

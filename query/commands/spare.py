@@ -5,13 +5,13 @@ import argparse
 from query.commands import Command
 from query.context import Context
 from query.database import Database
-from query.errors import NoAnswer, nearest, shown
+from query.errors import NEAR_LABEL, NoAnswer, nearest, shown
 from query.files import see_missing, write_new
-from query.options import Options, Parser, add_database, add_only, add_open, count
+from query.options import Options, Parser, add_database, add_only, add_open, positive
 from query.output import Value
 from query.spare.changes import Changer, ProofRange, Wanted
 from query.spare.kept import Change
-from query.spare.judge import judge, rewritten
+from query.spare.judge import judge_changes, rewritten
 from query.spare.rules import UNREAD
 from query.text import Text
 
@@ -87,7 +87,7 @@ def configure(parser: Parser) -> None:
     parser.value("--proof", "T", "print the theorem T with its new proof")
     add_only(parser, "|-")
     add_open(parser)
-    parser.value("--jobs", "N", "search with N processes", type=count)
+    parser.value("--jobs", "N", "search with N processes", type=positive)
     for name, words in CONVENTIONS.items():
         parser.flag(name, words)
 
@@ -132,7 +132,7 @@ def run(context: Context, arguments: argparse.Namespace) -> int:
     changer = Changer(database, wanted, arguments.jobs)
     changes = list(changer.changes())
     data = rewritten(database.text, changes)
-    judge(database, data, changes)
+    judge_changes(database, data, changes)
     if arguments.proof is not None:
         context.out.text(new_statement(database, changes, arguments.proof))
     else:
@@ -183,7 +183,8 @@ def new_statement(database: Database, changes: list[Change], label: str) -> str:
             data = text.data[one.place : proof_range.start] + change.proof + b"$."
             return data.decode("latin-1") + "\n"
     known = [change.theorem for change in changes if change.proof is not None]
-    raise NoAnswer(f"{database.name}: no new proof of '{shown(label)}'{nearest(label, known, 0.8)}")
+    meant = nearest(label, known, NEAR_LABEL)
+    raise NoAnswer(f"{database.name}: no new proof of '{shown(label)}'{meant}")
 
 
 COMMANDS = [Command("spare", PAGE, configure, run)]

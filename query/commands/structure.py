@@ -167,7 +167,7 @@ def configure_unfinished(parser: Parser) -> None:
     add_choice_of_citations(parser)
 
 
-def open_theorems(dependence: Dependence, text: Text) -> list[str]:
+def left_open(dependence: Dependence, text: Text) -> list[str]:
     """The theorems that are left open, which are among the axioms."""
     return [label for label in dependence.axioms if text.by_label[label].is_open]
 
@@ -178,7 +178,7 @@ def run_unfinished(context: Context, arguments: argparse.Namespace) -> int:
     database = context.database(arguments.database, options)
     database.see_text()
     dependence = database.dependence()
-    found = open_theorems(dependence, database.text)
+    found = left_open(dependence, database.text)
     if arguments.theorem is None:
         rows: list[list[Value]] = []
         for label in found:

@@ -10,7 +10,7 @@ from query.commands import Command
 from query.context import Context
 from query.database import Database
 from query.faults import Refused
-from query.options import Parser, add_choice_of_citations, add_database, count, options_of
+from query.options import Parser, add_choice_of_citations, add_database, positive, options_of
 from query.output import Value
 from query.source import Source
 
@@ -47,7 +47,7 @@ def configure(parser: Parser) -> None:
     """The words and options of `verify`."""
     add_database(parser)
     parser.flag("--each", "the faults of all proofs")
-    parser.value("--most", "N", "with --each: how many (else: 100)", type=count, default=100)
+    parser.value("--most", "N", "with --each: how many (else: 100)", type=positive, default=100)
     add_choice_of_citations(parser)
 
 

@@ -9,7 +9,7 @@ from dataclasses import KW_ONLY, asdict, dataclass
 
 from query import progress
 from query.bare import without_comments
-from query.database import Database, key_of
+from query.database import Database, result_key
 from query.rules import is_discouraged, is_proof_discouraged
 from query.spare import kept as kept_changes
 from query.spare.conventions import conventions_of
@@ -19,7 +19,7 @@ from query.spare.rules import Rule, bits_of, joined, rules_of
 from query.spare.proofs import Proof, Step, Unfit, run
 from query.spare.search import AllSteps, Search, Shelf, Steps, World
 from query.spare.sharing import number_at_once, searched
-from query.spare.writing import Writer, laid_out, width_of
+from query.spare.writing import Writer, laid_out, line_width
 
 SECONDS = 60
 """After so many seconds what was found is kept."""
@@ -81,7 +81,7 @@ class Changer:
             self.numbers[label]: [self.numbers[nodes[node]] for node in cites[row]]
             for row, label in enumerate(prepared.theorems)
         }
-        self.bit_of = {label: 1 << place for place, label in enumerate(self.columns)}
+        self.bit_of = {label: 1 << bit for bit, label in enumerate(self.columns)}
         self.world = World(self.rests(prepared.theorems))
         self.old_rests = list(self.world.rests)
         conventions = conventions_of(
@@ -89,7 +89,7 @@ class Changer:
         )
         self.shelf = Shelf(self.rules, conventions)
         self.writer = Writer(self.rules, self.syntax())
-        self.width = width_of(self.proofs())
+        self.width = line_width(self.proofs())
         self.closed = 0  # the statements that may be new steps, as bits
         if wanted.has_new_steps:
             citable = self.shelf.citable
@@ -98,7 +98,7 @@ class Changer:
         for label in wanted.axioms:
             self.axioms |= self.bit_of[label]
         fields = [f"{name} {value}" for name, value in sorted(wanted.fields().items())]
-        key = key_of(kept_changes.FORM, "changes", database.key, *fields)
+        key = result_key(kept_changes.FORM, "changes", database.key, *fields)
         self.key = key if database.uses_cache else None
 
     def rests(self, theorems: list[str]) -> list[int]:
@@ -228,7 +228,7 @@ class Changer:
         if change is None and (lost or is_given_up):
             change = Change(self.names[number], (), is_given_up=is_given_up)
         if change is not None:
-            change.loses = tuple(self.columns[place] for place in bits_of(lost))
+            change.loses = tuple(self.columns[bit] for bit in bits_of(lost))
         return change
 
     def resting(self, cited: list[int]) -> int:

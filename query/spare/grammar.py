@@ -31,7 +31,7 @@ class Form:
     """Those of its parts."""
 
 
-class Grammar:
+class Forms:
     """The forms of a database, which make trees."""
 
     def __init__(self, trees: Trees) -> None:

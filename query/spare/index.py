@@ -5,7 +5,7 @@ from __future__ import annotations
 from collections.abc import Iterator
 from dataclasses import dataclass, field
 
-from query.spare.grammar import Grammar
+from query.spare.grammar import Forms
 from query.spare.rules import bits_of, joined
 from query.spare.trees import Trees
 
@@ -38,12 +38,12 @@ class Budget:
 
 
 @dataclass(slots=True)
-class Branch:
+class Prefix:
     """A place in formulas that begin alike. `slots` are variables by the number of their first
     occurrence, each with its typecode."""
 
-    heads: dict[int, Branch] = field(default_factory=dict)
-    slots: dict[tuple[int, str], Branch] = field(default_factory=dict)
+    heads: dict[int, Prefix] = field(default_factory=dict)
+    slots: dict[tuple[int, str], Prefix] = field(default_factory=dict)
     statements: list[int] = field(default_factory=list)
     bits: int = 0
 
@@ -52,10 +52,10 @@ class Index:
     """Statements by their formulas. A statement is found with the trees that stand for the
     variables of its formula, in the order of their first occurrence."""
 
-    def __init__(self, trees: Trees, grammar: Grammar) -> None:
+    def __init__(self, trees: Trees, grammar: Forms) -> None:
         self.trees = trees
         self.grammar = grammar
-        self.first = Branch()
+        self.first = Prefix()
 
     def add(self, statement: int, pattern: int) -> list[int]:
         """Adds a statement. Returns its variables in this order."""
@@ -63,9 +63,9 @@ class Index:
         slots: dict[int, int] = {}
         for sign in self.signs(pattern, slots):
             if isinstance(sign, int):
-                branch = branch.heads.setdefault(sign, Branch())
+                branch = branch.heads.setdefault(sign, Prefix())
             else:
-                branch = branch.slots.setdefault(sign, Branch())
+                branch = branch.slots.setdefault(sign, Prefix())
         branch.statements.append(statement)
         branch.bits = 0
         return list(slots)
@@ -84,7 +84,7 @@ class Index:
 
     def alike(self, pattern: int) -> list[int]:
         """The statements whose formula is this one but for the names of variables, in order."""
-        branch: Branch | None = self.first
+        branch: Prefix | None = self.first
         for sign in self.signs(pattern, {}):
             if branch is None:
                 return []
@@ -98,7 +98,7 @@ class Index:
         and `flags` a `1` for each of them. GivenUp where that takes too many steps."""
         heads, parts, typecode = self.trees.heads, self.trees.parts, self.grammar.typecode
         found: list[tuple[int, tuple[int, ...]]] = []
-        work: list[tuple[Branch, Left | None, tuple[int, ...]]] = [(self.first, (tree, None), ())]
+        work: list[tuple[Prefix, Left | None, tuple[int, ...]]] = [(self.first, (tree, None), ())]
         while work:
             branch, left, bound = work.pop()
             if left is None:
@@ -126,7 +126,7 @@ class Index:
         return found
 
 
-def chosen(branch: Branch, wanted: int, flags: str) -> list[int]:
+def chosen(branch: Prefix, wanted: int, flags: str) -> list[int]:
     """The statements of a branch that are wanted."""
     if len(branch.statements) > MOST_SINGLY_CHOSEN:
         branch.bits = branch.bits or joined(branch.statements)
@@ -135,7 +135,7 @@ def chosen(branch: Branch, wanted: int, flags: str) -> list[int]:
     return [each for each in branch.statements if each < count and flags[each] == "1"]
 
 
-def key_of(trees: Trees, tree: int) -> Key | None:
+def pattern_key(trees: Trees, tree: int) -> Key | None:
     """The key of a pattern, None where that is a variable."""
     head = trees.heads[tree]
     if head < 0:
@@ -146,9 +146,9 @@ def key_of(trees: Trees, tree: int) -> Key | None:
     return head, max(ANY, trees.heads[parts[0]]), max(ANY, trees.heads[parts[-1]])
 
 
-def keys_of(trees: Trees, tree: int) -> set[Key]:
+def keys_for(trees: Trees, tree: int) -> set[Key]:
     """The keys of all patterns that could become a tree."""
-    key = key_of(trees, tree)
+    key = pattern_key(trees, tree)
     if key is None:
         return set()
     head, first, last = key

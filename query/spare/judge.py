@@ -21,22 +21,22 @@ from query.spare.kept import Change
 from query.text import Text
 
 
-def wrong(what: str) -> NoReturn:
+def fail(what: str) -> NoReturn:
     """Raises NoAnswer: the search found something that isn't so."""
     raise NoAnswer(f"what was found isn't so: {what}")
 
 
-def judge(database: Database, data: bytes, changes: Sequence[Change]) -> None:
+def judge_changes(database: Database, data: bytes, changes: Sequence[Change]) -> None:
     """Judges a new database. NoAnswer where something isn't so."""
     progress.now("judging what was found")
     new = Database(Source("the new database", data), database.options, False)
     try:
         prepared = new.prepared
     except Refused as why:
-        wrong(why.told())
+        fail(why.sentence())
     by_label = {change.theorem: change for change in changes}
     if len(by_label) != len(changes):
-        wrong("a theorem is changed twice")
+        fail("a theorem is changed twice")
     compare_texts(database.text, new.text, by_label)
     compare_marks(database.prepared, prepared, by_label)
     compare_citations(database, new, changes)
@@ -45,27 +45,27 @@ def judge(database: Database, data: bytes, changes: Sequence[Change]) -> None:
 def compare_texts(old: Text, new: Text, changes: dict[str, Change]) -> None:
     """Compares all bytes but those of the proofs that are changed, and what assertions say."""
     if len(old.assertions) != len(new.assertions):
-        wrong("there are other assertions")
+        fail("there are other assertions")
     before, after = 0, 0
     for one, other in zip(old.assertions, new.assertions):
         if (one.label, one.letter) != (other.label, other.letter):
-            wrong(f"{other.label} stands where {one.label} did")
+            fail(f"{other.label} stands where {one.label} did")
         if old.data[before : one.place] != new.data[after : other.place]:
-            wrong(f"the text before {one.label} is changed")
+            fail(f"the text before {one.label} is changed")
         if (one.frame(), one.formula) != (other.frame(), other.formula):
-            wrong(f"{one.label} says something else")
+            fail(f"{one.label} says something else")
         change = changes.get(one.label)
         if change is None or change.proof is None:
             if old.data[one.place : one.end] != new.data[other.place : other.end]:
-                wrong(f"{one.label} is changed")
-        elif head_of(old, one) + change.proof + b"$." != new.data[other.place : other.end]:
-            wrong(f"{one.label} isn't as is said")
+                fail(f"{one.label} is changed")
+        elif before_proof(old, one) + change.proof + b"$." != new.data[other.place : other.end]:
+            fail(f"{one.label} isn't as is said")
         before, after = one.end, other.end
     if old.data[before:] != new.data[after:]:
-        wrong("the text behind the last assertion is changed")
+        fail("the text behind the last assertion is changed")
 
 
-def head_of(text: Text, theorem: Assertion) -> bytes:
+def before_proof(text: Text, theorem: Assertion) -> bytes:
     """A theorem up to its `$=`."""
     data = text.data[theorem.place : theorem.end]
     return data[: without_comments(data).index(b"$=") + 2]
@@ -74,18 +74,18 @@ def head_of(text: Text, theorem: Assertion) -> bytes:
 def compare_marks(old: Prepared, new: Prepared, changes: dict[str, Change]) -> None:
     """Compares on which axioms the theorems rest."""
     if old.theorems != new.theorems or old.columns != new.columns:
-        wrong("there are other theorems or axioms")
+        fail("there are other theorems or axioms")
     assert old.marks is not None and new.marks is not None
-    columns = {label: place for place, label in enumerate(old.columns)}
+    columns = {label: column for column, label in enumerate(old.columns)}
     for row, label in enumerate(old.theorems):
         before, after = old.marks.row(row), new.marks.row(row)
         if after & ~before:
-            wrong(f"{label} rests on an axiom on which it didn't")
+            fail(f"{label} rests on an axiom on which it didn't")
         change = changes.get(label)
         loses = () if change is None else change.loses
         lost = sum(1 << (8 * old.marks.width - 1 - columns[axiom]) for axiom in {*loses})
         if before & ~after != lost:
-            wrong(f"{label} doesn't lose just the axioms that are said")
+            fail(f"{label} doesn't lose just the axioms that are said")
 
 
 def compare_citations(old: Database, new: Database, changes: Sequence[Change]) -> None:
@@ -96,10 +96,10 @@ def compare_citations(old: Database, new: Database, changes: Sequence[Change]) -
         cited = {after.labels[each] for each in after.cites[node]}
         was = {before.labels[each] for each in before.cites[before.index[change.theorem]]}
         if change.proof is None and cited != was:
-            wrong(f"{change.theorem} cites something else")
+            fail(f"{change.theorem} cites something else")
         for replaced in change.replaced:
             if replaced.new not in cited or not was.issuperset(replaced.old):
-                wrong(f"{change.theorem} doesn't cite what is said")
+                fail(f"{change.theorem} doesn't cite what is said")
 
 
 def rewritten(text: Text, changes: Sequence[Change]) -> bytes:
@@ -110,7 +110,7 @@ def rewritten(text: Text, changes: Sequence[Change]) -> bytes:
         if change.proof is None:
             continue
         one = text.by_label[change.theorem]
-        start = one.place + len(head_of(text, one))
+        start = one.place + len(before_proof(text, one))
         parts += [text.data[place:start], change.proof]
         place = one.end - 2
     return b"".join([*parts, text.data[place:]])

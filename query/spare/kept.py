@@ -41,7 +41,7 @@ class Change:
         return words[1 : words.index(")")]
 
 
-def fields_of(change: Change) -> dict[str, Any]:
+def to_fields(change: Change) -> dict[str, Any]:
     """A change in a form that JSON has."""
     fields = asdict(change)
     if change.proof is not None:
@@ -62,7 +62,7 @@ def from_fields(fields: dict[str, Any]) -> Change:
 
 def store(key: str, done: int, changes: Sequence[Change]) -> None:
     """Keeps what was found in so many theorems."""
-    fields = json.dumps([fields_of(change) for change in changes])
+    fields = json.dumps([to_fields(change) for change in changes])
     cache.store(key, {"done": str(done).encode(), "changes": fields.encode()})
 
 

@@ -4,14 +4,12 @@ builds formulas is no step of these, it is a part of the trees.
 
 from __future__ import annotations
 
-import re
 from collections.abc import Sequence
 from dataclasses import dataclass, field
-from functools import cache
 
+from query.letters import NUMBER, number_of
 from query.spare.rules import Rule, Rules, Scope
 
-NUMBER = re.compile(r"[U-Y]*[A-T]|Z")
 STEPS, STEPS_OF_LETTER = 100_000, 20
 """So many steps, and so many for each letter of a proof, are taken to carry it out; a proof that
 takes more isn't changed. A citation of a long formula counts as several."""
@@ -41,17 +39,6 @@ class Proof:
     given: dict[int, str]
     root: int = -1
     steps: dict[int, dict[Step, None]] = field(default_factory=dict)
-
-
-@cache
-def number_of(letters: str) -> int:
-    """The number that letters of a compressed proof stand for, from 0; -1 for the mark."""
-    if letters == "Z":
-        return -1
-    number = 0
-    for letter in letters[:-1]:
-        number = 5 * number + ord(letter) - ord("T")
-    return 20 * number + ord(letters[-1]) - ord("A")
 
 
 class Machine:

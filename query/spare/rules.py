@@ -12,10 +12,10 @@ from typing import NamedTuple
 from query.assertions import PAIR, Assertion, Hypothesis
 from query import cache, progress
 from query.bare import without_comments
-from query.database import Database, key_of
+from query.database import Database, result_key
 from query.errors import NoAnswer
 from query.grammar import NotRead
-from query.spare.grammar import Form, Grammar
+from query.spare.grammar import Form, Forms
 from query.spare.trees import Code, Trees
 from query.text import Text
 
@@ -66,7 +66,7 @@ class Rules:
         self.text = text
         self.typecode_proved = typecode
         self.trees = Trees()
-        self.grammar = Grammar(self.trees)
+        self.grammar = Forms(self.trees)
         self.floating = floating_of(text.data)
         self.unread: list[str] = []
         """The assertions with a formula that has no tree by the syntax, and why it hasn't."""
@@ -161,10 +161,10 @@ class Rules:
         numbers = {name: array("q") for name in kept}
         for name, each in numbers.items():
             each.frombytes(kept[name])
-        place = 0
+        start = 0
         for head, count in zip(numbers["heads"], numbers["counts"]):
-            self.trees.made((head, *numbers["parts"][place : place + count]))
-            place += count
+            self.trees.made((head, *numbers["parts"][start : start + count]))
+            start += count
         return iter(numbers["formulas"])
 
     def code(self, rule: Rule) -> Code:
@@ -201,7 +201,7 @@ def rules_of(database: Database, typecode: str) -> Rules:
     """The rules of a database, whose trees are kept. NoAnswer where these would be too many."""
     see_size(database)
     progress.now(f"reading the formulas of {database.name}")
-    key = key_of(FORM, "trees", database.key, typecode)
+    key = result_key(FORM, "trees", database.key, typecode)
     kept = cache.load(key) if database.uses_cache else None
     rules = Rules(database.text, typecode, kept)
     parts = rules.parts() if database.uses_cache and kept is None else None
@@ -240,8 +240,8 @@ class Scope:
 def form_of(assertion: Assertion, given: Sequence[Hypothesis]) -> Form:
     """The form of a syntax axiom."""
     typecodes, symbols = zip(*(each.formula.split(" ") for each in given)) if given else ((), ())
-    places = {symbol: place for place, symbol in enumerate(symbols)}
-    items = tuple(places.get(symbol, symbol) for symbol in assertion.formula.split(" ")[1:])
+    indices = {symbol: index for index, symbol in enumerate(symbols)}
+    items = tuple(indices.get(symbol, symbol) for symbol in assertion.formula.split(" ")[1:])
     return Form(assertion.label, assertion.typecode, items, tuple(typecodes))
 
 
@@ -255,15 +255,15 @@ def floating_of(data: bytes) -> dict[str, tuple[str, str]]:
 
 def joined(numbers: Iterable[int]) -> int:
     """A number that has these bits."""
-    places = list(numbers)
-    data = bytearray(max(places, default=0) // 8 + 1)
-    for place in places:
-        data[place >> 3] |= 1 << (place & 7)
+    bits = list(numbers)
+    data = bytearray(max(bits, default=0) // 8 + 1)
+    for bit in bits:
+        data[bit >> 3] |= 1 << (bit & 7)
     return int.from_bytes(data, "little")
 
 
 def bits_of(numbers: int) -> Iterator[int]:
-    """The places of the bits of a number, rising."""
+    """The bits that a number has, counted from 0 at the lowest, rising."""
     while numbers:
         lowest = numbers & -numbers
         yield lowest.bit_length() - 1

@@ -14,7 +14,7 @@ from collections.abc import Sequence
 from dataclasses import dataclass
 
 from query.spare.conventions import Conventions
-from query.spare.index import Budget, Index, Key, key_of, keys_of
+from query.spare.index import Budget, Index, Key, pattern_key, keys_for
 from query.spare.rules import Rule, Rules, bits_of, joined
 from query.spare.proofs import Proof, Step
 from query.spare.trees import Binding, Code, Trees
@@ -36,12 +36,12 @@ Steps = dict[int, Step | None]
 
 @dataclass(slots=True)
 class Premise:
-    """A `$e` hypothesis of a statement that may be cited: its tree, its place among the `$e`, its
+    """A `$e` hypothesis of a statement that may be cited: its tree, its index among the `$e`, its
     key, its variables, its code, and which variable its first part is, and its last; -1 where that
     is none."""
 
     pattern: int
-    place: int
+    index: int
     key: Key | None
     variables: frozenset[int]
     code: Code
@@ -120,7 +120,7 @@ class Shelf:
         """Adds a statement. Returns the keys of its hypotheses."""
         slots = self.index.add(rule.number, rule.tree)
         essential = enumerate(each.number for each in rule.essential())
-        premises = [self.premise(place, pattern) for place, pattern in essential]
+        premises = [self.premise(index, pattern) for index, pattern in essential]
         bound = set(slots)
         premises.sort(key=lambda each: not each.variables <= bound)
         keys = [each.key for each in premises]
@@ -128,12 +128,12 @@ class Shelf:
         self.citable[rule.number] = Citable(rule, slots, premises, keys, pairs)
         return {key for key in keys if key is not None}
 
-    def premise(self, place: int, pattern: int) -> Premise:
+    def premise(self, index: int, pattern: int) -> Premise:
         """A hypothesis of a statement."""
         trees = self.rules.trees
         variables = frozenset(bits_of(trees.variables(pattern)))
-        code, key = trees.open_code(pattern), key_of(trees, pattern)
-        return Premise(pattern, place, key, variables, code, *ends_of(trees, pattern))
+        code, key = trees.open_code(pattern), pattern_key(trees, pattern)
+        return Premise(pattern, index, key, variables, code, *ends_of(trees, pattern))
 
     def lacking(self, keys: set[Key]) -> int:
         """The statements with a hypothesis that no formula with these keys becomes, as far as the
@@ -210,7 +210,7 @@ class Search:
         self.theorem = theorem
         self.proof = proof
         self.trees = shelf.rules.trees
-        self.keys = {tree: keys_of(self.trees, tree) for tree in (*proof.given, *proof.steps)}
+        self.keys = {tree: keys_for(self.trees, tree) for tree in (*proof.given, *proof.steps)}
         self.budget = Budget(STEPS + STEPS_OF_FORMULA * len(self.keys))
         lacking = shelf.lacking(set[Key]().union(*self.keys.values()))
         self.may_be = shelf.conventions.allowed(theorem.number) & ~lacking
@@ -327,7 +327,7 @@ class Search:
             new = self.match(chosen.pattern, formula, binding)
             if new is None:
                 continue
-            premises[chosen.place] = formula
+            premises[chosen.index] = formula
             if self.has_premises(citable, left, binding, premises):
                 return True
             for variable in new:
@@ -367,7 +367,7 @@ class Search:
                 filled = dict(zip(citable.slots, bound))
                 if not citable.premises and self.keeps_distinct(citable, filled):
                     self.new[tree] = True
-                    self.free.add(tree, step_of(citable, filled, []), keys_of(self.trees, tree))
+                    self.free.add(tree, step_of(citable, filled, []), keys_for(self.trees, tree))
                     break
         return (tree,) if self.new[tree] else ()
 

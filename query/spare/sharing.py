@@ -16,7 +16,7 @@ from typing import Protocol
 
 from query import system
 from query.parallel import Task, begun
-from query.spare.kept import Change, fields_of, from_fields
+from query.spare.kept import Change, to_fields, from_fields
 from query.spare.search import World
 
 STRETCH = 50
@@ -65,11 +65,11 @@ class Stretch:
 def stretches(search: Searching, numbers: Sequence[int]) -> Iterator[Stretch]:
     """The theorems in order, so that each stretch has as many that are searched as another one."""
     start = count = 0
-    for place, number in enumerate(numbers):
+    for index, number in enumerate(numbers):
         count += search.is_sought(number)
         if count == STRETCH:
-            yield Stretch(numbers[start : place + 1])
-            start, count = place + 1, 0
+            yield Stretch(numbers[start : index + 1])
+            start, count = index + 1, 0
     if start < len(numbers):
         yield Stretch(numbers[start:])
 
@@ -85,7 +85,7 @@ def searched(search: Searching, numbers: Sequence[int], at_once: int) -> Iterato
         while waiting or running:
             while waiting and len(running) < at_once:
                 running.append(waiting.popleft())
-                begin(search, running[-1])
+                start(search, running[-1])
             yield from taken(search, running[0])
             running.popleft()
     finally:
@@ -94,28 +94,28 @@ def searched(search: Searching, numbers: Sequence[int], at_once: int) -> Iterato
                 stretch.task.stop()
 
 
-def begin(search: Searching, stretch: Stretch) -> None:
+def start(search: Searching, stretch: Stretch) -> None:
     """Lets a process search a stretch. Where there can't be another one, this one will."""
     stretch.before = len(search.world.changed)
     try:
-        stretch.task = begun(partial(written, search, stretch.numbers))
+        stretch.task = begun(partial(to_json, search, stretch.numbers))
     except OSError:
         stretch.task = None
 
 
-def written(search: Searching, numbers: Sequence[int]) -> bytes:
+def to_json(search: Searching, numbers: Sequence[int]) -> bytes:
     """What is found of theorems, as JSON, for those of which it is something."""
     found = {}
     for number in numbers:
         change = search.change(number)
         rests = search.world.rests[number]
         if change is not None or rests != search.old_rests[number]:
-            fields = None if change is None else fields_of(change)
+            fields = None if change is None else to_fields(change)
             found[number] = [hex(rests), fields]
     return json.dumps(found).encode()
 
 
-def read(data: bytes) -> dict[int, Found]:
+def from_json(data: bytes) -> dict[int, Found]:
     """The same as it was found."""
     return {
         int(number): Found(int(rests, 16), None if fields is None else from_fields(fields))
@@ -128,7 +128,7 @@ def taken(search: Searching, stretch: Stretch) -> Iterator[Change | None]:
     if stretch.task is None:
         yield from map(search.change, stretch.numbers)
         return
-    found = read(stretch.task.result())
+    found = from_json(stretch.task.result())
     others = set(search.world.changed[stretch.before :])
     for number in stretch.numbers:
         one = found.get(number, Found(search.old_rests[number], None))

@@ -74,9 +74,9 @@ class Trees:
 
     def code(self, tree: int, slots: Sequence[int]) -> Code:
         """The pattern that a tree is, whose variables are those of the slots."""
-        places = {variable: slot for slot, variable in enumerate(slots)}
+        slot_of = {variable: slot for slot, variable in enumerate(slots)}
         return tuple(
-            (~places[~head], SLOT) if head < 0 else (head, count)
+            (~slot_of[~head], SLOT) if head < 0 else (head, count)
             for head, count in self.open_code(tree)
         )
 

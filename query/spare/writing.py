@@ -7,6 +7,7 @@ from collections import Counter
 from collections.abc import Iterable
 from dataclasses import dataclass, field
 
+from query.letters import letters_of
 from query.spare.rules import Rule, Rules
 from query.spare.proofs import Proof, Step
 from query.spare.search import Steps
@@ -44,7 +45,7 @@ class Writer:
 
 
 @dataclass(slots=True)
-class Node:
+class Made:
     """An item of a proof: the label that makes it of others, and how often it is used."""
 
     label: str
@@ -61,7 +62,7 @@ class Writing:
     theorem: Rule
     proof: Proof
     steps: Steps
-    nodes: dict[Item, Node] = field(default_factory=dict)
+    nodes: dict[Item, Made] = field(default_factory=dict)
 
     def words(self) -> tuple[list[str], str]:
         """The labels and the letters."""
@@ -106,45 +107,34 @@ class Writing:
             node.uses += 1
         return order
 
-    def node(self, item: Item) -> Node:
+    def node(self, item: Item) -> Made:
         """How an item is made."""
         rules = self.writer.rules
         if item < 0:
             step = self.steps[~item]
             if step is None:
-                return Node(self.proof.given[~item], [])
+                return Made(self.proof.given[~item], [])
             return self.citation(step)
         head = rules.trees.heads[item]
         if head < 0:
-            return Node(self.proof.scope.labels[~head], [])
+            return Made(self.proof.scope.labels[~head], [])
         for rule in self.writer.abbreviations.get(head, ()):
             binding: dict[int, int] = {}
             if rule.number < self.theorem.number:
                 if rules.trees.match(rule.tree, item, binding) is not None:
-                    return Node(rule.label, [binding[slot] for slot in rule.slots])
+                    return Made(rule.label, [binding[slot] for slot in rule.slots])
         label = rules.grammar.forms[head].label
         assert label is not None
-        return Node(label, list(rules.trees.parts[item]))
+        return Made(label, list(rules.trees.parts[item]))
 
-    def citation(self, step: Step) -> Node:
+    def citation(self, step: Step) -> Made:
         """How a citation is made."""
         rule = self.writer.rules[step.rule]
         parts = [tree if one.is_floating else ~tree for one, tree in zip(rule.given, step.trees)]
-        return Node(rule.label, parts)
+        return Made(rule.label, parts)
 
 
-def letters_of(number: int) -> str:
-    """A number of a compressed proof, from 0, in letters."""
-    letters = chr(ord("A") + number % 20)
-    number //= 20
-    while number:
-        number -= 1
-        letters = chr(ord("U") + number % 5) + letters
-        number //= 5
-    return letters
-
-
-def width_of(proofs: Iterable[bytes]) -> int:
+def line_width(proofs: Iterable[bytes]) -> int:
     """How wide the lines of compressed proofs are: the commonest width of those that aren't the
     last of their proof."""
     counts: Counter[int] = Counter()
@@ -169,15 +159,15 @@ def laid_out(labels: list[str], letters: str, old: bytes, width: int) -> bytes:
             else:
                 line += b" "
         lines[-1] += word.encode()
-    room = max(1, width - len(indent))
-    place = 0
+    wide = max(1, width - len(indent))
+    done = 0  # so many letters are laid out
     if len(lines[-1]) + 1 < width:
         lines[-1] += b" "
-        place = width - len(lines[-1])
-        lines[-1] += letters[:place].encode()
-    while place < len(letters):
-        lines.append(bytearray(indent + letters[place : place + room].encode()))
-        place += room
+        done = width - len(lines[-1])
+        lines[-1] += letters[:done].encode()
+    while done < len(letters):
+        lines.append(bytearray(indent + letters[done : done + wide].encode()))
+        done += wide
     lines.append(bytearray(indent))
     if len(lines[-2]) + 3 <= width:
         lines.pop()

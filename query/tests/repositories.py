@@ -4,7 +4,7 @@ import os
 import subprocess
 from pathlib import Path
 
-from query.tests.world import Came, World
+from query.tests.world import Done, World
 
 # A database with two watched axioms. `|- ( 2 + 2 ) = 4` and `ax-ac2` are as in set.mm's names.
 BASE = """$c wff |- ( -> ) 2 4 + = $.
@@ -47,7 +47,7 @@ class Repositories(World):
         surroundings = {**self.surroundings(), **names, "GIT_CONFIG_NOSYSTEM": "1"}
         done = subprocess.run(
             ["git", *words],
-            cwd=folder or self.room,
+            cwd=folder or self.folder,
             env=surroundings,
             capture_output=True,
             check=False,
@@ -74,11 +74,11 @@ class Repositories(World):
 
     def gate(self, *words: str, status: int) -> list[str]:
         """The lines of the gate's answer, without the last, which says what was compared."""
-        came = self.query("gate", *(words or ("--base", "main", "db.mm")))
-        self.assertEqual((came.status, came.err), (status, ""), f"{words}: {came}")
-        last = came.lines()[-1]
+        done = self.query("gate", *(words or ("--base", "main", "db.mm")))
+        self.assertEqual((done.status, done.err), (status, ""), f"{words}: {done}")
+        last = done.lines()[-1]
         self.assertRegex(last, r"\Apassed: " if status == 0 else r"\A\d+ findings?: ")
-        return [line for line in came.lines()[:-1] if not line.startswith("note: ")]
+        return [line for line in done.lines()[:-1] if not line.startswith("note: ")]
 
     def gate_of(self, text: str, *words: str, status: int) -> list[str]:
         """The same of a commit of this text on a branch of `main`."""
@@ -89,7 +89,7 @@ class Repositories(World):
         self.git("branch", "--quiet", "-D", "work")
         return lines
 
-    def has_no_answer(self, *words: str, why: str) -> Came:
+    def has_no_answer(self, *words: str, why: str) -> Done:
         """Checks that the gate says in one line why there is no answer."""
         self.refuses("gate", *words, why=why)
         return self.query("gate", *words)

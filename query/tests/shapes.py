@@ -51,13 +51,13 @@ class Took:
     said: str
 
 
-def ran(words: list[str], room: Path, limit: int, surroundings: Mapping[str, str]) -> Took:
+def ran(words: list[str], folder: Path, limit: int, surroundings: Mapping[str, str]) -> Took:
     """Runs a command without kept results in a folder, for so many seconds of the processor at the
     most."""
     name, *others = words
     child = os.fork()
     if child == 0:
-        os.chdir(room)
+        os.chdir(folder)
         nowhere = os.open(os.devnull, os.O_RDWR)
         errors = os.open("errors", os.O_WRONLY | os.O_CREAT | os.O_TRUNC, 0o600)
         for number, descriptor in enumerate((nowhere, nowhere, errors)):
@@ -65,7 +65,7 @@ def ran(words: list[str], room: Path, limit: int, surroundings: Mapping[str, str
         resource.setrlimit(resource.RLIMIT_CPU, (limit, limit))
         os.execve(MMQUERY, ["mmquery", name, "--no-cache", *others], dict(surroundings))
     _, status, usage = os.wait4(child, 0)
-    said = (room / "errors").read_text("latin-1")
+    said = (folder / "errors").read_text("latin-1")
     seconds, memory = usage.ru_utime + usage.ru_stime, usage.ru_maxrss * 1024
     return Took(seconds, memory, os.waitstatus_to_exitcode(status), said)
 

@@ -45,9 +45,9 @@ class Answers(World):
         self.assertEqual((row["valid"], row["axioms"], row["theorems"]), (True, 3, 4))
         self.assertIsNone(row["code"])
         self.write("broken.mm", SMALL.replace("wi wi $.", "wi $."))
-        came = self.query("verify", "broken.mm", "--format=json")
-        (row,) = came.rows()
-        self.assertEqual(came.status, 1)
+        done = self.query("verify", "broken.mm", "--format=json")
+        (row,) = done.rows()
+        self.assertEqual(done.status, 1)
         found = [row[name] for name in ("valid", "line", "column", "code", "statement")]
         self.assertEqual(found, [False, 8, 47, "E37", "wi2"])
 
@@ -55,7 +55,7 @@ class Answers(World):
         text = SMALL + "bad1 $p |- p $= wp\n wq $.\nbad2 $p wff p $= wp last $.\n"
         text += "good $p wff p $= wp $.\nbad3 $p |- p $= bad1 none $.\nlast $p wff p $= wp $.\n"
         self.write("bad.mm", text)
-        came = self.query("verify", "bad.mm", "--each", "--format=json")
+        done = self.query("verify", "bad.mm", "--each", "--format=json")
         first = SMALL.count("\n") + 1
         wanted = [
             [first + 1, "E37", "bad1", None, None],
@@ -63,32 +63,32 @@ class Answers(World):
             [first + 4, "E33", "bad3", "none", None],
         ]
         keys = ("line", "code", "statement", "word", "declared")
-        self.assertEqual([[row[key] for key in keys] for row in came.rows()], wanted)
-        self.assertEqual((came.status, came.err), (1, ""))
+        self.assertEqual([[row[key] for key in keys] for row in done.rows()], wanted)
+        self.assertEqual((done.status, done.err), (1, ""))
         whole = self.query("verify", "bad.mm", "--each").out
         self.assertIn(f"the word          last, which is declared on line {first + 5}\n", whole)
         self.assertIn("the word          none, which is declared nowhere\n", whole)
         self.assertTrue(whole.startswith(self.query("verify", "bad.mm").out))
-        came = self.query("verify", "bad.mm", "--each", "--most=2", "--format=json")
-        self.assertEqual(len(came.rows()), 2)
-        self.assertIn("there may be more faults than these 2", came.err)
+        done = self.query("verify", "bad.mm", "--each", "--most=2", "--format=json")
+        self.assertEqual(len(done.rows()), 2)
+        self.assertIn("there may be more faults than these 2", done.err)
         self.write("early.mm", SMALL + "x $a nothing $.\n" + text)
         (row,) = self.query("verify", "early.mm", "--each", "--format=json").rows()
         self.assertEqual(row["code"], "E17")
         self.write("late.mm", text.replace("good $p", "$( x $) x $a nothing $. good $p"))
-        came = self.query("verify", "late.mm", "--each", "--format=json")
-        found = [(row["code"], row["statement"]) for row in came.rows()]
+        done = self.query("verify", "late.mm", "--each", "--format=json")
+        found = [(row["code"], row["statement"]) for row in done.rows()]
         self.assertEqual(found, [("E37", "bad1"), ("E33", "bad2"), ("E17", "x")])
-        self.assertEqual((came.status, came.err), (1, ""))
+        self.assertEqual((done.status, done.err), (1, ""))
         self.write("late.mm", text + "$( never closed")
-        came = self.query("verify", "late.mm", "--each", "--format=json")
-        self.assertEqual([row["code"] for row in came.rows()], ["E37", "E33", "E33", "E03"])
+        done = self.query("verify", "late.mm", "--each", "--format=json")
+        self.assertEqual([row["code"] for row in done.rows()], ["E37", "E33", "E33", "E03"])
         self.assertEqual(self.query("verify", "--each", "small.mm").status, 0)
 
     def test_the_text_is_searched_once(self) -> None:
         """However many proofs have a word that can't be cited, comments are passed over once."""
         bad = "".join(f"bad{number} $p wff p $= no{number % 3} $.\n" for number in range(9))
-        path = str(self.room / self.write("bad.mm", SMALL + bad))
+        path = str(self.folder / self.write("bad.mm", SMALL + bad))
         with (
             mock.patch.dict(os.environ, {"MMDEPEND": world.built_program()}),
             mock.patch("query.commands.verify.without_comments", wraps=without_comments) as passed,
@@ -110,10 +110,10 @@ class Answers(World):
             ),
         ):
             self.write("wrong.mm", SMALL.replace(old, new))
-            came = self.query("verify", "wrong.mm")
-            self.assertEqual((came.status, came.err), (1, ""))
-            self.assertIn("refused E38", came.out)
-            shown = [line.split("  ")[-1].split(" ", 1)[1] for line in came.lines()[2:]]
+            done = self.query("verify", "wrong.mm")
+            self.assertEqual((done.status, done.err), (1, ""))
+            self.assertIn("refused E38", done.out)
+            shown = [line.split("  ")[-1].split(" ", 1)[1] for line in done.lines()[2:]]
             self.assertEqual(shown, [proved, wanted])
 
     def test_verify_tells_both_formulas_of_a_compressed_proof(self) -> None:
@@ -126,9 +126,9 @@ class Answers(World):
             text = SMALL.replace("wp wq wp wi h wp wq ax-1 ax-mp $.", f"{proof} $.")
             text = text.replace("a1i $p |- ( q -> p )", "a1i $p |- ( p -> q )")
             self.write("wrong.mm", text)
-            came = self.query("verify", "wrong.mm")
-            self.assertIn("refused E38 in 'a1i'", came.out)
-            self.assertEqual(came.lines()[2].split("|- ")[1], wanted)
+            done = self.query("verify", "wrong.mm")
+            self.assertIn("refused E38 in 'a1i'", done.out)
+            self.assertEqual(done.lines()[2].split("|- ")[1], wanted)
 
     def test_open_theorems(self) -> None:
         self.refuses("rests", "open.mm", "a2", why="open.mm:10:41: refused E32 in 'a1i'")
@@ -161,11 +161,11 @@ class Answers(World):
         self.refuses("top", "small.mm", "--against", "report", why="a report beside a database")
 
     def test_graphs(self) -> None:
-        came = self.answers("graph", "small.mm", "--essential")
-        self.assertEqual("\n".join(came), DOT)
-        came = self.answers("graph", "small.mm", "a2", "ax-1")
+        lines = self.answers("graph", "small.mm", "--essential")
+        self.assertEqual("\n".join(lines), DOT)
+        lines = self.answers("graph", "small.mm", "a2", "ax-1")
         self.assertEqual(
-            came[1:-1], ['  "a2" -> "a1i";', '  "ax-1" [shape=box];', '  "a1i" -> "ax-1";']
+            lines[1:-1], ['  "a2" -> "a1i";', '  "ax-1" [shape=box];', '  "a1i" -> "ax-1";']
         )
         self.assertEqual(
             self.answers("graph", "small.mm", "ax1", "wi"), ['digraph "ax1" {', '  "ax1";', "}"]
@@ -208,14 +208,14 @@ class Answers(World):
     def test_a_line_on_a_terminal(self) -> None:
         """On a terminal standard error has a line while it takes longer than a second."""
         script = '#!/bin/sh\n[ "$1" != --version ] || exit 0\nsleep 2\nexit 3\n'
-        (self.room / "slow").write_text(script)
-        (self.room / "slow").chmod(0o755)
-        for program, is_shown in ((str(self.room / "slow"), True), (None, False)):
+        (self.folder / "slow").write_text(script)
+        (self.folder / "slow").chmod(0o755)
+        for program, is_shown in ((str(self.folder / "slow"), True), (None, False)):
             leader, follower = pty.openpty()
             surroundings = self.surroundings(**({"MMDEPEND": program} if program else {}))
             process = subprocess.Popen(
                 [str(MMQUERY), "uncited", "small.mm", "--no-cache"],
-                cwd=self.room,
+                cwd=self.folder,
                 env=surroundings,
                 stdout=subprocess.DEVNULL,
                 stderr=follower,

@@ -11,7 +11,7 @@ from pathlib import Path
 from unittest import mock
 
 from query import cache
-from query.tests.world import MMQUERY, SMALL, Came, World, program
+from query.tests.world import MMQUERY, SMALL, Done, World, program
 
 CHAPTERS = ("chapters", "small.mm")
 
@@ -22,7 +22,7 @@ class Cache(World):
     def setUp(self) -> None:
         super().setUp()
         self.write("small.mm", SMALL)
-        self.folder = self.cache / "mmquery"
+        self.cached = self.cache / "mmquery"
         self.wanted = ["ax-1", "ax-mp"]
 
     def places(self) -> dict[str, str]:
@@ -32,18 +32,18 @@ class Cache(World):
     def counted(self) -> str:
         """A program that notes each time that it verifies something."""
         script = f'#!/bin/sh\n[ "$1" = --version ] || echo x >>runs\nexec {program()} "$@"\n'
-        (self.room / "counted").write_text(script)
-        (self.room / "counted").chmod(0o755)
+        (self.folder / "counted").write_text(script)
+        (self.folder / "counted").chmod(0o755)
         return "./counted"
 
     def runs(self) -> int:
         """How many times that was."""
-        path = self.room / "runs"
+        path = self.folder / "runs"
         return path.read_text().count("x") if path.exists() else 0
 
     def files(self) -> list[Path]:
         """What is kept."""
-        return sorted(self.folder.glob("*")) if self.folder.exists() else []
+        return sorted(self.cached.glob("*")) if self.cached.exists() else []
 
     def test_a_second_question_is_answered_from_it(self) -> None:
         counted = self.counted()
@@ -133,9 +133,9 @@ class Cache(World):
             return cache.load(key)
 
     def test_folders_that_can_not_be_used(self) -> None:
-        (self.room / "file").write_text("")
+        (self.folder / "file").write_text("")
         for variable in ("XDG_CACHE_HOME", "XDG_CONFIG_HOME"):
-            for place in (str(self.room / "file"), "/proc", "/dev/null"):
+            for place in (str(self.folder / "file"), "/proc", "/dev/null"):
                 more = {variable: place}
                 self.assertEqual(self.answers("rests", "small.mm", "a2", **more), self.wanted)
         more = {"XDG_CACHE_HOME": "", "HOME": ""}
@@ -143,16 +143,16 @@ class Cache(World):
         self.refuses("cache", why="HOME isn't set", **more)
         more = {"XDG_CACHE_HOME": "relative"}
         self.assertEqual(self.answers("rests", "small.mm", "a2", **more), self.wanted)
-        self.assertFalse((self.room / "relative").exists())
-        self.assertTrue((self.room / ".cache" / "mmquery").exists())
+        self.assertFalse((self.folder / "relative").exists())
+        self.assertTrue((self.folder / ".cache" / "mmquery").exists())
 
     def test_show_and_clear(self) -> None:
         self.answers("rests", "small.mm", "a2")
         (row,) = self.query("cache", "--format=json").rows()
         size = sum(file.stat().st_size for file in self.files())
-        self.assertEqual(row, {"folder": str(self.folder), "results": 1, "bytes": size})
+        self.assertEqual(row, {"folder": str(self.cached), "results": 1, "bytes": size})
         for _ in range(2):
-            self.assertEqual(self.query("cache", "clear"), Came("", "", 0))
+            self.assertEqual(self.query("cache", "clear"), Done("", "", 0))
             self.assertEqual(self.files(), [])
 
     def test_several_at_once(self) -> None:
@@ -162,7 +162,7 @@ class Cache(World):
             some = [
                 subprocess.Popen(
                     command,
-                    cwd=self.room,
+                    cwd=self.folder,
                     env=self.surroundings(),
                     stdout=subprocess.PIPE,
                     stderr=subprocess.PIPE,
@@ -175,8 +175,8 @@ class Cache(World):
             self.assertEqual(clear.wait(), 0)
 
     def test_what_goes_while_the_folder_is_listed(self) -> None:
-        self.folder.mkdir(mode=0o700)
-        unfinished = self.folder / ".new-1-0d"
+        self.cached.mkdir(mode=0o700)
+        unfinished = self.cached / ".new-1-0d"
         unfinished.write_text("x")
         listed = os.scandir
 
@@ -200,7 +200,7 @@ class Cache(World):
         ):
             for number, key in enumerate(keys[:8]):
                 cache.store(key, {"part": bytes(2000)})
-                os.utime(self.folder / key, (number, number))
+                os.utime(self.cached / key, (number, number))
                 if number > 0:
                     self.assertIsNotNone(cache.load(keys[0]))  # used now, so it isn't the oldest
             names = [file.name for file in self.files()]
@@ -210,20 +210,20 @@ class Cache(World):
             self.assertLessEqual(sum(file.stat().st_size for file in self.files()), 10_000)
 
     def test_unfinished_files_that_were_left_behind_go(self) -> None:
-        self.folder.mkdir()
-        old, new = self.folder / ".new-1-0d", self.folder / ".new-2-ee"
+        self.cached.mkdir()
+        old, new = self.cached / ".new-1-0d", self.cached / ".new-2-ee"
         for file in (old, new):
             file.write_text("x")
         past = time.time() - 7200
         os.utime(old, (past, past))
-        other = self.folder / "letter.txt"
+        other = self.cached / "letter.txt"
         other.write_text("x")
         os.utime(other, (past, past))
         self.answers("rests", "small.mm", "a2")
         self.assertFalse(old.exists())
         self.assertTrue(new.exists())
         new.unlink()
-        self.assertEqual(self.query("cache", "clear"), Came("", "", 0))
+        self.assertEqual(self.query("cache", "clear"), Done("", "", 0))
         self.assertEqual(self.files(), [other])
 
 

@@ -9,7 +9,7 @@ import unittest
 from pathlib import Path
 
 from query.tests.repositories import ADDED, BASE, WATCH, Repositories, changed
-from query.tests.world import PROGRAM_FOR_NODE, TOP, Came, World, built_program
+from query.tests.world import PROGRAM_FOR_NODE, TOP, Done, World, built_program
 
 SCRIPT = TOP / "docs" / "ci" / "check-database"
 JOB = TOP / "docs" / "ci" / "github.yml"
@@ -69,36 +69,36 @@ class Script(Repositories):
 
     def setUp(self) -> None:
         super().setUp()
-        self.packed = self.room.parent / "packed.tar.gz"
-        folder = self.room.parent / "mmdepend-0"
+        self.packed = self.folder.parent / "packed.tar.gz"
+        folder = self.folder.parent / "mmdepend-0"
         folder.mkdir()
         shutil.copy(TOP / "mmquery", folder)
         shutil.copy(built_program(), folder / "mmdepend")
         shutil.copy(PROGRAM_FOR_NODE, folder)
         hidden = shutil.ignore_patterns("tests", "__pycache__")
         shutil.copytree(TOP / "query", folder / "query", ignore=hidden)
-        self.folder = folder
+        self.unpacked = folder
         self.write_sums()
         self.pack()
 
     def write_sums(self) -> None:
         """Lists all files of the folder with their sums, as `sha256sum` does, by their names."""
-        listed = self.folder / "SHA256SUMS"
-        files = (path for path in self.folder.rglob("*") if path.is_file() and path != listed)
-        sums = {str(path.relative_to(self.folder)): self.sum(path) for path in files}
+        listed = self.unpacked / "SHA256SUMS"
+        files = (path for path in self.unpacked.rglob("*") if path.is_file() and path != listed)
+        sums = {str(path.relative_to(self.unpacked)): self.sum(path) for path in files}
         listed.write_text("".join(f"{sums[name]}  {name}\n" for name in sorted(sums)))
 
     def pack(self) -> None:
         """Packs the folder."""
         with tarfile.open(self.packed, "w:gz") as packed:
-            packed.add(self.folder, "mmdepend-0")
+            packed.add(self.unpacked, "mmdepend-0")
 
     @staticmethod
     def sum(path: Path) -> str:
         """The SHA-256 of a file."""
         return hashlib.sha256(path.read_bytes()).hexdigest()
 
-    def check(self, **more: str) -> Came:
+    def check(self, **more: str) -> Done:
         """Runs the script."""
         surroundings = self.surroundings(
             PACKED=f"file://{self.packed}",
@@ -110,24 +110,24 @@ class Script(Repositories):
         del surroundings["MMDEPEND"]
         done = subprocess.run(
             ["sh", str(SCRIPT)],
-            cwd=self.room,
+            cwd=self.folder,
             env={**surroundings, **more},
             capture_output=True,
             check=False,
         )
-        return Came(done.stdout.decode(), done.stderr.decode(), done.returncode)
+        return Done(done.stdout.decode(), done.stderr.decode(), done.returncode)
 
     @property
     def kept(self) -> Path:
         """Where things are kept."""
-        return self.room.parent / "kept"
+        return self.folder.parent / "kept"
 
     def test_it_passes(self) -> None:
         self.branch()
         self.commit(BASE + ADDED)
-        came = self.check()
-        self.assertEqual((came.status, came.err), (0, ""), came)
-        self.assertRegex(came.out, r"\Apassed: [0-9a-f]{40}:db\.mm compared with main, ")
+        done = self.check()
+        self.assertEqual((done.status, done.err), (0, ""), done)
+        self.assertRegex(done.out, r"\Apassed: [0-9a-f]{40}:db\.mm compared with main, ")
         self.assertIn("new\ttheorem\tnew\t", (self.kept / "changes.tsv").read_text())
         self.assertIn("</html>", (self.kept / "page.html").read_text())
         self.assertIn("passed", (self.kept / "summary.md").read_text())
@@ -138,65 +138,65 @@ class Script(Repositories):
         self.branch()
         cheat = "ax-cheat $a |- ( 2 + 2 ) = 4 $.\n2p2e4 $p"
         self.commit(changed(BASE, ("2p2e4 $p", cheat), ENDS_IN_A_CHEAT))
-        came = self.check()
-        self.assertEqual((came.status, came.err), (1, ""))
-        self.assertIn("ax-cheat: a new axiom", came.out)
+        done = self.check()
+        self.assertEqual((done.status, done.err), (1, ""))
+        self.assertIn("ax-cheat: a new axiom", done.out)
         self.assertIn("new\taxiom\tax-cheat", (self.kept / "changes.tsv").read_text())
 
     def test_a_database_that_is_refused(self) -> None:
         self.branch()
         self.commit(changed(BASE, ("$= df-4 $.", "$= $.")))
-        came = self.check()
-        self.assertEqual(came.status, 1)
-        self.assertRegex(came.out, r"\A[0-9a-f]{40}:db\.mm:10:\d+: refused E31")
+        done = self.check()
+        self.assertEqual(done.status, 1)
+        self.assertRegex(done.out, r"\A[0-9a-f]{40}:db\.mm:10:\d+: refused E31")
 
     def test_no_answer(self) -> None:
         self.assertEqual(self.check(BASE="nowhere").status, 2)
         for more in ({"SHA256": "0" * 64}, {"SHA256": ""}, {"PACKED": ""}):
             self.assertEqual(self.check(**more).status, 3, more)
         self.assertEqual(self.check(PACKED="file:///nowhere").status, 3)
-        self.assertEqual(WATCH, (self.room / "mmdepend.toml").read_text())
+        self.assertEqual(WATCH, (self.folder / "mmdepend.toml").read_text())
 
     def test_what_is_unpacked_is_the_list(self) -> None:
-        (self.folder / "query" / "more.py").write_text("")
+        (self.unpacked / "query" / "more.py").write_text("")
         self.pack()
-        came = self.check()
-        self.assertEqual((came.status, came.out), (3, ""))
-        (self.folder / "query" / "more.py").unlink()
-        (self.folder / "argparse.py").symlink_to("mmquery")
+        done = self.check()
+        self.assertEqual((done.status, done.out), (3, ""))
+        (self.unpacked / "query" / "more.py").unlink()
+        (self.unpacked / "argparse.py").symlink_to("mmquery")
         self.pack()
         self.assertEqual(self.check().status, 3)
 
     def test_what_a_pull_request_puts_into_the_working_tree(self) -> None:
         self.branch()
         cheat = "ax-cheat $a |- ( 2 + 2 ) = 4 $.\n2p2e4 $p"
-        (self.room / "kept" / "mmdepend" / "query").mkdir(parents=True)
+        (self.folder / "kept" / "mmdepend" / "query").mkdir(parents=True)
         for name in ("kept/mmdepend/argparse.py", "argparse.py", "query.py"):
             self.write(name, "import os; os._exit(0)\n")
-        (self.room / "kept" / "changes.tsv").symlink_to("mmdepend/mmquery")
+        (self.folder / "kept" / "changes.tsv").symlink_to("mmdepend/mmquery")
         self.write("mmdepend-0.1.0-x86_64-linux.tar.gz", b"")
         self.write("tmp", "")
         self.commit(changed(BASE, ("2p2e4 $p", cheat), ENDS_IN_A_CHEAT))
         for kept in (str(self.kept), ""):
-            came = self.check(KEPT=kept)
-            self.assertEqual((came.status, came.err), (1, ""))
+            done = self.check(KEPT=kept)
+            self.assertEqual((done.status, done.err), (1, ""))
         self.assertEqual(self.check(KEPT="kept").status, 3)
-        (self.room / "tmp").unlink()
-        (self.room / "tmp").mkdir()
-        for folder in (str(self.room / "tmp"), "tmp"):
+        (self.folder / "tmp").unlink()
+        (self.folder / "tmp").mkdir()
+        for folder in (str(self.folder / "tmp"), "tmp"):
             self.assertEqual(self.check(TMPDIR=folder).status, 3)
-            self.assertEqual(list((self.room / "tmp").iterdir()), [])
+            self.assertEqual(list((self.folder / "tmp").iterdir()), [])
 
     def test_what_is_unpacked_already(self) -> None:
         self.branch()
         self.commit(BASE + ADDED)
-        came = self.check(PACKED="", SHA256="", UNPACKED=str(self.folder))
-        self.assertEqual((came.status, came.err), (0, ""), came)
+        done = self.check(PACKED="", SHA256="", UNPACKED=str(self.unpacked))
+        self.assertEqual((done.status, done.err), (0, ""), done)
         self.assertEqual(self.check(UNPACKED="nowhere", KEPT="").status, 3)
-        shutil.copytree(self.folder, self.room / "unpacked")
+        shutil.copytree(self.unpacked, self.folder / "unpacked")
         self.assertEqual(self.check(UNPACKED="unpacked", KEPT="").status, 3)
-        (self.folder / "query" / "more.py").write_text("")
-        self.assertEqual(self.check(UNPACKED=str(self.folder), KEPT="").status, 3)
+        (self.unpacked / "query" / "more.py").write_text("")
+        self.assertEqual(self.check(UNPACKED=str(self.unpacked), KEPT="").status, 3)
 
     def test_another_configuration_of_the_base(self) -> None:
         self.write("more.toml", f"{WATCH}allow = ['ax-cheat']\n")
@@ -205,23 +205,23 @@ class Script(Repositories):
         cheat = "ax-cheat $a |- ( 2 + 2 ) = 4 $.\n2p2e4 $p"
         self.commit(changed(BASE, ("2p2e4 $p", cheat), ENDS_IN_A_CHEAT))
         self.assertEqual(self.check().status, 1)
-        came = self.check(CONFIG="nowhere.toml", KEPT="")
-        self.assertEqual(came.status, 2, came)
+        done = self.check(CONFIG="nowhere.toml", KEPT="")
+        self.assertEqual(done.status, 2, done)
 
     def test_the_action(self) -> None:
-        (self.folder / "docs" / "ci").mkdir(parents=True)
-        shutil.copy(SCRIPT, self.folder / "docs" / "ci")
+        (self.unpacked / "docs" / "ci").mkdir(parents=True)
+        shutil.copy(SCRIPT, self.unpacked / "docs" / "ci")
         self.write_sums()
         self.branch()
         self.commit(changed(BASE, ("2p2e4 $p", "ax-cheat $a |- ( 2 + 2 ) = 4 $.\n2p2e4 $p")))
-        runner = self.room.parent / "runner"
+        runner = self.folder.parent / "runner"
         runner.mkdir()
         new = self.git("rev-parse", "HEAD").strip()
         surroundings = self.surroundings(
-            GITHUB_ACTION_PATH=str(self.folder),
+            GITHUB_ACTION_PATH=str(self.unpacked),
             GITHUB_STEP_SUMMARY=str(runner / "summary.md"),
             RUNNER_TEMP=str(runner),
-            REPOSITORY=str(self.room),
+            REPOSITORY=str(self.folder),
             NEW_COMMIT=new,
             BASE_COMMIT="refs/heads/main",
             DATABASE="db.mm",
@@ -233,7 +233,7 @@ class Script(Repositories):
         statuses = [
             subprocess.run(
                 ["bash", "-e", "-c", block],
-                cwd=self.room.parent,
+                cwd=self.folder.parent,
                 env=surroundings,
                 capture_output=True,
                 check=False,
@@ -250,11 +250,11 @@ class Modules(World):
     """Modules of ours come from our package, and no other ones from beside it."""
 
     def test_what_lies_beside_mmquery(self) -> None:
-        shutil.copy(TOP / "mmquery", self.room)
+        shutil.copy(TOP / "mmquery", self.folder)
         hidden = shutil.ignore_patterns("tests", "__pycache__")
-        shutil.copytree(TOP / "query", self.room / "query", ignore=hidden)
+        shutil.copytree(TOP / "query", self.folder / "query", ignore=hidden)
         for name in ("argparse", "query", "re", "tomllib"):
             self.write(f"{name}.py", "import os; os._exit(0)\n")
-        came = self.ran("./mmquery", "gate", "nowhere.mm", PYTHONPATH=str(self.room))
-        self.assertEqual(came.status, 2)
-        self.assertIn("there is no such file", came.err)
+        done = self.ran("./mmquery", "gate", "nowhere.mm", PYTHONPATH=str(self.folder))
+        self.assertEqual(done.status, 2)
+        self.assertIn("there is no such file", done.err)

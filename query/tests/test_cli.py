@@ -11,7 +11,7 @@ import unittest
 
 from query.commands import command, names
 from query.tests.commands import WHOLE, WORDS, words_of
-from query.tests.world import HOSTILE, MMQUERY, SMALL, Came, World, invented
+from query.tests.world import HOSTILE, MMQUERY, SMALL, Done, World, invented
 
 import random
 
@@ -129,13 +129,13 @@ class CommandLine(World):
             for words in (("falls",), ("cites",), ("cited-by",), ("frees",), ("way-out",)):
                 self.assertEqual(self.answers(*words, "u.mm", label), [])
             self.assertEqual(self.answers("way-out", "u.mm", "a2", label), [])
-            came = self.query("why", "u.mm", "a2", label)
-            self.assertEqual((came.out, came.status), ("", 0))
-            self.assertEqual(came.err, f"mmquery: a2 doesn't rest on {label}\n")
+            done = self.query("why", "u.mm", "a2", label)
+            self.assertEqual((done.out, done.status), ("", 0))
+            self.assertEqual(done.err, f"mmquery: a2 doesn't rest on {label}\n")
         self.assertEqual(self.answers("rests", "u.mm", "wu"), [])
         self.assertEqual(self.answers("rests", "u.mm", "--all", "wu"), ["wu"])
-        came = self.query("why", "u.mm", "ax-1", "a2")
-        self.assertEqual(came.err, "mmquery: ax-1 doesn't rest on a2, but a2 on ax-1\n")
+        done = self.query("why", "u.mm", "ax-1", "a2")
+        self.assertEqual(done.err, "mmquery: ax-1 doesn't rest on a2, but a2 on ax-1\n")
 
     def test_lists(self) -> None:
         self.write("list", b"# some\r\nax-1 # one\r\n\n  ax-mp")
@@ -152,8 +152,8 @@ class CommandLine(World):
         words = ("cites", "small.mm", "a2", "a1i")
         pairs = [("a2", "wi"), ("a2", "a1i"), ("a1i", "wi"), ("a1i", "ax-1"), ("a1i", "ax-mp")]
         rows = [{"theorem": one, "cited": other} for one, other in pairs]
-        came = self.query(*words, "--format", "json")
-        self.assertEqual(came.rows(), rows)
+        done = self.query(*words, "--format", "json")
+        self.assertEqual(done.rows(), rows)
         tabs = ["theorem\tcited"] + ["\t".join(pair) for pair in pairs]
         self.assertEqual(self.answers(*words, "--format=tsv"), tabs)
         text = "\n".join(self.answers(*words, "--format=csv"))
@@ -172,13 +172,13 @@ class CommandLine(World):
             wanted = [axiom for axiom in world.axioms if axiom in world.rests(label) | {label}]
             self.assertEqual(self.answers("rests", "hostile.mm", "--", label), wanted)
             self.assertEqual(self.answers("falls", "hostile.mm", "--", label), world.users(label))
-            came = self.query("falls", "hostile.mm", "--format=json", "--", label)
-            self.assertEqual([row["theorem"] for row in came.rows()], world.users(label))
+            done = self.query("falls", "hostile.mm", "--format=json", "--", label)
+            self.assertEqual([row["theorem"] for row in done.rows()], world.users(label))
         for form in ("dot", "graphml", "edges"):
-            came = self.query("graph", "hostile.mm", f"--as={form}")
-            self.assertEqual((came.status, came.err), (0, ""))
+            done = self.query("graph", "hostile.mm", f"--as={form}")
+            self.assertEqual((done.status, done.err), (0, ""))
             for label in world.cites:
-                self.assertIn(label, came.out)
+                self.assertIn(label, done.out)
 
     def test_a_label_is_never_an_option(self) -> None:
         self.write("n.mm", SMALL.replace("a2 ", "--help ").replace("a1i", "-n"))
@@ -207,8 +207,8 @@ class Places(World):
         }.items():
             self.write(name, packed)
             self.assertEqual(self.answers("rests", name, "a2"), self.wanted)
-            came = self.query("rests", "-", "a2", given=packed)
-            self.assertEqual((came.lines(), came.err), (self.wanted, ""))
+            done = self.query("rests", "-", "a2", given=packed)
+            self.assertEqual((done.lines(), done.err), (self.wanted, ""))
             for cut in (4, len(packed) // 2, len(packed) - 3):
                 self.write("cut", packed[:cut])
                 if name != "two.gz":
@@ -219,14 +219,14 @@ class Places(World):
         self.refuses("rests", "broken.gz", "a2", why="damaged")
 
     def test_standard_input_and_pipes(self) -> None:
-        came = self.query("rests", "-", "a2", given=SMALL.encode())
-        self.assertEqual((came.lines(), came.err, came.status), (self.wanted, "", 0))
-        came = self.shell("cat small.mm | {} rests /dev/stdin a2")
-        self.assertEqual((came.lines(), came.err), (self.wanted, ""))
-        came = self.shell("{} rests <(cat small.mm) a2")
-        self.assertEqual((came.lines(), came.err), (self.wanted, ""))
+        done = self.query("rests", "-", "a2", given=SMALL.encode())
+        self.assertEqual((done.lines(), done.err, done.status), (self.wanted, "", 0))
+        done = self.shell("cat small.mm | {} rests /dev/stdin a2")
+        self.assertEqual((done.lines(), done.err), (self.wanted, ""))
+        done = self.shell("{} rests <(cat small.mm) a2")
+        self.assertEqual((done.lines(), done.err), (self.wanted, ""))
 
-    def shell(self, command: str) -> Came:
+    def shell(self, command: str) -> Done:
         """Runs a command of bash with mmquery at each `{}`."""
         return self.ran("bash", "-c", command.format(MMQUERY))
 
@@ -248,8 +248,8 @@ class Places(World):
         self.write("empty.mm", "")
         for name in WORDS:
             if "DB" in WORDS[name] and name not in ("verify", "set-proof"):
-                came = self.query(*words_of(name, "empty.mm"))
-                self.assertEqual((came.status, came.out, came.err.count("\n")), (2, "", 1), name)
+                done = self.query(*words_of(name, "empty.mm"))
+                self.assertEqual((done.status, done.out, done.err.count("\n")), (2, "", 1), name)
 
     def test_the_program_is_missing_or_fails(self) -> None:
         self.refuses("rests", "small.mm", "a2", MMDEPEND="/nowhere", why="no program /nowhere")
@@ -260,10 +260,10 @@ class Places(World):
             "echo nonsense": "small.mm: the program said something that isn't understood",
             "exit 1": "status 1",
         }.items():
-            (self.room / "fake").write_text(
+            (self.folder / "fake").write_text(
                 f'#!/bin/sh\n[ "$1" != --version ] || exit 0\n{script}\n'
             )
-            (self.room / "fake").chmod(0o755)
+            (self.folder / "fake").chmod(0o755)
             self.refuses("rests", "small.mm", "a2", MMDEPEND="./fake", why=why)
 
 

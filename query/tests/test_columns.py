@@ -35,7 +35,7 @@ class Columns(World):
         self.write("db.mm", WHOLE)
         self.write("newer.mm", NEWER)
         self.write("open.mm", SMALL + "todo $p |- p $= ? $. new $p |- p $= wp todo $.\n")
-        keep_in_git(self.room)
+        keep_in_git(self.folder)
 
     def head(self, *words: str) -> str:
         """The names of the columns, which are the same in each form for programs."""

@@ -7,7 +7,7 @@ from unittest import mock
 
 from query.statements import difference, statement_of
 from query.tests.generations import Generation, generation, next_generation
-from query.tests.world import SMALL, World, asked, built_program, told_of
+from query.tests.world import SMALL, World, asked, built_program, database_text
 
 Row = dict[str, str]
 COLUMNS = ("change", "kind", "label", "was", "axiom", "citing", "cited")
@@ -61,7 +61,7 @@ class Comparisons(World):
 
     def rows(self, *words: str) -> list[Row]:
         """The rows that compare answers."""
-        names = [str(self.room / word) if word.endswith(".mm") else word for word in words]
+        names = [str(self.folder / word) if word.endswith(".mm") else word for word in words]
         return [dict(zip(COLUMNS, row, strict=True)) for row in asked("compare", *names)]
 
     def test_rows(self) -> None:
@@ -122,7 +122,8 @@ class Comparisons(World):
                 self.write(f"{name}.{number}.report", text)
                 del side
             rows = asked(
-                "compare", *(str(self.room / f"{name}.{number}.report") for name in ("old", "new"))
+                "compare",
+                *(str(self.folder / f"{name}.{number}.report") for name in ("old", "new")),
             )
             labels = {part.label for part in old.parts}
             new_ones = {part.label for part in new.parts} - labels
@@ -143,8 +144,8 @@ class Comparisons(World):
             lines = [f"{label!r}" for label in (part.label for part in watched)]
             asked = f"typecode = '|-'\nwatch = [{', '.join(lines)}]\n"
             self.write("mmdepend.toml", asked)
-            came = self.query("gate", "--format", "json", f"old.{number}.mm", f"new.{number}.mm")
-            found = self.json_findings(came.out)
+            done = self.query("gate", "--format", "json", f"old.{number}.mm", f"new.{number}.mm")
+            found = self.json_findings(done.out)
             wanted = set()
             for part in new.parts:
                 if part.is_axiom:
@@ -183,7 +184,7 @@ class Statements(World):
 
     def compared(self, first: str, second: str) -> str:
         """In what two assertions differ."""
-        texts = [told_of((self.HEAD + each).encode()) for each in (first, second)]
+        texts = [database_text((self.HEAD + each).encode()) for each in (first, second)]
         one, other = (statement_of(text.assertions[-1]) for text in texts)
         self.assertEqual(one == other, not difference(one, other))
         return difference(one, other)

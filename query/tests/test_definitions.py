@@ -7,9 +7,9 @@ import unittest
 from collections.abc import Sequence
 
 from query.definitions import Definitions
-from query.grammar import Grammar, NotRead, Reader, Tree
+from query.grammar import Grammar, NotRead, FormulaReader, Tree
 from query.tests.repositories import changed
-from query.tests.world import DATABASES, World, program, told_of
+from query.tests.world import DATABASES, World, program, database_text
 
 LOGIC = """$c |- wff class setvar ( ) <-> -> A. = e. { | } T. E. C_ Foo F/ [ / ] $.
 $v ph ps x y z A B C $.
@@ -155,7 +155,7 @@ class RealDatabases(unittest.TestCase):
         path = DATABASES / name
         if not path.exists():
             self.skipTest(f"{name} isn't installed")
-        verdicts = list(Definitions(told_of(path.read_bytes()).assertions).verdicts())
+        verdicts = list(Definitions(database_text(path.read_bytes()).assertions).verdicts())
         broken = {each.label for each in verdicts if each.is_sound is False}
         left = {each.label: str(each.why) for each in verdicts if each.is_sound is None}
         return len(verdicts), broken, left
@@ -288,7 +288,7 @@ class Trees(unittest.TestCase):
         deep = ["a"] * 20_000 + ["P"]
         self.assertEqual(len(grammar.tree("p", deep, self.VARIABLES).rules), 20_000)
         grammar.add("two", "p", ["P", "P"], self.VARIABLES)
-        reader = Reader(grammar, ["P"] * 3000, self.VARIABLES)
+        reader = FormulaReader(grammar, ["P"] * 3000, self.VARIABLES)
         with self.assertRaisesRegex(NotRead, "too long"):
             reader.tree("p")
         self.assertLess(reader.left, 0)
@@ -316,7 +316,7 @@ class Trees(unittest.TestCase):
             grammar = Grammar()
             for number, body in enumerate(rules):
                 grammar.add(f"r{number}", "p", body, VARIABLES)
-            reader = Reader(grammar, symbols, VARIABLES)
+            reader = FormulaReader(grammar, symbols, VARIABLES)
             before = reader.left
             if told is None:
                 self.assertTrue(reader.tree("p").rules)

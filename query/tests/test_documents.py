@@ -146,7 +146,7 @@ class Commands(World):
         super().setUp()
         self.write("set.mm", stand_in())
         self.write("pull.mm", stand_in() + "wbad $a wff ( p -> p ) $.\n")
-        programs = self.room.parent / "programs"
+        programs = self.folder.parent / "programs"
         programs.mkdir()
         (programs / "mmdepend").symlink_to(built_program())
         self.path = f"{programs}:{TOP}:{self.surroundings()['PATH']}"
@@ -160,8 +160,8 @@ class Commands(World):
             script = (
                 f'{line}\nfor each in "${{PIPESTATUS[@]}}"; do [ "$each" -lt 2 ] || exit 9; done'
             )
-            came = self.ran("bash", "-c", script, PATH=self.path)
-            self.assertEqual(came.status, 0, f"{page}: {line}\n{came.err}")
+            done = self.ran("bash", "-c", script, PATH=self.path)
+            self.assertEqual(done.status, 0, f"{page}: {line}\n{done.err}")
         return len(lines)
 
     def test_the_stand_in(self) -> None:
@@ -180,10 +180,10 @@ class Commands(World):
         for block in blocks():
             if (block.page, block.kind) == ("docs/COOKBOOK.md", "sh"):
                 if "ln -s" in block.text:
-                    (self.room / "set.mm").unlink()
-                came = self.ran("bash", "-e", "-c", block.text, PATH=self.path)
-                self.assertEqual(came, self.ran("true"), block.text)
-                (self.room / "set.mm").unlink()
+                    (self.folder / "set.mm").unlink()
+                done = self.ran("bash", "-e", "-c", block.text, PATH=self.path)
+                self.assertEqual(done, self.ran("true"), block.text)
+                (self.folder / "set.mm").unlink()
                 self.write("set.mm", stand_in())
         self.assertEqual(self.answers("cites", "report", "zorn"), ["numth3"])
 
@@ -219,43 +219,43 @@ class Publishing(unittest.TestCase):
     """docs/PUBLISHING.md, with commands that publish nothing."""
 
     def setUp(self) -> None:
-        room = tempfile.TemporaryDirectory(prefix="mmquery-test-")
-        self.addCleanup(room.cleanup)
-        self.room = Path(room.name)
-        (self.room / "repository").mkdir()
+        folder = tempfile.TemporaryDirectory(prefix="mmquery-test-")
+        self.addCleanup(folder.cleanup)
+        self.folder = Path(folder.name)
+        (self.folder / "repository").mkdir()
         install = (TOP / "docs" / "INSTALL.md").read_text("utf-8")
         self.names = sorted(
             set(re.findall(r"mmdepend[-_][\w.-]+\.(?:whl|tgz|deb|tar\.gz)", install))
         )
         self.script("repository/package", PACKING.format(names=" ".join(self.names)))
         self.script("repository/test", "#!/bin/sh\n")
-        (self.room / "repository" / "CHANGELOG.md").touch()
-        (self.room / "commands").mkdir()
+        (self.folder / "repository" / "CHANGELOG.md").touch()
+        (self.folder / "commands").mkdir()
         for name in "git gpg gh twine npm reprepro".split():
             self.script(f"commands/{name}", RECORDING)
 
     def script(self, name: str, text: str) -> None:
         """Writes a file that can be run."""
-        (self.room / name).write_text(text)
-        (self.room / name).chmod(0o755)
+        (self.folder / name).write_text(text)
+        (self.folder / name).chmod(0o755)
 
     def test_the_steps(self) -> None:
         steps = [block.text for block in blocks() if block.page == "docs/PUBLISHING.md"]
-        surroundings = {"HOME": str(self.room), "PATH": f"{self.room}/commands:/usr/bin:/bin"}
+        surroundings = {"HOME": str(self.folder), "PATH": f"{self.folder}/commands:/usr/bin:/bin"}
         done = subprocess.run(
             ["sh", "-e", "-c", "\n".join(steps)],
-            cwd=self.room,
+            cwd=self.folder,
             env=surroundings,
             capture_output=True,
             text=True,
             check=False,
         )
         self.assertEqual((done.returncode, done.stderr), (0, ""))
-        called = (self.room / "called").read_text()
+        called = (self.folder / "called").read_text()
         self.assertEqual(len(self.names), 5)
         for name in self.names:
             self.assertIn(f"out/{name}", called, "a file that isn't published")
-        sums = (self.room / "release" / "SHA256SUMS").read_text().split()[1::2]
+        sums = (self.folder / "release" / "SHA256SUMS").read_text().split()[1::2]
         self.assertEqual(sorted(sums), self.names)
         for word in ("gh release create", "twine upload", "npm publish", "git push REPOSITORY"):
             self.assertIn(word, called)

@@ -33,7 +33,7 @@ class Export(World):
     def tables(self, name: str, *words: str) -> sqlite3.Connection:
         """The tables of a database."""
         self.answers("export", "--sqlite", "out.db", *words, name)
-        connection = sqlite3.connect(self.room / "out.db")
+        connection = sqlite3.connect(self.folder / "out.db")
         self.addCleanup(connection.close)
         return connection
 
@@ -84,32 +84,32 @@ class Export(World):
         self.write("small.mm", SMALL)
         self.answers("export", "--sqlite", "out.db", "small.mm")
         self.answers("export", "--sqlite", "out.db", "--all", "small.mm")
-        self.assertEqual(sorted(os.listdir(self.room)), ["out.db", "small.mm"])
-        with sqlite3.connect(self.room / "other.db") as other:
+        self.assertEqual(sorted(os.listdir(self.folder)), ["out.db", "small.mm"])
+        with sqlite3.connect(self.folder / "other.db") as other:
             other.execute("CREATE TABLE mine (a)")
         for name in ("small.mm", "other.db", "/dev/full", "."):
-            before = (self.room / name).read_bytes() if name in ("small.mm", "other.db") else b""
+            before = (self.folder / name).read_bytes() if name in ("small.mm", "other.db") else b""
             self.refuses("export", "--sqlite", name, "small.mm", why="is there already")
             if before:
-                self.assertEqual((self.room / name).read_bytes(), before)
+                self.assertEqual((self.folder / name).read_bytes(), before)
         self.refuses(
             "export", "--sqlite", "no/where.db", "small.mm", why="no/where.db: no such file"
         )
         self.refuses("export", "small.mm", why="--sqlite")
         self.write("bad.mm", SMALL + "$c wff $.")
         self.refuses("export", "--sqlite", "bad.db", "bad.mm", why="refused E13")
-        self.assertFalse((self.room / "bad.db").exists())
+        self.assertFalse((self.folder / "bad.db").exists())
         self.assertEqual(
-            sorted(os.listdir(self.room)), ["bad.mm", "other.db", "out.db", "small.mm"]
+            sorted(os.listdir(self.folder)), ["bad.mm", "other.db", "out.db", "small.mm"]
         )
 
     def test_files_may_not_grow(self) -> None:
         self.write("small.mm", SMALL)
         words = ["export", "--sqlite", "out.db", "small.mm"]
-        came = self.query_by_shell('ulimit -f 8; exec "$@"', *words)
-        self.assertEqual(came.status, 2, came)
-        self.assertRegex(came.err, r"\Ammquery: out\.db: [^\n]*\n\Z")
-        self.assertEqual(os.listdir(self.room), ["small.mm"])
+        done = self.query_by_shell('ulimit -f 8; exec "$@"', *words)
+        self.assertEqual(done.status, 2, done)
+        self.assertRegex(done.err, r"\Ammquery: out\.db: [^\n]*\n\Z")
+        self.assertEqual(os.listdir(self.folder), ["small.mm"])
 
 
 PAGE = (TOP / "docs" / "SQL.md").read_text()
@@ -123,7 +123,7 @@ class Page(World):
         self.assertEqual(len(QUERIES), 10)
         self.write("small.mm", SMALL)
         self.answers("export", "--sqlite", "out.db", "small.mm")
-        connection = sqlite3.connect(self.room / "out.db")
+        connection = sqlite3.connect(self.folder / "out.db")
         self.addCleanup(connection.close)
         for query, _ in QUERIES:
             connection.execute(query).fetchall()
@@ -131,7 +131,7 @@ class Page(World):
     def test_columns_are_told(self) -> None:
         self.write("small.mm", SMALL)
         self.answers("export", "--sqlite", "out.db", "small.mm")
-        connection = sqlite3.connect(self.room / "out.db")
+        connection = sqlite3.connect(self.folder / "out.db")
         self.addCleanup(connection.close)
         names = re.findall(r"^\| (?:`(\w+)` )?\| (.*?) \|", PAGE, re.MULTILINE)
         table, told = "", set()
@@ -148,7 +148,7 @@ class Page(World):
     def test_their_answers(self) -> None:
         words = ("export", "--sqlite", "set.db", str(DATABASES / "set.mm"))
         self.assertIn("\n".join(self.answers(*words)) + "\n```", PAGE)
-        connection = sqlite3.connect(self.room / "set.db")
+        connection = sqlite3.connect(self.folder / "set.db")
         self.addCleanup(connection.close)
         for query, answer in QUERIES:
             rows = connection.execute(query).fetchall()

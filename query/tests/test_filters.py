@@ -101,9 +101,9 @@ class Filtered(World):
             self.assertTrue(whole, name)
             for filters, test in TESTS:
                 want = [row for row in whole if test(str(row[column]))]
-                came = self.query(*asked, *filters)
-                self.assertEqual((came.status, came.rows()), (0, want), (name, filters))
-                self.assertEqual(bool(want), not came.err, (name, filters))
+                done = self.query(*asked, *filters)
+                self.assertEqual((done.status, done.rows()), (0, want), (name, filters))
+                self.assertEqual(bool(want), not done.err, (name, filters))
 
     def test_before_the_number_is_counted(self) -> None:
         """A list that is cut off has as many as are wanted of those that pass."""
@@ -131,6 +131,6 @@ class Filtered(World):
         self.assertEqual(self.answers("uncited", "report", "--like", "s*"), ["six"])
 
     def test_nothing_passes(self) -> None:
-        came = self.query("uncited", "--open", "db.mm", "--like", "x*")
-        self.assertEqual((came.out, came.status), ("", 0))
-        self.assertIn("none of the 3 that there are passes the filters", came.err)
+        done = self.query("uncited", "--open", "db.mm", "--like", "x*")
+        self.assertEqual((done.out, done.status), ("", 0))
+        self.assertIn("none of the 3 that there are passes the filters", done.err)

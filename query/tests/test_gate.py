@@ -69,11 +69,11 @@ class Bases(Repositories):
     """With what a database is compared."""
 
     def test_nothing_is_changed(self) -> None:
-        came = self.query("gate", "--base", "main", "db.mm")
-        self.assertEqual(came.status, 0)
+        done = self.query("gate", "--base", "main", "db.mm")
+        self.assertEqual(done.status, 0)
         commit = self.git("rev-parse", "HEAD")[:12]
-        self.assertEqual(came.lines()[-1], f"passed: db.mm compared with main, {commit}")
-        self.assertIn("note: the base has this commit already", came.out)
+        self.assertEqual(done.lines()[-1], f"passed: db.mm compared with main, {commit}")
+        self.assertIn("note: the base has this commit already", done.out)
 
     def test_the_base_freed_a_theorem(self) -> None:
         self.branch()
@@ -90,11 +90,11 @@ class Bases(Repositories):
 
     def test_the_default_is_origin_main(self) -> None:
         self.has_no_answer("db.mm", why="git has no revision 'origin/main'")
-        clone = self.room / "clone"
-        self.git("clone", "--quiet", str(self.room), str(clone))
+        clone = self.folder / "clone"
+        self.git("clone", "--quiet", str(self.folder), str(clone))
         self.write("clone/db.mm", changed(BASE, CHEAT))
         self.has_no_answer("clone/db.mm", why="clone is a repository or a submodule of its own")
-        self.room = clone
+        self.folder = clone
         self.assertEqual(len(self.gate("db.mm", status=1)), 1)
         self.write("db.mm", BASE + ADDED)
         self.assertEqual(self.gate("db.mm", status=0), [])
@@ -131,15 +131,15 @@ class Bases(Repositories):
     def test_a_hook(self) -> None:
         self.write("db.mm", changed(BASE, CHEAT))
         for folder in (".git", "/nowhere"):
-            came = self.query("gate", "--base", "main", "db.mm", GIT_DIR=folder, GIT_WORK_TREE="/")
-            self.assertEqual((came.status, came.err), (1, ""))
+            done = self.query("gate", "--base", "main", "db.mm", GIT_DIR=folder, GIT_WORK_TREE="/")
+            self.assertEqual((done.status, done.err), (1, ""))
 
     def test_a_bare_repository(self) -> None:
         self.branch()
         self.commit(changed(BASE, CHEAT))
-        bare = self.room.parent / "bare.git"
-        self.git("clone", "--quiet", "--bare", str(self.room), str(bare))
-        self.room = bare
+        bare = self.folder.parent / "bare.git"
+        self.git("clone", "--quiet", "--bare", str(self.folder), str(bare))
+        self.folder = bare
         self.assertEqual(len(self.gate("--base", "main", "work:db.mm", status=1)), 1)
         self.assertEqual(self.gate("--base", "main", "main:db.mm", status=0), [])
 
@@ -148,7 +148,7 @@ class Bases(Repositories):
         self.assertEqual(len(self.gate(status=1)), 1)
 
     def test_a_file_of_a_folder(self) -> None:
-        (self.room / "deep" / "down").mkdir(parents=True)
+        (self.folder / "deep" / "down").mkdir(parents=True)
         self.commit(BASE, "deep/down/other.mm")
         self.branch()
         self.commit(changed(BASE, CHEAT), "deep/down/other.mm")
@@ -169,12 +169,17 @@ class NoAnswers(Repositories):
         self.commit(BASE + ADDED)
         self.git("checkout", "--quiet", "main")
         self.commit(BASE + "\n")
-        clone = self.room / "shallow"
+        clone = self.folder / "shallow"
         self.git(
-            "clone", "--quiet", "--depth=1", "--no-single-branch", f"file://{self.room}", str(clone)
+            "clone",
+            "--quiet",
+            "--depth=1",
+            "--no-single-branch",
+            f"file://{self.folder}",
+            str(clone),
         )
         self.git("checkout", "--quiet", "work", folder=clone)
-        self.room = clone
+        self.folder = clone
         why = "isn't known: the clone is shallow; fetch the whole history (`fetch-depth: 0`)"
         self.has_no_answer("db.mm", why=why)
         self.has_no_answer("--merge-base", "db.mm", why=why)
@@ -198,28 +203,28 @@ class NoAnswers(Repositories):
         self.has_no_answer("db.mm", "nowhere.mm", why="nowhere.mm: there is no such file")
 
     def test_no_repository(self) -> None:
-        outside = self.room.parent / "outside"
+        outside = self.folder.parent / "outside"
         outside.mkdir()
         (outside / "db.mm").write_text(BASE)
         word = str(outside / "db.mm")
         self.has_no_answer("--base", "main", word, why="not in the repository")
-        room, self.room = self.room, outside
+        folder, self.folder = self.folder, outside
         self.has_no_answer("--base", "main", "db.mm", why="not a git repository; without git")
-        self.room = room
+        self.folder = folder
         self.assertEqual(self.gate("db.mm", str(outside / "db.mm"), status=0), [])
 
     def test_no_git(self) -> None:
         os.symlink("/usr/bin/python3", self.temporary / "python3")
-        came = self.query("gate", "--base", "main", "db.mm", PATH=str(self.temporary))
+        done = self.query("gate", "--base", "main", "db.mm", PATH=str(self.temporary))
         (self.temporary / "python3").unlink()
-        self.assertEqual((came.status, came.err), (2, "mmquery: git isn't installed\n"))
+        self.assertEqual((done.status, done.err), (2, "mmquery: git isn't installed\n"))
 
     def test_a_base_that_is_refused(self) -> None:
         self.commit(changed(BASE, ("wp ax-ac2 $.", "wp $.")))
         self.branch()
         self.commit(BASE)
-        came = self.has_no_answer("--base", "main", "db.mm", why="db.mm:12:")
-        self.assertIn("E38", came.err)
+        done = self.has_no_answer("--base", "main", "db.mm", why="db.mm:12:")
+        self.assertIn("E38", done.err)
 
     def test_words_and_options(self) -> None:
         self.has_no_answer("db.mm", "db.mm", "db.mm", why="unrecognized arguments: db.mm")
@@ -256,7 +261,7 @@ class Rules(Repositories):
 
     def breaks(self, rule: str, text: str, *parts: str, allow: str, before: str = BASE) -> None:
         """Checks that a change of the database breaks one rule, unless it is allowed or off."""
-        config = (self.room / "mmdepend.toml").read_text()
+        config = (self.folder / "mmdepend.toml").read_text()
         self.commit(before)
         lines = self.gate_of(text, status=1)
         self.assertEqual(len(lines), len(parts), lines)
@@ -536,7 +541,8 @@ class Rules(Repositories):
         surroundings = {"MMDEPEND": built_program()}
         with mock.patch.dict("os.environ", surroundings), mock.patch.object(parallel, "LARGE", 0):
             old, new = (
-                Database.opened(str(self.room / name), ASKED, False) for name in ("db.mm", "new.mm")
+                Database.opened(str(self.folder / name), ASKED, False)
+                for name in ("db.mm", "new.mm")
             )
             case = Case(Comparison(*sides(old, new)), Config())
             apart = judge(case)
@@ -555,9 +561,9 @@ class Outputs(Repositories):
 
     def test_json(self) -> None:
         self.write("db.mm", changed(BASE, CHEAT))
-        came = self.query("gate", "--base", "main", "--format", "json", "db.mm")
-        self.assertEqual(came.status, 1)
-        answer = json.loads(came.out)
+        done = self.query("gate", "--base", "main", "--format", "json", "db.mm")
+        self.assertEqual(done.status, 1)
+        answer = json.loads(done.out)
         self.assertFalse(answer["passed"])
         self.assertEqual(
             answer["findings"],
@@ -579,15 +585,15 @@ class Outputs(Repositories):
 
     def test_annotations(self) -> None:
         name = "a,b: 100%.mm"
-        (self.room / "sub").mkdir()
+        (self.folder / "sub").mkdir()
         self.commit(BASE, f"sub/{name}")
         self.branch()
         hostile = changed(BASE, CHEAT).replace("( 2 + 2 ) = 4", "::error::%0A,:<b>")
         hostile = changed(hostile, ("$c wff", "$c ::error::%0A,:<b> wff"))
         self.commit(hostile, f"sub/{name}")
-        came = self.query("gate", "--base", "main", "--format", "github", f"sub/{name}")
-        self.assertEqual(came.status, 1)
-        commands = [line for line in came.lines() if line.startswith("::")]
+        done = self.query("gate", "--base", "main", "--format", "github", f"sub/{name}")
+        self.assertEqual(done.status, 1)
+        commands = [line for line in done.lines() if line.startswith("::")]
         self.assertEqual(len(commands), 2)
         self.assertEqual(
             commands[0],
@@ -595,21 +601,21 @@ class Outputs(Repositories):
             "::df-4: a changed axiom: the formula changed, from |- ( 2 + 2 ) = 4 to"
             " |- ::error::%250A,:<b>",
         )
-        self.assertEqual(came.lines()[2][:24], "mmquery gate: 2 findings")
+        self.assertEqual(done.lines()[2][:24], "mmquery gate: 2 findings")
 
     def test_a_file_that_looks_like_a_command(self) -> None:
         name = "::error::x\n::error::y.mm"
         self.commit(BASE, name)
-        came = self.query("gate", "--base", "main", "--format", "github", f"./{name}")
-        self.assertEqual(came.status, 0, came.err)
-        self.assertFalse([line for line in came.lines() if line.startswith("::error")])
+        done = self.query("gate", "--base", "main", "--format", "github", f"./{name}")
+        self.assertEqual(done.status, 0, done.err)
+        self.assertFalse([line for line in done.lines() if line.startswith("::error")])
 
     def test_markdown(self) -> None:
         hostile = changed(BASE, CHEAT).replace("( 2 + 2 ) = 4", "|<script>|`*_[x](y)")
         hostile = changed(hostile, ("$c wff", "$c |<script>|`*_[x](y) wff"))
         self.write("db.mm", hostile)
-        came = self.query("gate", "--base", "main", "--format", "markdown", "db.mm")
-        rows = [line for line in came.lines() if line.startswith("| axioms")]
+        done = self.query("gate", "--base", "main", "--format", "markdown", "db.mm")
+        rows = [line for line in done.lines() if line.startswith("| axioms")]
         self.assertEqual(len(rows), 2)
         self.assertIn(r"\|\<script\>\|\`\*\_\[x\]\(y\)", rows[1])
 
@@ -617,7 +623,7 @@ class Outputs(Repositories):
         self.write("summary.md", "before\n")
         self.write("db.mm", changed(BASE, CHEAT))
         self.gate("--base", "main", "--summary", "summary.md", "db.mm", status=1)
-        text = (self.room / "summary.md").read_text()
+        text = (self.folder / "summary.md").read_text()
         self.assertTrue(text.startswith("before\n### mmquery gate: 1 finding"))
         self.assertIn("| axioms | db.mm\\:10 | ax-cheat |", text)
 
@@ -632,10 +638,10 @@ class Page(Repositories):
         self.git("update-ref", "refs/remotes/origin/main", "HEAD")
         self.branch()
         self.commit(changed(BASE, CHEAT), "set.mm")
-        came = self.query(*command.removeprefix("$ mmquery ").split())
+        done = self.query(*command.removeprefix("$ mmquery ").split())
         numbers = re.compile(r":\d+:|[0-9a-f]{12}")
         self.assertEqual(
-            [numbers.sub("", line) for line in came.lines()],
+            [numbers.sub("", line) for line in done.lines()],
             [numbers.sub("", line) for line in shown],
         )
 

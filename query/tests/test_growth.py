@@ -20,13 +20,13 @@ class Shapes(World):
     def test_they_are_answered(self) -> None:
         for shape in shapes.SHAPES:
             for name, data in shape.make(shape.small).items():
-                (self.room / name).write_bytes(data)
+                (self.folder / name).write_bytes(data)
             for line in dict.fromkeys((shape.commands[0], shape.commands[-1])):
                 with self.subTest(f"{shape.name}: {line}"):
-                    took = shapes.ran(line.split(), self.room, SECONDS, self.surroundings())
+                    took = shapes.ran(line.split(), self.folder, SECONDS, self.surroundings())
                     self.assertIn(took.status, (0, 1), took)
                     self.assertLess(took.memory, MEMORY, took)
-            for path in self.room.iterdir():
+            for path in self.folder.iterdir():
                 path.unlink()
 
 

@@ -17,9 +17,9 @@ class History(Repositories):
 
     def rows(self, *words: str) -> list[dict[str, object]]:
         """The rows of an answer."""
-        came = self.query("history", "--format=json", *words)
-        self.assertEqual((came.status, came.err), (0, ""), came)
-        return came.rows()
+        done = self.query("history", "--format=json", *words)
+        self.assertEqual((done.status, done.err), (0, ""), done)
+        return done.rows()
 
     def of(self, *words: str, column: str = "rest") -> list[object]:
         """A column of an answer."""
@@ -27,9 +27,9 @@ class History(Repositories):
 
     def is_empty(self, *words: str, why: str) -> None:
         """The answer has no row, and standard error says why."""
-        came = self.query("history", "--format=json", *words)
-        self.assertEqual((came.status, came.out), (0, "[]\n"), came)
-        self.assertEqual(came.err, f"mmquery: {why}\n")
+        done = self.query("history", "--format=json", *words)
+        self.assertEqual((done.status, done.out), (0, "[]\n"), done)
+        self.assertEqual(done.err, f"mmquery: {why}\n")
 
 
 class Revisions(History):
@@ -65,8 +65,8 @@ class Revisions(History):
         for flags in ((), ("--essential",)):
             for row in self.rows("db.mm", "main~5..main", *axioms, *flags):
                 words = (f"{row['rev']}:db.mm", str(row["axiom"]))
-                came = self.answers("falls", "--all", *flags, *words)
-                self.assertEqual(row["rest"], len(came), words)
+                lines = self.answers("falls", "--all", *flags, *words)
+                self.assertEqual(row["rest"], len(lines), words)
         rested = {}
         for row in self.rows("db.mm", "main~5..main", *axioms, "--of", "l3"):
             rested[str(row["rev"]), str(row["axiom"])] = row["rests"]
@@ -132,12 +132,12 @@ class Revisions(History):
         self.refuses("history", "db.mm", "-x..HEAD", why="there is no option -x..HEAD")
         self.refuses("history", "--", "db.mm", "--all..HEAD", why="git has no revision '--all'")
         self.refuses("history", "--", "db.mm", "--output=x", why="git has no revision '--output=x'")
-        self.assertFalse((self.room / "x").exists())
+        self.assertFalse((self.folder / "x").exists())
 
     def test_renames(self) -> None:
         self.git("mv", "db.mm", "set.mm")
         self.commit(BASE, "set.mm")
-        (self.room / "sub").mkdir()
+        (self.folder / "sub").mkdir()
         self.git("mv", "set.mm", "sub/new.mm")
         self.commit(changed(BASE, FREED), "sub/new.mm")
         self.commit(BASE + ADDED, "sub/new.mm")
@@ -176,10 +176,10 @@ class Revisions(History):
         self.commit(BASE + "x $a nothing $.\n")
         self.git("rm", "--quiet", "db.mm")
         self.git("commit", "--quiet", "--message", "gone")
-        (self.room / "db.mm").symlink_to("elsewhere")
+        (self.folder / "db.mm").symlink_to("elsewhere")
         self.git("add", "--all")
         self.git("commit", "--quiet", "--message", "a link")
-        (self.room / "db.mm").unlink()
+        (self.folder / "db.mm").unlink()
         self.commit("version https://git-lfs.github.com/spec/v1\n")
         self.commit("refused 1:1 E00\n")
         self.commit(changed(BASE, FREED))
@@ -193,40 +193,40 @@ class Revisions(History):
         rows = self.rows(*OF_AC, "--of", "zorn")
         self.assertEqual([row["rests"] for row in rows], [True, *[None] * 6, False])
         self.git("branch", "bad", "HEAD~6")
-        came = self.query("history", "db.mm", "main~7..bad", "ax-none", "--format=json")
-        self.assertEqual((came.status, came.err, len(came.rows())), (0, "", 1))
+        done = self.query("history", "db.mm", "main~7..bad", "ax-none", "--format=json")
+        self.assertEqual((done.status, done.err, len(done.rows())), (0, "", 1))
 
     def test_a_program_that_fails(self) -> None:
         self.write("failing", '#!/bin/sh\n[ "$1" = --version ] || exit 3\n')
-        (self.room / "failing").chmod(0o755)
+        (self.folder / "failing").chmod(0o755)
         why = "the program ended with status 3"
         self.refuses("history", *OF_AC, why=why, MMDEPEND="./failing")
 
     def test_a_shallow_clone(self) -> None:
         self.commit(changed(BASE, FREED))
-        other = self.room.parent / "other"
-        self.git("clone", "--quiet", "--depth=1", f"file://{self.room}", str(other))
-        room, self.room = self.room, other
-        came = self.query("history", "--format=json", *OF_AC)
-        self.assertEqual([row["rest"] for row in came.rows()], [0])
-        self.assertIn("the clone is shallow", came.err)
-        self.room = room
+        other = self.folder.parent / "other"
+        self.git("clone", "--quiet", "--depth=1", f"file://{self.folder}", str(other))
+        folder, self.folder = self.folder, other
+        done = self.query("history", "--format=json", *OF_AC)
+        self.assertEqual([row["rest"] for row in done.rows()], [0])
+        self.assertIn("the clone is shallow", done.err)
+        self.folder = folder
 
     def test_a_bare_repository(self) -> None:
         self.commit(changed(BASE, FREED))
-        other = self.room.parent / "other.git"
+        other = self.folder.parent / "other.git"
         self.git("clone", "--quiet", "--bare", ".", str(other))
-        room, self.room = self.room, other
+        folder, self.folder = self.folder, other
         self.assertEqual(self.of("db.mm", "main", "ax-ac2"), [2, 0])
-        self.room = room
+        self.folder = folder
 
     def test_from_a_folder(self) -> None:
-        (self.room / "sub").mkdir()
+        (self.folder / "sub").mkdir()
         self.commit(BASE, "sub/db.mm")
-        room, self.room = self.room, self.room / "sub"
+        folder, self.folder = self.folder, self.folder / "sub"
         self.assertEqual(self.of(*OF_AC), [2])
         self.assertEqual(self.of("../db.mm", "HEAD", "ax-ac2"), [2])
-        self.room = room
+        self.folder = folder
 
 
 class Kept(History):
@@ -235,60 +235,60 @@ class Kept(History):
     def setUp(self) -> None:
         super().setUp()
         self.commit(changed(BASE, FREED))
-        self.runs = self.room.parent / "runs"
-        self.counting = self.room.parent / "counting"
+        self.runs = self.folder.parent / "runs"
+        self.counting = self.folder.parent / "counting"
         self.counting.write_text(
             f'#!/bin/sh\n[ "$1" = --version ] || echo x >> {self.runs}\n' f'exec {program()} "$@"\n'
         )
         self.counting.chmod(0o755)
 
-    def told(self, *words: str) -> tuple[list[object], int]:
+    def answer_and_runs(self, *words: str) -> tuple[list[object], int]:
         """The answer, and for how many databases the program ran."""
         self.runs.write_text("")
-        came = self.query(
+        done = self.query(
             "history", *(words or OF_AC), "--format=json", MMDEPEND=str(self.counting)
         )
-        self.assertEqual((came.status, came.err), (0, ""))
+        self.assertEqual((done.status, done.err), (0, ""))
         key = "rests" if "--of" in words else "rest"
-        return [row[key] for row in came.rows()], len(self.runs.read_text().split())
+        return [row[key] for row in done.rows()], len(self.runs.read_text().split())
 
     def test_known_revisions(self) -> None:
-        self.assertEqual(self.told(), ([2, 0], 2))
-        self.assertEqual(self.told(), ([2, 0], 0))
-        self.assertEqual(self.told("db.mm", "HEAD", "ax-1"), ([4, 5], 0))
+        self.assertEqual(self.answer_and_runs(), ([2, 0], 2))
+        self.assertEqual(self.answer_and_runs(), ([2, 0], 0))
+        self.assertEqual(self.answer_and_runs("db.mm", "HEAD", "ax-1"), ([4, 5], 0))
         self.commit(BASE + ADDED)
-        self.assertEqual(self.told(), ([2, 0, 2], 1))
-        self.assertEqual(self.told(*OF_AC, "--no-cache"), ([2, 0, 2], 3))
-        self.assertEqual(self.told(*OF_AC, "--essential"), ([2, 0, 2], 3))
-        self.assertEqual(self.told(*OF_AC, "--of", "zorn"), ([True, False, True], 3))
-        self.assertEqual(self.told(*OF_AC, "--of", "zorn"), ([True, False, True], 0))
+        self.assertEqual(self.answer_and_runs(), ([2, 0, 2], 1))
+        self.assertEqual(self.answer_and_runs(*OF_AC, "--no-cache"), ([2, 0, 2], 3))
+        self.assertEqual(self.answer_and_runs(*OF_AC, "--essential"), ([2, 0, 2], 3))
+        self.assertEqual(self.answer_and_runs(*OF_AC, "--of", "zorn"), ([True, False, True], 3))
+        self.assertEqual(self.answer_and_runs(*OF_AC, "--of", "zorn"), ([True, False, True], 0))
 
     def test_a_whole_result_is_enough(self) -> None:
         for revision in ("HEAD", "HEAD~1"):
             self.query("rests", f"{revision}:db.mm", "zorn", MMDEPEND=str(self.counting))
-        self.assertEqual(self.told(), ([2, 0], 0))
-        self.assertEqual(self.told(*OF_AC, "--of", "zorn"), ([True, False], 0))
+        self.assertEqual(self.answer_and_runs(), ([2, 0], 0))
+        self.assertEqual(self.answer_and_runs(*OF_AC, "--of", "zorn"), ([True, False], 0))
 
     def test_it_is_small(self) -> None:
-        self.told()
+        self.answer_and_runs()
         sizes = [file.stat().st_size for file in (self.cache / "mmquery").iterdir()]
         self.assertEqual(len(sizes), 2)
         self.assertLess(max(sizes), 400)
 
     def test_what_was_planted(self) -> None:
-        self.told()
+        self.answer_and_runs()
         files = sorted((self.cache / "mmquery").iterdir())
         contents = [file.read_bytes() for file in files]
         for one, other in zip(files, reversed(contents)):
             one.write_bytes(other)
-        self.assertEqual(self.told(), ([2, 0], 2))
+        self.assertEqual(self.answer_and_runs(), ([2, 0], 2))
         for file in files:
             data = bytearray(file.read_bytes())
             data[-5] ^= 1
             file.write_bytes(data)
-        self.assertEqual(self.told(), ([2, 0], 2))
+        self.assertEqual(self.answer_and_runs(), ([2, 0], 2))
         (self.config / "mmquery" / "secret").unlink()
-        self.assertEqual(self.told(), ([2, 0], 2))
+        self.assertEqual(self.answer_and_runs(), ([2, 0], 2))
 
 
 class Hostile(History):
@@ -300,13 +300,13 @@ class Hostile(History):
         self.commit(changed(BASE, FREED))
         self.git("mv", "db.mm", "new.mm")
         self.commit(BASE + ADDED, "new.mm")
-        self.marker = self.room.parent / "marker"
+        self.marker = self.folder.parent / "marker"
         self.words = ("new.mm", "HEAD", "ax-ac2")
         self.wanted: list[object] = [2, 0, 2]
 
     def test_settings(self) -> None:
         touch = f"touch {self.marker}"
-        hook = self.room.parent / "hooks"
+        hook = self.folder.parent / "hooks"
         hook.mkdir()
         for name in ("post-checkout", "reference-transaction", "pre-auto-gc"):
             (hook / name).write_text(f"#!/bin/sh\n{touch}\n")
@@ -356,7 +356,7 @@ class Hostile(History):
     def remove(self, name: str) -> None:
         """Removes an object."""
         blob = self.git("rev-parse", name)
-        (self.room / ".git/objects" / blob[:2] / blob[2:]).unlink()
+        (self.folder / ".git/objects" / blob[:2] / blob[2:]).unlink()
 
     def test_what_is_put_in_place(self) -> None:
         tip = self.git("rev-parse", "HEAD")
@@ -366,11 +366,11 @@ class Hostile(History):
         )
         self.git("replace", "--graft", tip)
         self.assertEqual(self.of(*self.words), self.wanted)
-        (self.room / ".git/info/grafts").write_text(f"{tip}\n")
+        (self.folder / ".git/info/grafts").write_text(f"{tip}\n")
         self.assertEqual(self.of(*self.words), self.wanted)
 
     def test_variables(self) -> None:
-        other = self.room.parent / "other"
+        other = self.folder.parent / "other"
         self.git("clone", "--quiet", ".", str(other))
         for name, value in (
             ("GIT_DIR", str(other / ".git")),
@@ -381,8 +381,8 @@ class Hostile(History):
             ("GIT_SHALLOW_FILE", "/nowhere"),
         ):
             more: dict[str, str] = {name: value}
-            came = self.query("history", *self.words, "--format=json", given=b"", **more)
-            self.assertEqual([row["rest"] for row in came.rows()], self.wanted, name)
+            done = self.query("history", *self.words, "--format=json", given=b"", **more)
+            self.assertEqual([row["rest"] for row in done.rows()], self.wanted, name)
         self.assertFalse(self.marker.exists())
 
     def test_paths_that_are_patterns(self) -> None:
@@ -396,10 +396,10 @@ class Hostile(History):
         self.is_empty("\x1b.mm", "HEAD", why="no revision of HEAD has \\x1b.mm")
 
     def test_links_on_the_way(self) -> None:
-        (self.room / "link").symlink_to(".")
+        (self.folder / "link").symlink_to(".")
         self.refuses("history", "link/new.mm", "HEAD", why="link is a link")
-        os.rename(self.room / "new.mm", self.room / "aside.mm")
-        (self.room / "new.mm").symlink_to("aside.mm")
+        os.rename(self.folder / "new.mm", self.folder / "aside.mm")
+        (self.folder / "new.mm").symlink_to("aside.mm")
         self.refuses("history", "new.mm", "HEAD", why="new.mm is a link")
 
     def test_dates_that_are_none(self) -> None:

@@ -17,7 +17,7 @@ CHEAT = (
     "2p2e4 $p |- ( 2 + 2 ) = 4 $= df-4",
     "ax-cheat $a |- ( 2 + 2 ) = 4 $.\n2p2e4 $p |- ( 2 + 2 ) = 4 $= ax-cheat",
 )
-TOLD = "db.mm:10: ax-cheat: a new axiom: |- ( 2 + 2 ) = 4 [axioms]"
+CHEAT_FOUND = "db.mm:10: ax-cheat: a new axiom: |- ( 2 + 2 ) = 4 [axioms]"
 NEEDS = changed(
     BASE,
     (
@@ -56,14 +56,14 @@ bad3 $p |- ( F. -> T. -> F. -> ( 2 + 2 ) = 5 ) $=
 class Hostile(Repositories):
     """What the tries share."""
 
-    def told(
+    def findings(
         self, *words: str, status: int = 1, more: Mapping[str, str] | None = None
     ) -> list[str]:
         """The lines of the gate on the branch, without notes and the last one."""
         given = words or ("--base", "main", "db.mm")
-        came = self.query("gate", *given, given=b"", **(more or {}))
-        self.assertEqual((came.status, came.err), (status, ""), came)
-        return [line for line in came.lines()[:-1] if not line.startswith("note: ")]
+        done = self.query("gate", *given, given=b"", **(more or {}))
+        self.assertEqual((done.status, done.err), (status, ""), done)
+        return [line for line in done.lines()[:-1] if not line.startswith("note: ")]
 
     def cheats(self, name: str = "db.mm") -> None:
         """Commits a new axiom on a branch."""
@@ -78,7 +78,7 @@ class Hostile(Repositories):
 
     def rules(self, *words: str) -> list[str]:
         """The rules that the branch breaks."""
-        return [line.rpartition(" [")[2].rstrip("]") for line in self.told(*words)]
+        return [line.rpartition(" [")[2].rstrip("]") for line in self.findings(*words)]
 
     def is_refused(self, *words: str, why: str, **more: str) -> None:
         """The gate says why there is no answer."""
@@ -91,30 +91,30 @@ class TheTwelve(Hostile):
     def test_1_a_syntax_axiom(self) -> None:
         self.asks("", before=LOGIC)
         self.commit(LOGIC + WITHOUT_BRACKETS.replace("FIVE", "w5"))
-        told = ["db.mm:13: wbad: a new axiom: wff ph -> ps [axioms]"]
-        self.assertEqual(self.told("--base", "main", "db.mm"), told)
+        finding = ["db.mm:13: wbad: a new axiom: wff ph -> ps [axioms]"]
+        self.assertEqual(self.findings("--base", "main", "db.mm"), finding)
         self.git("checkout", "--quiet", "main")
         self.git("branch", "--delete", "--force", "--quiet", "work")
         self.asks('typecode = "|-"\n', before=LOGIC)
         self.commit(LOGIC + WITHOUT_BRACKETS.replace("FIVE", "w5"))
-        came = self.query("gate", "--base", "main", "db.mm")
-        self.assertEqual(came.status, 0)
-        self.assertIn("note: `typecode` of mmdepend.toml leaves the axioms of '|-'", came.out)
+        done = self.query("gate", "--base", "main", "db.mm")
+        self.assertEqual(done.status, 0)
+        self.assertIn("note: `typecode` of mmdepend.toml leaves the axioms of '|-'", done.out)
 
     def inner(self) -> Path:
         """Puts the files of a bare repository beside the database, whose `main` has what is
         committed there. Returns what exists when its address was called."""
-        marker = self.room.parent / "marker"
-        seed, inner = self.room.parent / "seed", self.room.parent / "inner.git"
+        marker = self.folder.parent / "marker"
+        seed, inner = self.folder.parent / "seed", self.folder.parent / "inner.git"
         self.git("init", "--quiet", "--initial-branch=main", str(seed))
         (seed / "set.mm").write_text(changed(BASE, CHEAT))
         self.git("add", "--all", folder=seed)
         self.git("commit", "--quiet", "--message", "all of it", folder=seed)
         self.git("clone", "--quiet", "--bare", str(seed), str(inner))
         for name in ("HEAD", "objects", "refs", "config", "packed-refs"):
-            os.rename(inner / name, self.room / "db" / name)
+            os.rename(inner / name, self.folder / "db" / name)
         commit = self.git("rev-parse", "HEAD", folder=seed)
-        (self.room / "db/refs/heads/main").write_text(f"{commit}\n")
+        (self.folder / "db/refs/heads/main").write_text(f"{commit}\n")
         for setting in (
             "extensions.partialClone=origin",
             "core.repositoryFormatVersion=1",
@@ -126,22 +126,22 @@ class TheTwelve(Hostile):
         return marker
 
     def test_3_a_repository_within(self) -> None:
-        (self.room / "db").mkdir()
+        (self.folder / "db").mkdir()
         self.commit(BASE, "db/set.mm")
         self.branch()
         self.commit(changed(BASE, CHEAT), "db/set.mm")
         words = ("--base", "main", "db/set.mm")
-        self.assertEqual(len(self.told(*words)), 1)
+        self.assertEqual(len(self.findings(*words)), 1)
         marker = self.inner()
         self.is_refused(*words, why="db is a repository or a submodule")
         blob = self.git("rev-parse", "work:db/set.mm")
-        (self.room / "db/objects" / blob[:2] / blob[2:]).unlink()
+        (self.folder / "db/objects" / blob[:2] / blob[2:]).unlink()
         self.is_refused(*words, why="db is a repository or a submodule")
-        room, self.room = self.room, self.room / "db"
+        folder, self.folder = self.folder, self.folder / "db"
         self.is_refused("--base", "main", "set.mm", why="has the files of a bare repository")
         self.is_refused("--base", "main", "HEAD:set.mm", why="has the files of a bare repository")
         self.refuses("rests", "HEAD:set.mm", "zorn", why="has the files of a bare repository")
-        self.room = room
+        self.folder = folder
         self.assertFalse(marker.exists())
         self.git("add", "--all")
         self.git("commit", "--quiet", "--message", "a repository")
@@ -149,24 +149,24 @@ class TheTwelve(Hostile):
 
     def test_4_a_folder_that_becomes_a_link(self) -> None:
         for name in ("db", "unjudged"):
-            (self.room / name).mkdir()
+            (self.folder / name).mkdir()
             self.commit(BASE if name == "db" else changed(BASE, CHEAT), f"{name}/set.mm")
         self.branch()
         self.commit(changed(BASE, CHEAT), "db/set.mm")
-        self.assertEqual(len(self.told("--base", "main", "db/set.mm")), 1)
-        (self.room / "db/set.mm").unlink()
-        (self.room / "db").rmdir()
-        (self.room / "db").symlink_to("unjudged")
+        self.assertEqual(len(self.findings("--base", "main", "db/set.mm")), 1)
+        (self.folder / "db/set.mm").unlink()
+        (self.folder / "db").rmdir()
+        (self.folder / "db").symlink_to("unjudged")
         self.is_refused("--base", "main", "db/set.mm", why="db is a link")
         self.git("add", "--all")
         self.git("commit", "--quiet", "--message", "a link")
         self.is_refused("--base", "main", "HEAD:db/set.mm", why="db is a link")
-        room = self.room
-        self.room = room / "db"
+        folder = self.folder
+        self.folder = folder / "db"
         self.is_refused(
-            "--base", "main", "set.mm", why="was reached by this link", PWD=str(room / "db")
+            "--base", "main", "set.mm", why="was reached by this link", PWD=str(folder / "db")
         )
-        self.room = room
+        self.folder = folder
 
     def test_5_an_old_commit(self) -> None:
         self.branch("first")
@@ -176,25 +176,25 @@ class TheTwelve(Hostile):
         self.git("merge", "--quiet", "--no-ff", "--no-edit", "first")
         self.git("checkout", "--quiet", "-b", "work", begun)
         self.commit(changed(BASE, CHEAT) + ADDED)
-        came = self.query("gate", "--base", "main", "db.mm")
-        self.assertEqual(came.status, 0)  # the merge doesn't have the axiom
-        self.assertIn("note: lines of db.mm are those of its merge with main, ", came.out)
+        done = self.query("gate", "--base", "main", "db.mm")
+        self.assertEqual(done.status, 0)  # the merge doesn't have the axiom
+        self.assertIn("note: lines of db.mm are those of its merge with main, ", done.out)
         self.commit(changed(BASE, CHEAT).replace("ax-cheat $a", "ax-cheat  $a"))
         self.is_refused(why="can't be merged: CONFLICT")
         self.git("merge", "--quiet", "--no-edit", "--strategy=ours", "main")
-        self.assertEqual(self.told(), [TOLD])
+        self.assertEqual(self.findings(), [CHEAT_FOUND])
 
     def test_5_what_the_merge_base_has(self) -> None:
         self.commit(changed(BASE, CHEAT))
         self.branch()
         self.commit(changed(BASE, CHEAT) + ADDED)
-        self.assertEqual(self.told(status=0), [])
+        self.assertEqual(self.findings(status=0), [])
         self.git("checkout", "--quiet", "main")
         self.commit(BASE)
         self.git("checkout", "--quiet", "work")
         self.git("merge", "--quiet", "--no-commit", "--no-ff", "main")
         self.commit(changed(BASE, CHEAT) + ADDED)
-        self.assertEqual(self.told(), [TOLD])
+        self.assertEqual(self.findings(), [CHEAT_FOUND])
 
     def test_7_a_label_that_another_axiom_gets(self) -> None:
         text = changed(BASE, ("ax-ac2 $a", "wt $a wff 2 $.\nax-t $a |- 2 $.\nax-ac2 $a"))
@@ -203,9 +203,9 @@ class TheTwelve(Hostile):
         for config in ("", 'typecode = "|-"\n'):
             self.asks(config, before=text)
             self.commit(changed(text, ("wt $a wff 2 $.\nax-t $a |- 2 $.", "wt $a wff 2 $.")))
-            self.assertEqual(self.told(), ["db.mm: ax-t: an axiom that is gone [axioms]"])
+            self.assertEqual(self.findings(), ["db.mm: ax-t: an axiom that is gone [axioms]"])
             self.commit(new)
-            lines = [line for line in self.told() if "ax-t: " in line]
+            lines = [line for line in self.findings() if "ax-t: " in line]
             self.assertEqual(len(lines), 1)
             self.git("checkout", "--quiet", "main")
             self.git("branch", "--delete", "--force", "--quiet", "work")
@@ -214,8 +214,10 @@ class TheTwelve(Hostile):
         swapped = BASE.replace("ax-1 ", "x ").replace("ax-ac2 ", "ax-1 ").replace("x ", "ax-ac2 ")
         self.asks(WATCH + '[allow]\naxioms = ["ax-*"]\n')
         self.commit(swapped)
-        told = "mmdepend.toml:1: ax-ac2: a watched axiom whose label another one has; its statement"
-        self.assertTrue(any(line.startswith(told) for line in self.told()))
+        finding = (
+            "mmdepend.toml:1: ax-ac2: a watched axiom whose label another one has; its statement"
+        )
+        self.assertTrue(any(line.startswith(finding) for line in self.findings()))
 
     def test_8_a_file_with_the_name_of_a_revision(self) -> None:
         self.commit(BASE, "HEAD:db.mm")
@@ -226,11 +228,11 @@ class TheTwelve(Hostile):
         self.is_refused(
             *words, why="write ./HEAD:db.mm for the file, and the full id of the commit"
         )
-        self.assertEqual(len(self.told("--base", "main", f"{commit}:db.mm")), 1)
+        self.assertEqual(len(self.findings("--base", "main", f"{commit}:db.mm")), 1)
         self.refuses("rests", "HEAD:db.mm", "zorn", why="is a file, and of a revision too")
-        self.assertEqual(self.told("./HEAD:db.mm", "db.mm"), [TOLD])
-        (self.room / "HEAD:db.mm").unlink()
-        self.assertEqual(self.told(*words), ["HEAD:" + TOLD])
+        self.assertEqual(self.findings("./HEAD:db.mm", "db.mm"), [CHEAT_FOUND])
+        (self.folder / "HEAD:db.mm").unlink()
+        self.assertEqual(self.findings(*words), ["HEAD:" + CHEAT_FOUND])
 
     def test_9_a_comment_usage_that_is_gone(self) -> None:
         said = "$( $j usage 'free' avoids 'ax-ac2' 'df-4'; $)\n"
@@ -240,10 +242,10 @@ class TheTwelve(Hostile):
         self.commit(BASE + said.replace("usage", "/* usage").replace("; $)", "; */ $)"))
         self.assertEqual(self.rules(), ["avoids", "avoids"])
         self.commit(NEEDS)
-        told = "db.mm:15: free: the comment `$j usage` which says that it avoids ax-ac2 is gone"
-        self.assertIn(f"{told} [avoids]", self.told())
+        finding = "db.mm:15: free: the comment `$j usage` which says that it avoids ax-ac2 is gone"
+        self.assertIn(f"{finding} [avoids]", self.findings())
         self.commit((BASE + said).replace("free", "freed"))
-        self.assertEqual(self.told(status=0), [])
+        self.assertEqual(self.findings(status=0), [])
         self.commit((BASE + said).replace("free", "freed").replace("'freed'", "'zorn'"))
         self.assertEqual(self.rules(), ["avoids"] * 3)
 
@@ -251,7 +253,7 @@ class TheTwelve(Hostile):
         said = "$( $j usage 'free' avoids 'ax-ac2'; usage 'zorn' avoids 'ax-ac2'; $)\n"
         self.asks('[allow]\navoids = ["free"]\n', before=BASE + said)
         self.commit(BASE)
-        self.assertEqual(self.told(status=0), [])
+        self.assertEqual(self.findings(status=0), [])
 
     def test_9_a_mark_that_is_gone(self) -> None:
         mark = "$( (New usage is discouraged.) $)\n"
@@ -263,7 +265,7 @@ class TheTwelve(Hostile):
         gone = "axac3: its comment no longer says `(New usage is discouraged.)` [discouraged]"
         for text in (BASE, marked.replace(mark, mark + "$( A word. $)\n")):
             self.commit(text + user)
-            self.assertEqual([line.split(": ", 1)[1] for line in self.told()], [gone])
+            self.assertEqual([line.split(": ", 1)[1] for line in self.findings()], [gone])
         self.commit((BASE + user).replace("axac3", "axac4"))
         self.assertEqual(self.rules(), ["discouraged"])
 
@@ -300,7 +302,7 @@ class TheTwelve(Hostile):
             ("m/ax1", "Ann", "a1/m", "a2/a1", "Bo", "b1/ax1", "Cy", "c1/b1"[:2] + "/ax1"),
         ):
             self.commit(self.boxes(*parts))
-            self.assertEqual(self.told(status=0), [], parts)
+            self.assertEqual(self.findings(status=0), [], parts)
 
     def test_9_a_header_within_a_mathbox(self) -> None:
         before = ("m/ax1", "Ann", "a1/m", "Bo", "b1/ax1")
@@ -331,7 +333,7 @@ class TheTwelve(Hostile):
                 f"mmdepend.toml:2: zorn: {reason} [claims]",
                 f"db.mm:16: zorn: {reason} [avoids]",
             ]
-            self.assertEqual(self.told(), lines)
+            self.assertEqual(self.findings(), lines)
             self.git("checkout", "--quiet", "main")
             self.git("branch", "--delete", "--force", "--quiet", "work")
 
@@ -339,7 +341,7 @@ class TheTwelve(Hostile):
         config = WATCH + '[claims]\nfree = ["ax-ac2"]\n'
         self.asks(config)
         self.commit(changed(BASE, CHEAT))
-        self.assertEqual(self.told(), [TOLD])
+        self.assertEqual(self.findings(), [CHEAT_FOUND])
         for text, reasons in (
             (config + "[rules]\naxioms = false\n", ["the rule `axioms` is switched off"]),
             ('[claims]\nfree = ["ax-ac2"]\n', ["ax-ac2: 'ax-ac2' isn't watched any more"]),
@@ -353,8 +355,8 @@ class TheTwelve(Hostile):
             for self_committed in (False, True):
                 if self_committed:
                     self.commit(changed(BASE, CHEAT))
-                lines = self.told()
-                self.assertEqual(lines[0], TOLD)
+                lines = self.findings()
+                self.assertEqual(lines[0], CHEAT_FOUND)
                 self.assertEqual(len(lines) - 1, len(reasons), lines)
                 for line, part in zip(lines[1:], reasons):
                     self.assertIn(part, line)
@@ -364,12 +366,12 @@ class TheTwelve(Hostile):
         self.asks(WATCH + '[allow]\nopen = ["x"]\n')
         self.write("mmdepend.toml", 'watch = ["ax-*"]\n')
         self.commit(BASE)
-        came = self.query("gate", "--base", "main", "db.mm")
-        self.assertEqual(came.status, 0)
+        done = self.query("gate", "--base", "main", "db.mm")
+        self.assertEqual(done.status, 0)
         self.assertIn(
-            "note: mmdepend.toml isn't that of the base; what it asks counts once", came.out
+            "note: mmdepend.toml isn't that of the base; what it asks counts once", done.out
         )
-        (self.room / "mmdepend.toml").unlink()
+        (self.folder / "mmdepend.toml").unlink()
         self.assertEqual(self.rules(), ["config"])
         self.commit(NEEDS)
         self.assertEqual(self.rules(), ["newly", "config"])
@@ -378,29 +380,29 @@ class TheTwelve(Hostile):
         tip = self.git("rev-parse", "HEAD")
         self.cheats()
         head = self.git("rev-parse", "HEAD")
-        self.assertEqual(self.told(), [TOLD])
+        self.assertEqual(self.findings(), [CHEAT_FOUND])
         old, new = (self.git("rev-parse", f"{commit}:db.mm") for commit in (tip, head))
         self.git("replace", new, old)
-        self.assertEqual(self.told("--base", "main", "HEAD:db.mm"), ["HEAD:" + TOLD])
+        self.assertEqual(self.findings("--base", "main", "HEAD:db.mm"), ["HEAD:" + CHEAT_FOUND])
         self.git("replace", "--delete", new)
         self.git("replace", tip, head)
-        self.assertEqual(self.told(), [TOLD])
+        self.assertEqual(self.findings(), [CHEAT_FOUND])
         self.git("replace", "--delete", tip)
-        (self.room / ".git/info/grafts").write_text(f"{head}\n{tip} {head}\n")
-        self.assertEqual(self.told(), [TOLD])
-        self.assertEqual(self.told("--base", "HEAD~1", "db.mm"), [TOLD])
+        (self.folder / ".git/info/grafts").write_text(f"{head}\n{tip} {head}\n")
+        self.assertEqual(self.findings(), [CHEAT_FOUND])
+        self.assertEqual(self.findings("--base", "HEAD~1", "db.mm"), [CHEAT_FOUND])
 
     def test_12_variables_of_git(self) -> None:
         self.cheats()
-        other = self.room.parent / "other"
+        other = self.folder.parent / "other"
         self.git("clone", "--quiet", "--branch=main", ".", str(other))
-        marker = self.room.parent / "marker"
+        marker = self.folder.parent / "marker"
         for more in (
             {"GIT_DIR": str(other / ".git")},
             {"GIT_COMMON_DIR": str(other / ".git")},
             {"GIT_OBJECT_DIRECTORY": str(other / ".git/objects")},
             {"GIT_NAMESPACE": "x"},
-            {"GIT_CEILING_DIRECTORIES": str(self.room)},
+            {"GIT_CEILING_DIRECTORIES": str(self.folder)},
             {
                 "GIT_CONFIG_COUNT": "1",
                 "GIT_CONFIG_KEY_0": "core.worktree",
@@ -414,27 +416,27 @@ class TheTwelve(Hostile):
             {"GIT_SHALLOW_FILE": "/nowhere"},
             {"GIT_REPLACE_REF_BASE": "refs/heads/"},
         ):
-            self.assertEqual(self.told(more=more), [TOLD], more)
+            self.assertEqual(self.findings(more=more), [CHEAT_FOUND], more)
         self.assertFalse(marker.exists())
 
     def test_12_attributes(self) -> None:
         self.cheats()
-        self.assertEqual(self.told(), [TOLD])
+        self.assertEqual(self.findings(), [CHEAT_FOUND])
         self.write(".gitattributes", "*.mm ident working-tree-encoding=UTF-16 filter=x merge=x\n")
         self.git("config", "filter.x.clean", "true")
         self.git("config", "filter.x.smudge", "true")
         self.git("config", "merge.x.driver", "true")
-        self.assertEqual(self.told("--base", "main", "HEAD:db.mm"), ["HEAD:" + TOLD])
+        self.assertEqual(self.findings("--base", "main", "HEAD:db.mm"), ["HEAD:" + CHEAT_FOUND])
         self.write("db.mm", changed(BASE, CHEAT) + ADDED)
         self.is_refused(why="db.mm: .gitattributes gives it a filter, so what lies there isn't")
 
     def test_12_a_shallow_clone(self) -> None:
         self.cheats()
-        clone = self.room.parent / "clone"
+        clone = self.folder.parent / "clone"
         self.git(
-            "clone", "--quiet", "--depth=1", "--branch=work", f"file://{self.room}", str(clone)
+            "clone", "--quiet", "--depth=1", "--branch=work", f"file://{self.folder}", str(clone)
         )
-        self.room = clone
+        self.folder = clone
         self.is_refused("--base", "HEAD~1", "db.mm", why="the clone is shallow")
         self.git("fetch", "--quiet", "--depth=1", "origin", "main:main")
         self.is_refused(why="the clone is shallow; fetch the whole history")
@@ -450,7 +452,7 @@ class TheTwelve(Hostile):
         self.is_refused("--base", "main", "lfs.mm", why="lfs.mm: a pointer of Git LFS")
 
     def test_12_a_submodule(self) -> None:
-        (self.room / "db").mkdir()
+        (self.folder / "db").mkdir()
         self.commit(BASE, "db/set.mm")
         self.branch()
         self.commit(changed(BASE, CHEAT), "db/set.mm")
@@ -459,7 +461,7 @@ class TheTwelve(Hostile):
         self.git("update-index", "--add", "--cacheinfo", f"160000,{commit},db")
         self.git("commit", "--quiet", "--message", "a submodule")
         self.is_refused("--base", "main", "HEAD:db/set.mm", why="db is a submodule")
-        (self.room / "db/.git").write_text("gitdir: ../.git\n")
+        (self.folder / "db/.git").write_text("gitdir: ../.git\n")
         self.is_refused("--base", "main", "db/set.mm", why="db is a repository or a submodule")
 
     def test_12_names_that_differ_in_case(self) -> None:
@@ -470,7 +472,7 @@ class TheTwelve(Hostile):
             self.git("commit", "--quiet", "--message", name)
             self.is_refused(why=f"{name} stands beside it, which differs in case alone")
             self.git("reset", "--quiet", "--hard", "HEAD~1")
-        self.assertEqual(self.told(), [TOLD])
+        self.assertEqual(self.findings(), [CHEAT_FOUND])
 
 
 class OfGit(Hostile):
@@ -479,21 +481,25 @@ class OfGit(Hostile):
     def test_a_tag_with_the_name_of_the_base(self) -> None:
         self.git("update-ref", "refs/remotes/origin/main", "HEAD")
         self.cheats()
-        self.assertEqual(self.told("db.mm"), [TOLD])
+        self.assertEqual(self.findings("db.mm"), [CHEAT_FOUND])
         self.git("tag", "origin/main")
         self.is_refused("db.mm", why="'origin/main' names more than one revision")
-        self.assertEqual(self.told("--base", "refs/remotes/origin/main", "db.mm"), [TOLD])
+        self.assertEqual(
+            self.findings("--base", "refs/remotes/origin/main", "db.mm"), [CHEAT_FOUND]
+        )
         self.git("update-ref", "refs/heads/HEAD", "main")
-        self.assertEqual(self.told("--base", "refs/remotes/origin/main", "db.mm"), [TOLD])
+        self.assertEqual(
+            self.findings("--base", "refs/remotes/origin/main", "db.mm"), [CHEAT_FOUND]
+        )
 
     def test_a_git_in_the_working_tree(self) -> None:
         self.cheats()
         self.write("git", "#!/bin/sh\ntouch marker\n")
-        os.chmod(self.room / "git", 0o755)
+        os.chmod(self.folder / "git", 0o755)
         path = self.surroundings()["PATH"]
         for more in (f".:{path}", f":{path}"):
-            self.assertEqual(self.told(more={"PATH": more}), [TOLD])
-        self.assertFalse((self.room / "marker").exists())
+            self.assertEqual(self.findings(more={"PATH": more}), [CHEAT_FOUND])
+        self.assertFalse((self.folder / "marker").exists())
 
     def test_settings_that_are_committed(self) -> None:
         self.git("config", "include.path", "../.gitconfig")
@@ -503,15 +509,15 @@ class OfGit(Hostile):
         monitor += '[filter "x"]\n\tclean = touch marker\n'
         self.write(".gitattributes", "* merge=x\n")
         self.write(".gitconfig", driver + monitor)
-        self.assertEqual(self.told(), [TOLD])
+        self.assertEqual(self.findings(), [CHEAT_FOUND])
         self.git("checkout", "--quiet", "main")
         self.commit(BASE + ADDED)
         self.git("checkout", "--quiet", "work")
-        (self.room / "marker").unlink(missing_ok=True)
-        self.assertEqual(self.told(), [TOLD])
-        self.assertFalse((self.room / "marker").exists())
+        (self.folder / "marker").unlink(missing_ok=True)
+        self.assertEqual(self.findings(), [CHEAT_FOUND])
+        self.assertFalse((self.folder / "marker").exists())
         self.write(".gitconfig", "[core]\n\tworktree = /\n")
-        self.assertEqual(self.told(), [TOLD])
+        self.assertEqual(self.findings(), [CHEAT_FOUND])
         self.git("config", "core.worktree", "/")
         self.is_refused(why="not the top of the working tree that git sees")
 
@@ -527,11 +533,11 @@ class OfGit(Hostile):
     def test_a_partial_clone(self) -> None:
         self.cheats()
         self.git("config", "uploadpack.allowFilter", "true")
-        clone = self.room.parent / "clone"
+        clone = self.folder.parent / "clone"
         words = ("--quiet", "--filter=blob:none", "--no-checkout", "--branch=work")
-        self.git("clone", *words, f"file://{self.room}", str(clone))
-        marker = self.room.parent / "marker"
-        self.room = clone
+        self.git("clone", *words, f"file://{self.folder}", str(clone))
+        marker = self.folder.parent / "marker"
+        self.folder = clone
         self.git("config", "remote.origin.url", f"ext::touch {marker}")
         self.git("config", "protocol.ext.allow", "always")
         self.is_refused("--base", "origin/main", "HEAD:db.mm", why="git: ")
@@ -540,16 +546,16 @@ class OfGit(Hostile):
     def test_links(self) -> None:
         self.branch()
         self.write("old.mm", BASE)
-        (self.room / "db.mm").unlink()
-        (self.room / "db.mm").symlink_to("old.mm")
+        (self.folder / "db.mm").unlink()
+        (self.folder / "db.mm").symlink_to("old.mm")
         self.is_refused(why="db.mm is a link")
         self.git("add", "--all")
         self.git("commit", "--quiet", "--message", "a link")
         self.is_refused("--base", "main", "HEAD:db.mm", why="db.mm is a link")
         self.is_refused("old.mm", "db.mm", why="are the same file")
         self.git("reset", "--quiet", "--hard", "main")
-        (self.room / "mmdepend.toml").unlink()
-        (self.room / "mmdepend.toml").symlink_to("/dev/null")
+        (self.folder / "mmdepend.toml").unlink()
+        (self.folder / "mmdepend.toml").symlink_to("/dev/null")
         self.is_refused(why="mmdepend.toml is a link")
         self.git("add", "--all")
         self.git("commit", "--quiet", "--message", "a link")
@@ -557,11 +563,11 @@ class OfGit(Hostile):
 
     def test_a_link_to_the_top(self) -> None:
         self.cheats()
-        (self.room / "loop").symlink_to(".")
+        (self.folder / "loop").symlink_to(".")
         self.is_refused("--base", "main", "loop/db.mm", why="loop is a link")
-        (self.room / "deep" / "down").mkdir(parents=True)
+        (self.folder / "deep" / "down").mkdir(parents=True)
         self.write("deep/db.mm", BASE)
-        (self.room / "away").symlink_to("deep/down")
+        (self.folder / "away").symlink_to("deep/down")
         self.is_refused("--base", "main", "away/../db.mm", why="there is a link on the way")
 
     def test_names_of_every_kind(self) -> None:
@@ -570,32 +576,33 @@ class OfGit(Hostile):
             self.commit(BASE, name)
             self.git("checkout", "--quiet", "-B", "work")
             self.commit(changed(BASE, CHEAT), name)
-            came = self.query("gate", "--base", "main", f"./{name}")
-            self.assertEqual((came.status, came.err), (1, ""), name)
-            self.assertEqual(len(came.lines()), 2, name)
+            done = self.query("gate", "--base", "main", f"./{name}")
+            self.assertEqual((done.status, done.err), (1, ""), name)
+            self.assertEqual(len(done.lines()), 2, name)
 
     def test_a_branch_that_names_itself_as_the_base(self) -> None:
         self.git("update-ref", "refs/remotes/origin/main", "HEAD")
         self.cheats()
         for base in ("HEAD", "work"):
             self.ask(f'base = "{base}"\n' + WATCH)
-            told = f"mmdepend.toml:1: the base was 'origin/main', and is '{base}' [config]"
-            self.assertEqual(self.told("db.mm"), [TOLD, told])
+            finding = f"mmdepend.toml:1: the base was 'origin/main', and is '{base}' [config]"
+            self.assertEqual(self.findings("db.mm"), [CHEAT_FOUND, finding])
 
     def test_a_file_that_config_names(self) -> None:
         self.write("own.toml", WATCH)
         self.commit(BASE)
         self.cheats()
         words = ("--base", "main", "--config", "own.toml", "db.mm")
-        self.assertEqual(self.told(*words), [TOLD])
+        self.assertEqual(self.findings(*words), [CHEAT_FOUND])
         self.write("own.toml", WATCH + "[rules]\naxioms = false\n")
         self.commit(changed(BASE, CHEAT))
         self.assertEqual(
-            self.told(*words), [TOLD, "own.toml:3: the rule `axioms` is switched off [config]"]
+            self.findings(*words),
+            [CHEAT_FOUND, "own.toml:3: the rule `axioms` is switched off [config]"],
         )
         self.write("other.toml", "[rules]\naxioms = false\n")
         other = ("--base", "main", "--config", "other.toml", "db.mm")
-        self.assertEqual(self.told(*other, status=0), [])
+        self.assertEqual(self.findings(*other, status=0), [])
         self.commit(changed(BASE, CHEAT))
         self.is_refused(*other, why="other.toml: the branch brings it, and the base has none")
 
@@ -603,8 +610,8 @@ class OfGit(Hostile):
         self.write("own.toml", WATCH)
         self.commit(BASE)
         self.cheats()
-        (self.room / "own.toml").unlink()
-        (self.room / "own.toml").symlink_to("/dev/null")
+        (self.folder / "own.toml").unlink()
+        (self.folder / "own.toml").symlink_to("/dev/null")
         words = ("--base", "main", "--config", "own.toml")
         self.is_refused(*words, "db.mm", why="own.toml is a link")
         self.commit(changed(BASE, CHEAT))
@@ -617,7 +624,7 @@ class OfGit(Hostile):
             ("#" * (1 << 20) + "\n", "longer than 1048576 bytes"),
         ):
             self.write("mmdepend.toml", text)
-            self.assertIn(why, self.told()[-1])
+            self.assertIn(why, self.findings()[-1])
 
     def test_a_branch_that_hides_the_database(self) -> None:
         self.branch()
@@ -645,11 +652,11 @@ class OfTexts(Hostile):
             (ax, ax.replace("q -> p", "q $( -> q ) $) -> p").replace("( q", "( p")),
         ):
             self.commit(changed(before, change))
-            lines = self.told()
+            lines = self.findings()
             self.assertEqual(len(lines), 1, change)
             self.assertIn("a changed axiom", lines[0])
         self.commit(changed(before, (ax, ax.replace("q -> p", "q $( x $) -> p"))))
-        self.assertEqual(self.told(status=0), [])
+        self.assertEqual(self.findings(status=0), [])
 
     def test_an_axiom_behind_what_looks_like_a_comment(self) -> None:
         self.branch()
@@ -662,8 +669,8 @@ class OfTexts(Hostile):
             "ax-x$a |- 2 $.\n",
         ):
             self.commit(BASE + hidden)
-            came = self.query("gate", "--base", "main", "db.mm")
-            self.assertEqual((came.status, came.err), (1, ""), hidden)
+            done = self.query("gate", "--base", "main", "db.mm")
+            self.assertEqual((done.status, done.err), (1, ""), hidden)
 
     def test_a_variable_of_two_typecodes(self) -> None:
         text = (
@@ -692,10 +699,10 @@ class OfTexts(Hostile):
         self.asks('watch = ["ax-a*"]\n[allow]\naxioms = ["*"]\n')
         text = BASE.replace("ax-ac2", "choice") + "ax-any $a |- 2 $.\n"
         self.commit(text)
-        told = (
+        finding = (
             "mmdepend.toml:1: ax-ac2: a watched axiom whose statement has the label choice, which"
         )
-        self.assertIn(told, self.told()[0])
+        self.assertIn(finding, self.findings()[0])
 
     def test_an_axiom_that_is_there_twice(self) -> None:
         self.asks(WATCH)
@@ -709,10 +716,12 @@ class OfTexts(Hostile):
         self.asks('[claims]\nfree = ["ax-ac2"]\n')
         swapped = NEEDS.replace("free ", "freed ") + "free $p |- ( 2 + 2 ) = 4 $= 2p2e4 $.\n"
         self.commit(swapped)
-        told = "mmdepend.toml:2: free: the label free is another statement's now, which isn't what"
-        self.assertEqual([line[: len(told)] for line in self.told()], [told])
+        finding = (
+            "mmdepend.toml:2: free: the label free is another statement's now, which isn't what"
+        )
+        self.assertEqual([line[: len(finding)] for line in self.findings()], [finding])
         self.commit(BASE)
-        self.assertEqual(self.told(status=0), [])
+        self.assertEqual(self.findings(status=0), [])
 
     def test_a_theorem_that_is_moved_across_a_label(self) -> None:
         self.asks(WATCH + "[rules]\nnew = false\n")
@@ -732,12 +741,14 @@ class OfTexts(Hostile):
 
     def test_two_files_of_a_folder_that_is_brought(self) -> None:
         for name, config in (("base", WATCH), ("brought", WATCH + "[rules]\naxioms = false\n")):
-            (self.room / name).mkdir()
+            (self.folder / name).mkdir()
             self.write(f"{name}/mmdepend.toml", config)
             self.write(f"{name}/db.mm", BASE if name == "base" else changed(BASE, CHEAT))
-        lines = self.told("base/db.mm", "brought/db.mm")
+        lines = self.findings("base/db.mm", "brought/db.mm")
         self.assertEqual([line.rpartition(" ")[2] for line in lines], ["[axioms]", "[config]"])
-        self.assertEqual(self.told("--config-of-new", "base/db.mm", "brought/db.mm", status=0), [])
+        self.assertEqual(
+            self.findings("--config-of-new", "base/db.mm", "brought/db.mm", status=0), []
+        )
 
 
 class Honest(Hostile):
@@ -754,7 +765,7 @@ class Honest(Hostile):
             BASE.replace("\n", "\r\n"),
         ):
             self.commit(text)
-            self.assertEqual(self.told(status=0), [])
+            self.assertEqual(self.findings(status=0), [])
 
     def test_a_base_that_goes_on(self) -> None:
         self.branch()
@@ -769,27 +780,27 @@ class Honest(Hostile):
         )
         self.git("checkout", "--quiet", "work")
         for words in ((), ("--merge-base", "--base", "main", "db.mm")):
-            self.assertEqual(self.told(*words, status=0), [])
-        came = self.query("gate", "--base", "main", "db.mm")
-        self.assertIn("note: lines of db.mm are those of its merge with main, ", came.out)
+            self.assertEqual(self.findings(*words, status=0), [])
+        done = self.query("gate", "--base", "main", "db.mm")
+        self.assertIn("note: lines of db.mm are those of its merge with main, ", done.out)
         self.git("merge", "--quiet", "--no-edit", "main")
-        self.assertEqual(self.told(status=0), [])
-        self.write("db.mm", (self.room / "db.mm").read_text() + "% $( x $)\n".replace("% ", ""))
-        self.assertEqual(self.told(status=0), [])
+        self.assertEqual(self.findings(status=0), [])
+        self.write("db.mm", (self.folder / "db.mm").read_text() + "% $( x $)\n".replace("% ", ""))
+        self.assertEqual(self.findings(status=0), [])
 
     def test_nothing_is_written_to_the_repository(self) -> None:
         self.cheats()
         self.write("db.mm", changed(BASE, CHEAT) + ADDED)
-        before = sorted(str(each) for each in (self.room / ".git").rglob("*"))
-        self.assertEqual(len(self.told()), 1)
-        self.assertEqual(sorted(str(each) for each in (self.room / ".git").rglob("*")), before)
+        before = sorted(str(each) for each in (self.folder / ".git").rglob("*"))
+        self.assertEqual(len(self.findings()), 1)
+        self.assertEqual(sorted(str(each) for each in (self.folder / ".git").rglob("*")), before)
 
     def test_a_working_tree_of_its_own(self) -> None:
-        other = self.room.parent / "other"
+        other = self.folder.parent / "other"
         self.git("worktree", "add", "--quiet", "-b", "work", str(other))
-        self.room = other
+        self.folder = other
         self.write("db.mm", changed(BASE, CHEAT))
-        self.assertEqual(self.told(), [TOLD])
+        self.assertEqual(self.findings(), [CHEAT_FOUND])
 
 
 GUIDE = (TOP / "docs" / "SYNTAX.md").read_text()
@@ -809,7 +820,7 @@ class SetMm(Hostile):
 
     def test_a_syntax_axiom_without_brackets(self) -> None:
         self.git("config", "core.compression", "0")
-        (self.room / "db.mm").unlink()
+        (self.folder / "db.mm").unlink()
         self.ask("")
         text = (DATABASES / "set.mm").read_text("latin-1")
         self.commit(text, "set.mm")
@@ -821,8 +832,8 @@ class SetMm(Hostile):
         for block in re.findall(r"^```console\n(.*?)^```", GUIDE, re.DOTALL | re.MULTILINE):
             for part in block.split("$ mmquery ")[1:]:
                 command, *shown = part.splitlines()
-                came = self.query(*command.split())
-                lines = [numbers.sub("", line) for line in came.lines()]
+                done = self.query(*command.split())
+                lines = [numbers.sub("", line) for line in done.lines()]
                 self.assertEqual(lines, [numbers.sub("", line) for line in shown], command)
 
 

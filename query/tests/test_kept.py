@@ -23,11 +23,11 @@ class Kept(World):
     def setUp(self) -> None:
         super().setUp()
         self.write("small.mm", SMALL)
-        self.folder = self.cache / "mmquery"
+        self.cached = self.cache / "mmquery"
         self.secret = self.config / "mmquery" / "secret"
         self.wanted = self.answers("rests", "small.mm", "a2")
         self.assertEqual(self.wanted, ["ax-1", "ax-mp"])
-        (self.path,) = self.folder.iterdir()
+        (self.path,) = self.cached.iterdir()
         self.whole = self.path.read_bytes()
 
     def folder_variables(self, **more: str) -> dict[str, str]:
@@ -39,7 +39,7 @@ class Kept(World):
     def as_someone_else(self) -> Iterator[None]:
         """With another secret, as who doesn't know that of the user."""
         with mock.patch.dict(
-            os.environ, self.folder_variables(XDG_CONFIG_HOME=str(self.room / "other"))
+            os.environ, self.folder_variables(XDG_CONFIG_HOME=str(self.folder / "other"))
         ):
             yield
 
@@ -83,16 +83,16 @@ class Kept(World):
             ("rests", "small.mm", "a2", "--essential"),
             ("chapters", "small.mm", "--open", "--essential"),
         ):
-            before = set(self.folder.iterdir())
+            before = set(self.cached.iterdir())
             self.answers(*words)
-            for other in set(self.folder.iterdir()) - before:
+            for other in set(self.cached.iterdir()) - before:
                 self.path.write_bytes(other.read_bytes())
                 self.stays_right()
 
     def test_a_result_of_another_database_or_program(self) -> None:
         self.write("other.mm", SMALL.replace("wp wq ax-1 ax-mp", "wp wq ax1 ax-mp"))
         self.answers("rests", "other.mm", "a2")
-        (other,) = set(self.folder.iterdir()) - {self.path}
+        (other,) = set(self.cached.iterdir()) - {self.path}
         self.path.write_bytes(other.read_bytes())
         self.stays_right()
 
@@ -102,7 +102,7 @@ class Kept(World):
             self.stays_right()
 
     def test_a_link_in_place_of_a_result(self) -> None:
-        aside = self.room / "aside"
+        aside = self.folder / "aside"
         shutil.copy(self.path, aside)
         self.path.unlink()
         self.path.symlink_to(aside)
@@ -123,14 +123,14 @@ class Kept(World):
         self.assertEqual(stat.S_IMODE(self.path.stat().st_mode), 0o600)
 
     def test_a_folder_that_others_may_change(self) -> None:
-        for folder in (self.folder, self.secret.parent):
+        for folder in (self.cached, self.secret.parent):
             folder.chmod(0o777)
             self.stays_right()
             folder.chmod(0o700)
             self.assertIsNotNone(self.loaded())
 
     def test_a_folder_that_is_a_link(self) -> None:
-        for folder in (self.folder, self.secret.parent):
+        for folder in (self.cached, self.secret.parent):
             aside = folder.with_name("aside")
             folder.rename(aside)
             folder.symlink_to(aside)
@@ -141,7 +141,7 @@ class Kept(World):
 
     @unittest.skipUnless(os.geteuid() == 0, "only root gives files away")
     def test_what_belongs_to_somebody_else(self) -> None:
-        for path in (self.path, self.folder, self.secret, self.secret.parent):
+        for path in (self.path, self.cached, self.secret, self.secret.parent):
             os.chown(path, 65534, 65534)
             self.assertIsNone(self.loaded(), path)
             self.assertEqual(self.answers("rests", "small.mm", "a2"), self.wanted)
@@ -163,7 +163,7 @@ class Kept(World):
 
     def test_a_checkout_that_brings_secret_and_result(self) -> None:
         """Whoever wrote the checkout knows the secret in it; that it is one is enough."""
-        checkout = self.room / "checkout"
+        checkout = self.folder / "checkout"
         for part in ("cache/mmquery", "config/mmquery"):
             (checkout / part).mkdir(parents=True, mode=0o700)
         more = {name: str(checkout / part) for name, part in PARTS.items()}
@@ -175,20 +175,20 @@ class Kept(World):
         self.assertEqual(self.answers("rests", "small.mm", "a2", **more), self.wanted)
 
     def test_a_link_within_a_checkout(self) -> None:
-        checkout = self.room / "checkout"
+        checkout = self.folder / "checkout"
         (checkout / ".git").mkdir(parents=True)
         (checkout / "cache").symlink_to(self.cache)
         self.assertIsNone(self.loaded(XDG_CACHE_HOME=str(checkout / "cache")))
 
     def test_nothing_is_removed_where_the_folder_is_wrong(self) -> None:
-        aside = self.folder.with_name("aside")
-        self.folder.rename(aside)
-        self.folder.symlink_to(aside)
+        aside = self.cached.with_name("aside")
+        self.cached.rename(aside)
+        self.cached.symlink_to(aside)
         self.refuses("cache", "clear", why="it is a link")
         self.assertEqual([file.name for file in aside.iterdir()], [self.path.name])
-        came = self.query("cache", "--format=json")
-        self.assertEqual((came.status, came.rows()[0]["results"]), (0, 0))
-        self.assertIn("nothing is kept or taken", came.err)
+        done = self.query("cache", "--format=json")
+        self.assertEqual((done.status, done.rows()[0]["results"]), (0, 0))
+        self.assertIn("nothing is kept or taken", done.err)
 
 
 PARTS = {"XDG_CACHE_HOME": "cache", "XDG_CONFIG_HOME": "config"}
@@ -235,13 +235,13 @@ class Secret(World):
             self.path.write_bytes(data)
             self.path.chmod(mode)
             with mock.patch.dict(os.environ, {"XDG_CONFIG_HOME": str(self.config)}):
-                self.assertIsNone(secret.made())
+                self.assertIsNone(secret.read_or_make())
             self.asked()
             self.assertEqual(self.path.read_bytes(), data)
             self.assertIn(why, self.query("cache").err)
 
     def test_a_link_in_its_place(self) -> None:
-        known = self.room / "known"
+        known = self.folder / "known"
         known.write_bytes(bytes(secret.SIZE))
         known.chmod(0o600)
         self.path.parent.mkdir(mode=0o700)
@@ -252,7 +252,7 @@ class Secret(World):
     def test_one_that_may_not_be_read(self) -> None:
         self.asked()
         self.path.chmod(0)
-        for folder in (self.room.parent, self.room, self.cache, self.config, self.kept):
+        for folder in (self.folder.parent, self.folder, self.cache, self.config, self.kept):
             os.chown(folder, 65534, 65534)
         for path in (self.path, self.path.parent, *self.kept.iterdir()):
             os.chown(path, 65534, 65534)
@@ -264,7 +264,7 @@ class Secret(World):
             os.seteuid(65534)
             try:
                 self.assertEqual(found(), "None")
-                self.assertIsNone(secret.made())
+                self.assertIsNone(secret.read_or_make())
             finally:
                 os.seteuid(0)
 
@@ -273,7 +273,7 @@ class Secret(World):
         for _ in range(5):
             shutil.rmtree(self.path.parent, ignore_errors=True)
             some = [
-                subprocess.Popen(command, cwd=self.room, env=self.surroundings(), stdout=-3)
+                subprocess.Popen(command, cwd=self.folder, env=self.surroundings(), stdout=-3)
                 for _ in range(6)
             ]
             self.assertEqual([process.wait() for process in some], [0] * 6)
@@ -295,7 +295,7 @@ class Secret(World):
 
         with mock.patch.dict(os.environ, {"XDG_CONFIG_HOME": str(self.config)}):
             with mock.patch("os.link", late):
-                self.assertEqual(secret.made(), b"f" * secret.SIZE)
+                self.assertEqual(secret.read_or_make(), b"f" * secret.SIZE)
         self.assertEqual(list(path.parent.iterdir()), [path])
 
 

@@ -18,11 +18,11 @@ class Told(World):
 
     def setUp(self) -> None:
         super().setUp()
-        (self.room / self.DATABASE).symlink_to(DATABASES / self.DATABASE)
+        (self.folder / self.DATABASE).symlink_to(DATABASES / self.DATABASE)
 
     def told(self, questions: list[str]) -> list[str]:
         """What metamath.exe says to each question of the database."""
-        return metamath.asked(self.room / self.DATABASE, questions)
+        return metamath.asked(self.folder / self.DATABASE, questions)
 
     def said(self, questions: list[str]) -> list[list[str]]:
         """What metamath.exe answers to each question: the labels on the lines that are indented."""
@@ -65,7 +65,7 @@ class Metamath(Told):
 
     def test_chains_are_of_citations(self) -> None:
         """Each link of a chain is in the proof, by `show proof`; the ends are those asked for."""
-        path = str(self.room / "iset.mm")
+        path = str(self.folder / "iset.mm")
         chains = {}
         for label in self.theorems[:8]:
             chain = [row[0] for row in asked("why", path, label, "ax-mp")]

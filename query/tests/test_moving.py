@@ -20,9 +20,9 @@ class Moved(World):
     def is_valid(self, lines: list[str]) -> bool:
         """Whether the program accepts a database of these lines."""
         self.write("moved.mm", "\n".join(lines) + "\n")
-        came = self.ran(built_program(), "--report=counts", "moved.mm")
-        self.assertIn(came.status, (0, 1), came)
-        return came.status == 0
+        done = self.ran(built_program(), "--report=counts", "moved.mm")
+        self.assertIn(done.status, (0, 1), done)
+        return done.status == 0
 
     def test_what_goes_along(self) -> None:
         """With it the database is valid, and without any one of it it isn't."""
@@ -30,7 +30,7 @@ class Moved(World):
         for seed in range(3):
             chance = random.Random(seed)
             world = invented(chance, chance.randint(4, 8))
-            path = str(self.room / self.write(f"{seed}.mm", world.text))
+            path = str(self.folder / self.write(f"{seed}.mm", world.text))
             lines = world.text.splitlines()
             labels = world.axioms + world.theorems()
             of = {label: next(line for line in lines if f" {label} $" in line) for label in labels}
@@ -70,7 +70,7 @@ class Moved(World):
     def test_after(self) -> None:
         for seed in range(3):
             world = invented(random.Random(seed), 7)
-            path = str(self.room / self.write(f"{seed}.mm", world.text))
+            path = str(self.folder / self.write(f"{seed}.mm", world.text))
             order = [line.split("\t")[-1] for line in self.answers("order", path, "--format=tsv")][
                 1:
             ]
@@ -83,7 +83,7 @@ class Moved(World):
                     self.assertEqual(where, "")
 
     def test_where(self) -> None:
-        path = str(self.room / self.closed())
+        path = str(self.folder / self.closed())
         rows = asked("move", path, "five", "--to", "one")
         self.assertEqual(
             [row[:3] for row in rows[:2]], [["after", "four", "Bo"], ["needs", "ax-2", "Ann Other"]]

@@ -264,14 +264,14 @@ class OfTheProgram(unittest.TestCase):
             "for (const [name, words] of Object.entries(lines)) lines[name] = read(words);"
             "process.stdout.write(JSON.stringify(lines))"
         )
-        came = json.loads(in_node(script))
-        for name, line in came.items():
+        found = json.loads(in_node(script))
+        for name, line in found.items():
             self.assertEqual(line["ends"], "misread" if "!" in name else "run", name)
         defaults = {
             name: int(option.default) if name == "form" and option.default else option.default
             for name, option in self.known.items()
         }
-        for name, value in came[""]["request"].items():
+        for name, value in found[""]["request"].items():
             self.assertEqual(value or None, defaults[name], name)
 
     def test_the_sections(self) -> None:

@@ -12,7 +12,7 @@ from typing import Any
 from query.tests.blocks import Blocks, blocks_in, lines_in
 from query.tests.browser import databases
 from query.tests.repositories import Repositories
-from query.tests.world import PROGRAM_FOR_NODE, SMALL, World, invented, program, told_of
+from query.tests.world import PROGRAM_FOR_NODE, SMALL, World, invented, program, database_text
 
 TYPESET = databases.EVIL + databases.EVIL_TYPESETTING
 FORBIDDEN = ("innerHTML", "outerHTML", "insertAdjacentHTML", "document.write", "eval(", "Function(")
@@ -24,9 +24,9 @@ class Page(World):
 
     def page(self, *words: str, given: bytes = b"") -> str:
         """The page that the words ask for."""
-        came = self.query("page", *words, given=given)
-        self.assertEqual((came.status, came.err), (0, ""), words)
-        return came.out
+        done = self.query("page", *words, given=given)
+        self.assertEqual((done.status, done.err), (0, ""), words)
+        return done.out
 
     def blocks(self, *words: str, given: bytes = b"") -> Blocks:
         """Its blocks."""
@@ -88,23 +88,23 @@ class Page(World):
     def test_the_words_of_the_environment(self) -> None:
         self.write("b.mm", SMALL)
         self.write("other.js", "process.stdout.write('other'); process.exit(0);\n")
-        came = self.query("page", "b.mm", NODE_OPTIONS="--require ./other.js")
-        self.assertTrue(came.out.startswith("<!doctype html>"), came.out[:200])
+        done = self.query("page", "b.mm", NODE_OPTIONS="--require ./other.js")
+        self.assertTrue(done.out.startswith("<!doctype html>"), done.out[:200])
         script = Path(self.write("node", "#!/bin/sh\necho other\n"))
-        (self.room / script).chmod(0o755)
-        came = self.query("page", "b.mm", PATH=f".::{self.surroundings()['PATH']}")
-        self.assertTrue(came.out.startswith("<!doctype html>"), came.out[:200])
+        (self.folder / script).chmod(0o755)
+        done = self.query("page", "b.mm", PATH=f".::{self.surroundings()['PATH']}")
+        self.assertTrue(done.out.startswith("<!doctype html>"), done.out[:200])
 
     def test_why_there_is_none(self) -> None:
         self.write("b.mm", SMALL)
         self.write("bad.mm", SMALL + "x $p |- p $= $.\n")
         self.write("empty.mm", "$c a $.\n")
         self.write("report", self.report("b.mm"))
-        came = self.query("page", "bad.mm")
-        self.assertEqual((came.status, came.out), (2, ""))
-        self.assertEqual(came.err, self.query("rests", "bad.mm", "x").err)
+        done = self.query("page", "bad.mm")
+        self.assertEqual((done.status, done.out), (2, ""))
+        self.assertEqual(done.err, self.query("rests", "bad.mm", "x").err)
         old = self.query("page", "b.mm", "--against", "bad.mm")
-        self.assertEqual((old.status, old.err), (2, came.err))
+        self.assertEqual((old.status, old.err), (2, done.err))
         for words, why in {
             ("empty.mm",): "empty.mm: has neither axioms nor theorems",
             ("b.mm", "--only", "none"): "b.mm: has no axiom of typecode 'none'",
@@ -118,7 +118,7 @@ class Page(World):
 
     def test_the_program_verifies(self) -> None:
         self.write("b.mm", SMALL)
-        runs = self.room / "runs"
+        runs = self.folder / "runs"
         self.script("noting", f'echo "$@" >>{runs}\nexec {program()} "$@"')
         words = ("page", "--open", "--against", "b.mm", "b.mm")
         self.assertEqual(self.query(*words, MMDEPEND="./noting"), self.query(*words))
@@ -133,18 +133,18 @@ class Page(World):
 
     def script(self, name: str, lines: str) -> Path:
         """A program of these lines of the shell."""
-        path = self.room / self.write(name, f"#!/bin/sh\n{lines}\n")
+        path = self.folder / self.write(name, f"#!/bin/sh\n{lines}\n")
         path.chmod(0o755)
         return path
 
     def test_without_node(self) -> None:
         self.write("b.mm", SMALL)
-        (self.room / "bin").mkdir()
+        (self.folder / "bin").mkdir()
         for command in ("python3", "env", "sh"):
-            (self.room / "bin" / command).symlink_to(shutil.which(command) or "")
-        came = self.query("page", "b.mm", PATH=str(self.room / "bin"))
-        self.assertEqual((came.status, came.out), (2, ""))
-        self.assertIn("made by Node 18 or later, and there is no command node", came.err)
+            (self.folder / "bin" / command).symlink_to(shutil.which(command) or "")
+        done = self.query("page", "b.mm", PATH=str(self.folder / "bin"))
+        self.assertEqual((done.status, done.out), (2, ""))
+        self.assertIn("made by Node 18 or later, and there is no command node", done.err)
 
 
 @unittest.skipUnless(PROGRAM_FOR_NODE.exists(), "web/build wasn't run")
@@ -154,9 +154,9 @@ class Releases(Repositories):
     def test_a_revision_of_git(self) -> None:
         self.commit(SMALL)
         self.write("db.mm", SMALL + "last $p |- p $= ? $.\n")
-        came = self.query("page", "--open", "--against", "HEAD:db.mm", "db.mm")
-        self.assertEqual((came.status, came.err), (0, ""))
-        against = json.loads(blocks_in(came.out)["against"])
+        done = self.query("page", "--open", "--against", "HEAD:db.mm", "db.mm")
+        self.assertEqual((done.status, done.err), (0, ""))
+        against = json.loads(blocks_in(done.out)["against"])
         self.assertEqual(against["name"], "HEAD:db.mm")
         self.assertEqual(len(against["added"]), 1)
 
@@ -171,13 +171,13 @@ class Readers(World):
         texts += [invented(chance).text for _ in range(20)]
         for at, text in enumerate(texts):
             name = self.write(f"{at}.mm", text)
-            came = self.query("page", name)
-            self.assertEqual((came.status, came.err), (0, ""), text)
-            self.compare(blocks_in(came.out), text)
+            done = self.query("page", name)
+            self.assertEqual((done.status, done.err), (0, ""), text)
+            self.compare(blocks_in(done.out), text)
 
     def compare(self, blocks: Blocks, text: str) -> None:
         """The blocks are those of the text."""
-        read = told_of(text.encode("latin-1"))
+        read = database_text(text.encode("latin-1"))
         facts = json.loads(blocks["facts"])
         self.assertEqual(lines_in(blocks, "labels"), [one.label for one in read.assertions])
         self.assertEqual(lines_in(blocks, "formulas"), [one.formula for one in read.assertions])

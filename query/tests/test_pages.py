@@ -32,13 +32,13 @@ def blocks(page: Path = PAGE) -> list[list[tuple[str, list[str]]]]:
     return found
 
 
-def is_shown(shown: list[str], came: list[str]) -> bool:
-    """Whether these lines are what came, where `...` stands for any lines."""
+def is_shown(shown: list[str], lines: list[str]) -> bool:
+    """Whether these lines are what is shown, where `...` stands for any lines."""
     if not shown:
-        return not came
+        return not lines
     if shown[0] == "...":
-        return any(is_shown(shown[1:], came[i:]) for i in range(len(came) + 1))
-    return bool(came) and came[0] == shown[0] and is_shown(shown[1:], came[1:])
+        return any(is_shown(shown[1:], lines[i:]) for i in range(len(lines) + 1))
+    return bool(lines) and lines[0] == shown[0] and is_shown(shown[1:], lines[1:])
 
 
 class Examples(World):
@@ -47,16 +47,16 @@ class Examples(World):
     def run_all(self, page: Path) -> int:
         """Runs the commands of a page, each of which shows what stands there. Returns how many
         these are."""
-        (self.room / "set.mm").symlink_to(DATABASES / "set.mm")
+        (self.folder / "set.mm").symlink_to(DATABASES / "set.mm")
         path = self.surroundings()["PATH"]
         tried = 0
         for block in blocks(page):
             for line, shown in block:
                 done = self.ran("bash", "-c", line, PATH=f"{TOP}:{path}")
-                came = done.lines() + done.err.splitlines()
+                lines = done.lines() + done.err.splitlines()
                 if done.status:
-                    came.append(f"(status {done.status})")
-                cut = came if "..." not in shown else came[:20] + came[-20:]
+                    lines.append(f"(status {done.status})")
+                cut = lines if "..." not in shown else lines[:20] + lines[-20:]
                 self.assertTrue(is_shown(shown, cut), f"{line}\n" + "\n".join(cut[:9]))
                 tried += 1
         return tried
@@ -87,17 +87,17 @@ class Cookbook(Examples):
     @unittest.skipUnless((DATABASES / "set.mm").exists(), "set.mm isn't installed")
     def test_examples(self) -> None:
         self.assertGreater(self.run_all(PAGE), 30)
-        self.assertTrue((self.room / "set.png").read_bytes().startswith(b"\x89PNG\r\n\x1a\n"))
-        self.assertTrue((self.room / "set.html").read_bytes()[:15].lower() == b"<!doctype html>")
+        self.assertTrue((self.folder / "set.png").read_bytes().startswith(b"\x89PNG\r\n\x1a\n"))
+        self.assertTrue((self.folder / "set.html").read_bytes()[:15].lower() == b"<!doctype html>")
 
     @unittest.skipUnless((DATABASES / "set.mm").exists(), "set.mm isn't installed")
     def test_reports(self) -> None:
         text = PAGE.read_text()
         part = text[text.index("\n### Reports\n") : text.index("\n## Is it valid?\n")]
-        (self.room / "set.mm").symlink_to(DATABASES / "set.mm")
-        (self.room / "mmdepend").symlink_to(built_program())
+        (self.folder / "set.mm").symlink_to(DATABASES / "set.mm")
+        (self.folder / "mmdepend").symlink_to(built_program())
         commands = re.findall(r"```sh\n(.*?)```", part, re.S)[0]
-        path = f"{self.room}:{self.surroundings()['PATH']}"
+        path = f"{self.folder}:{self.surroundings()['PATH']}"
         self.assertEqual(self.ran("bash", "-e", "-c", commands, PATH=path), self.ran("true"))
         self.assertEqual(self.answers("cites", "report", "zorn", "--on", "ax-ac2"), ["numth3"])
 
@@ -152,8 +152,8 @@ class Manual(World):
             ("rests", "some"): ["some file"],
         }.items():
             self.write("some file", "")
-            came = self.ran("bash", "-c", script, "bash", "mmquery", *words)
-            self.assertEqual(came.lines(), wanted, f"{words}: {came.err}")
+            done = self.ran("bash", "-c", script, "bash", "mmquery", *words)
+            self.assertEqual(done.lines(), wanted, f"{words}: {done.err}")
 
 
 def lower(texts: dict[str, str]) -> dict[str, str]:
@@ -176,15 +176,15 @@ class Faults(World):
                 continue
             text = example[1:-1].replace("<LF>", "\n").replace("<07>", "\x07").replace("\\|", "|")
             self.write("example.mm", text)
-            done = subprocess.run(
-                [built_program(), self.room / "example.mm"], capture_output=True, check=False
+            native = subprocess.run(
+                [built_program(), self.folder / "example.mm"], capture_output=True, check=False
             )
-            self.assertEqual(done.stdout.decode(), f"refused {place} {code}\n")
-            came = self.query("verify", "example.mm")
-            self.assertEqual((came.status, came.err), (1, ""), code)
-            self.assertTrue(came.out.startswith(f"example.mm:{place}: refused {code}"), came.out)
-            self.assertIn(FAULTS[code][0], came.out)
-            self.assertIn(advice, came.out)
+            self.assertEqual(native.stdout.decode(), f"refused {place} {code}\n")
+            done = self.query("verify", "example.mm")
+            self.assertEqual((done.status, done.err), (1, ""), code)
+            self.assertTrue(done.out.startswith(f"example.mm:{place}: refused {code}"), done.out)
+            self.assertIn(FAULTS[code][0], done.out)
+            self.assertIn(advice, done.out)
             self.refuses("rests", "example.mm", "x", why=f"example.mm:{place}: refused {code}")
 
     def test_the_module_for_python(self) -> None:
@@ -221,10 +221,10 @@ class Definitions(unittest.TestCase):
         text = (TOP / "docs" / "DEFINITIONS.md").read_text()
         told = re.findall(r"some ([\d,]+) for `\w+`", text)
         commands = re.findall(r"```sh\n(.*?)```", text, re.S)[0]
-        came = subprocess.run(
+        done = subprocess.run(
             ["sh", "-e", "-c", commands], cwd=TOP, capture_output=True, text=True, check=True
         )
-        for number, counted in zip(told, came.stdout.split(), strict=True):
+        for number, counted in zip(told, done.stdout.split(), strict=True):
             self.assertAlmostEqual(int(number.replace(",", "")), int(counted), delta=100)
 
 
@@ -308,12 +308,12 @@ class Language(World):
             shown = row[1][1:-1].replace("<0C>", "\x0c") + "\n"
             self.write("point.mm", (head if shown[0] != "$" else "") + shown)
             code = re.match(r"E\d\d", row[2])
-            came = self.query("verify", "point.mm")
-            self.assertEqual(came.status, 1 if code else 0, line)
-            self.assertIn(f" refused {code[0]}" if code else ": valid, ", came.out, line)
+            done = self.query("verify", "point.mm")
+            self.assertEqual(done.status, 1 if code else 0, line)
+            self.assertIn(f" refused {code[0]}" if code else ": valid, ", done.out, line)
             accepted = not code or "with `--open` accepted" in row[2]
-            came = self.query("verify", "--open", "point.mm")
-            self.assertEqual(came.status, 0 if accepted else 1, line)
+            done = self.query("verify", "--open", "point.mm")
+            self.assertEqual(done.status, 0 if accepted else 1, line)
             if "`t` cites nothing" in row[2]:
                 self.assertEqual(self.query("cites", "point.mm", "t").out, "")
             tried += 1

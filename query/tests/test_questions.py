@@ -36,7 +36,7 @@ class Questions(World):
             labels = random.Random(seed).sample(HOSTILE, len(HOSTILE)) if seed % 3 == 2 else None
             world = invented(chance, chance.randint(4, 10), labels)
             self.write(f"{seed}.mm", world.text)
-            found.append((world, str(self.room / f"{seed}.mm"), chance))
+            found.append((world, str(self.folder / f"{seed}.mm"), chance))
         return found
 
     def test_rests(self) -> None:
@@ -106,8 +106,8 @@ class Questions(World):
                     for each in world.cites.get(label, [])
                     if each == on or on in world.rests(each)
                 ]
-                came = second(asked("cites", path, f"--on={on}", "--", label))
-                self.assertEqual(came, brings)
+                found = second(asked("cites", path, f"--on={on}", "--", label))
+                self.assertEqual(found, brings)
             uncited = [
                 label
                 for label in world.cites
@@ -194,10 +194,10 @@ class Questions(World):
             self.assertEqual(counts, sorted(counts, reverse=True))
             some = chance.sample(world.theorems(), 2)
             wanted = freed(world, on, set(some))
-            came = asked("frees", path, "--", on, *some)
-            self.assertEqual(second(came), wanted)
+            found = asked("frees", path, "--", on, *some)
+            self.assertEqual(second(found), wanted)
             self.assertEqual(
-                {label: int(count) for count, label in came}.items() - numbers.items(), set()
+                {label: int(count) for count, label in found}.items() - numbers.items(), set()
             )
         self.assertGreater(tried, 5)
 
@@ -237,15 +237,15 @@ class Questions(World):
         for world, path, _ in self.worlds():
             sizes = [(len(world.users(axiom)), axiom) for axiom in world.axioms]
             best = sorted(sizes, key=lambda pair: -pair[0])[:2]
-            came = asked("top", path, "2")
-            self.assertEqual(came, [[str(count), label] for count, label in best])
+            found = asked("top", path, "2")
+            self.assertEqual(found, [[str(count), label] for count, label in best])
             heavy = [
                 (sum(axiom in world.rests(label) for axiom in world.axioms), label)
                 for label in world.cites
             ]
             best = sorted(heavy, key=lambda pair: -pair[0])[:3]
-            came = asked("top", path, "--theorems", "3")
-            self.assertEqual(came, [[str(count), label] for count, label in best])
+            found = asked("top", path, "--theorems", "3")
+            self.assertEqual(found, [[str(count), label] for count, label in best])
             few = [[str(count), label] for count, label in sizes if count < 3]
             self.assertEqual(asked("top", path, "--below", "3"), few)
 
@@ -267,12 +267,12 @@ class Questions(World):
     def test_graph(self) -> None:
         for world, path, chance in self.worlds(6):
             edges = [[one, cited] for one in world.cites for cited in world.cites[one]]
-            came = [line[0].split(" ") for line in asked("graph", path, "--as", "edges")]
-            self.assertEqual(came, edges)
+            found = [line[0].split(" ") for line in asked("graph", path, "--as", "edges")]
+            self.assertEqual(found, edges)
             label, on = chance.choice(world.theorems()), chance.choice(world.axioms)
             below = world.rests(label) | {label}
-            came = [line[0].split(" ") for line in asked("graph", path, "--as=edges", "--", label)]
-            self.assertEqual(came, [edge for edge in edges if edge[0] in below])
+            found = [line[0].split(" ") for line in asked("graph", path, "--as=edges", "--", label)]
+            self.assertEqual(found, [edge for edge in edges if edge[0] in below])
             chains = all_chains(world, label, on)
             pairs = {pair for chain in chains for pair in itertools.pairwise(chain)}
             lines = asked("graph", path, "--as=edges", "--", label, on)

@@ -3,7 +3,7 @@
 import itertools
 
 from query.assertions import Assertion
-from query.commands.repeats import theorems_of
+from query.commands.repeats import candidates
 from query.context import Context
 from query.options import Options
 from query.spare.conventions import conventions_of
@@ -11,7 +11,7 @@ from query.spare.rules import Rules
 from query.spare.repeats import HOW, Finder
 from query.spare.search import Shelf
 from query.tests.test_spare_search import SETS, Everything, Maker, Term, filled, parsed, variables
-from query.tests.world import World, told_of
+from query.tests.world import World, database_text
 from query.text import Text
 
 TEXT = """$c ( ) -> |- wff $.
@@ -68,8 +68,8 @@ class Repeats(World):
         self.write("report", self.report("db.mm"))
         self.refuses("repeats", "report", why="a report, where the database is wanted")
         self.write("none.mm", text[: text.index("u $a")] + "w $p |- ( p -> ( q -> p ) ) $= ? $.\n")
-        came = self.query("repeats", "none.mm")
-        self.assertEqual(came.status, 2)
+        done = self.query("repeats", "none.mm")
+        self.assertEqual(done.status, 2)
 
 
 class Tried:
@@ -126,16 +126,16 @@ class ByChance(World):
     def test_all(self) -> None:
         counts = dict.fromkeys((*HOW, None), 0)
         for seed in range(15):
-            path = str(self.room / self.write("chance.mm", Maker(seed).text(40)))
+            path = str(self.folder / self.write("chance.mm", Maker(seed).text(40)))
             database = Context(uses_cache=False).database(path, Options())
             rules = Rules(database.text, "|-")
             conventions = conventions_of(rules, cites_discouraged=True, cites_old=True)
             finder = Finder(rules, Shelf(rules, conventions))
             found = {
                 one.theorem: one
-                for one in finder.repeats(theorems_of(rules, True, lambda label: True))
+                for one in finder.repeats(candidates(rules, True, lambda label: True))
             }
-            tried = Tried(told_of(database.data()))
+            tried = Tried(database_text(database.data()))
             logical = [one for one in tried.text.assertions if one.typecode == "|-"]
             for number, one in enumerate(logical):
                 if one.kind == "a":

@@ -148,12 +148,12 @@ class Reports(World):
             for _ in range(25):
                 new = changed(chance, text)
                 try:
-                    came = checked("report", new.encode())
+                    found = checked("report", new.encode())
                 except NoAnswer as why:
                     self.assertRegex(str(why), r"\Areport:[1-9][0-9]*: ")
                     refused += 1
                     continue
-                self.assertEqual(meaning(came), meaning(right), f"{new}\n{text}")
+                self.assertEqual(meaning(found), meaning(right), f"{new}\n{text}")
         self.assertGreater(refused, 800)
 
 

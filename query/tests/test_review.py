@@ -22,7 +22,7 @@ class Reviewed(World):
 
     def reviewed(self, new: str) -> list[list[str]]:
         """The rows about a change of the small database."""
-        paths = [str(self.room / "old.mm"), str(self.room / self.write("new.mm", new))]
+        paths = [str(self.folder / "old.mm"), str(self.folder / self.write("new.mm", new))]
         return asked("review", *paths)
 
     def test_each_status(self) -> None:
@@ -83,7 +83,7 @@ class Reviewed(World):
             old, new = (invented(random.Random(2 * seed + k), 6) for k in (0, 1))
             self.write("a.mm", old.text)
             self.write("b.mm", new.text)
-            rows = asked("review", str(self.room / "a.mm"), str(self.room / "b.mm"))
+            rows = asked("review", str(self.folder / "a.mm"), str(self.folder / "b.mm"))
             for label, status, _, axioms, *_ in rows:
                 if "new" in status:
                     rests = [axiom for axiom in new.axioms if axiom in new.rests(label)]

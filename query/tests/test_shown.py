@@ -60,7 +60,7 @@ class Terminal(World):
         """What a terminal gets of a command, where the line of progress is not shown."""
         process, terminal = pty.fork()
         if process == 0:
-            os.chdir(self.room)
+            os.chdir(self.folder)
             os.execve(MMQUERY, ["mmquery", *words], self.surroundings())
         data = b""
         try:
@@ -80,9 +80,9 @@ class Terminal(World):
     def test_words_from_outside(self) -> None:
         name = EVIL.replace("/", "")
         self.write("small.mm", SMALL)
-        (self.room / name).write_text(SMALL)
-        (self.room / f"bad{name}").write_text("\x07")
-        (self.room / "list").write_text("a2")
+        (self.folder / name).write_text(SMALL)
+        (self.folder / f"bad{name}").write_text("\x07")
+        (self.folder / "list").write_text("a2")
         for words in (
             ("verify", name),
             ("verify", f"bad{name}"),
@@ -106,14 +106,14 @@ class Terminal(World):
 
     def test_a_pipe_gets_the_bytes(self) -> None:
         self.write("small.mm", SMALL.replace("$}\n", "$}\f\n"))
-        came = self.query("set-proof", "small.mm", "a2", "?")
-        self.assertIn("\f", came.out)
+        done = self.query("set-proof", "small.mm", "a2", "?")
+        self.assertIn("\f", done.out)
 
     def test_standard_error_in_a_pipe(self) -> None:
         for words in (("verify", EVIL), ("rests", EVIL, "x"), (EVIL,)):
-            came = self.query(*words)
-            self.assertEqual(came.status, 2)
-            self.is_harmless(came.err.encode("latin-1"))
+            done = self.query(*words)
+            self.assertEqual(done.status, 2)
+            self.is_harmless(done.err.encode("latin-1"))
 
 
 class Cells(unittest.TestCase):

@@ -12,6 +12,7 @@ from query.cli import parser_of
 from query.commands import command
 from query.context import Context
 from query.errors import NoAnswer
+from query.letters import letters_of
 from query.options import Options
 from query.output import Output
 from query.commands.spare import GIVEN_UP, rows_of
@@ -67,9 +68,9 @@ class Spare(World):
 
     def rows(self, *words: str) -> list[list[str]]:
         """The rows of an answer."""
-        came = self.query("spare", "--format", "tsv", *words)
-        self.assertEqual(came.status, 0, came.err)
-        lines = [line.split("\t") for line in came.lines()]
+        done = self.query("spare", "--format", "tsv", *words)
+        self.assertEqual(done.status, 0, done.err)
+        lines = [line.split("\t") for line in done.lines()]
         self.assertEqual(lines[0], NAMES)
         return lines[1:]
 
@@ -81,21 +82,21 @@ class Spare(World):
         self.assertEqual(self.rows("db.mm", "--all"), [*ROWS, other])
         self.assertEqual(self.rows("db.mm", "near", "bad"), ROWS)
         self.assertEqual(self.rows("db.mm", "bad", "--theorem", "t2"), [])
-        came = self.query("spare", "db.mm", "near")
-        self.assertEqual((came.out, came.status), ("", 0))
-        self.assertIn("no theorem was found that can do without", came.err)
+        done = self.query("spare", "db.mm", "near")
+        self.assertEqual((done.out, done.status), ("", 0))
+        self.assertIn("no theorem was found that can do without", done.err)
 
     def test_write(self) -> None:
         self.assertEqual(self.rows("db.mm", "bad", "--write", "new.mm"), ROWS)
-        self.assertEqual((self.room / "new.mm").read_text(), NEW)
+        self.assertEqual((self.folder / "new.mm").read_text(), NEW)
         self.assertEqual(self.query("verify", "new.mm").status, 0)
         self.assertEqual(self.rows("new.mm", "bad"), [])
         for name in ("new.mm", "db.mm"):
-            before = (self.room / name).read_bytes()
+            before = (self.folder / name).read_bytes()
             self.refuses("spare", "db.mm", "bad", "--write", name, why="isn't replaced")
-            self.assertEqual((self.room / name).read_bytes(), before)
+            self.assertEqual((self.folder / name).read_bytes(), before)
         self.refuses("spare", "db.mm", "bad", "--write", "no/new.mm", why="no such file")
-        names = sorted(file.name for file in self.room.iterdir())
+        names = sorted(file.name for file in self.folder.iterdir())
         self.assertEqual(names, ["db.mm", "new.mm"])
 
     def test_proof(self) -> None:
@@ -147,12 +148,12 @@ class Spare(World):
         self.write("before.mm", SPARE.replace("t1 $p |-", "t1 $p $( Here. $) |-"))
         self.assertEqual(self.rows("before.mm", "bad", "--write", "new.mm"), ROWS)
         wanted = NEW.replace("t1 $p |-", "t1 $p $( Here. $) |-")
-        self.assertEqual((self.room / "new.mm").read_text(), wanted)
+        self.assertEqual((self.folder / "new.mm").read_text(), wanted)
 
     def test_lines_end_as_they_did(self) -> None:
         self.write("crlf.mm", SPARE.replace("\n", "\r\n"))
         self.assertEqual(self.rows("crlf.mm", "bad", "--write", "new.mm"), ROWS)
-        self.assertEqual((self.room / "new.mm").read_bytes(), NEW.replace("\n", "\r\n").encode())
+        self.assertEqual((self.folder / "new.mm").read_bytes(), NEW.replace("\n", "\r\n").encode())
 
     def test_grammars(self) -> None:
         for syntax, why in (
@@ -164,14 +165,14 @@ class Spare(World):
         ):
             text = SPARE.replace("wi $a", f"{syntax} wi $a").replace("$c", "$c =")
             self.write("rules.mm", text)
-            came = self.query("spare", "--format", "tsv", "rules.mm", "bad")
-            found = [line.split("\t")[:3] for line in came.lines()[1:]]
+            done = self.query("spare", "--format", "tsv", "rules.mm", "bad")
+            found = [line.split("\t")[:3] for line in done.lines()[1:]]
             self.assertEqual(found, [row[:3] for row in ROWS], syntax)
             if why is None:
-                self.assertEqual(came.err, "")
+                self.assertEqual(done.err, "")
             else:
-                self.assertIn("formulas aren't read by the syntax axioms, so less", came.err)
-                self.assertIn(why, came.err)
+                self.assertIn("formulas aren't read by the syntax axioms, so less", done.err)
+                self.assertIn(why, done.err)
 
     def test_without_syntax_axioms(self) -> None:
         text = "$c |- wff * $. $v p q $. wp $f wff p $. wq $f wff q $.\n"
@@ -226,7 +227,7 @@ class Spare(World):
         [row] = self.rows("long.mm", "bad", "--write", "new.mm")
         self.assertEqual(row[:6], ["direct", "t", "bad drop", "", "", ""])
         wanted = f"{text}t $p |- ( p -> p ) $= ( i ) AB $.\n"
-        self.assertEqual((self.room / "new.mm").read_text().split(), wanted.split())
+        self.assertEqual((self.folder / "new.mm").read_text().split(), wanted.split())
 
     def test_a_formula_that_doubles(self) -> None:
         """A formula of the proof has 2^18 symbols, which are parts of one another."""
@@ -263,7 +264,7 @@ def edited(change: Change, **fields: Any) -> Change:
 
 REAL_CHANGES = Changer.changes
 REAL_REWRITTEN = judge.rewritten
-REAL_LETTERS = writing.letters_of
+REAL_LETTERS = letters_of
 
 
 def all_with(edit: Callable[[Change], Change]) -> Callable[[Changer], list[Change]]:
@@ -345,8 +346,8 @@ class Broken(World):
 
     def answer(self, axiom: str) -> None:
         """Asks in this process."""
-        path = str(self.room / "db.mm")
-        words = [path, axiom, "--write", str(self.room / "new.mm")]
+        path = str(self.folder / "db.mm")
+        words = [path, axiom, "--write", str(self.folder / "new.mm")]
         arguments = parser_of(command("spare")).read(words)
         command("spare").run(Context(Output(), False), arguments)
 
@@ -357,9 +358,9 @@ class Broken(World):
             with patch, self.assertRaises(NoAnswer, msg=way) as why:
                 self.answer(axiom)
             self.assertIn("what was found isn't so: ", str(why.exception), way)
-            self.assertFalse((self.room / "new.mm").exists(), way)
+            self.assertFalse((self.folder / "new.mm").exists(), way)
         self.answer("bad")
-        self.assertEqual((self.room / "new.mm").read_text(), NEW)
+        self.assertEqual((self.folder / "new.mm").read_text(), NEW)
 
     def test_texts(self) -> None:
         """A new database in which something else is changed."""
@@ -381,20 +382,20 @@ class Broken(World):
                 with self.assertRaises(NoAnswer) as why:
                     self.answer("bad")
             self.assertIn("what was found isn't so: ", str(why.exception))
-            self.assertFalse((self.room / "new.mm").exists())
+            self.assertFalse((self.folder / "new.mm").exists())
 
 
 class Limits(World):
     """What takes too long is said, and what is too large is refused."""
 
     def test_given_up(self) -> None:
-        path = str(self.room / self.write("db.mm", SPARE))
+        path = str(self.folder / self.write("db.mm", SPARE))
         database = Context(uses_cache=False).database(path, Options())
         with mock.patch.multiple(search, STEPS=0, STEPS_OF_FORMULA=1):
             found = list(Changer(database, Wanted("|-", ("bad",))).changes())
         given_up = [(each.theorem, each.loses, each.is_given_up) for each in found]
         self.assertEqual(given_up, [("t1", (), True), ("t2", (), True)])
-        judge.judge(database, judge.rewritten(database.text, found), found)
+        judge.judge_changes(database, judge.rewritten(database.text, found), found)
         self.assertEqual(rows_of(database, found), [])
         words = parser_of(command("spare")).read([path, "bad", "--no-cache"])
         with (
@@ -408,13 +409,13 @@ class Limits(World):
     def test_given_up_in_one_statement(self) -> None:
         """Hypotheses that could be matched in very many orders."""
         self.write("db.mm", shapes.premises(2)["a.mm"])
-        came = self.query("repeats", "db.mm")
-        self.assertEqual((came.out, came.status), ("", 0))
-        self.assertIn("of 2 theorems it takes too long to say what they repeat", came.err)
-        self.assertIn("the first is t0", came.err)
+        done = self.query("repeats", "db.mm")
+        self.assertEqual((done.out, done.status), ("", 0))
+        self.assertIn("of 2 theorems it takes too long to say what they repeat", done.err)
+        self.assertIn("the first is t0", done.err)
 
     def test_sizes(self) -> None:
-        path = str(self.room / self.write("db.mm", SPARE))
+        path = str(self.folder / self.write("db.mm", SPARE))
         database = Context(uses_cache=False).database(path, Options())
         for name, what in (
             ("MOST_ASSERTIONS", "assertions"),
@@ -427,7 +428,7 @@ class Limits(World):
 
     def test_a_long_formula_is_cited_often(self) -> None:
         """A proof isn't carried out that takes too long."""
-        path = str(self.room / self.write("db.mm", SPARE))
+        path = str(self.folder / self.write("db.mm", SPARE))
         database = Context(uses_cache=False).database(path, Options())
         with mock.patch.multiple(proofs, STEPS=0, STEPS_OF_LETTER=0):
             self.assertEqual(list(Changer(database, Wanted("|-", ("bad",))).changes()), [])
@@ -446,12 +447,12 @@ class Kept(World):
         self.assertEqual(len(list((self.cache / "mmquery").iterdir())), kept)
         words = ("spare", "db.mm", "bad", "--theorem", "t1", "--write")
         self.assertEqual(self.query(*words, "one.mm"), self.query(*words, "two.mm"))
-        self.assertEqual((self.room / "two.mm").read_text(), NEW)
+        self.assertEqual((self.folder / "two.mm").read_text(), NEW)
         self.assertEqual(self.query("repeats", "db.mm"), self.query("repeats", "db.mm"))
 
     def test_a_search_goes_on(self) -> None:
         """It is interrupted at each theorem, and tries none twice."""
-        path = str(self.room / self.write("db.mm", SPARE))
+        path = str(self.folder / self.write("db.mm", SPARE))
         names = {"XDG_CACHE_HOME": str(self.cache), "XDG_CONFIG_HOME": str(self.config)}
         tried: list[int] = []
         real = Changer.change
@@ -472,7 +473,7 @@ class Kept(World):
                 found = list(Changer(database, wanted).changes())
         self.assertEqual(len(tried), 6, tried)
         self.assertEqual([each.theorem for each in found], ["t1", "t2"])
-        judge.judge(database, judge.rewritten(database.text, found), found)
+        judge.judge_changes(database, judge.rewritten(database.text, found), found)
 
 
 @unittest.skipUnless(
@@ -489,11 +490,11 @@ class BesideMetamath(World):
         self.assertTrue(rows, name)
         some = rows[:5]
         traces = [f"show trace_back {row[1]} /axioms /match *" for row in some]
-        told, *traced = asked(self.room / "new.mm", ["verify proof *", *traces])
+        told, *traced = asked(self.folder / "new.mm", ["verify proof *", *traces])
         self.assertIn("All proofs in the database were verified", told)
         for row, trace in zip(some, traced, strict=True):
             self.assertTrue(set(trace.split()).isdisjoint(row[2].split()), row)
-        (self.room / "new.mm").unlink()
+        (self.folder / "new.mm").unlink()
 
     def test_databases(self) -> None:
         self.checked("ql.mm", "ax-r3")

@@ -9,7 +9,7 @@ from query.context import Context
 from query.options import Options
 from query.spare.changes import Changer, Wanted
 from query.spare.kept import Change
-from query.spare.judge import judge, rewritten
+from query.spare.judge import judge_changes, rewritten
 from query.spare.proofs import run
 from query.spare.search import AllSteps
 from query.tests.world import World
@@ -318,7 +318,7 @@ class ByChance(World):
         wanted = Wanted("|-", axioms, has_new_steps=new_steps)
         changes = list(Changer(database, wanted).changes())
         data = rewritten(database.text, changes)
-        judge(database, data, changes)
+        judge_changes(database, data, changes)
         return changes, database.text, data
 
     def marks(self, path: str) -> dict[str, set[str]]:
@@ -332,10 +332,10 @@ class ByChance(World):
     def test_one_axiom(self) -> None:
         direct = cascades = kept = 0
         for seed in range(40):
-            path = str(self.room / self.write("chance.mm", Maker(seed).text(50)))
+            path = str(self.folder / self.write("chance.mm", Maker(seed).text(50)))
             for axiom in ("bad", "five", "tr"):
                 changes, text, data = self.freed(path, (axiom,))
-                new = str(self.room / self.write("new.mm", data))
+                new = str(self.folder / self.write("new.mm", data))
                 before, after = self.marks(path), self.marks(new)
                 everything = Everything(text, after)
                 lost = {each.theorem: each for each in changes if axiom in each.loses}
@@ -352,7 +352,7 @@ class ByChance(World):
         """Which axioms a theorem can do without one by one, found for all of them at once."""
         counts = [0, 0]
         for seed in range(15):
-            path = str(self.room / self.write("chance.mm", Maker(seed).text(30)))
+            path = str(self.folder / self.write("chance.mm", Maker(seed).text(30)))
             database = Context(uses_cache=False).database(path, Options())
             changer = Changer(database, Wanted("|-", tuple(database.axioms())))
             before = self.marks(path)
@@ -376,12 +376,12 @@ class ByChance(World):
         """What is found is judged, and proofs that get shorter do."""
         found = shorter = 0
         for seed in range(15):
-            path = str(self.room / self.write("chance.mm", Maker(seed).text(50)))
+            path = str(self.folder / self.write("chance.mm", Maker(seed).text(50)))
             changes, _, data = self.freed(path, ("bad", "five", "tr", "k"))
             found += len(changes)
             database = Context(uses_cache=False).database(path, Options())
             several = list(Changer(database, Wanted("|-", is_shorter=True)).changes())
-            judge(database, rewritten(database.text, several), several)
+            judge_changes(database, rewritten(database.text, several), several)
             for each in several:
                 if each.proof is not None:
                     self.assertLess(len(each.proof), each.old_length)
@@ -392,7 +392,7 @@ class ByChance(World):
         """With new steps more is found, and it is judged."""
         found = more = 0
         for seed in range(20):
-            path = str(self.room / self.write("chance.mm", Maker(seed).text(40)))
+            path = str(self.folder / self.write("chance.mm", Maker(seed).text(40)))
             for axiom in ("bad", "tr"):
                 found += len(self.freed(path, (axiom,))[0])
                 more += len(self.freed(path, (axiom,), True)[0])

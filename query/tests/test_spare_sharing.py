@@ -48,7 +48,7 @@ class ByChance(World):
         several = 0
         with mock.patch.object(sharing, "STRETCH", 2):
             for seed in range(3):
-                path = str(self.room / self.write("chance.mm", Maker(seed).text(50)))
+                path = str(self.folder / self.write("chance.mm", Maker(seed).text(50)))
                 labels = tuple(Context(uses_cache=False).database(path, Options()).axioms())
                 for wanted in (
                     Wanted("|-", ("bad",)),
@@ -65,7 +65,7 @@ class ByChance(World):
 
     def test_it_would_not_be_the_same(self) -> None:
         """Where what a process says is always taken, the answer is another one."""
-        path = str(self.room / self.write("db.mm", SPARE))
+        path = str(self.folder / self.write("db.mm", SPARE))
         wanted = Wanted("|-", ("bad",))
         with mock.patch.object(sharing, "STRETCH", 1):
             self.assertEqual(found(path, wanted, 3), found(path, wanted, 1))
@@ -86,7 +86,7 @@ class Processes(World):
         self.refuses(*words, "0", why="is no number from 1 to 999999")
 
     def test_where_none_can_be_begun(self) -> None:
-        path = str(self.room / self.write("db.mm", many(200)))
+        path = str(self.folder / self.write("db.mm", many(200)))
         wanted = Wanted("|-", ("bad",))
         alone = found(path, wanted, 1)
         with mock.patch.object(sharing, "begun", side_effect=OSError):
@@ -107,12 +107,12 @@ class Processes(World):
         with mock.patch.object(system, "processors", lambda: 1):
             self.assertEqual(sharing.number_at_once(), 1)
         self.assertGreater(min(each or 0 for each in system.memory()), 1000)
-        self.assertIsNone(system.told("/proc/self/status", "Name"))
-        self.assertIsNone(system.told(str(self.room / "none"), "VmRSS"))
+        self.assertIsNone(system.number_in("/proc/self/status", "Name"))
+        self.assertIsNone(system.number_in(str(self.folder / "none"), "VmRSS"))
 
     def test_one_that_fails(self) -> None:
         """What was found before is kept, and there is no answer."""
-        path = str(self.room / self.write("db.mm", many(200)))
+        path = str(self.folder / self.write("db.mm", many(200)))
         names = {"XDG_CACHE_HOME": str(self.cache), "XDG_CONFIG_HOME": str(self.config)}
         real = parallel.Copy.result
         count = 0
@@ -161,7 +161,7 @@ class Processes(World):
         """A command that is running."""
         return subprocess.Popen(
             [MMQUERY, *words],
-            cwd=self.room,
+            cwd=self.folder,
             env=self.surroundings(),
             stdin=subprocess.DEVNULL,
             stdout=subprocess.DEVNULL,

@@ -23,7 +23,7 @@ from query.tests.commands import (
     keep_in_git,
     words_of,
 )
-from query.tests.world import MMQUERY, Came, World, program
+from query.tests.world import MMQUERY, Done, World, program
 
 LIMITS = (0, 1, 100, 4096)
 
@@ -37,14 +37,14 @@ class Statuses(World):
         self.write("newer.mm", NEWER)
         self.write("broken.mm", WHOLE.replace("wi wi $.", "wi $."))
         self.write("early.mm", WHOLE.replace("$v p q $.", "$v p q $"))
-        keep_in_git(self.room)
+        keep_in_git(self.folder)
 
     def all_words(self) -> list[list[str]]:
         """The words of every command over a database, and pages of help."""
         found = [words_of(name, "db.mm") for name in names()]
         return [*found, ["--help"], ["rests", "--help"], ["--version"]]
 
-    def ended(self, words: list[str], out: int, size: int | None = None, **more: str) -> Came:
+    def ended(self, words: list[str], out: int, size: int | None = None, **more: str) -> Done:
         """Runs a command with this standard output; no file may get more than `size` bytes."""
 
         def limit() -> None:
@@ -53,7 +53,7 @@ class Statuses(World):
 
         done = subprocess.run(
             [str(MMQUERY), *words],
-            cwd=self.room,
+            cwd=self.folder,
             env=self.surroundings(**more),
             stdin=subprocess.DEVNULL,
             stdout=out,
@@ -61,28 +61,28 @@ class Statuses(World):
             preexec_fn=limit,
             check=False,
         )
-        return Came((done.stdout or b"").decode("latin-1"), done.stderr.decode(), done.returncode)
+        return Done((done.stdout or b"").decode("latin-1"), done.stderr.decode(), done.returncode)
 
-    def no_answer(self, words: list[str], came: Came, why: str = "") -> None:
+    def no_answer(self, words: list[str], done: Done, why: str = "") -> None:
         """Status 2 and one line."""
-        self.assertEqual(came.status, 2, f"{words}: {came.err}")
-        self.assertRegex(came.err, r"\Ammquery: [^\n]+\n\Z", f"{words}")
-        self.assertIn(why, came.err, f"{words}")
+        self.assertEqual(done.status, 2, f"{words}: {done.err}")
+        self.assertRegex(done.err, r"\Ammquery: [^\n]+\n\Z", f"{words}")
+        self.assertIn(why, done.err, f"{words}")
 
     def test_every_command_answers(self) -> None:
         for words in self.all_words():
-            came = self.query(*words)
-            self.assertIn(came.status, (0, 1), f"{words}: {came.err}")
-            self.assertRegex(came.err, r"\A(mmquery: [^\n]+\n)?\Z", f"{words}")
+            done = self.query(*words)
+            self.assertIn(done.status, (0, 1), f"{words}: {done.err}")
+            self.assertRegex(done.err, r"\A(mmquery: [^\n]+\n)?\Z", f"{words}")
             is_silent = words[0] in MAY_BE_SILENT
-            self.assertTrue(came.out or came.err or is_silent, f"{words}")
+            self.assertTrue(done.out or done.err or is_silent, f"{words}")
 
     def test_outputs_that_take_nothing(self) -> None:
         for words in self.all_words():
             whole = self.query(*words)
             is_silent = not whole.out
             with open("/dev/full", "wb") as full:
-                came = self.ended(words, full.fileno())
+                done = self.ended(words, full.fileno())
             reader, writer = os.pipe()
             os.close(reader)
             piped = self.ended(words, writer)
@@ -91,7 +91,7 @@ class Statuses(World):
             self.assertEqual(piped.err, whole.err, f"{words}")
             shut = self.query_by_shell('exec "$@" >&-', *words)
             for each, why in (
-                (came, "the disk is full"),
+                (done, "the disk is full"),
                 (shut, "standard output is closed"),
             ):
                 if is_silent:
@@ -102,9 +102,9 @@ class Statuses(World):
     def test_all_is_closed(self) -> None:
         """No file that is opened takes the place of standard output."""
         for words in self.all_words():
-            came = self.query_by_shell('exec "$@" <&- >&- 2>&-', *words)
-            self.assertIn(came.status, (0, 1, 2), f"{words}")
-        self.assertEqual((self.room / "db.mm").read_text(), WHOLE)
+            done = self.query_by_shell('exec "$@" <&- >&- 2>&-', *words)
+            self.assertIn(done.status, (0, 1, 2), f"{words}")
+        self.assertEqual((self.folder / "db.mm").read_text(), WHOLE)
 
     def test_files_may_not_grow(self) -> None:
         """Where files can't be written, kept results are done without, and nothing is half
@@ -115,15 +115,15 @@ class Statuses(World):
             whole = self.query(*words)
             shutil.rmtree(self.cache / "mmquery", ignore_errors=True)
             for size in LIMITS:
-                came = self.ended(words, subprocess.PIPE, size)
+                done = self.ended(words, subprocess.PIPE, size)
                 # `spare` judges a new database, which it puts into a file in memory.
-                if words[0] in {"export", "spare", *OF_GIT} and came.status == 2:
-                    self.no_answer(words, came)
+                if words[0] in {"export", "spare", *OF_GIT} and done.status == 2:
+                    self.no_answer(words, done)
                 else:
                     self.assertEqual(
-                        (came.out, came.err), (whole.out, whole.err), f"{words}, {size}"
+                        (done.out, done.err), (whole.out, whole.err), f"{words}, {size}"
                     )
-                    self.assertEqual(came.status, whole.status)
+                    self.assertEqual(done.status, whole.status)
                 kept = [each.stat().st_size for each in (self.cache / "mmquery").glob("*")]
                 self.assertTrue(all(each <= size for each in kept), f"{words}, {size}")
                 # That `spare` found nothing is kept in less.
@@ -137,11 +137,11 @@ class Statuses(World):
             for size in LIMITS:
                 if len(whole.out) <= size:
                     continue
-                with open(self.room / "answer", "wb") as file:
-                    came = self.ended(words, file.fileno(), size)
-                if not whole.out and came.status == whole.status:
+                with open(self.folder / "answer", "wb") as file:
+                    done = self.ended(words, file.fileno(), size)
+                if not whole.out and done.status == whole.status:
                     continue
-                self.no_answer(words, came)
+                self.no_answer(words, done)
 
     def test_folders_that_are_full_or_missing(self) -> None:
         start = ["unshare", "--mount", "--map-root-user", "sh", "-c"]
@@ -149,41 +149,41 @@ class Statuses(World):
         line += ' && mount --bind "$TMPDIR" "$XDG_CACHE_HOME" && exec "$@"'
         for words in self.all_words():
             whole = self.query(*words)
-            came = self.query(*words, TMPDIR="/nowhere", XDG_CACHE_HOME="/nowhere/cache")
-            self.same_or_why(words, whole, came)
-            came = self.ran(*start, line, "sh", str(MMQUERY), *words)
-            if "unshare" in came.err or "mount" in came.err:
+            done = self.query(*words, TMPDIR="/nowhere", XDG_CACHE_HOME="/nowhere/cache")
+            self.same_or_why(words, whole, done)
+            done = self.ran(*start, line, "sh", str(MMQUERY), *words)
+            if "unshare" in done.err or "mount" in done.err:
                 self.skipTest("unshare may not mount a full folder here")
-            self.same_or_why(words, whole, came)
+            self.same_or_why(words, whole, done)
 
-    def same_or_why(self, words: list[str], whole: Came, came: Came) -> None:
+    def same_or_why(self, words: list[str], whole: Done, done: Done) -> None:
         """The same answer, or one line that names what is full or missing."""
-        if came.status == 2:
-            self.no_answer(words, came)
-            self.assertRegex(came.err, "full|no such", f"{words}")
+        if done.status == 2:
+            self.no_answer(words, done)
+            self.assertRegex(done.err, "full|no such", f"{words}")
         elif words[0] != "cache":
-            self.assertEqual(came, whole)
+            self.assertEqual(done, whole)
 
     def test_refused_databases(self) -> None:
         for name in names():
             if name in WITHOUT_DATABASE:
                 continue
             for file, place, code in (("broken.mm", "", "E37"), ("early.mm", "", "E04")):
-                came = self.query(*words_of(name, file))
+                done = self.query(*words_of(name, file))
                 if name == "verify":
-                    self.assertEqual((came.status, came.err), (1, ""))
-                    self.assertRegex(came.out, rf"\A{file}:\d+:\d+: refused {code} in ")
+                    self.assertEqual((done.status, done.err), (1, ""))
+                    self.assertRegex(done.out, rf"\A{file}:\d+:\d+: refused {code} in ")
                 elif name in OF_GIT:
-                    self.assertEqual((came.status, came.err), (0, ""))
-                    self.assertRegex(came.out, rf"  refused \d+:\d+ {code}\n")
+                    self.assertEqual((done.status, done.err), (0, ""))
+                    self.assertRegex(done.out, rf"  refused \d+:\d+ {code}\n")
                 elif name in MENDING and code == "E37":
-                    self.assertEqual((came.status, came.err), (0, ""))
-                elif name == "gate" and came.status == 1:
-                    self.assertRegex(came.out, rf"{file}:\d+:\d+.*{code}")
+                    self.assertEqual((done.status, done.err), (0, ""))
+                elif name == "gate" and done.status == 1:
+                    self.assertRegex(done.out, rf"{file}:\d+:\d+.*{code}")
                 else:
-                    self.no_answer([name, file], came, f"refused {code}")
-                    self.assertEqual(came.out, "")
-                    self.assertRegex(came.err, rf"{file}:\d+:\d+: refused")
+                    self.no_answer([name, file], done, f"refused {code}")
+                    self.assertEqual(done.out, "")
+                    self.assertRegex(done.err, rf"{file}:\d+:\d+: refused")
                 self.assertEqual(place, "")
 
 
@@ -194,14 +194,14 @@ class Interrupts(World):
         super().setUp()
         self.write("db.mm", WHOLE)
         self.write("newer.mm", NEWER)
-        keep_in_git(self.room)
+        keep_in_git(self.folder)
 
-    def interrupted(self, words: list[str], number: int, delay: float) -> tuple[Came, bool]:
+    def interrupted(self, words: list[str], number: int, delay: float) -> tuple[Done, bool]:
         """Runs a command and sends it a signal after these seconds. Also whether that came in
         time."""
         process = subprocess.Popen(
             [str(MMQUERY), *words],
-            cwd=self.room,
+            cwd=self.folder,
             env=self.surroundings(),
             stdin=subprocess.DEVNULL,
             stdout=subprocess.PIPE,
@@ -211,7 +211,7 @@ class Interrupts(World):
         was_running = process.poll() is None
         process.send_signal(number)
         out, errors = process.communicate()
-        return Came(out.decode("latin-1"), errors.decode(), process.returncode), was_running
+        return Done(out.decode("latin-1"), errors.decode(), process.returncode), was_running
 
     def test_at_any_moment(self) -> None:
         chance = random.Random(11)
@@ -223,35 +223,35 @@ class Interrupts(World):
             took = time.monotonic() - begun
             for number in (signal.SIGINT, signal.SIGINT, signal.SIGTERM, signal.SIGINT):
                 shutil.rmtree(self.cache / "mmquery", ignore_errors=True)
-                came, was_running = self.interrupted(words, number, chance.uniform(0, took))
-                if came.status in (128 + number, -number):
-                    told = came.err.removesuffix("mmquery: interrupted\n")
-                    self.assertTrue(whole.err.startswith(told), f"{words}: {came.err}")
-                    self.assertTrue(whole.out.startswith(came.out), f"{words}")
+                done, was_running = self.interrupted(words, number, chance.uniform(0, took))
+                if done.status in (128 + number, -number):
+                    told = done.err.removesuffix("mmquery: interrupted\n")
+                    self.assertTrue(whole.err.startswith(told), f"{words}: {done.err}")
+                    self.assertTrue(whole.out.startswith(done.out), f"{words}")
                     stopped += 1
                 else:
-                    self.assertEqual(came, whole, f"{words}, {was_running}")
+                    self.assertEqual(done, whole, f"{words}, {was_running}")
         self.assertGreater(stopped, len(names()))
 
     def test_while_python_starts(self) -> None:
         statuses = []
         for step in range(40):
-            came, was_running = self.interrupted(["--version"], signal.SIGINT, step * 0.002)
-            self.assertIn(came.err, ("", "mmquery: interrupted\n"))
-            self.assertIn(came.status, (0, 130, -2))
-            statuses.append(came.status)
+            done, was_running = self.interrupted(["--version"], signal.SIGINT, step * 0.002)
+            self.assertIn(done.err, ("", "mmquery: interrupted\n"))
+            self.assertIn(done.status, (0, 130, -2))
+            statuses.append(done.status)
         self.assertGreater(len([status for status in statuses if status]), 3)
 
     def test_the_program_ends_too(self) -> None:
         script = '#!/bin/sh\n[ "$1" != --version ] || exit 0\necho $$ >>pids\nexec sleep 60\n'
-        (self.room / "slow").write_text(script)
-        (self.room / "slow").chmod(0o755)
+        (self.folder / "slow").write_text(script)
+        (self.folder / "slow").chmod(0o755)
         for number in (signal.SIGINT, signal.SIGTERM, signal.SIGHUP):
-            pids = self.room / "pids"
+            pids = self.folder / "pids"
             pids.unlink(missing_ok=True)
             process = subprocess.Popen(
                 [str(MMQUERY), "rests", "db.mm", "a2"],
-                cwd=self.room,
+                cwd=self.folder,
                 env=self.surroundings(MMDEPEND="./slow"),
                 stdout=subprocess.PIPE,
                 stderr=subprocess.PIPE,
@@ -269,7 +269,7 @@ class Interrupts(World):
         line = f"trap '' INT HUP; exec {MMQUERY} rests db.mm a2"
         process = subprocess.Popen(
             ["sh", "-c", line],
-            cwd=self.room,
+            cwd=self.folder,
             env=self.surroundings(),
             stdout=subprocess.PIPE,
             stderr=subprocess.PIPE,

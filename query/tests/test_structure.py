@@ -7,7 +7,7 @@ import subprocess
 import unittest
 
 from query.assertions import Assertion
-from query.tests.world import DATABASES, SMALL, World, invented, told_of
+from query.tests.world import DATABASES, SMALL, World, invented, database_text
 
 PARTS = """$c wff |- ( -> ) $.
 $v p q $. wp $f wff p $. wq $f wff q $. wi $a wff ( p -> q ) $.
@@ -195,7 +195,9 @@ class BesideMetamath(World):
     def metamath(self, name: str, *commands: str) -> str:
         """What it prints of a database."""
         words = [f"read '{name}'", "set width 9999", *commands, "exit"]
-        done = subprocess.run(["metamath", *words], capture_output=True, check=True, cwd=self.room)
+        done = subprocess.run(
+            ["metamath", *words], capture_output=True, check=True, cwd=self.folder
+        )
         return done.stdout.decode("latin-1")
 
     def test_discouraged(self) -> None:
@@ -206,7 +208,7 @@ class BesideMetamath(World):
 
     def test_mathboxes(self) -> None:
         data = (DATABASES / "iset.mm").read_bytes()
-        text = told_of(data)
+        text = database_text(data)
         known = {"ph", "ps", "ch", "A", "B", "x", "y"}  # with a `$f` outside of all blocks
         fit = [one for one, _, _ in text.boxed() if is_over(one, known)]
         chosen = random.Random(1).sample(fit, 3)

@@ -24,7 +24,7 @@ from query.tests.commands import NEWER, WHOLE, keep_in_git, words_of
 from query.tests.lacking import ALL, MODULES
 from query.tests.test_spare_sharing import many
 from query.tests.test_statuses import has_ended, wait_for
-from query.tests.world import PROGRAM_FOR_NODE, TOP, Came, World
+from query.tests.world import PROGRAM_FOR_NODE, TOP, Done, World
 
 LACKING = Path(__file__).resolve().parent / "lacking.py"
 SOME = (
@@ -43,19 +43,19 @@ class Lacking(World):
         self.write("db.mm", WHOLE)
         self.write("newer.mm", NEWER)
         self.write("broken.mm", WHOLE.replace("wi wi $.", "wi $."))
-        keep_in_git(self.room)
+        keep_in_git(self.folder)
 
-    def without(self, lacking: tuple[str, ...], *words: str, given: bytes = b"") -> Came:
+    def without(self, lacking: tuple[str, ...], *words: str, given: bytes = b"") -> Done:
         """Runs mmquery in a Python that lacks these. Nothing that was kept is taken."""
         shutil.rmtree(self.cache / "mmquery", ignore_errors=True)
         start = (sys.executable, "-ISB", str(LACKING), ",".join(lacking))
         return self.ran(*start, *words, given=given)
 
-    def agree(self, lacking: tuple[str, ...], *words: str, given: bytes = b"") -> Came:
+    def agree(self, lacking: tuple[str, ...], *words: str, given: bytes = b"") -> Done:
         """The answer, which is the same with all and without these."""
         whole = self.query(*words, given=given)
-        came = self.without(lacking, *words, given=given)
-        self.assertEqual(came, whole, f"without {lacking}: {words}")
+        done = self.without(lacking, *words, given=given)
+        self.assertEqual(done, whole, f"without {lacking}: {words}")
         return whole
 
     def test_every_command(self) -> None:
@@ -100,7 +100,7 @@ class Lacking(World):
         self.addCleanup(os.close, reading)
         done = subprocess.run(
             [sys.executable, "-ISB", str(LACKING), ",".join(ALL), "rests", "db.mm", "a2"],
-            cwd=self.room,
+            cwd=self.folder,
             env=self.surroundings(),
             stdout=subprocess.PIPE,
             stderr=writing,
@@ -111,21 +111,21 @@ class Lacking(World):
 
     def test_links_and_pipes_are_refused(self) -> None:
         self.agree(ALL, "gate", "--base", "HEAD", "db.mm")
-        (self.room / "mmdepend.toml").symlink_to("db.mm")
+        (self.folder / "mmdepend.toml").symlink_to("db.mm")
         self.assertEqual(self.agree(ALL, "gate", "--base", "HEAD", "db.mm").status, 2)
-        (self.room / "mmdepend.toml").unlink()
-        os.mkfifo(self.room / "mmdepend.toml")
+        (self.folder / "mmdepend.toml").unlink()
+        os.mkfifo(self.folder / "mmdepend.toml")
         self.assertIn("is no plain file", self.agree((), "gate", "--base=HEAD", "db.mm").err)
 
     def test_a_link_that_comes_meanwhile(self) -> None:
         """A file that isn't the one that was looked at is refused."""
         self.write("other.mm", WHOLE)
-        before = os.lstat(self.room / "other.mm")
+        before = os.lstat(self.folder / "other.mm")
         with mock.patch.object(os, "lstat", return_value=before):
-            self.assertRaises(OSError, self.opened_without_flags, self.room / "db.mm")
-        self.opened_without_flags(self.room / "db.mm")
-        (self.room / "link").symlink_to("db.mm")
-        self.assertRaises(OSError, self.opened_without_flags, self.room / "link")
+            self.assertRaises(OSError, self.opened_without_flags, self.folder / "db.mm")
+        self.opened_without_flags(self.folder / "db.mm")
+        (self.folder / "link").symlink_to("db.mm")
+        self.assertRaises(OSError, self.opened_without_flags, self.folder / "link")
 
     def opened_without_flags(self, path: Path) -> None:
         """Opens and closes a file where there is no O_NOFOLLOW."""
@@ -139,18 +139,18 @@ class Lacking(World):
     def test_export(self) -> None:
         words = words_of("export", "db.mm")
         whole = self.query(*words)
-        plain = dump(self.room / "out.sqlite")
-        (self.room / "out.sqlite").unlink()
+        plain = dump(self.folder / "out.sqlite")
+        (self.folder / "out.sqlite").unlink()
         self.assertEqual(self.without(ALL, *words), whole)
-        self.assertEqual(dump(self.room / "out.sqlite"), plain)
+        self.assertEqual(dump(self.folder / "out.sqlite"), plain)
         self.assertIn("INSERT INTO", plain)
 
     @unittest.skipUnless(PROGRAM_FOR_NODE.exists(), "web/build wasn't run")
     def test_pages_of_two_databases(self) -> None:
         self.agree(ALL, "page", "--against", "HEAD:db.mm", "newer.mm")
         self.agree(("/dev/fd",), "page", "--against", "db.mm", "newer.mm")
-        came = self.agree(ALL, "page", "--watch", "nothing", "db.mm")
-        self.assertEqual(came.err, "mmquery: db.mm: has no axiom 'nothing' to be watched\n")
+        done = self.agree(ALL, "page", "--watch", "nothing", "db.mm")
+        self.assertEqual(done.err, "mmquery: db.mm: has no axiom 'nothing' to be watched\n")
 
     def test_without_the_folder_of_processes(self) -> None:
         """Nothing is at `/proc` and at `/dev/fd`, for any program."""
@@ -160,10 +160,10 @@ class Lacking(World):
             if words[0] == "page" and not PROGRAM_FOR_NODE.exists():
                 continue
             whole = self.query(*words)
-            came = self.ran(*start, line, "sh", str(TOP / "mmquery"), *words)
-            if "unshare" in came.err or "mount" in came.err:
+            done = self.ran(*start, line, "sh", str(TOP / "mmquery"), *words)
+            if "unshare" in done.err or "mount" in done.err:
                 self.skipTest("unshare may not hide a folder here")
-            self.assertEqual(came, whole, f"{words}")
+            self.assertEqual(done, whole, f"{words}")
 
     def test_modules_that_python_lacks(self) -> None:
         """They are named, in one line."""
@@ -173,40 +173,40 @@ class Lacking(World):
             "sqlite3": words_of("export", "db.mm"),
         }.items():
             self.assertEqual(self.query(*words).status, 0)
-            came = self.without((name,), *words)
+            done = self.without((name,), *words)
             said = f"mmquery: this Python lacks the module {name}\n"
-            self.assertEqual((came.status, came.out, came.err), (2, "", said))
+            self.assertEqual((done.status, done.out, done.err), (2, "", said))
             self.assertEqual(self.without((name,), "rests", "db.mm", "a2").status, 0)
 
     def test_nothing_is_kept_where_files_have_no_owner(self) -> None:
         self.assertEqual(self.without(("os.geteuid",), "rests", "db.mm", "a2").status, 0)
         self.assertEqual(self.without(ALL, "history", "db.mm", "HEAD").status, 0)
         self.assertEqual([*self.cache.iterdir(), *self.config.iterdir()], [])
-        came = self.without(("os.geteuid",), "cache")
-        self.assertIn("nothing is kept or taken: ", came.err)
-        self.assertIn("this system doesn't tell whose it is", came.err)
+        done = self.without(("os.geteuid",), "cache")
+        self.assertIn("nothing is kept or taken: ", done.err)
+        self.assertIn("this system doesn't tell whose it is", done.err)
         self.assertEqual(self.without((), "rests", "db.mm", "a2").status, 0)
         self.assertEqual(len(list((self.cache / "mmquery").iterdir())), 1)
 
     def test_an_interrupt(self) -> None:
         """The program that runs is ended, and no temporary file is left."""
         script = '#!/bin/sh\n[ "$1" != --version ] || exit 0\necho $$ >>pids\nexec sleep 60\n'
-        (self.room / "slow").write_text(script)
-        (self.room / "slow").chmod(0o755)
+        (self.folder / "slow").write_text(script)
+        (self.folder / "slow").chmod(0o755)
         for words in (("compare", "HEAD:db.mm", "-"), ("history", "db.mm", "HEAD")):
-            (self.room / "pids").unlink(missing_ok=True)
+            (self.folder / "pids").unlink(missing_ok=True)
             process = subprocess.Popen(
                 [sys.executable, "-ISB", str(LACKING), ",".join(ALL), *words],
-                cwd=self.room,
+                cwd=self.folder,
                 env=self.surroundings(MMDEPEND="./slow"),
                 stdin=subprocess.DEVNULL,
                 stderr=subprocess.PIPE,
             )
-            wait_for(lambda: (self.room / "pids").exists())
+            wait_for(lambda: (self.folder / "pids").exists())
             process.send_signal(signal.SIGINT)
             _, said = process.communicate(timeout=20)
             self.assertEqual((process.returncode, said), (130, b"mmquery: interrupted\n"))
-            for pid in (self.room / "pids").read_text().split():
+            for pid in (self.folder / "pids").read_text().split():
                 wait_for(lambda: has_ended(pid))
 
     def test_read_only_files_are_removed(self) -> None:
@@ -230,7 +230,7 @@ class EndsOfLines(World):
 
     def test_of_a_database(self) -> None:
         for ends, name in ((WHOLE, "line"), (WHOLE.replace("\n", "\r\n"), "both")):
-            (self.room / name).mkdir()
+            (self.folder / name).mkdir()
             self.write(f"{name}/db.mm", ends)
         for name in ALIKE:
             line, both = (self.query(*words_of(name, f"{ends}/db.mm")) for ends in ("line", "both"))

@@ -6,7 +6,7 @@ import unittest
 
 from query.assertions import Damaged, assertions_of
 from query.bare import declared_at, floating, proof_of, without_comments
-from query.tests.world import DATABASES, World, invented, told_of
+from query.tests.world import DATABASES, World, invented, database_text
 from query.text import Text
 
 SMALL = b"""$( $t htmldef "p" as "P"; /* a ; in a remark */ $)
@@ -61,7 +61,7 @@ class Reader(World):
 
     def setUp(self) -> None:
         super().setUp()
-        self.text = told_of(SMALL)
+        self.text = database_text(SMALL)
 
     def test_statements(self) -> None:
         found = [(one.label, one.kind, one.is_open, one.formula) for one in self.text.assertions]
@@ -108,9 +108,11 @@ class Reader(World):
 
     def test_a_comment_behind_much_white_space(self) -> None:
         for size in (0, 1, 63, 64, 65, 1000):
-            text = told_of(b"$c a $." + b" " * size + b" $( x $) " + b"\n" * size + b"b $a a $.")
+            text = database_text(
+                b"$c a $." + b" " * size + b" $( x $) " + b"\n" * size + b"b $a a $."
+            )
             self.assertEqual(text.comment(text.assertions[0]), " x ")
-            text = told_of(b"$c a $." + b" " * size + b"\nb $a a $.")
+            text = database_text(b"$c a $." + b" " * size + b"\nb $a a $.")
             self.assertEqual(text.comment(text.assertions[0]), "")
 
     def test_headers(self) -> None:
@@ -138,7 +140,9 @@ class Reader(World):
             (f"$c a $. b $a {one}a $. c {two}$a a $. {three}$( x $)", ["three"]),
             (f"$c a $. $( x $) {one}$( y $) {two}$c {three}b $. c $a a $.", ["one", "two"]),
         ):
-            self.assertEqual([each.title for each in told_of(text.encode()).headers], titles, text)
+            self.assertEqual(
+                [each.title for each in database_text(text.encode()).headers], titles, text
+            )
 
     def test_proofs(self) -> None:
         found = {one.label: self.text.proof(one) for one in self.text.assertions}
@@ -176,7 +180,7 @@ class Lines(World):
         texts += [invented(chance).text.encode() for _ in range(20)]
         texts += [path.read_bytes() for path in sorted(DATABASES.glob("*.mm"))]
         for data in texts:
-            self.agree(told_of(data))
+            self.agree(database_text(data))
 
     def agree(self, text: Text) -> None:
         """What the lines tell stands in the text, where they say that it does."""

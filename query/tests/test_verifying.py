@@ -31,8 +31,8 @@ class Build(unittest.TestCase):
 
     def built(self, maker: str = "mmdepend <1>") -> str:
         """The page, with a file in place of the module."""
-        with tempfile.TemporaryDirectory() as room:
-            module = Path(room) / "module"
+        with tempfile.TemporaryDirectory() as folder:
+            module = Path(folder) / "module"
             module.write_bytes(b"\0asm</script>")
             words = [str(BUILD), str(module), maker]
             surroundings = {**os.environ, "LIBRARY_SCRIPT": str(STUB)}

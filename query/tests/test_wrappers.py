@@ -33,7 +33,7 @@ class Wrappers(World):
         counts = [0, 0, 0]
         for seed in range(25):
             world = invented(random.Random(seed))
-            path = str(self.room / self.write("db.mm", world.text))
+            path = str(self.folder / self.write("db.mm", world.text))
             for on in world.labels():
                 users = world.users(on)
                 wanted = []
@@ -50,22 +50,22 @@ class Wrappers(World):
 
     def test_what_is_kept_is_told(self) -> None:
         self.write("db.mm", BASE)
-        came = self.query("frees", "db.mm", "ax-ac2", "--keep-wrappers")
-        self.assertEqual(came.err, "mmquery: kept as wrappers: axac3\n")
-        self.assertEqual(came.lines()[1:], ["    1  zorn"])
+        done = self.query("frees", "db.mm", "ax-ac2", "--keep-wrappers")
+        self.assertEqual(done.err, "mmquery: kept as wrappers: axac3\n")
+        self.assertEqual(done.lines()[1:], ["    1  zorn"])
         both = self.query("frees", "db.mm", "ax-ac2", "--keep", "axac3", "--keep-wrappers")
-        self.assertEqual(both, came)
-        self.assertEqual(came.lines(), self.answers("frees", "db.mm", "ax-ac2", "--keep=axac3"))
-        came = self.query("way-out", "db.mm", "zorn", "ax-ac2", "--keep-wrappers", "--format=tsv")
+        self.assertEqual(both, done)
+        self.assertEqual(done.lines(), self.answers("frees", "db.mm", "ax-ac2", "--keep=axac3"))
+        done = self.query("way-out", "db.mm", "zorn", "ax-ac2", "--keep-wrappers", "--format=tsv")
         kept = self.answers("way-out", "db.mm", "zorn", "ax-ac2", "--keep=axac3", "--format=tsv")
-        self.assertEqual((came.lines(), came.status), (kept, 0))
-        self.assertEqual(came.err, "mmquery: kept as wrappers: axac3\n")
-        came = self.query("frees", "db.mm", "zorn", "--keep-wrappers")
-        self.assertIn("no theorem only wraps zorn", came.err)
+        self.assertEqual((done.lines(), done.status), (kept, 0))
+        self.assertEqual(done.err, "mmquery: kept as wrappers: axac3\n")
+        done = self.query("frees", "db.mm", "zorn", "--keep-wrappers")
+        self.assertIn("no theorem only wraps zorn", done.err)
         self.write("two.mm", BASE.replace("zorn $p |- ( q -> ", "x $p |- ( q -> "))
-        came = self.query("frees", "two.mm", "axac3", "--keep-wrappers")
-        self.assertIn("kept as wrappers: x\n", came.err)
-        self.assertIn("two.mm: all that rests on axac3 is kept\n", came.err)
+        done = self.query("frees", "two.mm", "axac3", "--keep-wrappers")
+        self.assertIn("kept as wrappers: x\n", done.err)
+        self.assertIn("two.mm: all that rests on axac3 is kept\n", done.err)
         self.write("report", self.report("db.mm", "--report=citations"))
         why = "a report, where the database is wanted"
         self.refuses("frees", "report", "ax-ac2", "--keep-wrappers", why=why)
@@ -78,13 +78,13 @@ class Wrappers(World):
         text = text.replace(
             "wp wp wp wi x1 wp x1 ax-mp", "wp wp wi wp wp wi wp x1 wp wp wi x1 ax-mp"
         )
-        path = str(self.room / self.write("db.mm", text))
+        path = str(self.folder / self.write("db.mm", text))
         self.assertEqual(self.labels(path, "ax-x"), ["x1"])
 
     def test_it_is_as_keeping_them(self) -> None:
         for seed in range(8):
             world = invented(random.Random(seed))
-            path = str(self.room / self.write("db.mm", world.text))
+            path = str(self.folder / self.write("db.mm", world.text))
             for on in world.axioms:
                 kept = self.labels(path, on)
                 keep = [f"--keep={label}" for label in kept]

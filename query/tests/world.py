@@ -17,7 +17,7 @@ from query.context import Context
 from query.output import Output
 from query.tests.samples import DEBIAN_DATABASES
 from query.text import Text
-from query.told import statements_of
+from query.one_run import statements_of
 
 TOP = Path(__file__).resolve().parent.parent.parent
 MMQUERY = TOP / "mmquery"
@@ -43,7 +43,7 @@ def built_program() -> str:
 
 
 @dataclass
-class Came:
+class Done:
     """What a command wrote, and its status."""
 
     out: str
@@ -65,13 +65,13 @@ class World(unittest.TestCase):
     """A test in a folder of its own, with a cache folder and a temporary folder of its own."""
 
     def setUp(self) -> None:
-        room = tempfile.TemporaryDirectory(prefix="mmquery-test-")
-        self.addCleanup(room.cleanup)
-        self.room = Path(room.name) / "room"
-        self.cache = Path(room.name) / "cache"
-        self.config = Path(room.name) / "config"
-        self.temporary = Path(room.name) / "tmp"
-        for folder in (self.room, self.cache, self.config, self.temporary):
+        outer = tempfile.TemporaryDirectory(prefix="mmquery-test-")
+        self.addCleanup(outer.cleanup)
+        self.folder = Path(outer.name) / "folder"
+        self.cache = Path(outer.name) / "cache"
+        self.config = Path(outer.name) / "config"
+        self.temporary = Path(outer.name) / "tmp"
+        for folder in (self.folder, self.cache, self.config, self.temporary):
             folder.mkdir()
 
     def tearDown(self) -> None:
@@ -86,7 +86,7 @@ class World(unittest.TestCase):
         """The variables with which commands run."""
         found = {
             "PATH": f"{os.path.dirname(sys.executable)}:/usr/bin:/bin",
-            "HOME": str(self.room),
+            "HOME": str(self.folder),
             "XDG_CACHE_HOME": str(self.cache),
             "XDG_CONFIG_HOME": str(self.config),
             "TMPDIR": str(self.temporary),
@@ -98,55 +98,55 @@ class World(unittest.TestCase):
     def write(self, name: str, text: str | bytes) -> str:
         """Writes a file in the folder. Returns its name."""
         data = text.encode("latin-1") if isinstance(text, str) else text
-        (self.room / name).write_bytes(data)
+        (self.folder / name).write_bytes(data)
         return name
 
-    def ran(self, *words: str, given: bytes = b"", **more: str) -> Came:
+    def ran(self, *words: str, given: bytes = b"", **more: str) -> Done:
         """Runs a program in the folder."""
         done = subprocess.run(
             words,
-            cwd=self.room,
+            cwd=self.folder,
             env=self.surroundings(**more),
             input=given,
             capture_output=True,
             check=False,
         )
-        return Came(done.stdout.decode("latin-1"), done.stderr.decode("latin-1"), done.returncode)
+        return Done(done.stdout.decode("latin-1"), done.stderr.decode("latin-1"), done.returncode)
 
-    def query(self, *words: str, given: bytes = b"", **more: str) -> Came:
+    def query(self, *words: str, given: bytes = b"", **more: str) -> Done:
         """Runs mmquery."""
         return self.ran(str(MMQUERY), *words, given=given, **more)
 
-    def query_by_shell(self, line: str, *words: str) -> Came:
+    def query_by_shell(self, line: str, *words: str) -> Done:
         """Runs mmquery by a line of a shell in which it and its words are `"$@"`."""
         return self.ran("sh", "-c", line, "sh", str(MMQUERY), *words)
 
     def answers(self, *words: str, **more: str) -> list[str]:
         """The lines that a command answers, which has to have an answer, with status 0. Where there
         is none, standard error has a line that says why."""
-        came = self.query(*words, given=b"", **more)
-        self.assertEqual(came.status, 0, f"{words}: {came}")
-        self.assertRegex(came.err, r"\A(mmquery: [^\n]+\n)?\Z", f"{words}: {came}")
-        self.assertTrue(came.out or came.err, f"{words}: nothing says why it is empty")
-        return came.lines()
+        done = self.query(*words, given=b"", **more)
+        self.assertEqual(done.status, 0, f"{words}: {done}")
+        self.assertRegex(done.err, r"\A(mmquery: [^\n]+\n)?\Z", f"{words}: {done}")
+        self.assertTrue(done.out or done.err, f"{words}: nothing says why it is empty")
+        return done.lines()
 
     def refuses(self, *words: str, why: str = "", **more: str) -> str:
         """The one line why a command has no answer."""
-        came = self.query(*words, given=b"", **more)
-        self.assertEqual((came.status, came.out), (2, ""), f"{words}: {came}")
-        self.assertRegex(came.err, r"\Ammquery: [^\n]+\n\Z", f"{words}: {came}")
-        self.assertIn(why, came.err, f"{words}")
-        return came.err
+        done = self.query(*words, given=b"", **more)
+        self.assertEqual((done.status, done.out), (2, ""), f"{words}: {done}")
+        self.assertRegex(done.err, r"\Ammquery: [^\n]+\n\Z", f"{words}: {done}")
+        self.assertIn(why, done.err, f"{words}")
+        return done.err
 
     def report(self, name: str, *words: str) -> str:
         """The report that the program writes of a database."""
         done = subprocess.run(
-            [built_program(), *words, self.room / name], capture_output=True, check=False
+            [built_program(), *words, self.folder / name], capture_output=True, check=False
         )
         return done.stdout.decode()
 
 
-def told_of(data: bytes) -> Text:
+def database_text(data: bytes) -> Text:
     """The text of a database, as the program tells it; theorems may be left open."""
     words = [built_program(), "--open", "--report=statements"]
     done = subprocess.run(words, input=data, capture_output=True, check=True)

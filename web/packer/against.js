@@ -2,7 +2,7 @@
 // axiom or no longer do, each with its reason.
 
 import { columnsIn } from "./bits.js";
-import { Row } from "./bytes.js";
+import { Numbers } from "./bytes.js";
 import { inJson } from "./pack.js";
 import { Pairer } from "./statements.js";
 import { visible } from "./visible.js";
@@ -84,8 +84,8 @@ function distances(side, axiom) {
     far[axiom] = 1;
     for (let row = 0; row < theorems.length; row++) {
         let least = 0;
-        for (let place = starts[row]; place < starts[row + 1]; place++) {
-            const each = far[cited[place]];
+        for (let index = starts[row]; index < starts[row + 1]; index++) {
+            const each = far[cited[index]];
             if (each > 0 && (least === 0 || each < least)) least = each;
         }
         if (least > 0) far[theorems[row]] = least + 1;
@@ -114,8 +114,8 @@ export class Comparison {
         /**
          * For axioms of NEW the theorems of NEW that came to rest on them, for those of OLD the ones of OLD that left.
          */
-        this.gained = Array.from(now.dependence.axioms, () => new Row());
-        this.lost = Array.from(old.dependence.axioms, () => new Row());
+        this.gained = Array.from(now.dependence.axioms, () => new Numbers());
+        this.lost = Array.from(old.dependence.axioms, () => new Numbers());
         this.compareRows();
     }
 

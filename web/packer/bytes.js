@@ -1,4 +1,4 @@
-// Rows of bytes and of numbers that grow, and words in bytes.
+// Lists of bytes and of numbers that grow, and words in bytes.
 //
 // A text is an array of bytes, and what stands in it a stretch: the place of its first byte, and that after its last.
 // A word is bytes above 0x20; comments, from `$(` to `$)`, may stand between words.
@@ -16,18 +16,25 @@ export const Byte = {
     star: 0x2a,
     dash: 0x2d,
     dot: 0x2e,
+    zero: 0x30,
+    colon: 0x3a,
     equals: 0x3d,
     more: 0x3e,
+    openBrace: 0x7b,
+    closeBrace: 0x7d,
 };
 
-const FIRST_ROOM = 1 << 10;
+/** The hash FNV-1a, of 32 bits. */
+export const Fnv = { first: 0x811c9dc5, prime: 0x01000193 };
+/** How much a list or a table holds at first. */
+const FIRST_CAPACITY = 1 << 10;
 /** A stretch of more bytes is copied by a call of the system; of fewer, that takes longer than to copy them one by one. */
 const LONG = 256;
 
-/** A row of numbers from 0 to 2^32 - 1. */
-export class Row {
+/** A growing list of numbers from 0 to 2^32 - 1. */
+export class Numbers {
     constructor() {
-        this.items = new Uint32Array(FIRST_ROOM);
+        this.items = new Uint32Array(FIRST_CAPACITY);
         this.size = 0;
     }
 
@@ -59,11 +66,11 @@ export class Row {
 }
 
 /** Lists of numbers that are made one after the other: list i is `items` from `starts[i]` to `starts[i + 1]`. */
-export class Rows {
+export class Lists {
     constructor() {
-        this.starts = new Row();
+        this.starts = new Numbers();
         this.starts.push(0);
-        this.row = new Row();
+        this.row = new Numbers();
     }
 
     /** How many lists there are. */
@@ -110,10 +117,10 @@ export function encoded(text) {
     return ENCODER.encode(text);
 }
 
-/** A row of bytes. */
+/** Bytes that are written one after the other. */
 export class Writer {
-    constructor(room = FIRST_ROOM) {
-        this.bytes = new Uint8Array(room);
+    constructor(capacity = FIRST_CAPACITY) {
+        this.bytes = new Uint8Array(capacity);
         this.size = 0;
     }
 
@@ -206,8 +213,8 @@ export class Writer {
 /** Cuts stretches into words: `starts` and `ends` have their places until the next one is cut. */
 export class Cutter {
     constructor() {
-        this.starts = new Uint32Array(FIRST_ROOM);
-        this.ends = new Uint32Array(FIRST_ROOM);
+        this.starts = new Uint32Array(FIRST_CAPACITY);
+        this.ends = new Uint32Array(FIRST_CAPACITY);
     }
 
     /**
@@ -317,9 +324,9 @@ export class Words {
     /** @param {Uint8Array} data */
     constructor(data) {
         this.data = data;
-        this.starts = new Row();
-        this.ends = new Row();
-        this.table = new Int32Array(FIRST_ROOM).fill(-1);
+        this.starts = new Numbers();
+        this.ends = new Numbers();
+        this.table = new Int32Array(FIRST_CAPACITY).fill(-1);
     }
 
     get size() {
@@ -393,7 +400,7 @@ export class Words {
  * @param {number} end
  */
 function hashOf(bytes, start, end) {
-    let hash = 0x811c9dc5;
-    for (let place = start; place < end; place++) hash = Math.imul(hash ^ bytes[place], 0x01000193);
+    let hash = Fnv.first;
+    for (let place = start; place < end; place++) hash = Math.imul(hash ^ bytes[place], Fnv.prime);
     return (hash ^ (hash >>> 15)) >>> 0;
 }

@@ -4,11 +4,11 @@
 // dummy variables of the proof, and for each of these itself and those from which it must be distinct; `*` instead if
 // that are all other variables. Groups are separated by `$`, variables by spaces.
 
-import { Byte, Row, Writer } from "./bytes.js";
+import { Byte, Numbers, Writer } from "./bytes.js";
 import { Groups } from "./groups.js";
 import { Stamps } from "./symbols.js";
 
-/** @typedef {import("./bytes.js").Rows} Rows */
+/** @typedef {import("./bytes.js").Lists} Lists */
 /** @typedef {import("./symbols.js").Vocabulary} Vocabulary */
 /** @typedef {import("./text.js").Text} Text */
 
@@ -16,8 +16,8 @@ import { Stamps } from "./symbols.js";
 export class Conditions {
     /**
      * @param {Vocabulary} vocabulary
-     * @param {Rows} ofAssertions the variables of each formula
-     * @param {Rows} ofHypotheses the variables of each `$e`
+     * @param {Lists} ofAssertions the variables of each formula
+     * @param {Lists} ofHypotheses the variables of each `$e`
      */
     constructor(vocabulary, ofAssertions, ofHypotheses) {
         this.vocabulary = vocabulary;
@@ -26,16 +26,16 @@ export class Conditions {
         this.ofHypotheses = ofHypotheses;
         this.seen = new Stamps();
         /** The variables of an assertion: those of formula and hypotheses, and those that only the proof has. */
-        this.mandatory = new Row();
-        this.dummies = new Row();
+        this.mandatory = new Numbers();
+        this.dummies = new Numbers();
         /** The variables of each pair, one behind the other: mandatory ones, and those of which one is a dummy. */
-        this.pairs = new Row();
-        this.dummyPairs = new Row();
+        this.pairs = new Numbers();
+        this.dummyPairs = new Numbers();
         /** All variables in the order in which they are told, and of each its place there. */
         this.ordered = new Uint32Array(0);
         this.ranks = new Uint32Array(0);
         /** The mandatory variables of an assertion in that order, and of each variable its place among its kind. */
-        this.turns = new Row();
+        this.turns = new Numbers();
         this.turnOf = new Uint32Array(0);
         this.groups = new Groups();
     }
@@ -110,7 +110,7 @@ export class Conditions {
     /**
      * Finds the pairs of a stretch, in which each stands behind a `$d`.
      * @param {[number, number]} stretch
-     * @param {Row} pairs
+     * @param {Numbers} pairs
      */
     readPairs([start, end], pairs) {
         pairs.size = 0;
@@ -125,7 +125,7 @@ export class Conditions {
      * Adds the variable that begins at a place to a row. Returns where the next word begins.
      * @param {number} place
      * @param {number} end
-     * @param {Row} row
+     * @param {Numbers} row
      */
     readVariable(place, end, row) {
         const last = this.afterWord(place, end);

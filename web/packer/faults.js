@@ -22,10 +22,15 @@ import { visible } from "./visible.js";
 const REFUSAL = /^refused ([1-9][0-9]{0,9}):([1-9][0-9]{0,9}) (E[0-9]{2})\n$/;
 const LABEL = /^[A-Za-z0-9._-]+$/;
 /** Signs of a line that are shown before the fault's place, and after it. */
-const BEFORE = 60;
-const AFTER = 60;
+const SIGNS_BEFORE = 60;
+const SIGNS_AFTER = 60;
 /** The fault of a text that is too long, which is nowhere in it. */
-const TOO_LONG = "E00";
+export const TOO_LONG = "E00";
+
+/** Whether a report is a refusal. */
+export function isRefusal(/** @type {Uint8Array} */ report) {
+    return REFUSAL.test(textAt(report, 0, report.length));
+}
 
 /**
  * The refusal that a report is.
@@ -50,8 +55,8 @@ export function faultOf(data, refusal) {
     const place = Math.min(data.length, start + refusal.column - 1);
     const newline = data.indexOf(Byte.newline, place);
     const end = newline < 0 ? data.length : newline;
-    const from = Math.max(start, place - BEFORE);
-    const to = Math.min(end, place + AFTER);
+    const from = Math.max(start, place - SIGNS_BEFORE);
+    const to = Math.min(end, place + SIGNS_AFTER);
     const [isCut, isCutAfter] = [from > start, to < end];
     const signs = Array.from(data.subarray(from, to), (byte) => visible(String.fromCharCode(byte))).join("");
     return {
@@ -81,7 +86,7 @@ export function explained(name, { line, column, code, statement }, { faults, unk
  * @param {number} place
  */
 function statementAt(data, place) {
-    const word = firstWord(data, place);
+    const word = firstWordOfStatement(data, place);
     if (LABEL.test(word)) return `in '${word}'`;
     return ["$c", "$v", "$d"].includes(word) ? `in a ${word} statement` : "";
 }
@@ -91,7 +96,7 @@ function statementAt(data, place) {
  * @param {Uint8Array} data
  * @param {number} place
  */
-function firstWord(data, place) {
+function firstWordOfStatement(data, place) {
     let first = -1; // where the first word of the statement begins, as far as the text was read
     let at = 0;
     while (at < place) {
@@ -113,7 +118,7 @@ function firstWord(data, place) {
 /** Whether a statement ends in what begins at a place: `$.`, `${` or `$}`. */
 function isEnd(/** @type {Uint8Array} */ data, /** @type {number} */ place) {
     const sign = data[place + 1];
-    return data[place] === Byte.dollar && (sign === Byte.dot || sign === 0x7b || sign === 0x7d);
+    return data[place] === Byte.dollar && (sign === Byte.dot || sign === Byte.openBrace || sign === Byte.closeBrace);
 }
 
 /**

@@ -1,6 +1,6 @@
 // Puts the blocks of a database into the one file of its page.
 
-import { encoded } from "./bytes.js";
+import { Fnv, encoded } from "./bytes.js";
 
 /**
  * The page without its data: texts, and between them, at the odd places, the names of what is put there, `title` and
@@ -43,11 +43,11 @@ function holder(name, signs, page) {
  * A number of the page, by all its blocks. Each of them has it, so that none can be taken for one of another page.
  * @param {Iterable<string>} blocks in base64
  */
-function numberOf(blocks) {
-    let sum = 0x811c9dc5; // FNV-1a, of 32 bits
+function pageNumber(blocks) {
+    let sum = Fnv.first;
     for (const signs of blocks) {
         const bytes = encoded(signs);
-        for (let at = 0; at < bytes.length; at++) sum = Math.imul(sum ^ bytes[at], 0x01000193);
+        for (let at = 0; at < bytes.length; at++) sum = Math.imul(sum ^ bytes[at], Fnv.prime);
     }
     return (sum >>> 0).toString(16).padStart(8, "0");
 }
@@ -67,7 +67,7 @@ export function levelOf(name) {
  * @param {Map<string, string>} blocks deflated, in base64
  */
 export function pageFile(shell, title, blocks) {
-    const page = numberOf(blocks.values());
+    const page = pageNumber(blocks.values());
     const data = Array.from(blocks, ([name, signs]) => holder(name, signs, page)).join("\n");
     /** @type {Record<string, string>} */
     const parts = { title: escaped(title), data };

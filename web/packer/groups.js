@@ -1,6 +1,6 @@
 // Covers pairs by groups: each pair is in one, and each two members of a group are a pair.
 
-import { Row } from "./bytes.js";
+import { Numbers } from "./bytes.js";
 
 const byNumber = (/** @type {number} */ one, /** @type {number} */ other) => one - other;
 
@@ -23,7 +23,7 @@ export class Groups {
     /**
      * Gives each group, its members rising.
      * @param {number} size how many members there are
-     * @param {Row} pairs the members of each pair, one behind the other
+     * @param {Numbers} pairs the members of each pair, one behind the other
      * @param {(group: number[]) => void} give
      */
     cover(size, pairs, give) {
@@ -58,7 +58,7 @@ export class Groups {
 
     /**
      * @param {number} size
-     * @param {Row} pairs
+     * @param {Numbers} pairs
      */
     readNeighbours(size, { items, size: places }) {
         const { starts, free, unordered, neighbours } = this;

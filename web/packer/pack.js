@@ -1,7 +1,7 @@
 // Packs what the page shows into blocks of bytes; decode.js and model.js of the view read them.
 //
 // A number is written seven bits at a time, the lowest first; each byte but the last has its highest bit set. A text has
-// one line for each entry. The blocks `comments-0` and so on have the comments of `CHUNK` assertions each, and are read
+// one line for each entry. The blocks `comments-0` and so on have the comments of `COMMENTS_IN_BLOCK` assertions each, and are read
 // when they are needed.
 
 import { lowestOf } from "./bits.js";
@@ -38,7 +38,7 @@ import { visible } from "./visible.js";
  */
 
 /** How many comments are in a block. */
-const CHUNK = 512;
+const COMMENTS_IN_BLOCK = 512;
 const LONGEST_TITLE = 160;
 
 /**
@@ -88,7 +88,7 @@ class MatrixPacker {
     begin(row) {
         const { bits, words } = this.dependence;
         this.fewest = this.named = 0;
-        for (let place = row * words; place < (row + 1) * words; place++) this.fewest += countBits(bits[place]);
+        for (let word = row * words; word < (row + 1) * words; word++) this.fewest += countBits(bits[word]);
         this.sizes[row] = this.fewest;
     }
 
@@ -286,7 +286,7 @@ function packStatements(text, about, entities, blocks) {
     const facts = {
         ...about,
         hypotheses: text.hypotheses.size,
-        chunk: CHUNK,
+        chunk: COMMENTS_IN_BLOCK,
         chapters: chaptersOf(text),
         variables,
         ...symbolsOf(text, vocabulary, entities),
@@ -313,13 +313,13 @@ function packComments(text, blocks) {
     const flags = new Uint8Array(text.size);
     const writer = new Writer();
     for (let number = 0; number < text.size; number++) {
-        if (number % CHUNK > 0) writer.push(Byte.newline);
+        if (number % COMMENTS_IN_BLOCK > 0) writer.push(Byte.newline);
         const start = comments.items[number];
         const end = commentEnds.items[number];
         flags[number] = flagsOf(data, start, end);
         putLine(writer, data, start, end);
-        const isLast = number % CHUNK === CHUNK - 1 || number === text.size - 1;
-        if (isLast) blocks.set(`comments-${Math.floor(number / CHUNK)}`, writer.taken());
+        const isLast = number % COMMENTS_IN_BLOCK === COMMENTS_IN_BLOCK - 1 || number === text.size - 1;
+        if (isLast) blocks.set(`comments-${Math.floor(number / COMMENTS_IN_BLOCK)}`, writer.taken());
     }
     text.headers.forEach(({ below, stop }, at) => {
         if (at > 0) writer.push(Byte.newline);

@@ -1,8 +1,8 @@
 // Packs the steps of proofs, so that a page has them in few bytes. codes.js says how.
 
-import { Byte, Cutter, Row, Words, Writer, afterComment, closeOf, wordFrom } from "./bytes.js";
+import { Byte, Cutter, Numbers, Words, Writer, afterComment, closeOf, wordFrom } from "./bytes.js";
 import {
-    CHUNK,
+    PROOFS_IN_CHUNK,
     Code,
     FREQUENT,
     KINDS,
@@ -23,12 +23,15 @@ import { UnreadableText } from "./text.js";
 /** @typedef {import("./pack.js").Blocks} Blocks */
 
 const Letter = { A: 0x41, T: 0x54, U: 0x55, Y: 0x59, Z: 0x5a };
+/** How many letters can be the last of a number, and how many can stand before it. */
+const LASTS = Letter.T - Letter.A + 1;
+const FIRSTS = Letter.Y - Letter.U + 1;
 
 // While a proof is packed, a step is one number: its byte, and below that, in as many bits as there are for `KINDS`, the
 // kind of its typecode.
 const KIND_BITS = 2;
 const KIND_MASK = KINDS - 1;
-const MARK = 1 << KIND_BITS;
+const MARKED = 1 << KIND_BITS;
 
 /**
  * A step that isn't marked.
@@ -186,18 +189,18 @@ export class ProofPacker {
          * What has a number of its own in a proof: first its `$e`, as `NO_ASSERTION`, and then assertions. Of each `$e`
          * and assertion its number, where it has one.
          */
-        this.own = new Row();
+        this.own = new Numbers();
         this.places = new Uint32Array(this.text.size);
         this.hypothesisPlaces = new Uint32Array(this.text.hypotheses.size);
         /** The steps for which the numbers of a compressed proof stand, and what each has beside its code. */
-        this.labels = new Row();
-        this.labelNumbers = new Row();
+        this.labels = new Numbers();
+        this.labelNumbers = new Numbers();
         /** The steps of a proof; and the numbers of those that have one. */
-        this.steps = new Row();
-        this.numbers = new Row();
+        this.steps = new Numbers();
+        this.numbers = new Numbers();
         /** For each number of a repeated step the marked one, and of each marked one its kind. */
-        this.marked = new Row();
-        this.markedKinds = new Row();
+        this.marked = new Numbers();
+        this.markedKinds = new Numbers();
         this.recent = Array.from({ length: KINDS }, () => new Recent());
     }
 
@@ -220,7 +223,7 @@ export class ProofPacker {
         const { places } = this.text;
         const place = part * this.text.source.length;
         let chunk = 0;
-        while (chunk * CHUNK < theorems.length && places.items[theorems[chunk * CHUNK]] < place) chunk++;
+        while (chunk * PROOFS_IN_CHUNK < theorems.length && places.items[theorems[chunk * PROOFS_IN_CHUNK]] < place) chunk++;
         return chunk;
     }
 
@@ -232,8 +235,8 @@ export class ProofPacker {
      */
     packSteps(first, end, blocks) {
         const { length } = this.dependence.theorems;
-        for (let chunk = first; chunk < end && chunk * CHUNK < length; chunk++) {
-            for (let row = chunk * CHUNK; row < Math.min(length, (chunk + 1) * CHUNK); row++) this.pack(row);
+        for (let chunk = first; chunk < end && chunk * PROOFS_IN_CHUNK < length; chunk++) {
+            for (let row = chunk * PROOFS_IN_CHUNK; row < Math.min(length, (chunk + 1) * PROOFS_IN_CHUNK); row++) this.pack(row);
             blocks.set(`proof-steps-${chunk}`, this.taken());
         }
     }
@@ -304,11 +307,11 @@ export class ProofPacker {
             if (letter < Letter.A) {
                 if (letter > Byte.space) place = afterComment(source, place - 1);
             } else if (letter <= Letter.T) {
-                const number = 20 * base + letter - Letter.A;
+                const number = LASTS * base + letter - Letter.A;
                 if (number < size) this.put(items[number], this.labelNumbers.items[number]);
                 else this.repeat(this.marked.items[number - size]);
                 base = 0;
-            } else if (letter <= Letter.Y) base = 5 * base + letter - Letter.U + 1;
+            } else if (letter <= Letter.Y) base = FIRSTS * base + letter - Letter.U + 1;
             else this.mark();
         }
     }
@@ -345,7 +348,7 @@ export class ProofPacker {
         else if (code >= Code.recent && code < Code.frequent) this.marked.push(this.recent[kind].items[0]);
         else if (isMarked(byteOf(step))) this.marked.push(this.markedKinds.size - 1);
         else {
-            this.steps.items[last] |= MARK;
+            this.steps.items[last] |= MARKED;
             this.recent[kind].use(this.markedKinds.size);
             this.marked.push(this.markedKinds.size);
             this.markedKinds.push(kind);

@@ -4,19 +4,17 @@
 
 import { Kind } from "./assertions.js";
 import { columnsIn, lowestOf } from "./bits.js";
-import { Byte, Cutter, Row, isSame, textAt } from "./bytes.js";
+import { Byte, Cutter, Numbers, isSame, textAt } from "./bytes.js";
 
 /** @typedef {import("./text.js").Text} Text */
 
-const ZERO = 0x30;
-const COLON = 0x3a;
 
 /** A report that isn't as it has to be. */
 export class OddReport extends Error {}
 
 /** @param {number} byte */
 function isDigit(byte) {
-    return byte >= ZERO && byte < ZERO + 10;
+    return byte >= Byte.zero && byte < Byte.zero + 10;
 }
 
 /** Reads the lines of a report. */
@@ -57,19 +55,19 @@ class Lines {
     }
 
     /** Reads a number and the colon after it. */
-    count() {
-        let count = 0;
+    number() {
+        let number = 0;
         const first = this.place;
-        for (; isDigit(this.bytes[this.place]); this.place++) count = 10 * count + this.bytes[this.place] - ZERO;
-        if (this.place === first || this.bytes[this.place++] !== COLON) throw new OddReport("a line lacks a number");
-        return count;
+        for (; isDigit(this.bytes[this.place]); this.place++) number = 10 * number + this.bytes[this.place] - Byte.zero;
+        if (this.place === first || this.bytes[this.place++] !== Byte.colon) throw new OddReport("a line lacks a number");
+        return number;
     }
 
     /** Reads a label and the colon after it. Returns where it ends. */
     label() {
         let end = this.place;
-        while (end < this.bytes.length && this.bytes[end] > Byte.space && this.bytes[end] !== COLON) end++;
-        if (this.bytes[end] !== COLON) throw new OddReport("a line of a report has no label");
+        while (end < this.bytes.length && this.bytes[end] > Byte.space && this.bytes[end] !== Byte.colon) end++;
+        if (this.bytes[end] !== Byte.colon) throw new OddReport("a line of a report has no label");
         return end;
     }
 
@@ -154,8 +152,8 @@ class Reader {
     /** Axioms, and open theorems where these count as axioms, are columns. */
     putIntoRowsAndColumns() {
         const { text, found } = this;
-        const theorems = new Row();
-        const axioms = new Row();
+        const theorems = new Numbers();
+        const axioms = new Numbers();
         for (let number = 0; number < text.size; number++) {
             if (text.isProved(number) && !text.isOpen(number)) {
                 found.rowOf[number] = theorems.size;
@@ -251,13 +249,13 @@ class Reader {
         const report = lines.bytes;
         lines.pass("citations");
         const theorems = found.theorems.length;
-        const starts = new Row();
-        const cited = new Row();
+        const starts = new Numbers();
+        const cited = new Numbers();
         const labels = text.byLabel;
         for (let row = 0; row < theorems; row++) {
             starts.push(cited.size);
             this.passLabel(lines, row);
-            const count = lines.count();
+            const count = lines.number();
             let { place } = lines;
             let before = -1;
             while (report[place] !== Byte.newline) {
@@ -287,9 +285,9 @@ class Reader {
         const reach = new Uint32Array(theorems.length);
         for (let number = 0; number < theorems.length; number++) {
             row.fill(0);
-            for (let place = starts[number]; place < starts[number + 1]; place++) {
-                const column = columnOf[cited[place]];
-                const other = rowOf[cited[place]];
+            for (let index = starts[number]; index < starts[number + 1]; index++) {
+                const column = columnOf[cited[index]];
+                const other = rowOf[cited[index]];
                 if (column >= 0) row[column >>> 5] |= 1 << (column & 31);
                 else if (other >= 0) addMarks(row, bits, other * words, reach[other]);
             }

@@ -1,6 +1,6 @@
 // The symbols of a database: which are variables, and which variables a statement has.
 
-import { Cutter, Row, Rows, Words, Writer } from "./bytes.js";
+import { Cutter, Lists, Numbers, Words, Writer } from "./bytes.js";
 
 /** @typedef {import("./text.js").Statements} Statements */
 /** @typedef {import("./text.js").Text} Text */
@@ -12,10 +12,10 @@ export class Vocabulary {
         this.words = new Words(text.data);
         this.cutter = new Cutter();
         /** The variables that have a `$f`, in order of these; and of each symbol the typecode, as a symbol, or -1. */
-        this.variables = new Row();
+        this.variables = new Numbers();
         this.typecodes = new Int32Array(0);
         /** The symbols of formulas, as they first appear, the typecodes included. */
-        this.used = new Row();
+        this.used = new Numbers();
         this.isUsed = new Uint8Array(0);
         this.readFloating();
     }
@@ -58,13 +58,13 @@ export class Vocabulary {
     /**
      * The formulas of statements as lines, and the variables of each, as they appear, typecodes aside.
      * @param {Statements} statements
-     * @returns {{ lines: Uint8Array, variables: Rows }}
+     * @returns {{ lines: Uint8Array, variables: Lists }}
      */
     read(statements) {
         const { cutter, words } = this;
         const { data } = this.text;
         const lines = new Writer();
-        const variables = new Rows();
+        const variables = new Lists();
         const seen = new Stamps();
         for (let number = 0; number < statements.size; number++) {
             if (number > 0) lines.push(0x0a);

@@ -1,17 +1,14 @@
 // What a database says. The statements come of the section `statements` of the program's report, whose bytes are proved;
 // comments and headings of the text, where they stand between the assertions.
 
-import { Byte, Row, Rows, Words, afterComment, closeOf, isComment, isSame, textAt } from "./bytes.js";
+import { Byte, Lists, Numbers, Words, afterComment, closeOf, isComment, isSame, textAt } from "./bytes.js";
 import { floatingItem, otherItem } from "./codes.js";
 
 /** The lines that enclose the title of a part, a chapter, a section and a subsection. */
 const DECORATIONS = ["####", "#*#*", "=-=-", "-.-."];
 /** How many lines a title has at most. */
 const MOST_LINES = 4;
-const Letter = { a: 0x61, d: 0x64, e: 0x65, f: 0x66, j: 0x6a, o: 0x6f, p: 0x70, t: 0x74, v: 0x76 };
-const Brace = { open: 0x7b, close: 0x7d };
-const COLON = 0x3a;
-const ZERO = 0x30;
+const Sign = { a: 0x61, d: 0x64, e: 0x65, f: 0x66, j: 0x6a, o: 0x6f, p: 0x70, t: 0x74, v: 0x76 };
 const SECTION = "\nstatements\n";
 
 /**
@@ -31,10 +28,10 @@ const SECTION = "\nstatements\n";
 /** Statements of one kind: where the label and the formula of each stand in the report. */
 export class Statements {
     constructor() {
-        this.labels = new Row();
-        this.labelEnds = new Row();
-        this.formulas = new Row();
-        this.formulaEnds = new Row();
+        this.labels = new Numbers();
+        this.labelEnds = new Numbers();
+        this.formulas = new Numbers();
+        this.formulaEnds = new Numbers();
     }
 
     get size() {
@@ -58,8 +55,8 @@ export class Statements {
 /** A stretch for each assertion; 0 and 0 where there is none. */
 class Stretches {
     constructor() {
-        this.starts = new Row();
-        this.ends = new Row();
+        this.starts = new Numbers();
+        this.ends = new Numbers();
     }
 
     /**
@@ -91,22 +88,22 @@ export class Text {
         this.data = data;
         /** The `$a` and `$p` statements, the letter of each, and where each begins and ends in the database. */
         this.assertions = new Statements();
-        this.letters = new Row();
-        this.places = new Row();
-        this.ends = new Row();
+        this.letters = new Numbers();
+        this.places = new Numbers();
+        this.ends = new Numbers();
         /**
          * The `$e` and the `$f` that are mandatory for some assertion, each once, in the order of the lines that name
          * them; of each assertion its `$e`.
          */
         this.hypotheses = new Statements();
         this.floating = new Statements();
-        this.essential = new Rows();
+        this.essential = new Lists();
         /** The `$e` by their labels. */
         this.hypothesesByLabel = new Words(data);
         /** The `$f` in the order of the lines that name them. */
         this.named = new Statements();
         /** The mandatory hypotheses of each assertion in order, as items of `$f` of `named` and of `$e`. */
-        this.frames = new Rows();
+        this.frames = new Lists();
         /** All `$f` of the database, by their places there, and their numbers by their labels. */
         this.given = new Statements();
         this.givenByLabel = new Words(source);
@@ -118,10 +115,10 @@ export class Text {
         /** Where the section ends in the report. */
         this.sectionEnd = 0;
         /** The comment before each assertion, in the database; 0 and 0 where there is none. */
-        this.comments = new Row();
-        this.commentEnds = new Row();
+        this.comments = new Numbers();
+        this.commentEnds = new Numbers();
         /** How many headings stand before each assertion. */
-        this.headersBefore = new Row();
+        this.headersBefore = new Numbers();
         /** @type {Header[]} */
         this.headers = [];
         /** @type {string | null} */
@@ -138,7 +135,7 @@ export class Text {
      * @param {number} number
      */
     isProved(number) {
-        return this.letters.items[number] !== Letter.a;
+        return this.letters.items[number] !== Sign.a;
     }
 
     /**
@@ -146,7 +143,7 @@ export class Text {
      * @param {number} number
      */
     isOpen(number) {
-        return this.letters.items[number] === Letter.o;
+        return this.letters.items[number] === Sign.o;
     }
 
     /** @param {number} number */
@@ -226,7 +223,7 @@ class Order {
 
 /** The order of the parts of a line. */
 const Part = { given: 0, pairs: 1, dummies: 2, dummyPairs: 3 };
-const PARTS = 4;
+const PART_COUNT = 4;
 
 /** Reads the lines of the section. */
 class Section {
@@ -238,8 +235,8 @@ class Section {
         this.floating = new Words(text.data);
         this.order = new Order();
         /** Where each part of a line but the given ones begins and ends; 0 and 0 where there is none. */
-        this.starts = new Uint32Array(PARTS);
-        this.ends = new Uint32Array(PARTS);
+        this.starts = new Uint32Array(PART_COUNT);
+        this.ends = new Uint32Array(PART_COUNT);
     }
 
     /** Reads all lines, up to the one that ends the report. */
@@ -248,7 +245,7 @@ class Section {
         for (;;) {
             const end = bytes.indexOf(Byte.newline, this.place);
             if (end < 0) throw new UnreadableText(this.place);
-            const colon = bytes.indexOf(COLON, this.place);
+            const colon = bytes.indexOf(Byte.colon, this.place);
             if (colon < 0 || colon >= end) break;
             this.readLine(colon, end);
             this.place = end + 1;
@@ -265,7 +262,7 @@ class Section {
     readLine(labelEnd, end) {
         const { text, bytes, place: label } = this;
         const letter = bytes[labelEnd + 1];
-        if (letter !== Letter.a && letter !== Letter.p && letter !== Letter.o) throw new UnreadableText(labelEnd);
+        if (letter !== Sign.a && letter !== Sign.p && letter !== Sign.o) throw new UnreadableText(labelEnd);
         this.place = labelEnd + 2;
         const start = this.number();
         const stop = this.number();
@@ -276,7 +273,7 @@ class Section {
         text.letters.push(letter);
         text.places.push(start);
         text.ends.push(stop);
-        const formula = this.readParts(end, letter === Letter.a ? Letter.a : Letter.p);
+        const formula = this.readParts(end, letter === Sign.a ? Sign.a : Sign.p);
         text.assertions.push(label, labelEnd, formula, end);
     }
 
@@ -295,7 +292,7 @@ class Section {
 
     /** Reads a colon. */
     passColon() {
-        if (this.bytes[this.place++] !== COLON) throw new UnreadableText(this.place - 1);
+        if (this.bytes[this.place++] !== Byte.colon) throw new UnreadableText(this.place - 1);
     }
 
     /** Reads a colon and a number. */
@@ -303,8 +300,8 @@ class Section {
         this.passColon();
         const first = this.place;
         let number = 0;
-        for (; this.bytes[this.place] >= ZERO && this.bytes[this.place] < ZERO + 10; this.place++) {
-            number = 10 * number + this.bytes[this.place] - ZERO;
+        for (; this.bytes[this.place] >= Byte.zero && this.bytes[this.place] < Byte.zero + 10; this.place++) {
+            number = 10 * number + this.bytes[this.place] - Byte.zero;
         }
         if (this.place === first) throw new UnreadableText(first);
         return number;
@@ -371,7 +368,7 @@ class Section {
         let labelEnd = first;
         while (labelEnd < end && bytes[labelEnd] !== Byte.space) labelEnd++;
         if (labelEnd === end) throw new UnreadableText(first);
-        const isEssential = letter === Letter.e;
+        const isEssential = letter === Sign.e;
         const statements = isEssential ? text.hypotheses : text.named;
         const number = (isEssential ? text.hypothesesByLabel : this.floating).add(first, labelEnd);
         if (number === statements.size) statements.push(first, labelEnd, labelEnd + 1, end);
@@ -400,9 +397,9 @@ function inOrder({ labels, labelEnds, formulas, formulaEnds }, order) {
  * @param {number} stage
  */
 function partOf(letter, stage) {
-    if (letter === Letter.f || letter === Letter.e) return Part.given;
-    if (letter === Letter.v) return stage < Part.dummies ? Part.dummies : -1;
-    if (letter !== Letter.d) return -1;
+    if (letter === Sign.f || letter === Sign.e) return Part.given;
+    if (letter === Sign.v) return stage < Part.dummies ? Part.dummies : -1;
+    if (letter !== Sign.d) return -1;
     return stage < Part.dummies ? Part.pairs : Part.dummyPairs;
 }
 
@@ -468,9 +465,9 @@ class Gaps {
                 place = close + 2;
             } else {
                 const sign = data[place] === Byte.dollar ? data[place + 1] : 0;
-                isWithin = sign !== Byte.dot && sign !== Brace.open && sign !== Brace.close;
+                isWithin = sign !== Byte.dot && sign !== Byte.openBrace && sign !== Byte.closeBrace;
                 this.comment = this.commentEnd = 0;
-                if (sign === Letter.f) this.addFloating(word, place + 2, end);
+                if (sign === Sign.f) this.addFloating(word, place + 2, end);
                 word = place;
                 if (sign > 0) place += 2;
                 else while (place < end && data[place] > Byte.space) place++;
@@ -507,8 +504,8 @@ class Gaps {
         while (place < end && data[place] <= Byte.space) place++;
         if (place < end && data[place] === Byte.dollar) {
             const sign = data[place + 1];
-            const isSpecial = (sign === Letter.j || sign === Letter.t) && data[place + 2] <= Byte.space;
-            if (isSpecial && sign === Letter.t) text.typesetting ??= textAt(data, place + 2, end);
+            const isSpecial = (sign === Sign.j || sign === Sign.t) && data[place + 2] <= Byte.space;
+            if (isSpecial && sign === Sign.t) text.typesetting ??= textAt(data, place + 2, end);
             if (isSpecial) return;
         }
         const level = levelAt(data, place, end);

@@ -31,7 +31,7 @@ const TAGS = new Map([
     ["big", "big"],
 ]);
 /** Tags that group. */
-const GROUPS = ["span", "font"];
+const STYLED_TAGS = ["span", "font"];
 /** @type {Map<string, number[]>} */
 const NAMED = new Map([
     ["blue", [0, 0, 255]],
@@ -55,7 +55,7 @@ const CIRCLE = [
     [361, "red"],
 ];
 /** The address of a page: on the web, or beside the page of the database. */
-const PAGE = /^(?:https?:\/\/[\w.-]+(?::[0-9]+)?(?:\/[\w.~-]+)*\/)?[\w][\w.-]*\.html?$/;
+const PAGE_ADDRESS = /^(?:https?:\/\/[\w.-]+(?::[0-9]+)?(?:\/[\w.~-]+)*\/)?[\w][\w.-]*\.html?$/;
 /** Signs that a definition shows, or those of the address of a page; a longer one isn't used. */
 const LONGEST_DEFINITION = 200;
 const LARGEST_CODE_POINT = 0x10ffff;
@@ -174,7 +174,7 @@ function hue(written) {
 function namesOf(tag, attributes) {
     const kept = TAGS.get(tag);
     if (kept !== undefined) return [kept];
-    if (!GROUPS.includes(tag)) return null;
+    if (!STYLED_TAGS.includes(tag)) return null;
     const names = [];
     for (const match of attributes.matchAll(ATTRIBUTE)) {
         if (match[2] === undefined) continue;
@@ -361,7 +361,7 @@ function isShown(pieces) {
  * @param {string} text
  */
 function pageAt(text) {
-    return text.length <= LONGEST_DEFINITION && PAGE.test(text) ? text : null;
+    return text.length <= LONGEST_DEFINITION && PAGE_ADDRESS.test(text) ? text : null;
 }
 
 /**

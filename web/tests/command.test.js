@@ -19,7 +19,7 @@ function asked(line) {
  * What is told of a line that asks for no report.
  * @param {string[]} words
  */
-function told(words) {
+function textFor(words) {
     const read = readWords(words, "7");
     return read.ends === "run" ? "" : read.text;
 }
@@ -41,9 +41,9 @@ test("lines that are wrong, each told in one line", () => {
     ];
     for (const line of wrong) {
         assert.equal(asked(line), "misread", line);
-        assert.match(told(line.split(" ")), /^error: [^\n]+; try --help\n$/);
+        assert.match(textFor(line.split(" ")), /^error: [^\n]+; try --help\n$/);
     }
-    assert.match(told(["--a\x1b\nb"]), /^error: [^\n\x1b]+\n$/);
+    assert.match(textFor(["--a\x1b\nb"]), /^error: [^\n\x1b]+\n$/);
 });
 
 test("what comes first counts", () => {
@@ -51,5 +51,5 @@ test("what comes first counts", () => {
         assert.equal(asked(line), "help", line);
     }
     for (const line of ["--bogus -h", "-xh", "--form=3 -h", "a b -h"]) assert.equal(asked(line), "misread", line);
-    assert.equal(told(["-V"]), "mmdepend 7\n");
+    assert.equal(textFor(["-V"]), "mmdepend 7\n");
 });

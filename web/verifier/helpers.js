@@ -1,7 +1,7 @@
 // The workers of the page.
 
 /** @typedef {import("./types.js").Ask} Ask */
-/** @typedef {import("./types.js").Told} Told */
+/** @typedef {import("./types.js").Reply} Reply */
 
 /**
  * What makes policies where the browser has trusted types.
@@ -10,10 +10,10 @@
 
 /** A worker said why it made nothing. */
 export class Stopped extends Error {
-    /** @param {Told} told */
-    constructor(told) {
-        super(told.stage);
-        this.told = told;
+    /** @param {Reply} reply */
+    constructor(reply) {
+        super(reply.stage);
+        this.reply = reply;
     }
 }
 
@@ -40,12 +40,12 @@ export function addressOf(script) {
 export class Helper {
     /**
      * @param {string} address
-     * @param {(told: Told) => void} tell is told how far the worker is
+     * @param {(reply: Reply) => void} tell is told how far the worker is
      */
     constructor(address, tell) {
         this.worker = new Worker(address);
         this.tell = tell;
-        /** @type {{ resolve: (told: any) => void, reject: (error: Error) => void, last: string }[]} */
+        /** @type {{ resolve: (reply: any) => void, reject: (error: Error) => void, last: string }[]} */
         this.waiting = [];
         this.worker.onmessage = ({ data }) => this.hear(data);
         this.worker.onerror = (event) => {
@@ -54,25 +54,25 @@ export class Helper {
         };
     }
 
-    /** @param {Told} told */
-    hear(told) {
-        if (told.stage === "reading" || told.stage === "checking") {
-            this.tell(told);
+    /** @param {Reply} reply */
+    hear(reply) {
+        if (reply.stage === "reading" || reply.stage === "checking") {
+            this.tell(reply);
             return;
         }
         const task = this.waiting.shift();
         if (!task) return;
-        if (told.stage === task.last) task.resolve(told);
-        else task.reject(new Stopped(told));
+        if (reply.stage === task.last) task.resolve(reply);
+        else task.reject(new Stopped(reply));
     }
 
     /**
      * Gives it a task. The answer is what it tells last, of the stage that is wanted; else Stopped.
-     * @template {Told["stage"]} S
+     * @template {Reply["stage"]} S
      * @param {Ask} ask
      * @param {S} last
      * @param {Transferable[]} transfer
-     * @returns {Promise<Extract<Told, { stage: S }>>}
+     * @returns {Promise<Extract<Reply, { stage: S }>>}
      */
     ask(ask, last, transfer = []) {
         const answer = new Promise((resolve, reject) => this.waiting.push({ resolve, reject, last }));

@@ -45,7 +45,7 @@ export class Saving {
         this.form = element("select", { id: "form" });
         for (const form of [1, 2]) this.form.append(element("option", { value: form }, `form ${form}`));
         this.button = element("button", { type: "button", id: "save", onclick: () => this.save() }, "Save");
-        this.told = element("span", { role: "status", id: "saved" });
+        this.status = element("span", { role: "status", id: "saved" });
         /** The address of the report that was saved last. */
         this.address = "";
     }
@@ -59,7 +59,7 @@ export class Saving {
             element("label", { for: "form", class: "hidden" }, "Form"),
             this.form,
             this.button,
-            this.told,
+            this.status,
         );
         const name = "Another database, or other options";
         const again = element("button", { type: "button", id: "again", onclick: () => this.begin() }, name);
@@ -72,16 +72,16 @@ export class Saving {
         const report = /** @type {ReportName} */ (this.report.value);
         const form = this.form.value === "2" ? 2 : 1;
         this.button.disabled = true;
-        this.told.textContent = "The report is being written.";
+        this.status.textContent = "The report is being written.";
         try {
             const { request, tools, database } = this;
             const blob = await reportFor(tools, request, database.file, report, form);
             if (this.address !== "") URL.revokeObjectURL(this.address);
             this.address = URL.createObjectURL(blob);
             element("a", { href: this.address, download: fileName(database.name, report, form) }).click();
-            this.told.textContent = "";
+            this.status.textContent = "";
         } catch (error) {
-            this.told.textContent = "The report can't be written: the file was changed, or there is too little memory.";
+            this.status.textContent = "The report can't be written: the file was changed, or there is too little memory.";
         }
         this.button.disabled = false;
     }

@@ -8,19 +8,18 @@ import { TooLong, Unfit, chosen } from "./chosen.js";
 import { Stopped, addressOf, canShare } from "./helpers.js";
 import { Saving } from "./saving.js";
 import { Verification } from "./verification.js";
+import { TOO_LONG } from "../packer/faults.js";
 import { visible } from "../packer/visible.js";
 
 /** @typedef {import("../view/elements.js").Child} Child */
 /** @typedef {import("../packer/reports.js").Request} Request */
 /** @typedef {import("./types.js").Chosen} Chosen */
 /** @typedef {import("./types.js").Fault} Fault */
-/** @typedef {import("./types.js").Told} Told */
+/** @typedef {import("./types.js").Reply} Reply */
 /** @typedef {import("./verification.js").Tools} Tools */
 
 /** What the page is called until it has a database. */
 const TITLE = document.title;
-/** The fault of a text that has too many bytes. */
-const TOO_LONG = "E00";
 
 /** The blocks that the workers made. A block that is read at the start leaves them then. */
 class MadeBlocks {
@@ -69,7 +68,7 @@ class Start {
         this.drop = byId("drop");
         this.pair = byId("pair");
         this.work = byId("work");
-        this.told = byId("told");
+        this.status = byId("told");
         this.progress = /** @type {HTMLProgressElement} */ (byId("progress"));
         this.answer = byId("answer");
         /** @type {File[]} */
@@ -127,7 +126,7 @@ class Start {
         }
         this.turn++;
         this.end();
-        this.told.textContent = "";
+        this.status.textContent = "";
         this.answer.replaceChildren();
     }
 
@@ -224,7 +223,7 @@ class Start {
     cancel() {
         this.turn++;
         this.end();
-        this.told.textContent = "Cancelled.";
+        this.status.textContent = "Cancelled.";
         this.input.focus();
     }
 
@@ -234,7 +233,7 @@ class Start {
      * @param {number | null} part
      */
     tell(text, part) {
-        if (this.told.textContent !== text) this.told.textContent = text;
+        if (this.status.textContent !== text) this.status.textContent = text;
         if (part === null) this.progress.removeAttribute("value");
         else this.progress.value = part;
     }
@@ -273,24 +272,24 @@ class Start {
     explain(error, name) {
         const current = this.running?.current.name ?? name;
         this.end();
-        this.told.textContent = "";
+        this.status.textContent = "";
         if (error instanceof Unfit) this.sayUnfit(error.message);
         else if (error instanceof TooLong) this.sayMeaning(`${current} is refused`, "The text", TOO_LONG);
-        else if (error instanceof Stopped) this.sayStop(error.told, current);
+        else if (error instanceof Stopped) this.sayStop(error.reply, current);
         else if (error instanceof RangeError) this.sayNoMemory(current);
         else this.sayFailure(String(error));
     }
 
     /**
-     * @param {Told} told
+     * @param {Reply} reply
      * @param {string} name
      */
-    sayStop(told, name) {
-        if (told.stage === "refused") this.sayFault(told.fault, name);
-        else if (told.stage === "memory") this.sayNoMemory(name);
-        else if (told.stage === "unread") this.sayUnfit(`${name} can't be read. It was changed or removed meanwhile.`);
-        else if (told.stage === "lacking") this.say("There is nothing to show", element("p", {}, told.message));
-        else this.sayFailure(told.stage === "failed" ? told.message : told.stage);
+    sayStop(reply, name) {
+        if (reply.stage === "refused") this.sayFault(reply.fault, name);
+        else if (reply.stage === "memory") this.sayNoMemory(name);
+        else if (reply.stage === "unread") this.sayUnfit(`${name} can't be read. It was changed or removed meanwhile.`);
+        else if (reply.stage === "lacking") this.say("There is nothing to show", element("p", {}, reply.message));
+        else this.sayFailure(reply.stage === "failed" ? reply.message : reply.stage);
     }
 
     /** @param {string} message */

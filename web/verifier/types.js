@@ -40,7 +40,7 @@
  *     | { stage: "memory" }
  *     | { stage: "unread" }
  *     | { stage: "lacking", message: string }
- *     | { stage: "failed", message: string }} Told
+ *     | { stage: "failed", message: string }} Reply
  */
 
 export {};

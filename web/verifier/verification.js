@@ -7,7 +7,7 @@ import { Helper } from "./helpers.js";
 /** @typedef {import("./types.js").Contents} Contents */
 /** @typedef {import("./types.js").ReportName} ReportName */
 /** @typedef {import("./types.js").Tables} Tables */
-/** @typedef {import("./types.js").Told} Told */
+/** @typedef {import("./types.js").Reply} Reply */
 
 /**
  * What the page has for its work.
@@ -66,24 +66,24 @@ export class Verification {
     async verify(chosen) {
         this.current = chosen;
         const { name, file } = chosen;
-        const prover = this.helper((told) => this.hear(name, told));
+        const prover = this.helper((reply) => this.hear(name, reply));
         const { module } = this.tools;
-        const told = await prover.ask({ task: "verify", file, module, request: this.request }, "verified");
+        const reply = await prover.ask({ task: "verify", file, module, request: this.request }, "verified");
         this.end(prover);
-        this.memory = Math.max(this.memory, told.memory);
-        return told.report;
+        this.memory = Math.max(this.memory, reply.memory);
+        return reply.report;
     }
 
     /**
      * @param {string} name
-     * @param {Told} told
+     * @param {Reply} reply
      */
-    hear(name, told) {
-        if (told.stage === "reading") this.tell(`Reading ${name}`, told.part);
+    hear(name, reply) {
+        if (reply.stage === "reading") this.tell(`Reading ${name}`, reply.part);
         else this.tell(`Checking every proof of ${name}`, null);
     }
 
-    /** @param {(told: Told) => void} tell */
+    /** @param {(reply: Reply) => void} tell */
     helper(tell) {
         const made = new Helper(this.tools.address, tell);
         this.helpers.add(made);
@@ -116,8 +116,8 @@ export async function reportFor(tools, request, file, report, form) {
     const helper = new Helper(tools.address, () => {});
     try {
         const ask = { task: /** @type {const} */ ("save"), file, module: tools.module, request, report, form };
-        const told = await helper.ask(ask, "saved");
-        return told.report instanceof Blob ? told.report : new Blob([told.report], { type: "text/plain" });
+        const reply = await helper.ask(ask, "saved");
+        return reply.report instanceof Blob ? reply.report : new Blob([reply.report], { type: "text/plain" });
     } finally {
         helper.end();
     }

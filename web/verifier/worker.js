@@ -8,22 +8,21 @@ import { NoAnswer, aboutPage, packComparison, sideOf } from "../packer/making.js
 import { packReports, packText } from "../packer/pack.js";
 import { sumOf } from "../packer/sum.js";
 import { readText } from "../packer/text.js";
+import { Status } from "../statuses.js";
 
 /** @typedef {import("../packer/reports.js").Request} Request */
 /** @typedef {import("./types.js").Ask} Ask */
 /** @typedef {import("./types.js").Chosen} Chosen */
 /** @typedef {import("./types.js").Contents} Contents */
-/** @typedef {import("./types.js").Told} Told */
+/** @typedef {import("./types.js").Reply} Reply */
 /** @typedef {import("../packer/typesetting.js").Entities} Entities */
 
 /** How many bytes of a file are read at a time. */
 const STEP = 1 << 22;
-/** What the module answers. */
-const Status = { report: 0, refusal: 1, memory: 4 };
 
 /**
  * The worker's own side.
- * @type {{ onmessage: (event: { data: Ask }) => void, postMessage: (told: Told, transfer?: Transferable[]) => void }}
+ * @type {{ onmessage: (event: { data: Ask }) => void, postMessage: (reply: Reply, transfer?: Transferable[]) => void }}
  */
 const here = /** @type {any} */ (globalThis);
 
@@ -73,12 +72,12 @@ async function fill(file, bytes) {
  * @param {Contents} file
  * @param {Wanted} request
  */
-async function answerOf(module, file, request) {
+async function acceptedReport(module, file, request) {
     const compiled = await compile(module);
     const answer = await report(compiled, sizeOf(file), (bytes) => fill(file, bytes), request);
-    if (answer.status === Status.memory) throw new NoMemory();
-    if (answer.status === Status.report) return answer;
-    if (answer.status !== Status.refusal) throw new Error(`the module answers ${answer.status}`);
+    if (answer.status === Status.noMemory) throw new NoMemory();
+    if (answer.status === Status.accepted) return answer;
+    if (answer.status !== Status.refused) throw new Error(`the module answers ${answer.status}`);
     const refusal = refusalOf(answer.report);
     here.postMessage({ stage: "refused", fault: faultOf(await bytesOf(file), refusal) });
     return null;
@@ -92,7 +91,7 @@ async function answerOf(module, file, request) {
 async function verify({ file, module, request }) {
     /** @type {Wanted} */
     const wanted = { ...request, only: null, report: "matrix,citations,statements", form: 2 };
-    const answer = await answerOf(module, file, wanted);
+    const answer = await acceptedReport(module, file, wanted);
     if (!answer) return;
     const written = answer.report.slice();
     here.postMessage({ stage: "verified", report: written, memory: answer.memory }, [written.buffer]);
@@ -103,7 +102,7 @@ async function verify({ file, module, request }) {
  * @param {Extract<Ask, { task: "save" }>} asked
  */
 async function save({ file, module, request, report: name, form }) {
-    const answer = await answerOf(module, file, { ...request, report: name, form });
+    const answer = await acceptedReport(module, file, { ...request, report: name, form });
     if (!answer) return;
     if (file instanceof Blob) {
         here.postMessage({ stage: "saved", report: new Blob([answer.report], { type: "text/plain" }) });

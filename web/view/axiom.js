@@ -1,7 +1,7 @@
 // The view of one axiom: what rests on it, and what falls if it is dropped together with others.
 
 import { Kind } from "../packer/assertions.js";
-import { count, counted, element, percent, put } from "./elements.js";
+import { counted, element, percent, put, withCommas } from "./elements.js";
 
 /** @typedef {import("./elements.js").Child} Child */
 /** @typedef {import("./elements.js").Elements} Elements */
@@ -90,7 +90,7 @@ export class AxiomView {
         const result = element("div", { id: "falls" });
         const show = () => result.replaceChildren(...this.falls([...ticked]));
         const list = element("ul", { class: "ticks", id: "ticks" });
-        const told = element("p", { class: "hint", role: "status", id: "ticks-told" });
+        const status = element("p", { class: "hint", role: "status", id: "ticks-told" });
         const find = element("input", {
             type: "search",
             id: "ticks-find",
@@ -106,7 +106,7 @@ export class AxiomView {
             );
             show();
         };
-        const offer = () => this.offer(find.value, column, ticked, list, told, onTick);
+        const offer = () => this.offer(find.value, column, ticked, list, status, onTick);
         find.addEventListener("input", offer);
         offer();
         show();
@@ -116,7 +116,7 @@ export class AxiomView {
             element("legend", {}, "Drop these, too"),
             element("p", {}, element("label", { for: "ticks-find" }, "Find "), find),
             list,
-            told,
+            status,
         );
         return this.elements.section("dropping", `If ${this.model.labelOfColumn(column)} is dropped`, fields, result);
     }
@@ -127,10 +127,10 @@ export class AxiomView {
      * @param {number} column
      * @param {Set<number>} ticked
      * @param {HTMLElement} list
-     * @param {HTMLElement} told
+     * @param {HTMLElement} status
      * @param {() => void} onTick
      */
-    offer(typed, column, ticked, list, told, onTick) {
+    offer(typed, column, ticked, list, status, onTick) {
         const words = typed.trim().toLowerCase();
         const others = this.candidates(words).filter((other) => other !== column && !ticked.has(other));
         const kept = [...ticked].filter((other) => other !== column).sort((one, other) => one - other);
@@ -138,8 +138,8 @@ export class AxiomView {
         list.replaceChildren();
         put(list, offered.map((other) => this.tick(other, ticked, onTick)));
         const all = counted(others.length, "axiom");
-        told.textContent =
-            others.length > OFFERED ? `${count(OFFERED)} of ${all} shown: type to find others.` : `${all} shown.`;
+        status.textContent =
+            others.length > OFFERED ? `${withCommas(OFFERED)} of ${all} shown: type to find others.` : `${all} shown.`;
     }
 
     /**
@@ -158,7 +158,7 @@ export class AxiomView {
             onTick();
         });
         const name = element("span", { class: `label of-${this.model.groupKey(other)}` }, label);
-        const users = element("span", { class: "hint" }, count(this.model.usersOf[other]));
+        const users = element("span", { class: "hint" }, withCommas(this.model.usersOf[other]));
         return element("li", {}, element("label", { for: box.id }, box, name, " ", users));
     }
 
@@ -184,7 +184,7 @@ export class AxiomView {
         const left = this.theoremsWhere(falls, 0);
         const inOrder = [...columns].sort((one, other) => one - other);
         const names = inOrder.map((column) => this.model.labelOfColumn(column));
-        const number = `${count(fallen.length)} of ${counted(falls.length, "theorem")}`;
+        const number = `${withCommas(fallen.length)} of ${counted(falls.length, "theorem")}`;
         const fold = (/** @type {string} */ id, /** @type {string} */ name, /** @type {number[]} */ numbers) => {
             const made = this.elements.foldOf(name, numbers.length, () => this.elements.byChapter(numbers));
             made.id = id;
@@ -196,7 +196,7 @@ export class AxiomView {
                 { class: "verdict", role: "status", id: "verdict" },
                 `Without ${names.join(", ")}: `,
                 element("strong", {}, `${number} ${fallen.length === 1 ? "falls" : "fall"}`),
-                `, ${count(left.length)} ${left.length === 1 ? "is" : "are"} left. `,
+                `, ${withCommas(left.length)} ${left.length === 1 ? "is" : "are"} left. `,
                 this.elements.bar(fallen.length, falls.length, "large of-fallen"),
             ),
             fold("fallen", "What falls, by chapter", fallen),

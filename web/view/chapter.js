@@ -1,6 +1,6 @@
 // The view of one chapter: what it says and states, which axioms come in there, how many of its theorems rest on each.
 
-import { count, counted, element, percent } from "./elements.js";
+import { counted, element, percent, withCommas } from "./elements.js";
 import { readComment } from "./markup.js";
 
 /** @typedef {import("./elements.js").Child} Child */
@@ -54,22 +54,22 @@ export class ChapterView {
         const { chapters } = this.model;
         const above = chapters.path(chapter).slice(0, -1);
         const nav = element("nav", { class: "neighbours", "aria-label": "Neighbouring chapters" });
-        /** @type {(other: Chapter | undefined, rel: string, told: string) => void} */
-        const put = (other, rel, told) => {
+        /** @type {(other: Chapter | undefined, rel: string, which: string) => void} */
+        const put = (other, rel, which) => {
             if (!other) return;
             const link = this.elements.chapterLink(other);
             link.textContent = other.number;
             link.rel = rel;
-            link.setAttribute("aria-label", `${told} chapter: ${other.number} ${other.title}`);
+            link.setAttribute("aria-label", `${which} chapter: ${other.number} ${other.title}`);
             nav.append(link);
         };
         put(chapters.list[chapter.index - 1], "prev", "Previous");
         put(chapters.list[chapter.index + 1], "next", "Next");
         const kind = element("p", { class: "kind" }, `${LEVELS[chapter.level]} ${chapter.number}`);
         const title = element("div", { class: "title" }, kind, element("h1", { tabindex: -1 }, chapter.title), nav);
-        const place = element("p", { class: "place", id: "place" });
-        if (above.length > 0) place.append(this.elements.path(above));
-        return element("div", {}, title, place);
+        const path = element("p", { class: "place", id: "place" });
+        if (above.length > 0) path.append(this.elements.path(above));
+        return element("div", {}, title, path);
     }
 
     /**
@@ -81,9 +81,9 @@ export class ChapterView {
         const all = this.model.theorems.length;
         const theorems = endRow - firstRow;
         const others = chapter.end - chapter.first - theorems;
-        const told = `${percent(theorems, all)} of all theorems`;
+        const share = `${percent(theorems, all)} of all theorems`;
         const tiles = [
-            this.elements.tile(theorems, theorems === 1 ? "theorem" : "theorems", told),
+            this.elements.tile(theorems, theorems === 1 ? "theorem" : "theorems", share),
             this.elements.tile(others, "axioms and definitions", "that are stated here, syntax included"),
         ];
         if (theorems > 0) {
@@ -114,7 +114,7 @@ export class ChapterView {
         model.firstUsers.forEach((row, column) => {
             if (row >= firstRow && row < endRow) columns.push(column);
         });
-        const made = this.elements.section("coming-in", `Axioms that come in here: ${count(columns.length)}`);
+        const made = this.elements.section("coming-in", `Axioms that come in here: ${withCommas(columns.length)}`);
         if (columns.length === 0) {
             made.append(this.elements.hint("Its theorems rest on no axiom on which none before it rests."));
             return made;
@@ -134,8 +134,8 @@ export class ChapterView {
     /** @param {number} column */
     comingLine(column) {
         const first = this.model.theorems[this.model.firstUsers[column]];
-        const told = element("span", { class: "hint first-user" }, "first in ", this.elements.link(first));
-        return this.elements.line(this.model.axioms[column], "", told);
+        const hint = element("span", { class: "hint first-user" }, "first in ", this.elements.link(first));
+        return this.elements.line(this.model.axioms[column], "", hint);
     }
 
     /**
@@ -171,7 +171,7 @@ export class ChapterView {
             list,
         );
         if (list.children.length < rows.length) {
-            const button = element("button", { type: "button", class: "more" }, `Show all ${count(rows.length)}`);
+            const button = element("button", { type: "button", class: "more" }, `Show all ${withCommas(rows.length)}`);
             button.addEventListener("click", () => {
                 const first = list.children.length;
                 put(rows.length);
@@ -194,7 +194,7 @@ export class ChapterView {
             "li",
             { class: isWatched ? "line watched" : "line", "data-users": users },
             this.elements.link(this.model.axioms[column]),
-            element("span", { class: "right" }, count(users)),
+            element("span", { class: "right" }, withCommas(users)),
             this.elements.bar(users, theorems, `of-${this.model.groupKey(column)}`),
             element("span", { class: "hint" }, percent(users, theorems), isWatched ? " · watched" : ""),
         );
@@ -206,7 +206,7 @@ export class ChapterView {
         const list = numbers.length > 0 ? this.elements.lines(numbers, FIRST_STATEMENTS) : null;
         return this.elements.section(
             "states",
-            `States ${count(numbers.length)}`,
+            `States ${withCommas(numbers.length)}`,
             list ?? this.elements.hint("It states nothing."),
         );
     }

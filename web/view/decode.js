@@ -99,7 +99,7 @@ export function textOf(block) {
     return new TextDecoder().decode(block);
 }
 
-/** A block that is a row of numbers, read from a place on. Damaged where it ends within a number. */
+/** A block that is a list of numbers, read from a place on. Damaged where it ends within a number. */
 export class Numbers {
     /** @param {Uint8Array} block */
     constructor(block, place = 0) {
@@ -166,7 +166,7 @@ export class Lists {
         const starts = startsOf(numbersOf(lengths));
         const items = numbersOf(gaps);
         for (let list = 0; list + 1 < starts.length; list++) {
-            for (let place = starts[list] + 1; place < starts[list + 1]; place++) items[place] += items[place - 1] + 1;
+            for (let item = starts[list] + 1; item < starts[list + 1]; item++) items[item] += items[item - 1] + 1;
         }
         return new Lists(starts, items);
     }

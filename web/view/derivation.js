@@ -62,7 +62,7 @@ export class Derivation {
         const { what, numbers } = this.steps;
         for (let step = 0; step < what.length; step++) {
             const formula = this.saidBy(step, stack);
-            if (what[step] !== Step.assertion) this.count(formula.length);
+            if (what[step] !== Step.assertion) this.spend(formula.length);
             this.formulas.push(formula);
             this.bodies.push(withoutTypecode(formula));
             this.starts[step + 1] = this.used.length;
@@ -93,7 +93,7 @@ export class Derivation {
     }
 
     /** @param {number} signs */
-    count(signs) {
+    spend(signs) {
         this.signs += signs;
         if (this.signs > MOST_SIGNS) throw new TooManySigns();
     }
@@ -125,7 +125,7 @@ export class Derivation {
         let signs = texts.length;
         for (const variable of variables) signs += bodies[variable].length;
         for (const text of texts) signs += text.length;
-        this.count(signs);
+        this.spend(signs);
         let formula = texts[0];
         for (let at = 0; at < variables.length; at++) formula += bodies[variables[at]] + texts[at + 1];
         return formula;

@@ -1,6 +1,6 @@
 // What became of the database since an older release: of all of it, of a chapter, and of one assertion.
 
-import { count, counted, element } from "./elements.js";
+import { counted, element, withCommas } from "./elements.js";
 
 /** @typedef {import("./elements.js").Child} Child */
 /** @typedef {import("./elements.js").Elements} Elements */
@@ -99,7 +99,7 @@ export class DifferenceView {
         const tiles = [
             this.elements.tile(axioms, "new axioms", "definitions and syntax included", axioms > 0 ? "fallen" : ""),
             this.elements.tile(difference.goneAxioms.length, "axioms gone", "or theorems now"),
-            this.elements.tile(added, "new theorems", `${count(gone)} gone`),
+            this.elements.tile(added, "new theorems", `${withCommas(gone)} gone`),
             this.elements.tile(difference.renamed.length, "renamed", "the same statement, another label"),
             this.elements.tile(difference.changed.length, "changed", "the same label, another statement"),
             this.elements.tile(shifted, "theorems", "gained or lost an axiom"),
@@ -130,7 +130,7 @@ export class DifferenceView {
     listSection(id, name, number, make) {
         if (number === 0) return this.elements.section(id, name, this.elements.hint("None."));
         const list = this.elements.fold("Which", make, number <= 50);
-        return this.elements.section(id, `${name}: ${count(number)}`, list);
+        return this.elements.section(id, `${name}: ${withCommas(number)}`, list);
     }
 
     /**
@@ -200,8 +200,8 @@ export class DifferenceView {
     goneList(gone) {
         const lines = gone.map(([label, formula, , title]) => {
             const name = element("code", { class: "label gone" }, label);
-            const place = element("span", { class: "hint" }, title);
-            return element("li", { class: "line" }, name, " ", this.elements.formula(formula), place);
+            const chapter = element("span", { class: "hint" }, title);
+            return element("li", { class: "line" }, name, " ", this.elements.formula(formula), chapter);
         });
         return element("ul", { class: "lines" }, lines);
     }
@@ -211,12 +211,12 @@ export class DifferenceView {
         const { model } = this;
         const made = this.elements.section("by-chapter", "By chapter");
         const lines = model.listStretches
-            .map((stretch) => ({ stretch, told: this.toldOf(stretch.first, stretch.end, [stretch.chapter]) }))
-            .filter(({ told }) => told.length > 0)
-            .map(({ stretch, told }) => {
+            .map((stretch) => ({ stretch, changes: this.changesIn(stretch.first, stretch.end, [stretch.chapter]) }))
+            .filter(({ changes }) => changes.length > 0)
+            .map(({ stretch, changes }) => {
                 const chapter = model.chapters.list[stretch.chapter];
                 const name = chapter ? this.elements.chapterLink(chapter, true) : stretch.title;
-                const numbers = element("span", { class: "number" }, told.join(" · "));
+                const numbers = element("span", { class: "number" }, changes.join(" · "));
                 return element("li", { class: "line" }, name, " ", numbers);
             });
         made.append(lines.length > 0 ? element("ul", { class: "lines" }, lines) : this.elements.hint("None."));
@@ -229,7 +229,7 @@ export class DifferenceView {
      * @param {number} end
      * @param {number[]} chapters
      */
-    toldOf(first, end, chapters) {
+    changesIn(first, end, chapters) {
         const { difference } = this;
         const isIn = (/** @type {number} */ number) => number >= first && number < end;
         const isInChapter = (/** @type {number} */ chapter) => chapters.includes(chapter);
@@ -242,7 +242,7 @@ export class DifferenceView {
             [difference.changed.filter(isIn).length, "changed"],
             [[...this.shifts.keys()].filter(isIn).length, "gained or lost an axiom"],
         ];
-        return parts.filter(([number]) => number > 0).map(([number, name]) => `${count(number)} ${name}`);
+        return parts.filter(([number]) => number > 0).map(([number, name]) => `${withCommas(number)} ${name}`);
     }
 
     /**
@@ -280,11 +280,11 @@ export class DifferenceView {
     sinceOfChapter(chapter) {
         const lower = this.model.chapters.list.filter((other) => this.model.chapters.path(other).includes(chapter));
         const inIt = lower.map((other) => other.index);
-        const told = this.toldOf(chapter.first, chapter.end, inIt);
-        if (told.length === 0) return [];
+        const changes = this.changesIn(chapter.first, chapter.end, inIt);
+        if (changes.length === 0) return [];
         const isIn = (/** @type {number} */ number) => number >= chapter.first && number < chapter.end;
         const { difference } = this;
-        const made = this.elements.section("since", `Since ${difference.name}`, element("p", {}, told.join(" · ")));
+        const made = this.elements.section("since", `Since ${difference.name}`, element("p", {}, changes.join(" · ")));
         const put = (/** @type {string} */ name, /** @type {number} */ number, /** @type {() => Child} */ make) => {
             if (number > 0) made.append(this.elements.foldOf(name, number, make));
         };

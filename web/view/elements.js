@@ -59,7 +59,7 @@ export function byId(id) {
 /** With more hypotheses than this only their number stands in a line. */
 export const MOST_GIVEN = 3;
 /** A label with more letters may be broken at the end of a line. */
-const LONGEST_WHOLE = 20;
+const LONGEST_WHOLE_LABEL = 20;
 /** A formula with more signs is cut in lists of what was found. */
 const LONGEST_FOUND = 240;
 /** So many labels or lines are shown at first. */
@@ -73,7 +73,7 @@ const TAG_ELEMENTS = new Set(["sub", "sup", "b", "i", "u", "small"]);
  * A whole number with separators, as English writes it.
  * @param {number} number
  */
-export function count(number) {
+export function withCommas(number) {
     return number.toLocaleString("en");
 }
 
@@ -83,7 +83,7 @@ export function count(number) {
  * @param {string} one
  */
 export function counted(number, one, many = `${one}s`) {
-    return `${count(number)} ${number === 1 ? one : many}`;
+    return `${withCommas(number)} ${number === 1 ? one : many}`;
 }
 
 /**
@@ -116,7 +116,7 @@ function spelled(made, spelling) {
  * @param {string} label
  */
 export function classesOfLabel(label) {
-    return label.length <= LONGEST_WHOLE ? "label look-whole" : "label";
+    return label.length <= LONGEST_WHOLE_LABEL ? "label look-whole" : "label";
 }
 
 export class Elements {
@@ -411,7 +411,7 @@ export class Elements {
         const button = element("button", { type: "button", class: "more" });
         const name = () => {
             const left = numbers.length - shown;
-            button.textContent = left <= step ? `Show all ${count(numbers.length)}` : `Show ${count(step)} more`;
+            button.textContent = left <= step ? `Show all ${withCommas(numbers.length)}` : `Show ${withCommas(step)} more`;
         };
         button.addEventListener("click", () => {
             const first = shown;
@@ -450,7 +450,7 @@ export class Elements {
      */
     foldOf(name, number, make, isOpen = false) {
         const title = element("span", { class: "title" }, name);
-        const size = element("span", { class: "number" }, count(number));
+        const size = element("span", { class: "number" }, withCommas(number));
         return this.fold([title, " ", size], make, isOpen);
     }
 
@@ -470,7 +470,7 @@ export class Elements {
                 element("span", { class: "path" }, stretch.path.slice(0, -1).map((name) => `${name} › `)),
                 element("span", { class: "title" }, stretch.title),
                 " ",
-                element("span", { class: "number" }, `${count(part.length)} of ${count(stretch.theorems)}`),
+                element("span", { class: "number" }, `${withCommas(part.length)} of ${withCommas(stretch.theorems)}`),
                 this.bar(part.length, stretch.theorems),
             ];
             made.append(this.fold(title, () => this.labels(part, 1000)));
@@ -560,16 +560,16 @@ export class Elements {
      * A tile with a number.
      * @param {number} number
      * @param {string} name
-     * @param {string} told
+     * @param {string} hint
      * @param {Child} more
      */
-    tile(number, name, told, key = "", more = "") {
+    tile(number, name, hint, key = "", more = "") {
         return element(
             "li",
             { class: key === "" ? "tile" : `tile of-${key}` },
-            element("strong", {}, count(number)),
+            element("strong", {}, withCommas(number)),
             element("span", {}, name),
-            element("span", { class: "hint" }, told),
+            element("span", { class: "hint" }, hint),
             more,
         );
     }

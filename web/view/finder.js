@@ -1,6 +1,6 @@
 // The field of the search with what was found, and the view of all that was found.
 
-import { MOST_GIVEN, byId, classesOfLabel, count, element } from "./elements.js";
+import { MOST_GIVEN, byId, classesOfLabel, element, withCommas } from "./elements.js";
 import { plainText } from "./markup.js";
 import { Search, placesOf } from "./search.js";
 
@@ -11,10 +11,10 @@ import { Search, placesOf } from "./search.js";
 /** @typedef {import("./types.js").Found} Found */
 
 /** How many of what was found are shown below the field, and at a time in the view. */
-const SHOWN = 24;
+const MOST_OFFERED = 24;
 const SHOWN_IN_VIEW = 100;
 /** Letters before a word that was found: in one line, which may be a telephone's, and in several. */
-const BEFORE = 20;
+const LETTERS_BEFORE = 20;
 const AROUND = 60;
 /** A label with more letters is cut below the field. */
 const LONGEST_LABEL = 240;
@@ -95,23 +95,23 @@ export class Finder {
         const began = performance.now();
         const answer = this.search.find(this.input.value);
         this.total = answer.total;
-        this.best = this.search.best(answer, SHOWN);
+        this.best = this.search.best(answer, MOST_OFFERED);
         this.active = -1;
         this.input.removeAttribute("aria-activedescendant");
         const items = this.best.map((item, index) => this.result(item, index, answer.words));
-        const all = `Show all ${count(this.total)}`;
+        const all = `Show all ${withCommas(this.total)}`;
         if (this.total > this.best.length) items.push(this.option(items.length, { class: "all" }, all));
         this.results.replaceChildren(...items);
         this.results.hidden = items.length === 0;
         this.input.setAttribute("aria-expanded", String(items.length > 0));
-        this.found.textContent = answer.words.length === 0 ? "" : this.told(answer.total);
+        this.found.textContent = answer.words.length === 0 ? "" : this.summary(answer.total);
         // Read by the test of the page.
         this.input.dataset.took = (performance.now() - began).toFixed(1);
     }
 
     /** @param {number} total */
-    told(total) {
-        return `${count(total)} found${this.search.isWhole ? "" : " so far"}`;
+    summary(total) {
+        return `${withCommas(total)} found${this.search.isWhole ? "" : " so far"}`;
     }
 
     /**
@@ -124,7 +124,7 @@ export class Finder {
         const label = this.model.labels.at(number);
         const said = where === "comment" ? (this.model.knownComment(number) ?? "") : "";
         const text = element("span", { class: "text" });
-        if (said !== "") text.append(...this.excerpt(said, words, BEFORE));
+        if (said !== "") text.append(...this.excerpt(said, words, LETTERS_BEFORE));
         else text.append(...this.formulas(number));
         const name = element("span", { class: classesOfLabel(label) }, marked(cut(label), words));
         const kind = element("span", { class: "kind" }, this.model.kindName(number).toLowerCase());
@@ -141,7 +141,7 @@ export class Finder {
         /** @type {Child[]} */
         const parts = [];
         if (given.length > MOST_GIVEN) {
-            parts.push(element("span", { class: "hint" }, `${count(given.length)} hypotheses`));
+            parts.push(element("span", { class: "hint" }, `${withCommas(given.length)} hypotheses`));
         } else {
             given.forEach((index, at) => {
                 const sign = element("span", { class: "sign" }, at > 0 ? " & " : "");
@@ -228,10 +228,10 @@ export class Finder {
         const numbers = this.search.all(answer);
         const list = element("ul", { class: "lines found" });
         const make = (/** @type {number} */ number) => this.foundLine(number, answer.words);
-        const told = `${count(numbers.length)} found for “${typed}”: labels first, then formulas, then comments.`;
+        const summary = `${withCommas(numbers.length)} found for “${typed}”: labels first, then formulas, then comments.`;
         return [
             element("h1", { tabindex: -1 }, `Search: ${typed}`),
-            element("p", { class: "lead", id: "found-told", role: "status" }, told),
+            element("p", { class: "lead", id: "found-told", role: "status" }, summary),
             numbers.length > 0 ? this.elements.inParts(list, numbers, SHOWN_IN_VIEW, 1000, make) : "",
         ];
     }

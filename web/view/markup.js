@@ -39,7 +39,7 @@ const CREDIT = new RegExp(
         String.raw`(\d{1,2}-[A-Z][a-z]{2}-\d{4})\.?\)(?!\S)`,
     "g",
 );
-const MARK = /(?<!\S)\((?:New usage|Proof modification) is discouraged\.\)(?!\S)/g;
+const DISCOURAGED = /(?<!\S)\((?:New usage|Proof modification) is discouraged\.\)(?!\S)/g;
 
 /** What isn't plain text in a comment. */
 const SPECIAL = new RegExp(
@@ -112,7 +112,7 @@ export function readComment(line) {
             credits.push({ what, who, date });
             return "";
         })
-        .replace(MARK, "");
+        .replace(DISCOURAGED, "");
     const reader = new Reader();
     reader.read(body);
     const paragraphs = reader.paragraphs.map(closeUp).filter((paragraph) => paragraph.some(isSeen));

@@ -247,10 +247,10 @@ export class Model {
         const falls = new Uint8Array(this.theorems.length);
         for (const column of columns) {
             const shift = column & 31;
-            let place = column >>> 5;
+            let word = column >>> 5;
             for (let row = 0; row < falls.length; row++) {
-                falls[row] |= (this.bits[place] >>> shift) & 1;
-                place += this.words;
+                falls[row] |= (this.bits[word] >>> shift) & 1;
+                word += this.words;
             }
         }
         return falls;
@@ -314,13 +314,13 @@ export class Model {
     turnCitations() {
         const { starts: from, items: cited } = this.cited;
         const sizes = new Uint32Array(this.size);
-        for (let place = 0; place < cited.length; place++) sizes[cited[place]]++;
+        for (let index = 0; index < cited.length; index++) sizes[cited[index]]++;
         const starts = startsOf(sizes);
         const free = starts.slice();
         const items = new Uint32Array(cited.length);
         for (let row = 0; row < this.theorems.length; row++) {
-            for (let place = from[row]; place < from[row + 1]; place++) {
-                items[free[cited[place]]++] = this.theorems[row];
+            for (let index = from[row]; index < from[row + 1]; index++) {
+                items[free[cited[index]]++] = this.theorems[row];
             }
         }
         return new Lists(starts, items);
@@ -458,10 +458,10 @@ function readHypotheses(blocks) {
     const items = numbersOf(blocks.get("hypothesis-gaps"));
     let first = 0;
     for (let index = 0; index + 1 < starts.length; index++) {
-        for (let place = starts[index]; place < starts[index + 1]; place++) {
-            const gap = items[place];
-            if (place > starts[index]) items[place] = items[place - 1] + 1 + gap;
-            else items[place] = first += gap % 2 ? -(gap + 1) / 2 : gap / 2;
+        for (let item = starts[index]; item < starts[index + 1]; item++) {
+            const gap = items[item];
+            if (item > starts[index]) items[item] = items[item - 1] + 1 + gap;
+            else items[item] = first += gap % 2 ? -(gap + 1) / 2 : gap / 2;
         }
     }
     return new Lists(starts, items);

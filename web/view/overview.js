@@ -1,6 +1,6 @@
 // The view of the whole database: the matrix as a picture, counts over the file, axioms by their users, chapters.
 
-import { Colours, count, counted, element, percent, put } from "./elements.js";
+import { Colours, counted, element, percent, put, withCommas } from "./elements.js";
 import { Counts, Picture } from "./picture.js";
 import { Plot } from "./plot.js";
 
@@ -70,13 +70,13 @@ export class Overview {
                     "li",
                     {},
                     element("span", { class: `swatch of-${group.key}`, "aria-hidden": "true" }),
-                    element("strong", {}, count(group.size)),
+                    element("strong", {}, withCommas(group.size)),
                     ` ${group.name.toLowerCase()} `,
                     element("span", { class: "hint" }, `(${group.hint})`),
                 ),
             );
         const number = counted(model.theorems.length, "theorem, which rests", "theorems, which rest");
-        const lead = `${number} on ${count(model.usedAxioms)} of ${counted(model.axioms.length, "axiom")}:`;
+        const lead = `${number} on ${withCommas(model.usedAxioms)} of ${counted(model.axioms.length, "axiom")}:`;
         const list = element("ul", { class: "legend" }, ...legend);
         const made = element("div", {}, element("p", { class: "lead", id: "lead" }, lead), list);
         if (model.facts.legend.length > 0) made.append(this.variablesLegend());
@@ -144,13 +144,13 @@ export class Overview {
     }
 
     pictureSection() {
-        const told = element("p", { class: "told", id: "picture-told", role: "status" });
-        told.textContent = "Point at the picture, or move the cross with the arrow keys.";
+        const status = element("p", { class: "told", id: "picture-told", role: "status" });
+        status.textContent = "Point at the picture, or move the cross with the arrow keys.";
         const picture = new Picture(
             this.model,
             this.counts,
             this.colours,
-            (row, column) => told.replaceChildren(...this.tellCell(row, column)),
+            (row, column) => status.replaceChildren(...this.tellCell(row, column)),
             (row, column, isAxiom) => this.open(isAxiom ? this.model.axioms[column] : this.model.theorems[row]),
         );
         this.picture = picture;
@@ -165,7 +165,7 @@ export class Overview {
             { id: "picture-keys" },
         );
         const controls = this.pictureControls(picture);
-        return this.elements.section("picture", "The matrix", keys, controls, picture.canvas, told);
+        return this.elements.section("picture", "The matrix", keys, controls, picture.canvas, status);
     }
 
     /** @param {Picture} picture */
@@ -217,13 +217,13 @@ export class Overview {
     }
 
     plotSection() {
-        const told = element("p", { class: "told", id: "plot-told", role: "status" });
-        told.textContent = "Point at the plot, or use the arrow keys.";
+        const status = element("p", { class: "told", id: "plot-told", role: "status" });
+        status.textContent = "Point at the plot, or use the arrow keys.";
         const plot = new Plot(
             this.model,
             this.counts,
             this.colours,
-            (row) => told.replaceChildren(...this.tellCounts(row)),
+            (row) => status.replaceChildren(...this.tellCounts(row)),
             (row) => this.open(this.model.theorems[row]),
         );
         this.plot = plot;
@@ -233,7 +233,7 @@ export class Overview {
                 "The chapters below have the numbers. The arrow keys move, Enter opens the theorem.",
             { id: "plot-keys" },
         );
-        return this.elements.section("plot", "On how many axioms theorems rest", keys, plot.canvas, told);
+        return this.elements.section("plot", "On how many axioms theorems rest", keys, plot.canvas, status);
     }
 
     /** @param {number} row */
@@ -242,10 +242,10 @@ export class Overview {
         const parts = model.groups
             .map((group, index) => ({ name: group.name.toLowerCase(), number: this.counts.byGroup[index][row] }))
             .filter((part) => part.number > 0)
-            .map((part) => `${count(part.number)} ${part.name}`);
+            .map((part) => `${withCommas(part.number)} ${part.name}`);
         return [
             this.elements.link(model.theorems[row]),
-            ` rests on ${count(this.counts.totals[row])}: ${parts.join(", ")}`,
+            ` rests on ${withCommas(this.counts.totals[row])}: ${parts.join(", ")}`,
         ];
     }
 
@@ -261,7 +261,7 @@ export class Overview {
             more.replaceChildren();
             if (shown.length === columns.length) return;
             const button = element("button", { type: "button", class: "more", onclick: () => fill(group, true) });
-            button.textContent = `Show all ${count(columns.length)}`;
+            button.textContent = `Show all ${withCommas(columns.length)}`;
             more.append(button);
         };
         const first = this.groupChoices()[1][0];
@@ -297,7 +297,7 @@ export class Overview {
             "tr",
             { role: "row" },
             element("th", { scope: "row", role: "rowheader" }, this.elements.link(number)),
-            element("td", { class: "right", role: "cell" }, count(users)),
+            element("td", { class: "right", role: "cell" }, withCommas(users)),
             element("td", { class: "share", role: "cell" }, bar, share),
             element("td", { role: "cell" }, this.elements.whole(number)),
         );
@@ -342,14 +342,14 @@ export class Overview {
             sum += totals[row];
             most = Math.max(most, totals[row]);
         }
-        const told = [counted(theorems, "theorem")];
-        if (theorems > 0) told.push(`mean ${(sum / theorems).toFixed(1)}`, `most ${count(most)}`);
+        const parts = [counted(theorems, "theorem")];
+        if (theorems > 0) parts.push(`mean ${(sum / theorems).toFixed(1)}`, `most ${withCommas(most)}`);
         return [
             element("span", { class: "chapter-number" }, chapter.number),
             " ",
             this.elements.chapterLink(chapter),
             " ",
-            element("span", { class: "number" }, told.join(" · ")),
+            element("span", { class: "number" }, parts.join(" · ")),
         ];
     }
 }

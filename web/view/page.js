@@ -130,8 +130,8 @@ class Page {
     unknown(labels) {
         if (labels.length === 0) return [];
         const names = labels.flatMap((label, at) => [at > 0 ? ", " : "", element("code", {}, label)]);
-        const told = "The address names what is no axiom of this database, and isn't given up here: ";
-        return [element("p", { class: "note", id: "unknown", role: "status" }, told, names, ".")];
+        const text = "The address names what is no axiom of this database, and isn't given up here: ";
+        return [element("p", { class: "note", id: "unknown", role: "status" }, text, names, ".")];
     }
 
     /**

@@ -121,7 +121,7 @@ export class Picture extends Drawing {
         this.high = 1;
         /** @type {Map<number, PointerEvent>} */
         this.fingers = new Map();
-        /** @type {{ row: number, place: number } | null} */
+        /** @type {{ row: number, index: number } | null} */
         this.pointed = null;
         this.listen();
     }
@@ -191,7 +191,7 @@ export class Picture extends Drawing {
         const marks = new Uint32Array(down.number * across.number);
         const tall = new Uint32Array(down.number);
         const broad = new Uint32Array(across.number);
-        for (let place = across.low; place < across.high; place++) broad[across.of(place)]++;
+        for (let index = across.low; index < across.high; index++) broad[across.of(index)]++;
         if (down.scale <= 1 / BLOCK) this.countBlocks(down, across, marks, tall);
         else this.countRows(down, across, marks, tall);
         return { marks, tall, broad };
@@ -208,7 +208,7 @@ export class Picture extends Drawing {
     countBlocks(down, across, marks, tall) {
         const { above, columns, blocks } = this.counts;
         const bins = new Int32Array(across.high - across.low);
-        for (let place = across.low; place < across.high; place++) bins[place - across.low] = across.of(place);
+        for (let index = across.low; index < across.high; index++) bins[index - across.low] = across.of(index);
         for (let downBin = 0; downBin < down.number; downBin++) {
             const first = Math.min(blocks, Math.round((down.from + downBin / down.scale) / BLOCK));
             const end = Math.min(blocks, Math.round((down.from + (downBin + 1) / down.scale) / BLOCK));
@@ -231,7 +231,7 @@ export class Picture extends Drawing {
     countRows(down, across, marks, tall) {
         const { bits, words } = this.model;
         const bins = new Int32Array(this.model.axioms.length).fill(-1);
-        for (let place = across.low; place < across.high; place++) bins[this.order[place]] = across.of(place);
+        for (let index = across.low; index < across.high; index++) bins[this.order[index]] = across.of(index);
         for (let row = down.low; row < down.high; row++) {
             const downBin = down.of(row);
             tall[downBin]++;
@@ -258,8 +258,8 @@ export class Picture extends Drawing {
         const ramps = this.ramps();
         /** @type {Uint32Array[]} */
         const rampOf = [];
-        for (let place = across.low; place < across.high; place++) {
-            rampOf[across.of(place)] ??= ramps[this.model.groupOf[this.order[place]]];
+        for (let index = across.low; index < across.high; index++) {
+            rampOf[across.of(index)] ??= ramps[this.model.groupOf[this.order[index]]];
         }
         const line = new Uint32Array(across.number);
         let lineOf = -1;
@@ -297,8 +297,8 @@ export class Picture extends Drawing {
     drawGroups(across) {
         const left = this.canvas.width - this.wide;
         for (let x = 0; x < this.wide; x++) {
-            const place = Math.min(this.order.length - 1, Math.floor(across.from + (x + 0.5) / across.scale));
-            this.pen.fillStyle = this.colours.ofGroup(this.model.groupOf[this.order[place]]);
+            const index = Math.min(this.order.length - 1, Math.floor(across.from + (x + 0.5) / across.scale));
+            this.pen.fillStyle = this.colours.ofGroup(this.model.groupOf[this.order[index]]);
             this.pen.fillRect(left + x, 0, 1, Math.round((HEADER - 3) * this.ratio));
         }
     }
@@ -362,10 +362,10 @@ export class Picture extends Drawing {
     /** A cross at the cell that is pointed at. */
     drawCross() {
         if (!this.pointed) return;
-        const { row, place } = this.pointed;
+        const { row, index } = this.pointed;
         const left = this.canvas.width - this.wide;
         const head = this.canvas.height - this.high;
-        const x = (this.xOf(place) + this.xOf(place + 1)) / 2;
+        const x = (this.xOf(index) + this.xOf(index + 1)) / 2;
         const y = (this.yOf(row) + this.yOf(row + 1)) / 2;
         this.pen.strokeStyle = this.colours.of("--cross");
         this.pen.lineWidth = this.ratio;
@@ -387,10 +387,10 @@ export class Picture extends Drawing {
         return this.canvas.height - this.high + ((row - top) / (bottom - top)) * this.high;
     }
 
-    /** @param {number} place */
-    xOf(place) {
+    /** @param {number} index */
+    xOf(index) {
         const { left, right } = this.view;
-        return this.canvas.width - this.wide + ((place - left) / (right - left)) * this.wide;
+        return this.canvas.width - this.wide + ((index - left) / (right - left)) * this.wide;
     }
 
     /**
@@ -426,15 +426,15 @@ export class Picture extends Drawing {
     /**
      * Points at a cell and says which it is; the view follows.
      * @param {number} row
-     * @param {number} place
+     * @param {number} index
      */
-    point(row, place) {
+    point(row, index) {
         this.pointed = {
             row: Math.min(this.rows - 1, Math.max(0, Math.floor(row))),
-            place: Math.min(this.order.length - 1, Math.max(0, Math.floor(place))),
+            index: Math.min(this.order.length - 1, Math.max(0, Math.floor(index))),
         };
         const { top, bottom, left, right } = this.view;
-        const { row: at, place: over } = this.pointed;
+        const { row: at, index: over } = this.pointed;
         if (at < top || at >= bottom) this.move((at + 0.5 - (top + bottom) / 2) / (bottom - top), 0);
         if (over < left || over >= right) this.move(0, (over + 0.5 - (left + right) / 2) / (right - left));
         this.onPoint(at, this.order[over]);
@@ -528,22 +528,22 @@ export class Picture extends Drawing {
         /** @type {Record<string, number>} */
         const pages = { PageUp: -0.5, PageDown: 0.5 };
         const { top, bottom, left, right } = this.view;
-        const at = this.pointed ?? { row: top, place: left };
+        const at = this.pointed ?? { row: top, index: left };
         const down = (at.row + 0.5 - top) / (bottom - top);
-        const across = (at.place + 0.5 - left) / (right - left);
+        const across = (at.index + 0.5 - left) / (right - left);
         if (event.key in steps) {
             const [dy, dx] = steps[event.key];
             const far = event.shiftKey ? 20 : 1;
             const tall = Math.max(1, Math.ceil((bottom - top) / (this.high / this.ratio / 2))) * far;
             const broad = Math.max(1, Math.ceil((right - left) / (this.wide / this.ratio / 2))) * far;
-            this.point(at.row + dy * tall, at.place + dx * broad);
+            this.point(at.row + dy * tall, at.index + dx * broad);
         } else if (event.key in pages) {
             this.move(pages[event.key], 0);
-            this.point(at.row + pages[event.key] * (bottom - top), at.place);
+            this.point(at.row + pages[event.key] * (bottom - top), at.index);
         } else if (event.key === "+" || event.key === "=") this.zoom(1.5, down, across);
         else if (event.key === "-") this.zoom(1 / 1.5, down, across);
         else if (event.key === "0") this.showAll();
-        else if (event.key === "Enter") this.onOpen(at.row, this.order[at.place], event.shiftKey);
+        else if (event.key === "Enter") this.onOpen(at.row, this.order[at.index], event.shiftKey);
         else return;
         event.preventDefault();
     }

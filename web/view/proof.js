@@ -1,6 +1,6 @@
 // The view of a theorem's proof: its steps, each with what it uses, what it applies, and what it says.
 
-import { count, counted, element } from "./elements.js";
+import { counted, element, withCommas } from "./elements.js";
 import { Damaged } from "./decode.js";
 import { Derivation, MOST_SIGNS, OtherFormula, TooManySigns } from "./derivation.js";
 import { MOST_STEPS, Proofs, Step, TooManySteps } from "./proofs.js";
@@ -33,34 +33,34 @@ export class ProofView {
      */
     render(theorem) {
         if (!this.proofs.areThere) return "";
-        const place = element("div", { "aria-busy": "true" }, this.elements.hint("The proof is being read."));
-        this.fill(place, theorem);
-        return this.elements.section("proof", "Proof", place);
+        const holder = element("div", { "aria-busy": "true" }, this.elements.hint("The proof is being read."));
+        this.fill(holder, theorem);
+        return this.elements.section("proof", "Proof", holder);
     }
 
     /**
-     * @param {HTMLElement} place
+     * @param {HTMLElement} holder
      * @param {number} theorem
      */
-    async fill(place, theorem) {
+    async fill(holder, theorem) {
         await new Promise((resume) => setTimeout(resume)); // until it is part of the page
         try {
-            place.replaceChildren(...(await this.made(place, theorem)));
-            place.setAttribute("aria-busy", "false");
+            holder.replaceChildren(...(await this.made(holder, theorem)));
+            holder.setAttribute("aria-busy", "false");
         } catch (error) {
             if (error instanceof Abandoned) return;
-            place.replaceChildren(element("p", { class: "note" }, toldOf(error)));
-            place.setAttribute("aria-busy", "false");
+            holder.replaceChildren(element("p", { class: "note" }, reasonOf(error)));
+            holder.setAttribute("aria-busy", "false");
         }
     }
 
     /**
-     * @param {HTMLElement} place
+     * @param {HTMLElement} holder
      * @param {number} theorem
      * @returns {Promise<Child[]>}
      */
-    async made(place, theorem) {
-        const turns = new Turns(() => place.isConnected);
+    async made(holder, theorem) {
+        const turns = new Turns(() => holder.isConnected);
         const steps = await this.proofs.steps(theorem, turns);
         const derivation = new Derivation(this.proofs, steps);
         await derivation.run(theorem, turns);
@@ -70,7 +70,7 @@ export class ProofView {
             list.replaceChildren(areAll ? this.list(derivation, all, true) : this.list(derivation, essential, false));
         };
         put(false);
-        if (all.length === essential.length) return [this.told(derivation, all.length, 0), list];
+        if (all.length === essential.length) return [this.summary(derivation, all.length, 0), list];
         const button = element("button", { type: "button", class: "ask", "aria-pressed": "false" });
         button.append(`All ${counted(all.length, "step")}`);
         button.addEventListener("click", () => {
@@ -78,9 +78,9 @@ export class ProofView {
             button.setAttribute("aria-pressed", String(areAll));
             put(areAll);
         });
-        const told = this.told(derivation, essential.length, all.length - essential.length);
-        told.append(" ", button);
-        return [told, list];
+        const summary = this.summary(derivation, essential.length, all.length - essential.length);
+        summary.append(" ", button);
+        return [summary, list];
     }
 
     /**
@@ -88,10 +88,10 @@ export class ProofView {
      * @param {number} shown
      * @param {number} others how many steps only build formulas
      */
-    told(derivation, shown, others) {
-        const told = counted(shown, "step");
+    summary(derivation, shown, others) {
+        const summary = counted(shown, "step");
         const more = others === 0 ? "." : `, and ${counted(others, "other")}, which only build formulas.`;
-        return this.elements.hint(`${told}${more}`, { id: "proof-told" });
+        return this.elements.hint(`${summary}${more}`, { id: "proof-told" });
     }
 
     /**
@@ -152,10 +152,10 @@ export class ProofView {
  * Why no steps are shown.
  * @param {unknown} error
  */
-function toldOf(error) {
-    if (error instanceof TooManySteps) return `It has more than ${count(MOST_STEPS)} steps, too many to be shown here.`;
+function reasonOf(error) {
+    if (error instanceof TooManySteps) return `It has more than ${withCommas(MOST_STEPS)} steps, too many to be shown here.`;
     if (error instanceof TooManySigns) {
-        return `Its formulas have more than ${count(MOST_SIGNS)} signs together, too many to be shown here.`;
+        return `Its formulas have more than ${withCommas(MOST_SIGNS)} signs together, too many to be shown here.`;
     }
     if (error instanceof OtherFormula) {
         return "The steps that were read don't prove this formula. The page is at fault, so no steps are shown.";

@@ -1,7 +1,7 @@
 // Reads the steps of proofs from the blocks of the page, as codes.js and proofs.js of the packer say.
 
 import {
-    CHUNK,
+    PROOFS_IN_CHUNK,
     Code,
     FREQUENT,
     KINDS,
@@ -262,10 +262,10 @@ export class Proofs {
     async steps(theorem, turns) {
         await this.load();
         const row = this.model.rowOf[theorem];
-        const first = row - (row % CHUNK);
-        const chunk = await this.chunk(first / CHUNK);
+        const first = row - (row % PROOFS_IN_CHUNK);
+        const chunk = await this.chunk(first / PROOFS_IN_CHUNK);
         const { places } = chunk;
-        let proof = Math.min(row % CHUNK, places.length - 1);
+        let proof = Math.min(row % PROOFS_IN_CHUNK, places.length - 1);
         const cursor = new Cursor(chunk, proof);
         while (first + proof < row) {
             await new Backward(this, cursor, this.model.theorems[first + proof], false).read(turns);

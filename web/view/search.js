@@ -3,6 +3,7 @@
 import { Texts } from "./decode.js";
 import { firstWord } from "./model.js";
 import { plain } from "./symbols.js";
+import { SLICE } from "./turns.js";
 
 /** @typedef {import("./model.js").Model} Model */
 /** @typedef {import("./symbols.js").Symbols} Symbols */
@@ -24,11 +25,10 @@ const WordRank = { wholeLabel: 40, beginsLabel: 24, inLabel: 16, inFormula: 6, i
  */
 const FormulaRank = { sideBySide: 8, isTyped: 9, isTypedMore: 18 };
 /** A phrase in quotes, or a word. Quotes that stand alone are symbols. */
-const WORD = /(?<!\S)"(\S|\S[^"]*\S)"(?!\S)|\S+/g;
+const QUERY_WORD = /(?<!\S)"(\S|\S[^"]*\S)"(?!\S)|\S+/g;
 const MOST_KNOWN = 24;
 /** Of assertions of the same rank the shorter comes first, up to this length; then in file order. */
 const LONGEST_COMPARED = 4095;
-const SLICE = 8; // milliseconds of work at a time
 
 /** Lines that are searched; the first one is that of assertion `first`. */
 class Lines {
@@ -370,9 +370,9 @@ export class Search {
         const best = [];
         for (const key of answer.keys) {
             if (best.length === limit && key >= best[limit - 1]) continue;
-            let place = best.length;
-            while (place > 0 && best[place - 1] > key) place--;
-            best.splice(place, 0, key);
+            let index = best.length;
+            while (index > 0 && best[index - 1] > key) index--;
+            best.splice(index, 0, key);
             if (best.length > limit) best.pop();
         }
         return best.map((key) => this.found(key, answer.masks));
@@ -403,7 +403,7 @@ export class Search {
  * @param {string} typed
  */
 export function wordsOf(typed) {
-    return Array.from(typed.toLowerCase().matchAll(WORD), ([word, phrase]) => (phrase ?? word).replace(/\s+/g, " "));
+    return Array.from(typed.toLowerCase().matchAll(QUERY_WORD), ([word, phrase]) => (phrase ?? word).replace(/\s+/g, " "));
 }
 
 /**

@@ -1,7 +1,7 @@
 // What the views of theorems and axioms have in common: the head with comment, hypotheses, formula and conditions.
 
 import { Flag } from "../packer/assertions.js";
-import { count, element, put } from "./elements.js";
+import { element, put, withCommas } from "./elements.js";
 import { readComment } from "./markup.js";
 
 /** @typedef {import("./elements.js").Child} Child */
@@ -41,7 +41,7 @@ export class Statements {
             ...this.hypotheses(number),
             element("div", { class: "statement", id: "statement" }, formula),
             ...this.conditions(number),
-            this.place(number),
+            this.whereabouts(number),
         ];
     }
 
@@ -105,11 +105,11 @@ export class Statements {
      */
     dummies(dummies) {
         const made = element("p", { id: "dummies" }, this.elements.variables(dummies));
-        const told =
+        const text =
             dummies.length === 1
                 ? " — distinct from all other variables"
                 : " — distinct from one another and from all other variables";
-        made.append(element("span", { class: "hint" }, told));
+        made.append(element("span", { class: "hint" }, text));
         return made;
     }
 
@@ -120,8 +120,8 @@ export class Statements {
     stars(groups) {
         const items = groups.map(([dummy, ...others]) => {
             const item = element("li", {}, this.elements.variable(dummy));
-            const told = others.length > 0 ? " — distinct from " : " — without conditions";
-            put(item, [element("span", { class: "hint" }, told), ...this.elements.variables(others)]);
+            const text = others.length > 0 ? " — distinct from " : " — without conditions";
+            put(item, [element("span", { class: "hint" }, text), ...this.elements.variables(others)]);
             return item;
         });
         return element("ul", { class: "stars", id: "stars" }, items);
@@ -137,8 +137,8 @@ export class Statements {
         /** @type {(other: number, rel: string, which: string) => void} */
         const put = (other, rel, which) => {
             if (other < 0 || other === model.size) return;
-            const told = `${which} statement: ${model.labels.at(other)}`;
-            nav.append(elements.link(other, { rel, "aria-label": told }));
+            const text = `${which} statement: ${model.labels.at(other)}`;
+            nav.append(elements.link(other, { rel, "aria-label": text }));
         };
         put(number - 1, "prev", "Previous");
         put(number + 1, "next", "Next");
@@ -146,13 +146,13 @@ export class Statements {
     }
 
     /** @param {number} number */
-    place(number) {
+    whereabouts(number) {
         const { model } = this;
         const row = model.rowOf[number];
         const column = model.columnOf[number];
-        const parts = [`Line ${count(model.lines[number])}`];
-        if (row >= 0) parts.push(`theorem ${count(row + 1)} of ${count(model.theorems.length)}`);
-        if (column >= 0) parts.push(`axiom ${count(column + 1)} of ${count(model.axioms.length)}`);
+        const parts = [`Line ${withCommas(model.lines[number])}`];
+        if (row >= 0) parts.push(`theorem ${withCommas(row + 1)} of ${withCommas(model.theorems.length)}`);
+        if (column >= 0) parts.push(`axiom ${withCommas(column + 1)} of ${withCommas(model.axioms.length)}`);
         const made = element("p", { class: "place", id: "place" }, parts.join(" · "));
         const path = model.chapters.pathAt(number);
         if (path.length > 0) made.append(" · ", this.elements.path(path));
@@ -168,7 +168,7 @@ export class Statements {
         const list = citers.length > 0 ? this.elements.labels(citers) : null;
         return this.elements.section(
             "cited-by",
-            `Cited by ${count(citers.length)}`,
+            `Cited by ${withCommas(citers.length)}`,
             list ?? this.elements.hint("No proof of this database cites it."),
         );
     }

@@ -17,7 +17,7 @@ const HUES = ["blue", "red", "purple", "green"];
 
 /** Symbols that a browser would break inside, such as |->, and up to which length they are kept in one line. */
 const BREAKABLE = /[-/?].|[|]./;
-const LONGEST_WHOLE = 12;
+const LONGEST_WHOLE_SYMBOL = 12;
 
 /**
  * Between some symbols is a space, though their definitions have none: ∃𝑦 𝑦 ∈ 𝑥, ∃𝑥 ∈ 𝐴 𝐵 = 𝑥, ∃𝑥 ∈ 𝐴 ∀𝑦. A symbol that
@@ -25,7 +25,7 @@ const LONGEST_WHOLE = 12;
  */
 const ENDS_TERM = /^[\p{L}\p{N})\]}]/u; // of the last sign
 const BEGINS_PREFIX = /^[\p{Sm}\p{So}]/u;
-const WORD = /^[\p{L}\p{N}]{2}/u;
+const LETTERS = /^[\p{L}\p{N}]{2}/u;
 const LETTER = /^[\p{L}\p{N}]/u;
 const QUANTIFIER = /^[∀∃]/;
 const BINDER = /^[∀∃∪∩∏∑σ℩]/; // of keys, so that Σ is σ
@@ -67,7 +67,7 @@ export class Symbols {
             return defined.map(([text, tags]) => ({ text, tags, symbol, isAlike: isAlike && text.trim() !== "" }));
         }
         const code = isFirst ? undefined : this.typecodeOf.get(symbol);
-        const isWhole = BREAKABLE.test(symbol) && symbol.length <= LONGEST_WHOLE;
+        const isWhole = BREAKABLE.test(symbol) && symbol.length <= LONGEST_WHOLE_SYMBOL;
         const tags = [code === undefined ? "" : this.hueOf.get(code) ?? "", isWhole ? "whole" : ""];
         const isAlike = this.isOn && this.alike.has(symbol);
         return [{ text: symbol, tags: tags.filter(Boolean).join(" "), symbol, isAlike }];
@@ -116,9 +116,9 @@ export class Symbols {
         const last = Array.from(before).pop() ?? "";
         if (!ENDS_TERM.test(last)) return false;
         if (BEGINS_PREFIX.test(text)) return !this.infix.has(symbols[index]);
-        if (WORD.test(text) && LETTER.test(before)) return true;
+        if (LETTERS.test(text) && LETTER.test(before)) return true;
         if (!LETTER.test(text)) return false;
-        if (WORD.test(before) || this.isBound(symbols, index)) return true;
+        if (LETTERS.test(before) || this.isBound(symbols, index)) return true;
         const code = this.typecodeOf.get(symbols[index]);
         const isSame = code !== undefined && code === this.typecodeOf.get(symbols[index - 1]);
         return isSame && index > 1 && QUANTIFIER.test(this.keyOf(symbols[index - 2]));

@@ -1,6 +1,6 @@
 // The view of one theorem: on what it rests and why, what it does without, what it cites, what cites it.
 
-import { count, counted, element } from "./elements.js";
+import { counted, element, withCommas } from "./elements.js";
 import { GROUPS, Group } from "./model.js";
 import { ProofView } from "./proof.js";
 
@@ -56,10 +56,10 @@ export class TheoremView {
             .map((group, index) => ({ group, index }))
             .filter(({ index }) => this.model.groupSizes[index] > 0)
             .map(({ group, index }) => {
-                const told = `${count(byGroup[index].length)} of ${count(this.model.groupSizes[index])}`;
+                const share = `${withCommas(byGroup[index].length)} of ${withCommas(this.model.groupSizes[index])}`;
                 const strip = element("canvas", { class: "strip", width: 300, height: 14, "aria-hidden": "true" });
                 this.drawStrip(strip, index, columns);
-                return this.elements.tile(byGroup[index].length, group.name.toLowerCase(), told, group.key, strip);
+                return this.elements.tile(byGroup[index].length, group.name.toLowerCase(), share, group.key, strip);
             });
         return element("ul", { class: "glance", id: "glance", "aria-label": "Rests on, in numbers" }, ...tiles);
     }
@@ -76,10 +76,10 @@ export class TheoremView {
         pen.fillStyle = this.colours.of("--picture-ground");
         pen.fillRect(0, 0, strip.width, strip.height);
         pen.fillStyle = this.colours.ofGroup(group);
-        columns.forEach((column, place) => {
+        columns.forEach((column, index) => {
             if (!isMarked.has(column)) return;
-            const from = Math.floor((place * strip.width) / columns.length);
-            const to = Math.floor(((place + 1) * strip.width) / columns.length);
+            const from = Math.floor((index * strip.width) / columns.length);
+            const to = Math.floor(((index + 1) * strip.width) / columns.length);
             pen.fillRect(from, 0, Math.max(1, to - from - (to - from > 3 ? 1 : 0)), strip.height);
         });
     }
@@ -90,7 +90,7 @@ export class TheoremView {
      * @param {number[][]} byGroup
      */
     restsOn(number, columns, byGroup) {
-        const made = this.elements.section("rests-on", `Rests on ${count(columns.length)}`);
+        const made = this.elements.section("rests-on", `Rests on ${withCommas(columns.length)}`);
         if (columns.length === 0) made.append(element("p", {}, "It rests on no axiom."));
         this.model.groups.forEach((group, index) => {
             const part = byGroup[index];
@@ -116,12 +116,12 @@ export class TheoremView {
     axiomLine(theorem, column) {
         const axiom = this.model.axioms[column];
         const label = this.model.labelOfColumn(column);
-        const place = element("div", { id: `why-${column}`, class: "why" });
-        const states = { "aria-expanded": "false", "aria-controls": place.id, "aria-label": `Why ${label}?` };
+        const holder = element("div", { id: `why-${column}`, class: "why" });
+        const states = { "aria-expanded": "false", "aria-controls": holder.id, "aria-label": `Why ${label}?` };
         const button = element("button", { type: "button", class: "ask", ...states }, "why");
         const put = (/** @type {boolean} */ isOpen) => {
             button.setAttribute("aria-expanded", String(isOpen));
-            place.replaceChildren(...(isOpen ? this.chain(theorem, axiom) : []));
+            holder.replaceChildren(...(isOpen ? this.chain(theorem, axiom) : []));
         };
         button.addEventListener("click", () => {
             const isOpen = button.getAttribute("aria-expanded") === "false";
@@ -129,7 +129,7 @@ export class TheoremView {
             put(isOpen);
         });
         if (isChainOpen(column)) put(true);
-        return this.elements.line(axiom, button, place);
+        return this.elements.line(axiom, button, holder);
     }
 
     /**
@@ -162,7 +162,7 @@ export class TheoremView {
         const name = model.groups[group].name.toLowerCase();
         return this.elements.section(
             "avoids",
-            `Does without ${count(avoided.length)}`,
+            `Does without ${withCommas(avoided.length)}`,
             this.elements.hint(`The ${name} that stand before it and on which it doesn't rest.`),
             avoided.length > 0 ? this.elements.labels(avoided) : "",
         );
@@ -171,7 +171,7 @@ export class TheoremView {
     /** @param {number} number */
     cites(number) {
         const cited = this.model.citedBy(number);
-        const made = this.elements.section("cites", `Cites ${count(cited.length)}`);
+        const made = this.elements.section("cites", `Cites ${withCommas(cited.length)}`);
         /** @type {[string, number[]][]} */
         const parts = [
             ["Theorems", cited.filter((other) => this.model.rowOf[other] >= 0)],

@@ -2,7 +2,7 @@
 
 /** How many steps are done before the clock is looked at, and milliseconds of work at a time. */
 const STEPS = 64;
-const SLICE = 8;
+export const SLICE = 8;
 
 /** Who does the work is no longer wanted. */
 export class Abandoned extends Error {}

@@ -24,7 +24,7 @@ from query.tests.browser import browsers, interface, proofs, views, whole
 from query.tests.browser.browsers import Browser
 from query.tests.browser.truth import Truth, metamath_conditions
 from query.tests.browser.views import Shown
-from query.tests.counting import checks, count, figure, same
+from query.tests.checks import check, checks, figure, same
 from query.tests.samples import DEBIAN_DATABASES
 
 
@@ -51,15 +51,15 @@ def options_of() -> argparse.Namespace:
 class Pages:
     """The pages of the databases, made once for both browsers."""
 
-    def __init__(self, room: Path, options: argparse.Namespace) -> None:
-        self.room = room
+    def __init__(self, folder: Path, options: argparse.Namespace) -> None:
+        self.folder = folder
         self.options = options
         self.made: dict[str, tuple[Path, Truth | None, float]] = {}
 
     def page(self, name: str) -> tuple[Path, Truth, float]:
         """The page of a database, the truth on it, and how long it took."""
         database = DEBIAN_DATABASES / f"{name}.mm"
-        page = self.room / f"{name}.html"
+        page = self.folder / f"{name}.html"
         if name not in self.made:
             took = whole.make_page(database, page)
             self.made[name] = (page, Truth(database), took)
@@ -69,15 +69,15 @@ class Pages:
         return page, truth, took
 
 
-def try_hostile(browser: Browser, room: Path) -> None:
+def try_hostile(browser: Browser, folder: Path) -> None:
     """Databases that are written for this test."""
-    page = whole.check_hostile(browser, room, [], False)
-    whole.check_hostile(browser, room, [], True)
+    page = whole.check_hostile(browser, folder, [], False)
+    whole.check_hostile(browser, folder, [], True)
     for words in (["--only", "|-"], ["--only", "|-", "--open", "--essential"]):
-        whole.check_hostile(browser, room, words, False)
+        whole.check_hostile(browser, folder, words, False)
     whole.check_policy(browser, page)
-    whole.check_corners(browser, room)
-    whole.check_against(browser, room)
+    whole.check_corners(browser, folder)
+    whole.check_against(browser, folder)
 
 
 def try_database(browser: Browser, pages: Pages, name: str, rng: random.Random) -> None:
@@ -101,7 +101,7 @@ def try_database(browser: Browser, pages: Pages, name: str, rng: random.Random) 
     numbers = [number for number, _, _ in truth.headings]
     chapter = [f"#chapter={rng.choice(numbers)}"] if numbers else []
     addresses = ["", f"#theorem={deep}", f"#axiom={used[-1]}", *chapter, "#search=a"]
-    interface.check_looks(browser, page, addresses, pages.room)
+    interface.check_looks(browser, page, addresses, pages.folder)
     axiom = next(one for one in truth.marks(deep) if one in used and truth.group(one) != "syntax")
     other = next(label for label in used if label != axiom)
     interface.check_keyboard(browser, page, truth, deep, axiom, other)
@@ -132,7 +132,7 @@ def try_set(browser: Browser, pages: Pages) -> None:
     best, _ = browser.run(interface.FIND, "lemma zorn")
     same(best[:1], ["zorn"], f"{browser.name}: and so does `lemma zorn`")
     _, told = browser.run(interface.FIND, "∃y∀x(x∈y")
-    count(interface.number_in(told) > 0, f"{browser.name}: plain letters find shown ones", told)
+    check(interface.number_in(told) > 0, f"{browser.name}: plain letters find shown ones", told)
     interface.check_reachable(browser, page, truth, "discouraged", True)
     same(browser.messages(), [], f"{browser.name}: messages in the console of set.mm's page")
 
@@ -161,20 +161,20 @@ def main() -> None:
     print(f"seed {options.seed}", flush=True)
     kinds = [kind for name, kind in browsers.KINDS.items() if options.only in (None, name)]
     with contextlib.ExitStack() as stack:
-        room = Path(stack.enter_context(tempfile.TemporaryDirectory()))
+        folder = Path(stack.enter_context(tempfile.TemporaryDirectory()))
         if options.keep:
             options.keep.mkdir(parents=True, exist_ok=True)
-            room = options.keep.resolve()
-        pages = Pages(room, options)
+            folder = options.keep.resolve()
+        pages = Pages(folder, options)
         is_partial = options.measure or options.database is not None
         if not is_partial:
-            whole.check_refusals(room)
+            whole.check_refusals(folder)
         for at, kind in enumerate(kinds):
             browser = kind()
             stack.callback(browser.close)
             rng = random.Random(options.seed + at)
             if not is_partial:
-                try_hostile(browser, room)
+                try_hostile(browser, folder)
             if not options.measure:
                 for name in names:
                     try_database(browser, pages, name, rng)

@@ -12,7 +12,7 @@ from typing import Any
 
 from query.tests.browser.marionette import Marionette
 from query.tests.browser.scripts import GATHER
-from query.tests.counting import count, same
+from query.tests.checks import check, same
 
 
 def optional(name: str) -> Any:
@@ -108,7 +108,7 @@ class Browser(ABC):
             " && document.documentElement.dataset.state !== 'loading'"
             " && document.documentElement.dataset.state"
         )
-        count(state == "shown", f"{self.name}: {page.name} opens", state or "nothing is shown")
+        check(state == "shown", f"{self.name}: {page.name} opens", state or "nothing is shown")
         self.run(GATHER)
 
     def show(self, address: str, heading: str) -> dict[str, Any]:
@@ -167,8 +167,8 @@ class Chromium(Driven):
             options.add_argument(f"--{word}")
         options.set_capability("goog:loggingPrefs", {"browser": "ALL"})
         services = optional("selenium.webdriver.chrome.service")
-        self.room = tempfile.TemporaryDirectory(ignore_cleanup_errors=True)  # it leaves files
-        surroundings = {**os.environ, "TMPDIR": self.room.name}
+        self.folder = tempfile.TemporaryDirectory(ignore_cleanup_errors=True)  # it leaves files
+        surroundings = {**os.environ, "TMPDIR": self.folder.name}
         service = services.Service(shutil.which("chromedriver"), env=surroundings)
         self.driver = webdriver.Chrome(service=service, options=options)
         self.driver.set_script_timeout(500)
@@ -195,7 +195,7 @@ class Chromium(Driven):
 
     def close(self) -> None:
         self.driver.quit()
-        self.room.cleanup()
+        self.folder.cleanup()
 
 
 SCHEMES = {"dark": 0, "light": 1}

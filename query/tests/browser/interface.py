@@ -9,7 +9,7 @@ from typing import Any
 from query.tests.browser.browsers import WINDOW, Browser, Chromium, Keys
 from query.tests.browser.scripts import BROKEN_LABELS, CONTRAST, NAMES, TARGETS
 from query.tests.browser.truth import Truth, as_shown, definitions
-from query.tests.counting import count, same
+from query.tests.checks import check, same
 
 LEAST_CONTRAST = 4.5  # of text, as level AA of WCAG 2 wants it
 TALLEST = 8000  # dots of the overview on a telephone
@@ -47,7 +47,7 @@ def check_search(browser: Browser, page: Path, truth: Truth, rng: random.Random,
     """Labels, pieces of formulas in both spellings and words of comments find their assertions."""
     browser.open(page)
     name = f"{browser.name} {page.name}"
-    count(browser.call("searchReady") is True, f"{name}: the search is ready")
+    check(browser.call("searchReady") is True, f"{name}: the search is ready")
     known = definitions(truth.raw)
     labels = list(truth.formulas)
     for label in rng.sample(labels, min(most, len(labels))):
@@ -61,7 +61,7 @@ def check_search(browser: Browser, page: Path, truth: Truth, rng: random.Random,
 def check_label_found(browser: Browser, name: str, label: str) -> None:
     """A label that is typed whole is among the best that are found."""
     found, _ = browser.run(FIND, label)
-    count(label in found[:BEST], f"{name}: the search for '{label}' finds it", found[:5])
+    check(label in found[:BEST], f"{name}: the search for '{label}' finds it", found[:5])
 
 
 def check_formula_found(
@@ -78,10 +78,10 @@ def check_formula_found(
     piece = " ".join(symbols[: rng.randint(2, 8)])
     _, told = browser.run(FIND, piece.upper() if rng.random() < 0.3 else piece)
     least = sum(piece.lower() in formula.lower() for formula in truth.formulas.values())
-    count(number_in(told) >= least > 0, f"{name}: '{piece}' finds {least} or more", told)
+    check(number_in(told) >= least > 0, f"{name}: '{piece}' finds {least} or more", told)
     shown = as_shown(" ".join(symbols[1 : rng.randint(3, 9)]), known)
     _, told = browser.run(FIND, shown)
-    count(number_in(told) > 0, f"{name}: '{shown}' finds something", told)
+    check(number_in(told) > 0, f"{name}: '{shown}' finds something", told)
 
 
 def check_comments_found(browser: Browser, name: str, truth: Truth, rng: random.Random) -> None:
@@ -93,7 +93,7 @@ def check_comments_found(browser: Browser, name: str, truth: Truth, rng: random.
         some = list(dict.fromkeys(rng.sample(words, min(3, len(words)))))
         _, told = browser.run(FIND, " ".join(some))
         least = len(with_all_words(truth, some))
-        count(number_in(told) >= least > 0, f"{name}: {some} finds {least} or more", told)
+        check(number_in(told) >= least > 0, f"{name}: {some} finds {least} or more", told)
         _, again = browser.run(FIND, " ".join(reversed(some)))
         same(again, told, f"{name}: {some} in another order")
 
@@ -112,7 +112,7 @@ def check_reachable(browser: Browser, page: Path, truth: Truth, typed: str, is_e
     browser.press(Keys.UP)
     browser.press(Keys.ENTER)
     heading = f"Search: {typed}"
-    count(browser.is_at(heading), f"{browser.name}: all that '{typed}' finds are shown")
+    check(browser.is_at(heading), f"{browser.name}: all that '{typed}' finds are shown")
     shown = browser.show(browser.run("return window.location.hash"), heading)
     same(len(shown["found"]), number_in(told), f"{browser.name}: all of '{typed}' are there")
     same(number_in(shown["told"]), number_in(told), f"{browser.name}: how many '{typed}' finds")
@@ -157,8 +157,8 @@ def check_chapter_axioms(shown: dict[str, Any], truth: Truth, inside: list[str],
     here = set(inside)
     first_user = {axiom: users[0] for axiom, users in truth.users.items() if users}
     coming = {axiom: user for axiom, user in first_user.items() if user in here}
-    came = {pair[0]: pair[1] for pair in shown["comingIn"]}
-    same(came, coming, f"{name}: what comes in")
+    found = {pair[0]: pair[1] for pair in shown["comingIn"]}
+    same(found, coming, f"{name}: what comes in")
     theorems = here.intersection(truth.cited)
     for axiom, users in shown["shares"]:
         wanted = len(theorems.intersection(truth.users[axiom]))
@@ -169,7 +169,7 @@ def check_chapter_axioms(shown: dict[str, Any], truth: Truth, inside: list[str],
         for axiom in truth.columns
         if truth.group(axiom) == "axiom" and theorems.intersection(truth.users[axiom])
     }
-    count(least <= told, f"{name}: the axioms on which its theorems rest", least - told)
+    check(least <= told, f"{name}: the axioms on which its theorems rest", least - told)
 
 
 def check_told(browser: Browser, page: Path, truth: Truth) -> None:
@@ -178,11 +178,11 @@ def check_told(browser: Browser, page: Path, truth: Truth) -> None:
     used = sum(1 for axiom in truth.columns if truth.users[axiom])
     lead = browser.run("return document.getElementById('lead').textContent").replace(",", "")
     wanted = f"on {used} of {len(truth.columns)} axiom"
-    count(wanted in lead, f"{browser.name}: on how many axioms theorems rest", lead)
+    check(wanted in lead, f"{browser.name}: on how many axioms theorems rest", lead)
     first, other = truth.columns[:2]
     address = f"#axiom={first}&with={other},nothing,{truth.theorems[0]}"
     browser.run("window.location.hash = arguments[0]", address)
-    count(browser.is_at(first), f"{browser.name}: {first} is shown")
+    check(browser.is_at(first), f"{browser.name}: {first} is shown")
     unknown = browser.run("return texts('#unknown code')")
     wanted_labels = ["nothing", truth.theorems[0]]
     same(unknown, wanted_labels, f"{browser.name}: labels of the address that are no axioms")
@@ -200,21 +200,21 @@ def check_keyboard(
     same(browser.focused()[1], "search", f"{name}: / goes to the search")
     browser.press(theorem)
     browser.press(Keys.ENTER)
-    count(browser.is_at(theorem), f"{name}: Enter opens what was found")
+    check(browser.is_at(theorem), f"{name}: Enter opens what was found")
     same(browser.focused()[0], "H1", f"{name}: the focus is on the heading then")
     asked = f"at.getAttribute('aria-label') === 'Why {axiom}?'"
-    count(browser.tab_until(asked), f"{name}: the tabulator comes to a button `why`")
+    check(browser.tab_until(asked), f"{name}: the tabulator comes to a button `why`")
     browser.press(Keys.SPACE)
     state = browser.run("return document.activeElement.getAttribute('aria-expanded')")
     same(state, "true", f"{name}: the space key opens a chain")
     chain = browser.run("return texts('.chain li > a')")
-    count(browser.tab_until("at.closest('.chain')"), f"{name}: the tabulator comes to the chain")
+    check(browser.tab_until("at.closest('.chain')"), f"{name}: the tabulator comes to the chain")
     following = f"at.closest('.chain') && at.textContent === '{chain[1]}'"
-    count(browser.tab_until(following), f"{name}: and to its second link")
+    check(browser.tab_until(following), f"{name}: and to its second link")
     browser.press(Keys.ENTER)
-    count(browser.is_at(chain[1]), f"{name}: Enter follows the chain")
+    check(browser.is_at(chain[1]), f"{name}: Enter follows the chain")
     browser.run("history.back()")
-    count(browser.is_at(theorem), f"{name}: back shows the theorem again")
+    check(browser.is_at(theorem), f"{name}: back shows the theorem again")
     left = browser.run("return texts('.chain li > a')")
     same(left, chain, f"{name}: and the chain that was open")
     check_axiom_keys(browser, truth, axiom, other)
@@ -235,39 +235,39 @@ def check_axiom_keys(browser: Browser, truth: Truth, axiom: str, other: str) -> 
     )
     same(active, axiom, f"{name}: the arrow key names what is chosen")
     browser.press(Keys.ENTER)
-    count(browser.is_at(axiom), f"{name}: Enter opens the axiom")
+    check(browser.is_at(axiom), f"{name}: Enter opens the axiom")
     found = browser.tab_until("at.id === 'ticks-find'")
-    count(found, f"{name}: the tabulator comes to the axioms to tick")
+    check(found, f"{name}: the tabulator comes to the axioms to tick")
     browser.press(other)
     box = f"at.type === 'checkbox' && at.value === '{other}'"
-    count(browser.tab_until(box, 80), f"{name}: and to the axiom wanted")
+    check(browser.tab_until(box, 80), f"{name}: and to the axiom wanted")
     browser.press(Keys.SPACE)
     fallen = set(truth.users[axiom]) | set(truth.users[other])
     verdict = browser.run("return document.getElementById('verdict').textContent")
-    count(f"{len(fallen):,} of" in verdict, f"{name}: the space key ticks an axiom", verdict)
+    check(f"{len(fallen):,} of" in verdict, f"{name}: the space key ticks an axiom", verdict)
     summary = "at.closest('#fallen') && at.tagName === 'SUMMARY'"
-    count(browser.tab_until(summary), f"{name}: the tabulator comes to what falls")
+    check(browser.tab_until(summary), f"{name}: the tabulator comes to what falls")
     browser.press(Keys.ENTER)
     is_open = browser.run("return document.getElementById('fallen').open")
-    count(is_open, f"{name}: Enter opens what falls")
+    check(is_open, f"{name}: Enter opens what falls")
 
 
 def check_picture_keys(browser: Browser, truth: Truth) -> None:
     """The picture's cross is moved by keys, and opens a theorem."""
     name = browser.name
     browser.run("window.location.hash = ''")
-    count(
+    check(
         browser.wait("document.querySelector('canvas.picture')"), f"{name}: the overview is shown"
     )
     found = browser.tab_until("at.className === 'picture'")
-    count(found, f"{name}: the tabulator comes to the picture")
+    check(found, f"{name}: the tabulator comes to the picture")
     browser.press(Keys.DOWN, Keys.DOWN, Keys.RIGHT, "+", "+", Keys.DOWN)
     told = browser.run("return texts('#picture-told a')")
     said = browser.run("return document.getElementById('picture-told').textContent")
     marked = told[1] in truth.marks(told[0])
-    count(("doesn't rest on" in said) != marked, f"{name}: the picture tells of a cell", said)
+    check(("doesn't rest on" in said) != marked, f"{name}: the picture tells of a cell", said)
     browser.press(Keys.ENTER)
-    count(browser.is_at(told[0]), f"{name}: Enter opens the theorem of the cross")
+    check(browser.is_at(told[0]), f"{name}: Enter opens the theorem of the cross")
 
 
 def check_cells(browser: Browser, page: Path, truth: Truth, rng: random.Random, most: int) -> None:
@@ -291,10 +291,10 @@ def check_cells(browser: Browser, page: Path, truth: Truth, rng: random.Random, 
         )
         marked = said[2] in truth.marks(said[1])
         what = f"{browser.name} {page.name}: a cell under the mouse"
-        count(("doesn't rest on" in said[0]) != marked, what, said)
+        check(("doesn't rest on" in said[0]) != marked, what, said)
 
 
-def check_looks(browser: Browser, page: Path, views: list[str], room: Path) -> None:
+def check_looks(browser: Browser, page: Path, views: list[str], folder: Path) -> None:
     """Light and dark, narrow and printed; names and focus for who doesn't see or point."""
     for view in views:
         browser.open(page, view)
@@ -303,8 +303,8 @@ def check_looks(browser: Browser, page: Path, views: list[str], room: Path) -> N
             browser.emulate(scheme)
             worst = browser.run(CONTRAST)
             good = worst["ratio"] >= LEAST_CONTRAST and worst["seen"] > 5
-            count(good, f"{name}: contrast in {scheme}", worst)
-            count((worst["ground"] < 0.2) == (scheme == "dark"), f"{name}: it is {scheme}", worst)
+            check(good, f"{name}: contrast in {scheme}", worst)
+            check((worst["ground"] < 0.2) == (scheme == "dark"), f"{name}: it is {scheme}", worst)
         browser.emulate("light")
         same(browser.run(NAMES), [], f"{name}: what is missing for who doesn't see")
         same(browser.run(TARGETS), [], f"{name}: controls that are too small")
@@ -316,12 +316,12 @@ def check_looks(browser: Browser, page: Path, views: list[str], room: Path) -> N
         shown = browser.run("return document.querySelector('#main h1').checkVisibility()")
         same([hidden, shown], ["none", True], f"{name}: printed")
         browser.emulate("light")
-    check_narrow(browser, page, views, room)
+    check_narrow(browser, page, views, folder)
 
 
-def check_narrow(browser: Browser, page: Path, views: list[str], room: Path) -> None:
+def check_narrow(browser: Browser, page: Path, views: list[str], folder: Path) -> None:
     """Views fit into the width of a telephone: in a frame, since no window is that narrow."""
-    frame = room / "frame.html"
+    frame = folder / "frame.html"
     for width in (320, 390, 768):
         for view in views:
             name = f"{browser.name} {page.name}{view} at {width}"
@@ -337,7 +337,7 @@ def check_narrow(browser: Browser, page: Path, views: list[str], room: Path) -> 
                 browser.go(frame.as_uri())
                 document = "document.querySelector('iframe').contentDocument"
                 if browser.wait(f"{document}?.documentElement.dataset.state === 'shown'") is None:
-                    count(False, f"{name}: it is shown in a frame")
+                    check(False, f"{name}: it is shown in a frame")
                     continue
             tall = browser.run(f"return {document}.documentElement.scrollHeight")
             browser.run(
@@ -345,12 +345,12 @@ def check_narrow(browser: Browser, page: Path, views: list[str], room: Path) -> 
             )
             time.sleep(0.2)
             wide = browser.run(f"return {document}.documentElement.scrollWidth")
-            count(wide <= width, f"{name}: it fits", wide)
+            check(wide <= width, f"{name}: it fits", wide)
             seen, broken = browser.run(BROKEN_LABELS.replace("DOCUMENT", document))
-            count(seen > 0, f"{name}: there are labels", seen)
+            check(seen > 0, f"{name}: there are labels", seen)
             same(broken, [], f"{name}: labels that are broken at the end of a line")
             if view == "" and width == 390:
-                count(tall <= TALLEST, f"{name}: the overview isn't too tall", tall)
+                check(tall <= TALLEST, f"{name}: the overview isn't too tall", tall)
     browser.size(*WINDOW)
 
 
@@ -365,9 +365,9 @@ def check_tree(browser: Chromium, what: str) -> None:
         roles.add(role)
         name = node.get("name", {}).get("value", "")
         if role in wanted.split() and not name.strip():
-            count(False, f"{what}: a {role} without a name", str(node)[:300])
+            check(False, f"{what}: a {role} without a name", str(node)[:300])
     for role in ("banner", "main", "contentinfo", "search"):
-        count(role in roles, f"{what}: there is a {role}")
+        check(role in roles, f"{what}: there is a {role}")
 
 
 def check_spelling(browser: Browser, page: Path, truth: Truth, label: str) -> None:
@@ -403,7 +403,7 @@ def check_focus(browser: Browser, what: str) -> None:
             "const width = parseFloat(style.outlineWidth);"
             "return [style.outlineStyle, width, at.outerHTML.slice(0, 120)]"
         )
-        count(ring[0] != "none" and ring[1] >= 2, f"{what}: the focus is seen", ring)
+        check(ring[0] != "none" and ring[1] >= 2, f"{what}: the focus is seen", ring)
 
 
 def check_history(kind: type[Browser], page: Path, labels: list[str]) -> None:
@@ -418,13 +418,13 @@ def check_history(kind: type[Browser], page: Path, labels: list[str]) -> None:
         browser.show(f"#theorem={label}", label)
     for label in reversed(labels[:-1]):
         browser.run("history.back()")
-        count(browser.is_at(label), f"{name}: back to {label}")
+        check(browser.is_at(label), f"{name}: back to {label}")
     for label in labels[1:]:
         browser.run("history.forward()")
-        count(browser.is_at(label), f"{name}: forward to {label}")
+        check(browser.is_at(label), f"{name}: forward to {label}")
     for address in ("#theorem=<b>nowhere", "#chapter=99.<b>9", "#difference"):
         browser.run("window.location.hash = arguments[0]", address)
-        count(browser.is_at("Not found"), f"{name}: {address} isn't found, and that is told")
+        check(browser.is_at("Not found"), f"{name}: {address} isn't found, and that is told")
         same(
             browser.run("return document.querySelectorAll('#main b').length"),
             0,
@@ -449,11 +449,11 @@ def check_switch(browser: Browser, page: Path, truth: Truth, label: str) -> None
     )
     browser.run("document.getElementById('spelling').click()")
     written = browser.wait(f"{text} === arguments[0]", formula)
-    count(written, f"{name}: as written", browser.run(f"return {text}"))
+    check(written, f"{name}: as written", browser.run(f"return {text}"))
     browser.open(page, f"#{kind}={label}")
     same(browser.run(f"return {text}"), formula, f"{name}: the switch is kept")
     browser.run("document.getElementById('spelling').click()")
-    count(browser.wait(f"{text} === arguments[0]", shown), f"{name}: the symbols again")
+    check(browser.wait(f"{text} === arguments[0]", shown), f"{name}: the symbols again")
 
 
 def check_distinct_marks(browser: Browser, page: Path, label: str, axiom: str) -> None:

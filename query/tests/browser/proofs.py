@@ -6,7 +6,7 @@ from typing import Any
 
 from query.tests.browser.browsers import Browser
 from query.tests.browser.truth import Truth
-from query.tests.counting import count, same
+from query.tests.checks import check, same
 from query.tests.metamath import asked
 
 # The steps that are shown, each with the steps that it uses, what it applies, and its formula as
@@ -54,7 +54,7 @@ def steps_in(text: str) -> list[Step]:
 def shown_steps(browser: Browser, label: str) -> Any:
     """The steps that the page of a theorem shows."""
     browser.run("window.location.hash = `#theorem=${arguments[0]}`", label)
-    count(browser.is_at(label), f"{browser.name}: {label} is shown")
+    check(browser.is_at(label), f"{browser.name}: {label} is shown")
     return browser.wait(f"(() => {{ {STEPS} }})()")
 
 
@@ -66,4 +66,4 @@ def check_steps(browser: Browser, truth: Truth, labels: list[str]) -> None:
     every = browser.run(STEPS) or []
     last = [step[1:] for step in every[-1:]]
     same(last, [step[1:] for step in wanted[-1:]], f"{browser.name}: the last of all steps")
-    count(len(every) >= len(wanted), f"{browser.name}: all steps of {labels[-1]}", len(every))
+    check(len(every) >= len(wanted), f"{browser.name}: all steps of {labels[-1]}", len(every))

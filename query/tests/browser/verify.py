@@ -15,7 +15,7 @@ from query.tests.browser.browsers import Browser, WebKit
 from query.tests.browser.truth import PROGRAM
 from query.tests.browser.verifying import Files
 from query.tests.browser.views import Shown, check_sample
-from query.tests.counting import checks
+from query.tests.checks import checks
 from query.tests.samples import DEBIAN_DATABASES
 
 

@@ -27,7 +27,7 @@ from query.tests.browser.scripts import CONTRAST, GATHER, NAMES, TARGETS
 from query.tests.browser.truth import HERE, PROGRAM, Truth
 from query.tests.browser.views import Shown
 from query.tests.browser.whole import Asked, run
-from query.tests.counting import count, figure, same
+from query.tests.checks import check, figure, same
 from query.tests.samples import DEBIAN_DATABASES
 
 BUILD = HERE / "web" / "verifier" / "build"
@@ -215,7 +215,7 @@ class Files:
             surroundings["LIBRARY_SCRIPT"] = str(STUB)
         words = [str(BUILD), str(module), self.maker, str(self.page)]
         done = subprocess.run(words, env=surroundings, stderr=subprocess.PIPE, check=False)
-        count(done.returncode == 0, "the page is built", done.stderr.decode())
+        check(done.returncode == 0, "the page is built", done.stderr.decode())
 
     def answers(self) -> Path:
         """The answers that stand for a module."""
@@ -305,7 +305,7 @@ def shown(browser: Browser, what: str, seconds: float = 90) -> bool:
         seconds=seconds,
     )
     told = answer_of(browser)
-    good = count(over and told == "", f"{browser.name}: {what} is shown", told)
+    good = check(over and told == "", f"{browser.name}: {what} is shown", told)
     browser.run(GATHER)
     return good
 
@@ -320,11 +320,11 @@ def told_within(browser: Browser, what: str, *parts: str) -> str:
     browser.wait("document.querySelector('#answer h2') !== null", seconds=60)
     text = answer_of(browser)
     for part in parts:
-        count(part in text, f"{browser.name}: {what}: '{part}'", text)
+        check(part in text, f"{browser.name}: {what}: '{part}'", text)
     focused = browser.run("return document.activeElement.tagName")
     same(focused, "H2", f"{browser.name}: {what}: the heading has the focus")
     is_ready = browser.run("return !document.getElementById('start').hidden")
-    count(is_ready, f"{browser.name}: {what}: another file can be chosen")
+    check(is_ready, f"{browser.name}: {what}: another file can be chosen")
     return text
 
 
@@ -335,8 +335,8 @@ def check_blocks(browser: Browser, path: Path, options: Options, older: Path | N
     words += ["--essential"] * options.essential + ["--open"] * options.open
     blocks = blocks_in(run(words).stdout.decode())
     wanted = {name: hashlib.sha256(block).hexdigest() for name, block in blocks.items()}
-    came = browser.call("allSums")
-    odd = sorted(name for name in {*came, *wanted} if came.get(name) != wanted.get(name))
+    found = browser.call("allSums")
+    odd = sorted(name for name in {*found, *wanted} if found.get(name) != wanted.get(name))
     same(odd, [], f"{browser.name} {path.name}: blocks other than those of the command")
 
 
@@ -349,17 +349,17 @@ def check_start(browser: Browser, files: Files) -> None:
         if not browser.emulate(scheme):
             continue
         worst = browser.run(CONTRAST)
-        count(worst["ratio"] >= LEAST_CONTRAST, f"{name}: contrast at the start, {scheme}", worst)
+        check(worst["ratio"] >= LEAST_CONTRAST, f"{name}: contrast at the start, {scheme}", worst)
     browser.emulate("light")
     same(browser.run(TARGETS), [], f"{name}: controls at the start are large enough")
     for condition in ("at.id === 'file'", "at.id === 'only'", "at.id === 'essential'"):
-        count(browser.tab_until(condition, 30), f"{name}: the keyboard reaches {condition}")
+        check(browser.tab_until(condition, 30), f"{name}: the keyboard reaches {condition}")
     browser.press(Keys.SPACE)
     is_on = browser.run("return document.getElementById('essential').checked")
-    count(is_on, f"{name}: the keyboard sets an option")
+    check(is_on, f"{name}: the keyboard sets an option")
     if browser.size(320, 640):
         wide = browser.run("return document.documentElement.scrollWidth - window.innerWidth")
-        count(wide <= 0, f"{name}: the start fits a telephone", wide)
+        check(wide <= 0, f"{name}: the start fits a telephone", wide)
         browser.size(*WINDOW)
     browser.stays_silent("at the start")
 
@@ -388,10 +388,10 @@ def check_policy(browser: Browser, files: Files) -> None:
         told = browser.call(FETCHING, address)
         same(Asked.paths, [], f"{name}: nothing is loaded from {opened}")
         for way in ("fetch", "import", "worker"):
-            count(way in told, f"{name}: the policy forbids {way} from {opened}", told)
+            check(way in told, f"{name}: the policy forbids {way} from {opened}", told)
         if name == "chromium":
             is_stopped = "other blob" in told and "ran" not in told
-            count(is_stopped, f"chromium: trusted types forbid another worker, {opened}", told)
+            check(is_stopped, f"chromium: trusted types forbid another worker, {opened}", told)
     browser.messages()
     server.shutdown()
 
@@ -506,8 +506,8 @@ def check_hostile(browser: Browser, files: Files) -> None:
             "return [...document.querySelectorAll('img, iframe, object, link, base, [onclick],"
             " [onerror], [href^=javascript]')].map((one) => one.outerHTML.slice(0, 80))"
         )
-        came = [extra, browser.run("return window.taken ?? null")]
-        same(came, [[], None], f"{browser.name} {address}: text is no markup")
+        found = [extra, browser.run("return window.taken ?? null")]
+        same(found, [[], None], f"{browser.name} {address}: text is no markup")
     browser.stays_silent("of a hostile database")
 
 
@@ -528,7 +528,7 @@ def check_pair(browser: Browser, files: Files) -> None:
     view = browser.show("#difference", "Since older.mm")
     text = " ".join(str(view.get("text")).split())
     for part in ("3new axioms", "renamed was old", "since b now cites c"):
-        count(part in text, f"{browser.name}: the difference tells '{part}'", text)
+        check(part in text, f"{browser.name}: the difference tells '{part}'", text)
     browser.stays_silent("of a comparison")
 
 
@@ -582,7 +582,7 @@ def check_again(browser: Browser, files: Files) -> None:
     browser.run(DROP_ON_BODY, dropped(files.path("newer.mm")))
     shown(browser, "a database that is dropped later")
     told = browser.run(f"return {footer}")
-    count("from newer.mm" in told, f"{name}: the page is that of the later one", told)
+    check("from newer.mm" in told, f"{name}: the page is that of the later one", told)
     same(browser.run("return window.location.hash"), "", f"{name}: its overview is shown")
     browser.run("document.getElementById('again').click()")
     for option in ("essential", "open"):
@@ -592,7 +592,7 @@ def check_again(browser: Browser, files: Files) -> None:
     shown(browser, "the same database with other options")
     told = browser.run(f"return {footer}")
     wanted = "with --only |- --essential --open."
-    count(wanted in told and told.count("Made by") == 1, f"{name}: its options", told)
+    check(wanted in told and told.count("Made by") == 1, f"{name}: its options", told)
     browser.run(DROP_ON_BODY, dropped(files.path("faulty.mm")))
     told_within(browser, "a faulty file after another one", "faulty.mm is refused", "E18")
     browser.stays_silent("of files that are dropped later")

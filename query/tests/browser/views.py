@@ -7,7 +7,7 @@ from typing import Any
 
 from query.tests.browser.browsers import Browser
 from query.tests.browser.truth import Truth, as_shown, definitions, metamath_conditions
-from query.tests.counting import count, same
+from query.tests.checks import check, same
 
 HUES = {"wff": "blue", "setvar": "red", "class": "purple"}
 SENTENCE = re.compile(r"\((?:New\s+usage|Proof\s+modification)\s+is\s+discouraged\.\)")
@@ -29,24 +29,24 @@ class Shown:
         """How messages call an assertion."""
         return f"{self.browser.name} {self.truth.path.name} {label}"
 
-    def same_formula(self, came: str, formula: str, what: str) -> bool:
+    def same_formula(self, found: str, formula: str, what: str) -> bool:
         """Whether a formula is shown as the `$t` comment says; white space aside."""
-        return same(re.sub(r"\s", "", came), as_shown(formula, self.known), what)
+        return same(re.sub(r"\s", "", found), as_shown(formula, self.known), what)
 
     def statement(self, shown: dict[str, Any], label: str) -> bool:
         """The formula and the hypotheses, in the page's symbols."""
         name = self.name(label)
-        if not count(shown.get("formula") is not None, f"{name} is shown", shown):
+        if not check(shown.get("formula") is not None, f"{name} is shown", shown):
             return False
         self.same_formula(shown["formula"], self.truth.formulas[label], f"{name}: the formula")
         labels = [other for other, _ in shown["hypotheses"]]
         wanted = self.truth.hypotheses[label]
         same(labels, [other for other, _ in wanted], f"{name}: labels of hypotheses")
-        for (_, came), (_, formula) in zip(shown["hypotheses"], wanted):
-            self.same_formula(came, formula, f"{name}: a hypothesis")
+        for (_, found), (_, formula) in zip(shown["hypotheses"], wanted):
+            self.same_formula(found, formula, f"{name}: a hypothesis")
         place = f"Line {self.truth.lines[label]:,} "
-        count(shown["place"].startswith(place), f"{name}: its line", shown["place"])
-        count(shown["title"].startswith(f"{label} "), f"{name}: the title", shown["title"])
+        check(shown["place"].startswith(place), f"{name}: its line", shown["place"])
+        check(shown["title"].startswith(f"{label} "), f"{name}: the title", shown["title"])
         same(shown["citedBy"], self.truth.citers.get(label, []), f"{name}: what cites it")
         self.neighbours(shown, label)
         return True
@@ -101,16 +101,16 @@ class Shown:
         """The chain shown has only citations of theorems that rest on the axiom; it is shortest."""
         answer = self.browser.call("why", axiom)
         what = f"{self.name(theorem)}: the chain to {axiom}"
-        if not count(isinstance(answer, list), f"{what} is shown", answer):
+        if not check(isinstance(answer, list), f"{what} is shown", answer):
             return
         chain, left = answer
         labels = [label for label, _ in chain]
-        if not count(labels[:1] == [theorem] and labels[-1:] == [axiom], what, labels):
+        if not check(labels[:1] == [theorem] and labels[-1:] == [axiom], what, labels):
             return
         cited, users = self.truth.cited, self.truth.users[axiom]
         for one, other in zip(labels, labels[1:]):
-            count(other in cited.get(one, ()), f"{what}: {one} cites {other}")
-        count(all(label in users for label in labels[:-1]), f"{what}: each rests on it", labels)
+            check(other in cited.get(one, ()), f"{what}: {one} cites {other}")
+        check(all(label in users for label in labels[:-1]), f"{what}: each rests on it", labels)
         kinds = ["theorem" if label in cited else "axiom" for label in labels]
         wanted = [f"#{kind}={label}" for kind, label in zip(kinds, labels)]
         same([address for _, address in chain], wanted, f"{what}: its links")
@@ -127,7 +127,7 @@ class Shown:
         same(shown["usersList"], users, f"{self.name(label)}: its users")
         word = "theorem rests" if len(users) == 1 else "theorems rest"
         heading = f"{len(users):,} {word} on it"
-        count(heading in shown["headings"], f"{self.name(label)}: {heading}", shown["headings"])
+        check(heading in shown["headings"], f"{self.name(label)}: {heading}", shown["headings"])
         self.falls(shown, [label], set(users))
         return shown
 
@@ -139,7 +139,7 @@ class Shown:
         same(shown["fallen"], fallen, f"{what}: what falls")
         same(shown["left"], [one for one in theorems if one not in gone], f"{what}: what is left")
         told = f"{len(gone):,} of {len(theorems):,} theorem"
-        count(told in shown["verdict"], f"{what}: the number", shown["verdict"])
+        check(told in shown["verdict"], f"{what}: the number", shown["verdict"])
 
     def conditions(
         self, shown: dict[str, Any], label: str, pairs: tuple[set[str], set[str]]
@@ -147,9 +147,9 @@ class Shown:
         """The conditions shown are those that metamath.exe lists."""
         name = self.name(label)
         mandatory, optional = pairs
-        came = {pair for group in shown["groups"] for pair in both_ways(group)}
-        same(came & mandatory, mandatory, f"{name}: mandatory pairs")
-        same(len(came), 2 * len(mandatory), f"{name}: the number of mandatory pairs")
+        found = {pair for group in shown["groups"] for pair in both_ways(group)}
+        same(found & mandatory, mandatory, f"{name}: mandatory pairs")
+        same(len(found), 2 * len(mandatory), f"{name}: the number of mandatory pairs")
         dummies = self.truth.dummies(label)
         known = dummies | self.truth.used(label)
         told = set(shown["dummies"] or [star[0] for star in shown["stars"] or []])
@@ -178,16 +178,16 @@ class Shown:
         raw = self.truth.comments.get(label, "")
         told = " ".join(shown["credits"]) + shown["comment"]
         for date in DATE.findall(raw):
-            count(date in told, f"{name}: the date {date}", told)
+            check(date in told, f"{name}: the date {date}", told)
         marks = len({" ".join(mark.split()) for mark in SENTENCE.findall(raw)})
         same(len(shown["marks"]), marks, f"{name}: marks")
         if "<" in raw or "``" in raw:
             return
         plain = CREDIT.sub("", SENTENCE.sub("", re.sub(r"`[^`]*`", "", raw)))
         plain = re.sub(r"~~|~", "", plain).replace("[[", "[")
-        came, wanted = (re.sub(r"[\s_]", "", text) for text in (shown["comment"], plain))
+        found, wanted = (re.sub(r"[\s_]", "", text) for text in (shown["comment"], plain))
         if not shown["credits"] or len(DATE.findall(plain)) == 0:
-            same(came, wanted, f"{name}: the words of the comment")
+            same(found, wanted, f"{name}: the words of the comment")
 
 
 def both_ways(group: list[str]) -> set[str]:
@@ -229,4 +229,4 @@ def check_colours(browser: Browser, page: Path, label: str, truth: Truth) -> Non
     for symbol, look in shown:
         code = truth.variables.get(symbol)
         if code in HUES:
-            count(f"look-{HUES[code]}" in look.split(), f"{browser.name}: colour of {symbol}", look)
+            check(f"look-{HUES[code]}" in look.split(), f"{browser.name}: colour of {symbol}", look)

@@ -27,7 +27,7 @@ from query.tests.browser.interface import check_narrow
 from query.tests.browser.scripts import CONTRAST
 from query.tests.browser.truth import HERE, PROGRAM, Truth
 from query.tests.browser.views import Shown
-from query.tests.counting import count, figure, same
+from query.tests.checks import check, figure, same
 from query.tests.samples import DEBIAN_DATABASES
 
 MOST_PAGE_BYTES = 12_000_000
@@ -51,17 +51,17 @@ def make_page(database: Path, page: Path, *words: str) -> float:
     with page.open("wb") as file:
         done = run(["page", "--no-cache", *words, str(database)], stdout=file)
     what = f"page {' '.join(words)} {database.name}"
-    count(done.returncode == 0, what, done.stderr.decode())
+    check(done.returncode == 0, what, done.stderr.decode())
     return time.time() - began
 
 
-def check_hostile(browser: Browser, room: Path, words: list[str], is_typeset: bool) -> Path:
+def check_hostile(browser: Browser, folder: Path, words: list[str], is_typeset: bool) -> Path:
     """A database with markup in all its texts, and a title with control bytes."""
-    database = room / '<b>&"evil".mm'
+    database = folder / '<b>&"evil".mm'
     text = EVIL + (EVIL_TYPESETTING if is_typeset else "") + (OPEN if "--open" in words else "")
     database.write_text(text, newline="")
     name = "".join(words).replace("|", "").replace(" ", "") + ("-typeset" if is_typeset else "")
-    page = room / f"hostile{name}.html"
+    page = folder / f"hostile{name}.html"
     make_page(database, page, *words, "--title", EVIL_TITLE)
     truth = Truth(database, words)
     browser.open(page)
@@ -69,7 +69,7 @@ def check_hostile(browser: Browser, room: Path, words: list[str], is_typeset: bo
     heading = browser.run("return document.querySelector('h1').textContent")
     same(heading, SHOWN_TITLE, "the heading shows as text")
     made = browser.run("return document.getElementById('made').textContent")
-    count('from <b>&"evil".mm, ' in made, "the file's name shows as text", made)
+    check('from <b>&"evil".mm, ' in made, "the file's name shows as text", made)
     shown = Shown(browser, truth)
     for label in truth.theorems:
         view = shown.theorem(label)
@@ -100,7 +100,7 @@ def check_evil_comment(browser: Browser, words: list[str]) -> None:
         "<style>",
         "See mmset.html#evil for more.",
     ):
-        count(part in view["comment"], f"{browser.name}: a comment shows {part}", view["comment"])
+        check(part in view["comment"], f"{browser.name}: a comment shows {part}", view["comment"])
     kept = browser.run(
         "const comment = document.getElementById('comment');"
         "return [comment.querySelectorAll('em').length, comment.querySelectorAll('strong').length,"
@@ -114,7 +114,7 @@ def check_evil_comment(browser: Browser, words: list[str]) -> None:
     wanted = "Syntax with a form feed, a tab and a line feed. Another sentence."
     same(view["comment"], wanted, f"{browser.name}: white space of a comment")
     view = browser.show("#chapter=0.1", browser.run(TITLE_OF, "0.1"))
-    count("Below </script>" in view["text"], f"{browser.name}: a chapter's text is text", view)
+    check("Below </script>" in view["text"], f"{browser.name}: a chapter's text is text", view)
 
 
 TITLE_OF = """
@@ -129,7 +129,7 @@ def check_evil_symbols(browser: Browser, page: Path) -> None:
     browser.open(page, "#axiom=ax-looks")
     text = browser.run("return document.querySelector('#statement').textContent")
     for part in ("gone away", "pale", "thin", "llat", "<a href", "<iframe", "far", "\ufffd", " - "):
-        count(part in text, f"{name}: '{part}' is shown", text)
+        check(part in text, f"{name}: '{part}' is shown", text)
     hidden = browser.run(
         "return Array.from(document.querySelectorAll('#statement *'), (one) => one)"
         ".filter((one) => !one.checkVisibility({ opacityProperty: true, visibilityProperty: true })"
@@ -141,9 +141,9 @@ def check_evil_symbols(browser: Browser, page: Path) -> None:
     alike = browser.run(
         "return Array.from(document.querySelectorAll('.alike'), (one) => one.title)"
     )
-    count("like" in alike, f"{name}: a symbol that looks like an earlier one is marked", alike)
+    check("like" in alike, f"{name}: a symbol that looks like an earlier one is marked", alike)
     worst = browser.run(CONTRAST)
-    count(worst["ratio"] >= 4.5, f"{name}: colours that can't be read aren't kept", worst)
+    check(worst["ratio"] >= 4.5, f"{name}: colours that can't be read aren't kept", worst)
 
 
 def check_no_markup(browser: Browser, page: Path) -> None:
@@ -157,17 +157,17 @@ def check_no_markup(browser: Browser, page: Path) -> None:
             " [href^=javascript]'), (one) => one.outerHTML.slice(0, 80)).filter((one) =>"
             " !one.startsWith('<style>\\n/* Colours.') && !one.includes('octet-stream'))"
         )
-        came = [extra, browser.run("return window.taken ?? null")]
-        same(came, [[], None], f"{browser.name} {page.name}{address}: text is no markup")
+        found = [extra, browser.run("return window.taken ?? null")]
+        same(found, [[], None], f"{browser.name} {page.name}{address}: text is no markup")
     same(browser.messages(), [], f"{browser.name} {page.name}: messages in the console")
 
 
-def check_corners(browser: Browser, room: Path) -> None:
+def check_corners(browser: Browser, folder: Path) -> None:
     """Databases in which something is missing, or which are made to hurt."""
     for name, text in CORNERS.items():
-        database = room / f"{name}.mm"
+        database = folder / f"{name}.mm"
         database.write_text(text)
-        page = room / f"{name}.html"
+        page = folder / f"{name}.html"
         make_page(database, page)
         shown = Shown(browser, Truth(database))
         browser.open(page)
@@ -177,11 +177,11 @@ def check_corners(browser: Browser, room: Path) -> None:
             shown.axiom(label)
         browser.open(page)
         found = browser.wait("document.querySelector('#main h1')")
-        count(found, f"{browser.name} {name}: the overview")
+        check(found, f"{browser.name} {name}: the overview")
         if name == "doubling":
             check_doubling(browser)
         if name == "labels":
-            check_narrow(browser, page, ["#axiom=ax-mp"], room)
+            check_narrow(browser, page, ["#axiom=ax-mp"], folder)
         same(browser.messages(), [], f"{browser.name} {name}: messages in the console")
 
 
@@ -197,17 +197,17 @@ def check_doubling(browser: Browser) -> None:
         told = browser.wait(
             "document.querySelector('#proof [aria-busy=false]')?.innerText.trim()", seconds=60
         )
-        count(wanted in str(told), f"{browser.name}: the proof of {label}", str(told)[:300])
+        check(wanted in str(told), f"{browser.name}: the proof of {label}", str(told)[:300])
         size = browser.run("return document.getElementById('proof').textContent.length")
-        count(size < 100_000, f"{browser.name}: what is shown of the proof of {label}", size)
+        check(size < 100_000, f"{browser.name}: what is shown of the proof of {label}", size)
 
 
-def check_against(browser: Browser, room: Path) -> None:
+def check_against(browser: Browser, folder: Path) -> None:
     """A release beside the one before: what is new, gone and renamed, what gained axioms, why."""
     for name, text in (("older", OLDER), ("newer", NEWER)):
-        (room / f"{name}.mm").write_text(text)
-    page = room / "against.html"
-    make_page(room / "newer.mm", page, "--against", str(room / "older.mm"), "--watch", "ax-2")
+        (folder / f"{name}.mm").write_text(text)
+    page = folder / "against.html"
+    make_page(folder / "newer.mm", page, "--against", str(folder / "older.mm"), "--watch", "ax-2")
     browser.open(page, "#difference")
     view = browser.show("#difference", "Since older.mm")
     text = " ".join(view["text"].split())
@@ -223,19 +223,19 @@ def check_against(browser: Browser, room: Path) -> None:
         "since b now cites c",
         "since d no longer cites ax-1",
     ):
-        count(part in text, f"{browser.name}: the difference tells '{part}'", text)
+        check(part in text, f"{browser.name}: the difference tells '{part}'", text)
     view = browser.show("#theorem=b", "b")
     for part in ("gainedax-2since b now cites c", "gainedax-5since b now cites ax-5", "lostax-1"):
-        count(part in view["since"], f"{browser.name}: b tells '{part}'", view["since"])
+        check(part in view["since"], f"{browser.name}: b tells '{part}'", view["since"])
     view = browser.show("#theorem=renamed", "renamed")
-    count("Its label was old." in view["since"], f"{browser.name}: a renamed one", view["since"])
+    check("Its label was old." in view["since"], f"{browser.name}: a renamed one", view["since"])
     view = browser.show("#theorem=fresh", "fresh")
-    count("It is new." in view["since"], f"{browser.name}: a new one", view["since"])
+    check("It is new." in view["since"], f"{browser.name}: a new one", view["since"])
     view = browser.show("#theorem=c", "c")
     same(view["since"], "", f"{browser.name}: one that is as it was")
     view = browser.show("#chapter=1.1", "Chapter one")
     for part in ("4 new", "1 gone", "1 renamed"):
-        count(part in view["since"], f"{browser.name}: the chapter tells '{part}'", view["since"])
+        check(part in view["since"], f"{browser.name}: the chapter tells '{part}'", view["since"])
     same(view["shares"][0][0], "ax-2", f"{browser.name}: the watched axiom comes first")
     same(browser.messages(), [], f"{browser.name}: messages in the console of two releases")
 
@@ -293,24 +293,24 @@ def check_policy(browser: Browser, page: Path) -> None:
     told = browser.call(LOADING, address)
     same(Asked.paths, [], f"{browser.name}: the policy forbids loading")
     for name in ("fetch", "style"):
-        count(name in told, f"{browser.name}: the policy forbids {name}", told)
+        check(name in told, f"{browser.name}: the policy forbids {name}", told)
     browser.messages()
     server.shutdown()
 
 
-def check_refusals(room: Path) -> None:
+def check_refusals(folder: Path) -> None:
     """Where there is no page, nothing is on standard output, and one line says why."""
-    broken = room / "broken.mm"
+    broken = folder / "broken.mm"
     broken.write_text("$c a $.\nx $a a b $.\n")
-    report = room / "some.report"
+    report = folder / "some.report"
     demo = str(DEBIAN_DATABASES / "demo0.mm")
     report.write_bytes(subprocess.run([PROGRAM, demo], stdout=subprocess.PIPE).stdout)
-    empty = room / "empty.mm"
+    empty = folder / "empty.mm"
     empty.write_text("")
     cases: list[tuple[list[str], str]] = [
         ([str(broken)], r".*broken\.mm:2:8: refused E18.*"),
-        ([str(room / "nowhere.mm")], r".*nowhere\.mm.*"),
-        ([str(room)], r".*"),
+        ([str(folder / "nowhere.mm")], r".*nowhere\.mm.*"),
+        ([str(folder)], r".*"),
         ([str(report)], r".*a report, where the database is wanted"),
         ([str(empty)], r".*has neither axioms nor theorems"),
         (["--only", "nothing", demo], r".*has no axiom of typecode 'nothing'"),
@@ -324,17 +324,17 @@ def check_refusals(room: Path) -> None:
     for words, told in cases:
         done = run(["page", *words])
         line = done.stderr.decode()
-        came = (done.returncode, done.stdout, bool(re.fullmatch(f"mmquery: {told}\n", line)))
-        same(came, (2, b"", True), f"page {' '.join(words)}: {line}")
+        answer = (done.returncode, done.stdout, bool(re.fullmatch(f"mmquery: {told}\n", line)))
+        same(answer, (2, b"", True), f"page {' '.join(words)}: {line}")
     with open("/dev/full", "wb") as full:
         done = run(["page", demo], stdout=full)
     told = done.stderr.decode()
     same((done.returncode, told.count("\n")), (2, 1), f"a full disk: {told}")
     piped = run(["page", "-"], input=Path(demo).read_bytes())
     is_named = b"standard input" in piped.stdout
-    count(piped.returncode == 0 and is_named, "a page from standard input", piped.stderr)
+    check(piped.returncode == 0 and is_named, "a page from standard input", piped.stderr)
     again = [run(["page", demo]).stdout for _ in range(2)]
-    count(again[0] == again[1] != b"", "the same page each time")
+    check(again[0] == again[1] != b"", "the same page each time")
     check_interrupt()
 
 
@@ -352,8 +352,8 @@ def check_interrupt() -> None:
         time.sleep(seconds)
         process.send_signal(signal.SIGINT)
         out, errors = process.communicate()
-        came = (process.returncode, out, errors)
-        same(came, (130, b"", b"mmquery: interrupted\n"), f"Ctrl-C after {seconds} s")
+        answer = (process.returncode, out, errors)
+        same(answer, (130, b"", b"mmquery: interrupted\n"), f"Ctrl-C after {seconds} s")
 
 
 def heed_interrupts() -> None:

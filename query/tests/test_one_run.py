@@ -9,11 +9,11 @@ from query import program as programs
 from query.assertions import Damaged
 from query.database import Database
 from query.errors import NoAnswer
+from query.one_run import SECTIONS, head_counts, prepared_of, statements_of
 from query.options import Options
 from query.prepared import Prepared
 from query.report import checked
 from query.tests.world import SMALL, World, built_program, invented
-from query.told import SECTIONS, counted, statements_of, told
 
 OPEN = SMALL + "last $p wff p $= ? $.\n"
 
@@ -25,7 +25,7 @@ def to_bytes(found: Prepared) -> list[bytes]:
     return [found.marks.data, cites.places.tobytes(), cites.targets.tobytes()]
 
 
-class Told(World):
+class OneRun(World):
     """The report of the small database, and of some made by chance."""
 
     def setUp(self) -> None:
@@ -36,44 +36,44 @@ class Told(World):
     def damaged(self, data: bytes) -> None:
         """It isn't taken."""
         with self.assertRaises(Damaged, msg=data.decode("latin-1")):
-            told(data)
+            prepared_of(data)
 
     def test_whole(self) -> None:
         chance = random.Random(3)
         texts = [SMALL, "", "$c a $.", OPEN, *(invented(chance).text for _ in range(20))]
         for text in texts:
             self.write("some.mm", text)
-            found = told(self.report("some.mm", "--open", "--form=2", SECTIONS).encode())
-            told_apart = self.report("some.mm", "--open") + self.report(
+            found = prepared_of(self.report("some.mm", "--open", "--form=2", SECTIONS).encode())
+            in_two_runs = self.report("some.mm", "--open") + self.report(
                 "some.mm", "--open", "--report=citations"
             )
-            other = checked("some.mm", told_apart.encode())
+            other = checked("some.mm", in_two_runs.encode())
             self.assertEqual((found.theorems, found.columns), (other.theorems, other.columns))
             self.assertEqual(found.axioms, other.axioms)
             self.assertEqual(to_bytes(found), to_bytes(other))
             said = self.report("some.mm", "--open", "--report=statements").encode()
             self.assertEqual(found.statements, statements_of(said))
             heads = (len(found.columns), len(found.theorems))
-            self.assertEqual(counted(said), heads)
+            self.assertEqual(head_counts(said), heads)
 
     def test_what_other_processes_read(self) -> None:
-        found = to_bytes(told(self.data))
+        found = to_bytes(prepared_of(self.data))
         with mock.patch.object(parallel, "LARGE", 0):
-            self.assertEqual(to_bytes(told(self.data)), found)
+            self.assertEqual(to_bytes(prepared_of(self.data)), found)
             self.damaged(self.data.replace(b"a1i:3:wi", b"a1i:3:wa"))
             self.damaged(self.data.replace(b"a1i:3:wi", b"a1i:2:wi"))
 
     def test_typecodes(self) -> None:
-        self.assertEqual(told(self.data).typecodes, ["wff", "|-", "|-"])
+        self.assertEqual(prepared_of(self.data).typecodes, ["wff", "|-", "|-"])
         self.write("open.mm", OPEN)
         said = self.report("open.mm", "--open", "--form=2", SECTIONS)
-        self.assertEqual(told(said.encode()).typecodes, ["wff", "|-", "|-", "wff"])
+        self.assertEqual(prepared_of(said.encode()).typecodes, ["wff", "|-", "|-", "wff"])
 
     def test_every_beginning(self) -> None:
         for end in range(len(self.data)):
             self.damaged(self.data[:end])
             if not self.data[:end].endswith(b"\nend\n"):
-                self.assertRaises(Damaged, counted, self.data[:end])
+                self.assertRaises(Damaged, head_counts, self.data[:end])
         self.damaged(self.data + b"\n")
         self.damaged(self.data + b"end\n")
         self.damaged(self.data + self.data)
@@ -116,7 +116,7 @@ class Told(World):
             self.damaged(self.data.replace(old, new, 1))
 
     def test_too_much(self) -> None:
-        database = Database.opened(str(self.room / "small.mm"), Options(), False)
+        database = Database.opened(str(self.folder / "small.mm"), Options(), False)
         with mock.patch.dict("os.environ", {"MMDEPEND": built_program()}):
             with mock.patch.object(programs, "MOST_OUTPUT_BYTES", len(self.data) - 1):
                 self.assertRaisesRegex(NoAnswer, "takes more than 2 GB", database.graph)

@@ -1,4 +1,4 @@
-"""What the program tells of a database in one run: marks, citations, and a line of each assertion.
+"""What the program says of a database in one run: marks, citations, and a line of each assertion.
 
 These are the sections `matrix`, `citations` and `statements` of a report, in which every axiom has
 a column, whatever its typecode. Their bytes are proved, so they aren't compared with one another.
@@ -26,12 +26,12 @@ HEAD = re.compile(
 )
 
 
-class Told:
+class OneRun:
     """A report of these sections, by its bytes."""
 
     def __init__(self, data: bytes) -> None:
         self.data = data
-        self.axioms, self.theorems, self.place = head_of(data)
+        self.axioms, self.theorems, self.place = report_head(data)
 
     def section(self, name: bytes, end: bytes) -> bytes:
         """The lines of the section that comes next, up to this line, with their line feeds."""
@@ -55,10 +55,10 @@ class Told:
         matrix = self.section(b"matrix", b"citations")
         citations = self.section(b"citations", b"statements")
         statements = self.last()
-        theorems, axioms, typecodes = labels_of(plain(statements))
+        theorems, axioms, typecodes = labels_in(ascii_text(statements))
         if (len(axioms), len(theorems)) != (self.axioms, self.theorems):
             raise Damaged
-        coming = Citations(plain(citations), theorems, axioms)
+        coming = Citations(ascii_text(citations), theorems, axioms)
         try:
             marks = marks_of(matrix, theorems, len(axioms))
             cites = coming.lists()
@@ -67,7 +67,7 @@ class Told:
         return Prepared(theorems, axioms, [], marks, cites, len(axioms), typecodes, statements)
 
 
-def head_of(data: bytes) -> tuple[int, int, int]:
+def report_head(data: bytes) -> tuple[int, int, int]:
     """The numbers of axioms and theorems that the head of a report says, and its length."""
     match = HEAD.match(data)
     if match is None or not data.endswith(b"\nend\n"):
@@ -75,7 +75,7 @@ def head_of(data: bytes) -> tuple[int, int, int]:
     return int(match[1]), int(match[2]), match.end()
 
 
-def plain(data: bytes) -> str:
+def ascii_text(data: bytes) -> str:
     """A text in ASCII."""
     try:
         return data.decode("ascii")
@@ -83,7 +83,7 @@ def plain(data: bytes) -> str:
         raise Damaged from None
 
 
-def labels_of(section: str) -> tuple[list[str], list[str], list[str]]:
+def labels_in(section: str) -> tuple[list[str], list[str], list[str]]:
     """The labels of theorems and of axioms, and the typecodes of these, by the section
     `statements`. What else stands on its lines is judged where it is asked for."""
     lines = [line.split(":", 2) for line in section.split("\n")[:-1]]
@@ -167,17 +167,17 @@ def packed_cites(section: str, theorems: list[str], node: dict[str, int]) -> byt
     return array("I", places).tobytes() + array("I", targets).tobytes()
 
 
-def told(data: bytes) -> Prepared:
+def prepared_of(data: bytes) -> Prepared:
     """What a report of the sections says that one run writes. Damaged where it isn't one."""
-    return Told(data).prepared()
+    return OneRun(data).prepared()
 
 
-def counted(data: bytes) -> tuple[int, int]:
+def head_counts(data: bytes) -> tuple[int, int]:
     """How many axioms and how many theorems a report counts in its head."""
-    axioms, theorems, _ = head_of(data)
+    axioms, theorems, _ = report_head(data)
     return axioms, theorems
 
 
 def statements_of(data: bytes) -> bytes:
     """The lines of the section `statements`, of a report that has no other."""
-    return Told(data).last()
+    return OneRun(data).last()

@@ -21,26 +21,26 @@ class Figure:
 
 
 @dataclass
-class Counting:
+class Checks:
     """What passed and failed so far."""
 
     passed: int = 0
     failed: int = 0
     figures: list[Figure] = field(default_factory=list)
 
-    def count(self, good: object, what: str, came: object = "") -> bool:
+    def check(self, good: object, what: str, found: object = "") -> bool:
         """Counts a check; says what failed."""
         if good:
             self.passed += 1
         else:
             self.failed += 1
-            print(f"failed: {what} {came}".rstrip()[:SHOWN_FAILURE], flush=True)
+            print(f"failed: {what} {found}".rstrip()[:SHOWN_FAILURE], flush=True)
         return bool(good)
 
-    def same(self, came: Any, wanted: Any, what: str) -> bool:
-        """Counts whether what came is what was wanted."""
-        told = f"\n  shown:  {str(came)[:600]}\n  wanted: {str(wanted)[:600]}"
-        return self.count(came == wanted, what, told)
+    def same(self, found: Any, wanted: Any, what: str) -> bool:
+        """Counts whether what was found is what was wanted."""
+        told = f"\n  shown:  {str(found)[:600]}\n  wanted: {str(wanted)[:600]}"
+        return self.check(found == wanted, what, told)
 
     def figure(self, name: str, value: float, limit: float | None = None, unit: str = "") -> None:
         """Keeps a figure. A limit in time is wider by as much as other work slows the machine down
@@ -48,7 +48,7 @@ class Counting:
         slower = slowness() if unit and limit is not None else 1.0
         if limit is not None:
             told = f"{name} is {value} {unit}, above {limit} (x {slower:.1f})"
-            self.count(value <= limit * slower, told)
+            self.check(value <= limit * slower, told)
         self.figures.append(Figure(name, value, limit, unit, slower))
 
     def end(self) -> NoReturn:
@@ -71,5 +71,5 @@ def slowness() -> float:
     return max(1.0, (time.time() - began) / ADDING)
 
 
-checks = Counting()
-count, same, figure = checks.count, checks.same, checks.figure
+checks = Checks()
+check, same, figure = checks.check, checks.same, checks.figure
