@@ -119,8 +119,7 @@ module _ (c : Context) where
                 ∙ ap (λ x. postfix ts ++ x) front.2 ∙ sym labels_are,
           )
       forest_in_children k labels_are (inr cut) forest_of_part =
-          forest_of_whole_tree k cut.0 labels_are
-          cut.1 cut.2
+          forest_of_whole_tree k cut.0 labels_are cut.1 cut.2
 
       forest_by_cut : ((k : List ℕ) × (postfix ts ≡ labels ++ k))
           ⊎ ((k : List ℕ) × (labels ≡ postfix ts ++ k) × (postfix cs ++ l ∷ [] ≡ k ++ rest_labels))
@@ -129,8 +128,7 @@ module _ (c : Context) where
       forest_by_cut (inl cut) forest_of_part in_children = forest_of_part cut.0 cut.1
       forest_by_cut (inr cut) forest_of_part in_children =
           forest_in_children cut.0 cut.1 (cut_two_ways (postfix cs) (l ∷ []) cut.0 rest_labels
-          cut.2)
-          in_children
+          cut.2) in_children
 
   -- the lists after the steps so far are those of these forests
   abbrev AreListsOf : List (List ℕ) → List Trees → Type 0
@@ -196,9 +194,8 @@ module _ (c : Context) where
         copy repeated.0 repeated.1 repeated.3 forests_equal at_j.0
       where
         copy : (r : Trees) → AreDerivations c r → IsLastTree r adds.1 → get_or forests j none ≡ r
-            → j < length forests
-            → IsForestStep (forests ++ next_forest ∷ later) (length forests) (marked
-            j)
+            → j < length forests → IsForestStep (forests ++ next_forest ∷ later) (length forests)
+            (marked j)
         copy none derives_r is_last forests_equal j_lt_length_forests = absurd is_last
         copy (more ts l f cs) derives_r list_is_last_tree forests_equal j_lt_length_forests = (
           j_lt_length_forests,
@@ -253,8 +250,7 @@ module _ (c : Context) where
                 (subst (Adds c lists (postfix forest) s) (sym postfix_is) adds) forest_is,
             subst (λ n. AreForestSteps (forests ++ next_forest ∷ later) n steps) length_is_suc
                 (subst (λ z. AreForestSteps z (length (forests ++ next_forest ∷ [])) steps)
-                lists_regroup
-                has_rest.are_forest_steps),
+                lists_regroup has_rest.are_forest_steps),
           );
           ends_in_d =
               ap (forest_at (forests ++ next_forest ∷ later)) length_splits
@@ -300,9 +296,8 @@ module _ (c : Context) where
         rest_after_step lists forests forest d s steps are_lists derives forest_is expands.0
         expands.1 front.0 front.1 front.2 (λ next_is. has_rest_from steps (lists ++ expands.0 ∷ [])
         (forests ++ front.0 ∷ []) front.0 d (lists_push lists forests expands.0 front.0 are_lists
-        front.1
-        front.2) front.1 next_is d_derives (subst (λ z. Expands c (lists ++ expands.0 ∷ []) z steps
-        (postfix d)) (sym front.2) expands.2))
+        front.1 front.2) front.1 next_is d_derives (subst (λ z. Expands c (lists ++ expands.0 ∷ [])
+        z steps (postfix d)) (sym front.2) expands.2))
 
     -- a proof's forests
     pub proof_has_forests : (steps : List Step) (f : Formula) (d : Trees) → Derives c steps f d

@@ -216,8 +216,7 @@ take_step steps i i_lt_length = grind (arith, common_steps, take_more, map-appen
 
 -- before the first step the state is reached by no steps
 pub no_steps_are_reached : (db : List Statement) (t : ℕ) (stack ends : List Formula)
-    (noted : List ℕ)
-    → stack ≡ [] → ends ≡ [] → noted ≡ [] → IsReached db t [] stack ends noted
+    (noted : List ℕ) → stack ≡ [] → ends ≡ [] → noted ≡ [] → IsReached db t [] stack ends noted
 no_steps_are_reached db t stack ends noted stack_is_nil ends_is_nil noted_is_nil =
     rw (stack_is_nil, ends_is_nil, noted_is_nil)
     (record {

@@ -257,12 +257,13 @@ module _ (db : List Statement) (t : ℕ) (steps : List PlacedStep) (i : ℕ) (ws
       is_forest_step =
           let sum_is_i : 0 + i ≡ i = omega arith in
           subst (IsForestStep (context_at db t) are_found.forests i) (get_or-map (λ s. s.step) steps
-          i
-          (placed 0 (label 0)) (label 0) i_lt_length ∙ sym s_is)
-          (subst (λ n. IsForestStep (context_at db t) are_found.forests n (get_or (steps_of steps) i
-          (label 0))) sum_is_i (forest_step_at (context_at db t) are_found.forests 0 (steps_of
-          steps) i
-          (omega (arith, length-map steps (λ s. s.step), i_lt_length)) are_found.are_forest_steps))
+          i (placed 0 (label 0)) (label 0) i_lt_length ∙ sym s_is) (subst (λ n. IsForestStep
+          (context_at db t) are_found.forests n (get_or (steps_of steps) i (label 0))) sum_is_i
+          (forest_step_at (context_at db t) are_found.forests 0 (steps_of steps) i (omega (
+            arith,
+            length-map steps (λ s. s.step),
+            i_lt_length,
+          )) are_found.are_forest_steps))
 
       is_undone : IsUndone s
       is_undone = step_is_undone s is_forest_step (step_at_is_good (context_at db t) steps i i s

@@ -12,9 +12,8 @@ use Rattle.std.proofs.lemmas.Slice.Eq.{bytes_eq-Decides}
 use Rattle.std.specs.List.{list_any}
 use Rattle.mm_spec.specs.Text.{Bytes, Token, is_in, fault}
 use Rattle.mm_spec.specs.Statement.{Statement, floating}
-use Rattle.mm_spec.specs.Scope.{Names, names_before, active_statements, active_at}
-use Rattle.mm_spec.specs.Scope.{is_some_still_active, depth, constants_of, variables_of}
-use Rattle.mm_spec.specs.Scope.{is_block_open}
+use Rattle.mm_spec.specs.Scope.{Names, names_before, depth, constants_of, variables_of}
+use Rattle.mm_spec.specs.Scope.{active_statements, active_at, is_some_still_active, is_block_open}
 use Rattle.mm_spec.specs.Lawful.{scope_faults, least, is_typed, floating_faults, label_faults}
 use Rattle.mm_spec.specs.Lawful.{faults_at, when, is_typed_otherwise}
 use Rattle.mm_spec.specs.declared.Fault.{Fault}

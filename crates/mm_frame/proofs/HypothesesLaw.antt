@@ -29,10 +29,9 @@ use Rattle.mm_database.specs.ParsedStatements.{IsSound, typed_variable_at}
 use Rattle.mm_frame.specs.Hypotheses.{AreLastFloats, is_float_of}
 use Rattle.mm_spec.specs.Rising.{IsRisingFrom}
 use Rattle.mm_spec.proofs.RisingLaw.{filter_is}
-use Rattle.mm_frame.proofs.FloatLaw.{typed_is_float, floating_is_typed}
-use Rattle.mm_frame.proofs.FloatLaw.{formula_is_typecode_and_variable, float_is_floating}
+use Rattle.mm_frame.proofs.FloatLaw.{typed_is_float, floating_is_typed, float_is_floating}
+use Rattle.mm_frame.proofs.FloatLaw.{formula_is_typecode_and_variable, float_active_is_block_open}
 use Rattle.mm_frame.proofs.FloatLaw.{typecode_is_no_variable, variable_lt_symbol_count}
-use Rattle.mm_frame.proofs.FloatLaw.{float_active_is_block_open}
 
 -- a list that is strictly rising, by its neighbours
 pub rising_from_increasing : (xs : List ℕ) (a : ℕ) → IsStrictlyIncreasing xs

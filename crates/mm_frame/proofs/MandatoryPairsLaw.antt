@@ -19,10 +19,8 @@ use Rattle.mm_database.proofs.DisjointIndexLaw.{HasIndex, index_of_pair, has_pai
 use Rattle.mm_database.proofs.DisjointIndexLaw.{earlier_is_before}
 use Rattle.mm_spec.proofs.MemberLaw.{member_range}
 use Rattle.mm_outline.specs.Blocks.{BlockLists, IsBlocks}
-use Rattle.mm_database.specs.DisjointIndex.{has_symbol_by_width, is_disjoint_by_width}
-use Rattle.mm_database.specs.DisjointIndex.{has_narrow_pair, is_narrow, is_active_local}
-use Rattle.mm_database.specs.DisjointIndex.{IsRowOfPairs}
-use Rattle.mm_database.specs.DisjointIndex.{row_of}
+use Rattle.mm_database.specs.DisjointIndex.{has_symbol_by_width, is_disjoint_by_width, IsRowOfPairs}
+use Rattle.mm_database.specs.DisjointIndex.{has_narrow_pair, is_narrow, is_active_local, row_of}
 use Rattle.mm_database.specs.Pairs.{has_pair, AreRising}
 use Rattle.mm_database.proofs.TogetherLaw.{HasBoth, together_from_both, both_from_together}
 use Rattle.mm_database.proofs.TogetherLaw.{row_is_together, narrow_is_in_row}
@@ -305,8 +303,7 @@ module _ (db : List Statement) (b : BlockLists) (are_blocks : IsBlocks db b) (k 
         }
 
     later_in_rows_are_mandatory : (x y : ℕ)
-        → is_higher_variable_in_rows b rows variables k x y ≡ true
-        → AreMandatory x y
+        → is_higher_variable_in_rows b rows variables k x y ≡ true → AreMandatory x y
     later_in_rows_are_mandatory x y is_later = record {
       x_lt_y = grind (arith, nat_tests, is_later);
       x_is_member = grind (arith, is_later, variables_are x);

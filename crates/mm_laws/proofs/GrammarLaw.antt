@@ -19,9 +19,8 @@ use Rattle.mm_spec.specs.Laws.Readings.{append_reading}
 use Rattle.mm_laws.specs.Grammar.{Lexeme, Single, Comment, LastComment, IsLexeme, IsLastComment}
 use Rattle.mm_laws.specs.Grammar.{AreCommentWords, words_in, words_in_last_comment, tokens_in}
 use Rattle.mm_laws.specs.Grammar.{IsWellBegun, IsFirstFaultyWord, IsReading}
-use Rattle.mm_spec.proofs.ReadingsLaw.{reading_opening, reading_closing, reading_comment}
-use Rattle.mm_spec.proofs.ReadingsLaw.{reading_faulty, reading_end, reading_of_token}
-use Rattle.mm_spec.proofs.ReadingsLaw.{reading_append}
+use Rattle.mm_spec.proofs.ReadingsLaw.{reading_opening, reading_closing, reading_of_token}
+use Rattle.mm_spec.proofs.ReadingsLaw.{reading_comment, reading_faulty, reading_end, reading_append}
 
 -- ---- the classes of words exclude each other
 

@@ -1,13 +1,11 @@
 -- What is read of a text is spelled as the lines of the statements need it.
-use Rattle.std.proofs.Common.{◌≡◌, ◌∙◌, ℕ, zero, suc, ◌+◌, ◌<◌, ◌≤◌, ◌^◌, Bool, true, false, ◌&&◌}
-use Rattle.std.proofs.Common.{◌==◌, List, [], ◌∷◌, ◌++◌, length, map, refl, sym, ap, subst, arith}
-use Rattle.std.proofs.Common.{append-nil, not, Option, Some, None, is_some, eqb-true, inl, inr}
-use Rattle.std.proofs.Common.{rules}
+use Rattle.std.proofs.Common.{◌≡◌, ◌∙◌, suc, ◌+◌, ◌<◌, ◌≤◌, ◌^◌, ◌∷◌, map, sym, ap, not, inl, inr}
+use Rattle.std.proofs.Common.{ℕ, false, length, subst, arith, append-nil, Option, is_some, eqb-true}
+use Rattle.std.proofs.Common.{zero, Bool, true, ◌&&◌, ◌==◌, List, [], ◌++◌, refl, Some, None, rules}
 use Rattle.std.specs.Prelude.{flat_map, unwrap_or, slice_get, codes}
 use Rattle.std.specs.Option.{option_map, option_and_then}
 use Rattle.std.specs.List.{list_any, list_all, AllByRecursion}
-use Rattle.std.proofs.lemmas.Bool.{and_parts, cases_lt, or_from, false_from_ne_true}
-use Rattle.std.proofs.lemmas.Bool.{not-true}
+use Rattle.std.proofs.lemmas.Bool.{and_parts, cases_lt, or_from, false_from_ne_true, not-true}
 use Rattle.std.proofs.lemmas.Grind.{common_steps}
 use Rattle.mm_laws.proofs.ToldLaw.{all_of_both}
 use Rattle.std.proofs.lemmas.List.Elements.{recursion_from_All, All-weaker}
@@ -29,9 +27,8 @@ use Rattle.mm_spec.specs.Assertion.{end_at}
 use Rattle.mm_spec.specs.declared.Word.{Word}
 use Rattle.mm_spec.specs.declared.Role.{Role}
 use Rattle.mm_spec.specs.declared.Role.TheVariants as role
-use Rattle.mm_spec.proofs.ReadingsLaw.{read_as_token, reading_token, reading_opening}
-use Rattle.mm_spec.proofs.ReadingsLaw.{reading_closing, reading_comment, reading_faulty}
-use Rattle.mm_spec.proofs.ReadingsLaw.{reading_end}
+use Rattle.mm_spec.proofs.ReadingsLaw.{read_as_token, reading_token, reading_faulty, reading_end}
+use Rattle.mm_spec.proofs.ReadingsLaw.{reading_opening, reading_closing, reading_comment}
 use Rattle.mm_spec.proofs.WordsLaw.{words_of_are_words}
 use Rattle.mm_spec.proofs.LexedLaw.{tokens_of_long, tokens_of_read}
 use Rattle.mm_laws.specs.Laws.Told.{is_gap, is_colon, IsLineWord, AreSpelled, ReadIsSpelled}
@@ -157,18 +154,18 @@ tokens_are_line_words (x ∷ xs) are_tokens plain =
     )
 
 -- a statement without a label
-unlabelled_is_spelled : (s : Statement) (xs : List Token) (t : Token) → label_of s ≡ None
+plain_unlabelled_fits : (s : Statement) (xs : List Token) (t : Token) → label_of s ≡ None
     → symbols_of s ≡ xs → AllByRecursion IsTextToken xs → is_plain xs ≡ true
     → IsTextToken t → end_at s ≡ t.at → FitsLines s
-unlabelled_is_spelled s xs t no_label symbols_are are_tokens plain last end_is =
+plain_unlabelled_fits s xs t no_label symbols_are are_tokens plain last end_is =
     search (rules, arith, no_label_is_plain, tokens_are_line_words)
 
 -- a statement with a label
-labelled_is_spelled : (s : Statement) (l : Token) (xs : List Token) (t : Token)
+plain_labelled_fits : (s : Statement) (l : Token) (xs : List Token) (t : Token)
     → label_of s ≡ Some l → symbols_of s ≡ xs → IsTextToken l → is_label l.word ≡ true
     → AllByRecursion IsTextToken xs → is_plain xs ≡ true → IsTextToken t → end_at s ≡ t.at
     → FitsLines s
-labelled_is_spelled s l xs t label_is symbols_are label_token is_label_word are_tokens plain last
+plain_labelled_fits s l xs t label_is symbols_are label_token is_label_word are_tokens plain last
     end_is = record {
       label = rw (label_is, label_words, append-nil l.word) (label_is_plain l.word is_label_word);
       label_without_colon =
@@ -183,78 +180,70 @@ complete_parts : (a b c : Bool) → (a && b && c) ≡ true
 complete_parts a b c complete = grind (arith, common_steps, and_parts)
 
 -- a complete statement without a label: its keyword, its symbols and its `$.`
-complete_unlabelled_is_spelled : (s : Statement) (k : ℕ) (xs : List Token) (d : ℕ) (keyword : Bytes)
+unlabelled_fits : (s : Statement) (k : ℕ) (xs : List Token) (d : ℕ) (keyword : Bytes)
     → label_of s ≡ None → symbols_of s ≡ xs → end_at s ≡ d
     → AllByRecursion IsTextToken (token k keyword ∷ (xs ++ token d (codes "$.") ∷ []))
     → is_complete s ≡ true → FitsLines s
-complete_unlabelled_is_spelled s k xs d keyword no_label symbols_are end_is are_tokens complete =
+unlabelled_fits s k xs d keyword no_label symbols_are end_is are_tokens complete =
     let parts = complete_parts _ (is_plain (symbols_of s)) _ complete in
     let tokens = all_split IsTextToken xs (token d (codes "$.") ∷ []) are_tokens.1 in
-    unlabelled_is_spelled s xs (token d (codes "$.")) no_label symbols_are tokens.0
+    plain_unlabelled_fits s xs (token d (codes "$.")) no_label symbols_are tokens.0
     (sym (ap is_plain symbols_are) ∙ parts.1.0) tokens.1.0 end_is
 
 -- a complete statement with a label
-complete_labelled_is_spelled : (s : Statement) (l : Token) (k : ℕ) (xs : List Token) (d : ℕ)
+labelled_fits : (s : Statement) (l : Token) (k : ℕ) (xs : List Token) (d : ℕ)
     (keyword : Bytes)
     → label_of s ≡ Some l → symbols_of s ≡ xs → end_at s ≡ d
     → AllByRecursion IsTextToken (l ∷ token k keyword ∷ (xs ++ token d (codes "$.") ∷ []))
     → is_complete s ≡ true → FitsLines s
-complete_labelled_is_spelled s l k xs d keyword label_is symbols_are end_is are_tokens complete =
+labelled_fits s l k xs d keyword label_is symbols_are end_is are_tokens complete =
     let parts = complete_parts (is_label_if_any (label_of s)) (is_plain (symbols_of s)) _ complete
     in
     let tokens = all_split IsTextToken xs (token d (codes "$.") ∷ []) are_tokens.1.1 in
-    labelled_is_spelled s l xs (token d (codes "$.")) label_is symbols_are are_tokens.0
+    plain_labelled_fits s l xs (token d (codes "$.")) label_is symbols_are are_tokens.0
     (sym (ap is_label_if_any label_is) ∙ parts.0) tokens.0
     (sym (ap is_plain symbols_are) ∙ parts.1.0) tokens.1.0 end_is
 
 -- a complete statement of tokens
-statement_is_spelled : (s : Statement) → AllByRecursion IsTextToken (spelling_of s)
+statement_fits : (s : Statement) → AllByRecursion IsTextToken (spelling_of s)
     → is_complete s ≡ true → FitsLines s
-statement_is_spelled (constants k xs d) are_tokens complete =
-    search (rules, arith, complete_unlabelled_is_spelled)
-statement_is_spelled (variables k xs d) are_tokens complete =
-    search (rules, arith, complete_unlabelled_is_spelled)
-statement_is_spelled (disjoint k xs d) are_tokens complete =
-    search (rules, arith, complete_unlabelled_is_spelled)
-statement_is_spelled (floating l k xs d) are_tokens complete =
-    search (rules, arith, complete_labelled_is_spelled)
-statement_is_spelled (essential l k xs d) are_tokens complete =
-    search (rules, arith, complete_labelled_is_spelled)
-statement_is_spelled (axiomatic l k xs d) are_tokens complete =
-    search (rules, arith, complete_labelled_is_spelled)
-statement_is_spelled (provable l k xs e ps d) are_tokens complete =
+statement_fits (constants k xs d) are_tokens complete = search (rules, arith, unlabelled_fits)
+statement_fits (variables k xs d) are_tokens complete = search (rules, arith, unlabelled_fits)
+statement_fits (disjoint k xs d) are_tokens complete = search (rules, arith, unlabelled_fits)
+statement_fits (floating l k xs d) are_tokens complete = search (rules, arith, labelled_fits)
+statement_fits (essential l k xs d) are_tokens complete = search (rules, arith, labelled_fits)
+statement_fits (axiomatic l k xs d) are_tokens complete = search (rules, arith, labelled_fits)
+statement_fits (provable l k xs e ps d) are_tokens complete =
     let parts = complete_parts (is_label l.word) (is_plain xs) (is_plain ps) complete in
     let formula_and_proof =
     all_split IsTextToken xs (token e (codes "$=") ∷ (ps ++ token d (codes "$.") ∷ []))
     are_tokens.1.1 in
-    labelled_is_spelled _ l xs (token d (codes "$.")) refl refl are_tokens.0 parts.0
+    plain_labelled_fits _ l xs (token d (codes "$.")) refl refl are_tokens.0 parts.0
     formula_and_proof.0
     parts.1.0 (all_split IsTextToken ps (token d (codes "$.") ∷ []) formula_and_proof.1.1).1.0 refl
-statement_is_spelled (opening k) are_tokens complete =
-    grind (arith, common_steps, unlabelled_is_spelled)
-statement_is_spelled (closing k) are_tokens complete =
-    grind (arith, common_steps, unlabelled_is_spelled)
+statement_fits (opening k) are_tokens complete = grind (arith, common_steps, plain_unlabelled_fits)
+statement_fits (closing k) are_tokens complete = grind (arith, common_steps, plain_unlabelled_fits)
 
-all_statements_are_spelled : (ss : List Statement)
+all_statements_fit : (ss : List Statement)
     → AllByRecursion IsTextToken (flat_map spelling_of ss) → list_all is_complete ss ≡ true
     → AllByRecursion FitsLines ss
-all_statements_are_spelled [] are_tokens complete = tt
-all_statements_are_spelled (s ∷ ss) are_tokens complete =
+all_statements_fit [] are_tokens complete = tt
+all_statements_fit (s ∷ ss) are_tokens complete =
     let parts = and_parts (is_complete s) (list_all is_complete ss) complete in
     let tokens = all_split IsTextToken (spelling_of s) (flat_map spelling_of ss) are_tokens in
-    (statement_is_spelled s tokens.0 parts.0, all_statements_are_spelled ss tokens.1 parts.1)
+    (statement_fits s tokens.0 parts.0, all_statements_fit ss tokens.1 parts.1)
 
 -- ---- statements as they count
 
-open_is_spelled : (s : Statement) → FitsLines s → FitsLines (as_axiom s)
-open_is_spelled s h1 = grind (arith, common_steps)
+open_fits : (s : Statement) → FitsLines s → FitsLines (as_axiom s)
+open_fits s h1 = grind (arith, common_steps)
 
 counted_are_spelled : (with_open : Bool) (db : List Statement) → AllByRecursion FitsLines db
     → AllByRecursion FitsLines (open_as_axioms with_open db)
 counted_are_spelled false db are_spelled = are_spelled
 counted_are_spelled true [] are_spelled = tt
 counted_are_spelled true (s ∷ db) are_spelled =
-    (open_is_spelled s are_spelled.0, counted_are_spelled true db are_spelled.1)
+    (open_fits s are_spelled.0, counted_are_spelled true db are_spelled.1)
 
 -- ---- the database
 
@@ -299,9 +288,8 @@ spelled_database db are_spelled = record {
   labels = of_got FitsLines (λ o. IsLineWord (label_in o)) no_label_is_plain
       (λ s spelled. subst IsLineWord (sym (label_in_is s)) spelled.label) db are_spelled;
   labels_without_colon =
-      of_got FitsLines (λ o. list_any is_colon (label_in o) ≡ false) refl
-      (λ s spelled. ap (list_any is_colon) (label_in_is s) ∙ spelled.label_without_colon) db
-      are_spelled;
+      of_got FitsLines (λ o. list_any is_colon (label_in o) ≡ false) refl (λ s spelled. ap (list_any
+      is_colon) (label_in_is s) ∙ spelled.label_without_colon) db are_spelled;
   names = of_got IsLineWord (λ o. IsLineWord (unwrap_or o [])) no_label_is_plain
       (λ w plain. plain) _ (first_are_plain [] _ (all_declared db are_spelled));
   places = λ k. (
@@ -316,7 +304,7 @@ pub read_is_spelled : ReadIsSpelled
 read_is_spelled text db fault is_read with_open =
     spelled_database (open_as_axioms with_open db) (counted_are_spelled with_open db
     (all_split FitsLines db is_read.rest (subst (AllByRecursion FitsLines) is_read.splits
-    (all_statements_are_spelled is_read.statements
+    (all_statements_fit is_read.statements
     (all_split IsTextToken (flat_map spelling_of is_read.statements) is_read.are_statements.rest
     (subst (AllByRecursion IsTextToken) is_read.are_statements.splits
     (tokens_are_text_tokens text))).0 is_read.are_statements.are_statements.complete))).0)

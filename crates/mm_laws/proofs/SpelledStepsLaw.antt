@@ -1,10 +1,9 @@
 -- The steps of a proof are what its numbers or its labels name.
 use Rattle.std.proofs.lemmas.Grind.{common_steps}
-use Rattle.std.proofs.Common.{◌≡◌, ◌≢◌, ℕ, zero, suc, ◌+◌, ◌-◌, ◌<◌, ◌≤◌, Bool, true, false, ◌⊎◌}
-use Rattle.std.proofs.Common.{inl, inr, List, [], ◌∷◌, ◌++◌, map, length, flat_map, count_by}
-use Rattle.std.proofs.Common.{Option, Some, slice_get, nat_le, bytes_eq, codes, refl, sym, ◌∙◌}
-use Rattle.std.proofs.Common.{subst, true≢false, arith, leb-true, append_assoc, append-nil}
-use Rattle.std.proofs.Common.{length-append, rules}
+use Rattle.std.proofs.Common.{◌≡◌, ℕ, zero, Bool, true, List, ◌++◌, Some, refl, subst, arith, rules}
+use Rattle.std.proofs.Common.{◌≢◌, suc, ◌+◌, ◌-◌, ◌<◌, ◌≤◌, ◌⊎◌, inl, inr, [], ◌∷◌, map, sym, ◌∙◌}
+use Rattle.std.proofs.Common.{false, slice_get, true≢false, append_assoc, append-nil, length-append}
+use Rattle.std.proofs.Common.{length, flat_map, count_by, Option, nat_le, bytes_eq, codes, leb-true}
 use Rattle.std.specs.List.{list_any, range_with_len, AllZip, filter}
 use Rattle.std.proofs.lemmas.Bool.{and_parts, or_left, cases_Bool, false_from_ne_true}
 use Rattle.std.proofs.lemmas.Bool.Decides.{not_from_Decides}

@@ -10,9 +10,8 @@ use Rattle.mm_spec.specs.Statement.{Statement}
 use Rattle.mm_spec.specs.Scope.{active_at, statement_at}
 use Rattle.mm_spec.specs.Opened.{open_as_axioms}
 use Rattle.mm_spec.specs.Lawful.{IsLawful}
-use Rattle.mm_spec.specs.Frame.{formula_at, is_variable_number, is_floating, is_essential}
-use Rattle.mm_spec.specs.Frame.{active_of, mandatory_variables, mandatory_hypotheses}
-use Rattle.mm_spec.specs.Frame.{mandatory_pairs}
+use Rattle.mm_spec.specs.Frame.{formula_at, is_floating, is_essential, active_of, mandatory_pairs}
+use Rattle.mm_spec.specs.Frame.{is_variable_number, mandatory_variables, mandatory_hypotheses}
 use Rattle.mm_spec.specs.Derivation.{Formula, Pair, is_member}
 use Rattle.mm_spec.specs.Citation.{is_assertion}
 use Rattle.mm_laws.specs.Laws.Read.{WhereRead}

@@ -1,9 +1,8 @@
 -- Reading finds no fault in exactly the proofs that are well formed.
 use Rattle.std.proofs.lemmas.Grind.{common_steps}
-use Rattle.std.proofs.Common.{◌≡◌, ◌≢◌, ℕ, ◌+◌, ◌<◌, ◌≤◌, Bool, true, false, ◌&&◌, inl, inr, List}
-use Rattle.std.proofs.Common.{[], ◌∷◌, ◌++◌, map, length, flat_map, count_by, codes, refl, sym, ap}
-use Rattle.std.proofs.Common.{ap₂, ◌∙◌, subst, true≢false, arith, append_assoc, append-nil}
-use Rattle.std.proofs.Common.{rules}
+use Rattle.std.proofs.Common.{◌≡◌, length, flat_map, count_by, true≢false, append_assoc, append-nil}
+use Rattle.std.proofs.Common.{◌≢◌, ℕ, ◌+◌, ◌<◌, ◌≤◌, inl, inr, [], ◌∷◌, map, sym, ap, ap₂, ◌∙◌}
+use Rattle.std.proofs.Common.{Bool, true, false, ◌&&◌, List, ◌++◌, codes, refl, subst, arith, rules}
 use Rattle.std.specs.List.{list_any, range_with_len, AllByRecursion, AllZip}
 use Rattle.std.proofs.lemmas.Bool.{le-ltb, false_from_ne_true}
 use Rattle.std.proofs.lemmas.Bool.Decides.{nat_tests}
@@ -14,9 +13,8 @@ use Rattle.mm_spec.specs.Scope.{active_at, statement_at}
 use Rattle.mm_spec.specs.Opened.{open_as_axioms}
 use Rattle.mm_spec.specs.Frame.{mandatory_hypotheses}
 use Rattle.mm_spec.specs.NormalProof.{is_labelled, usable, proof_label_faults}
-use Rattle.mm_spec.specs.CompressedProof.{Letter, letters_of, Group, is_early_letter}
-use Rattle.mm_spec.specs.CompressedProof.{is_last_letter, groups, value, group_faults}
-use Rattle.mm_spec.specs.CompressedProof.{letter_faults}
+use Rattle.mm_spec.specs.CompressedProof.{Letter, is_early_letter, is_last_letter, letter_faults}
+use Rattle.mm_spec.specs.CompressedProof.{letters_of, Group, groups, value, group_faults}
 use Rattle.mm_spec.specs.Proof.{reading_faults}
 use Rattle.mm_laws.specs.Spelling.{Item, number, mark, is_number, is_mark_item, IsEarlyDigit}
 use Rattle.mm_laws.specs.Spelling.{IsLastDigit, AreEarlyDigits, AreLettersOf, Spells, IsUsable}
@@ -26,11 +24,10 @@ use Rattle.mm_laws.specs.Laws.WellFormed.{CompressedIsExact, NormalIsExact}
 use Rattle.mm_spec.specs.declared.Code.TheVariants.{UnusableLabel}
 use Rattle.mm_spec.proofs.FindsLaw.{equal_bytes_equal_words, active_lt_place, any_filter, range_any}
 use Rattle.mm_spec.proofs.FaultlessLaw.{both_are_empty}
-use Rattle.mm_laws.proofs.SpellingLaw.{EndsItem, spelled_item_is_unique, group_spells_its_value}
-use Rattle.mm_laws.proofs.SpellingLaw.{group_ends, letters_spell_items}
-use Rattle.mm_laws.proofs.SpellingLaw.{compressed_reads, bytes_of, AreEarly, last_digit_ends}
-use Rattle.mm_laws.proofs.SpellingLaw.{item_of, bytes_of_letters, spelled_items_are_unique}
-use Rattle.mm_laws.proofs.SpellingLaw.{proof_is_faultless}
+use Rattle.mm_laws.proofs.SpellingLaw.{EndsItem, bytes_of, AreEarly, item_of}
+use Rattle.mm_laws.proofs.SpellingLaw.{spelled_item_is_unique, group_ends, spelled_items_are_unique}
+use Rattle.mm_laws.proofs.SpellingLaw.{group_spells_its_value, letters_spell_items, last_digit_ends}
+use Rattle.mm_laws.proofs.SpellingLaw.{compressed_reads, bytes_of_letters, proof_is_faultless}
 use Rattle.mm_spec.proofs.GroupsLaw.{AreFaultless}
 use Rattle.mm_laws.proofs.SpelledStepsLaw.{count_append, LabelsDiffer, labels_differ}
 use Rattle.mm_laws.proofs.SpelledStepsLaw.{one_statement_is_usable, labels_are_usable, own_faults}

@@ -4,6 +4,7 @@ use Rattle.std.proofs.Common.{inr, ℕ, zero, suc, Bool, true, false, true≢fal
 use Rattle.std.proofs.Common.{sym, ap, subst, arith, codes, map, length, slice_index_or, List, []}
 use Rattle.std.proofs.Common.{◌∷◌, Some, None}
 use Rattle.std.proofs.lemmas.Bool.{and_parts, or_cases, or_left, or_right}
+use Rattle.std.proofs.lemmas.Grind.{common_steps}
 use Rattle.std.proofs.lemmas.List.{length-map}
 use Rattle.std.proofs.lemmas.Slice.Eq.{bytes_eq-Decides}
 use Rattle.std.specs.Prelude.{not, pos}
@@ -162,10 +163,7 @@ each_argument_is_simple (x ∷ xs) rules_are_simple (suc k) d k_lt_length =
     (omega arith)
 
 first_and_third : (a b c d : Bool) → (a && (b && (c && d))) ≡ true → (a ≡ true) × (not c ≡ false)
-first_and_third true true true d all_four = (refl, refl)
-first_and_third false b c d all_four = absurd (true≢false (sym all_four))
-first_and_third true false c d all_four = absurd (true≢false (sym all_four))
-first_and_third true true false d all_four = absurd (true≢false (sym all_four))
+first_and_third a b c d all_four = grind (arith, common_steps, and_parts)
 
 known_word_is_form : (t : Text) → list_any (λ (w : Text). bytes_eq w t) form_words ≡ true
     → (form : Form) × (t ≡ form_word form)

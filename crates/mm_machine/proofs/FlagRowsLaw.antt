@@ -11,10 +11,9 @@ use Rattle.mm_spec.specs.Statement.{Statement}
 use Rattle.mm_spec.specs.Derivation.{are_disjoint, is_disjoint_from}
 use Rattle.mm_spec.specs.Citation.{context_at}
 use Rattle.mm_machine.specs.declared.flag_rows.TheConstants.{ROW_LENGTH}
-use Rattle.mm_machine.specs.FlagRows.{RowsOfFlags, flag_rows, flag_at, AreApartAt}
-use Rattle.mm_machine.specs.FlagRows.{AreRowsDisjointAt, StayDisjoint, StayDisjointWith}
-use Rattle.mm_machine.specs.FlagRows.{ExtendsSymbols}
-use Rattle.mm_machine.specs.FlagRows.{IsColumnOf, AreColumnsOf, HasFlags}
+use Rattle.mm_machine.specs.FlagRows.{RowsOfFlags, flag_at, AreApartAt, StayDisjoint, AreColumnsOf}
+use Rattle.mm_machine.specs.FlagRows.{flag_rows, IsColumnOf}
+use Rattle.mm_machine.specs.FlagRows.{AreRowsDisjointAt, StayDisjointWith, ExtendsSymbols, HasFlags}
 
 never_set : (m i : ℕ) → get_or (replicate m false) i false ≡ true → ⊥
 never_set m i h1 = grind (arith, common_steps)

@@ -475,9 +475,8 @@ module _ {nodes : List (List ℕ)} {stack marked : List Entry} {o : Owned}
   }
 
   pub masks_with_owners : (o' : Owned) → o'.variable_flags ≡ o.variable_flags
-      → ExtendsSymbols o.symbols
-      o'.symbols → (All (λ s. s < length o.variable_flags) o.symbols
-      → All (λ s. s < length o.variable_flags) o'.symbols) → HasMasks nodes stack marked o'
+      → ExtendsSymbols o.symbols o'.symbols → (All (λ s. s < length o.variable_flags) o.symbols →
+      All (λ s. s < length o.variable_flags) o'.symbols) → HasMasks nodes stack marked o'
   masks_with_owners o' variables_stay extends stay_in_range = record {
     stack_masked =
         rw variables_stay (all_masked_by_more o.variable_flags o.symbols o'.symbols (entry_masks

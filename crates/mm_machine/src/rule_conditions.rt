@@ -20,14 +20,14 @@ ghost use Rattle.mm_machine.specs.Masks.{IsDisjointFromMask, AreDisjointMasks};
 ghost use Rattle.mm_machine.specs.Applied.{TestsRule};
 
 use crate::disjoint_cache::DisjointCache;
-use crate::distinct::{DistinctVariables, Segment};
+use crate::distinct::DistinctVariables;
 use crate::entry::Entry;
 use crate::entry_match::premises_match;
 use crate::flat::{SymbolLists, append_body};
 use crate::owners::{OTHERS, Owners};
 use crate::reason::{Reason, StepRefused};
 use mm_database::{Database, Sym};
-use mm_nodes::{Body, Nodes};
+use mm_nodes::{Body, Nodes, Segment};
 use mm_rule::Rule;
 use std::alloc::{AllocError, Allocator};
 
@@ -346,7 +346,7 @@ fn bodies_are_disjoint<A: Allocator>(
 
 /// Whether a symbol is known to be disjoint from all variables of a mask: each has its own bit.
 #[inline(always)]
-fn is_known_disjoint_from_mask<A: Allocator>(
+fn is_disjoint_by_mask<A: Allocator>(
     database: &Database<A>,
     theorem: u32,
     symbol: Sym,
@@ -383,7 +383,7 @@ fn is_known_disjoint_from_mask<A: Allocator>(
 /// Whether all variables of a mask are known to be disjoint from all variables of another: each has
 /// a bit of its own.
 #[inline(always)]
-fn are_known_disjoint_masks<A: Allocator>(
+fn are_disjoint_by_masks<A: Allocator>(
     database: &Database<A>,
     theorem: u32,
     owners: &[Sym],
@@ -411,7 +411,7 @@ fn are_known_disjoint_masks<A: Allocator>(
         if index >= OTHERS || index >= owners.len() {
             return false;
         }
-        if !is_known_disjoint_from_mask(database, theorem, owners[index], owners, second, cache) {
+        if !is_disjoint_by_mask(database, theorem, owners[index], owners, second, cache) {
             return false;
         }
         rest &= !(1u64 << index);
@@ -466,7 +466,7 @@ fn keeps_disjoint<A: Allocator>(
         let second = premises[pair.1 as usize];
         count = count.saturating_add(bit_pairs(first.mask, second.mask));
         if count <= MAX_SYMBOL_PAIRS
-            && are_known_disjoint_masks(
+            && are_disjoint_by_masks(
                 database,
                 theorem,
                 owners.symbols(),

@@ -1,9 +1,8 @@
 -- How the steps and the faults of a compressed proof go on after the last letter of a number.
-use Rattle.std.proofs.Common.{rules, ◌≡◌, ◌∙◌, ℕ, ◌+◌, ◌-◌, ◌*◌, ◌<◌, ◌≤◌, ◌==◌, true, false, List}
-use Rattle.std.proofs.Common.{[], ◌∷◌, ◌++◌, length, Option, Some, None, nat_lt, refl, sym, ap}
-use Rattle.std.proofs.Common.{arith, append_assoc, length-append, length-take, length-drop}
-use Rattle.std.proofs.Common.{leb-true, eqb-true, Result, IfErr, slice_range, get_or, drop, is_some}
-use Rattle.std.proofs.Common.{fold}
+use Rattle.std.proofs.Common.{rules, ◌==◌, true, false, List, ◌++◌, Some, None, refl, arith, IfErr}
+use Rattle.std.proofs.Common.{◌≡◌, ◌∙◌, ◌+◌, ◌-◌, ◌*◌, ◌<◌, ◌≤◌, [], ◌∷◌, sym, ap, drop, fold}
+use Rattle.std.proofs.Common.{ℕ, append_assoc, length-append, length-take, length-drop, slice_range}
+use Rattle.std.proofs.Common.{length, Option, nat_lt, leb-true, eqb-true, Result, get_or, is_some}
 use Rattle.std.proofs.lemmas.Grind.{common_steps}
 use Rattle.std.specs.Result.{IsErrAnd}
 use Rattle.std.proofs.lemmas.List.{drop_more, append-nil}

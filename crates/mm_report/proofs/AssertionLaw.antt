@@ -1,5 +1,5 @@
 -- The lines of assertions, one piece after the other.
-use Rattle.std.proofs.lemmas.Grind.{common_steps}
+use Rattle.std.proofs.lemmas.Grind.{common_steps, flat_map-append}
 use Rattle.std.proofs.Common.{rules, Option, refl, ◌==◌, true≢false, append-nil, ◌≡◌, ◌∙◌, ℕ, suc}
 use Rattle.std.proofs.Common.{◌+◌, ◌<◌, Bool, List, [], ◌∷◌, ◌++◌, length, take, get_or, map, sym}
 use Rattle.std.proofs.Common.{ap, arith, All, zero-add, true, false, cond}
@@ -13,7 +13,6 @@ use Rattle.std.specs.List.{filter, range_with_len}
 use Rattle.std.proofs.lemmas.List.{flat_map_more, take_more}
 use Rattle.std.proofs.lemmas.List.Elements.{All-nil, All-append, All-map, All-filter, All-weaker}
 use Rattle.std.proofs.lemmas.List.Elements.{filter-append}
-use Rattle.std.proofs.lemmas.Grind.{flat_map-append}
 use Rattle.mm_spec.specs.Derivation.{Pair, pair}
 use Rattle.mm_spec.specs.Frame.{pairs_below}
 use Rattle.mm_spec.specs.Statement.{Statement}

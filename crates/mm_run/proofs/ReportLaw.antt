@@ -1,7 +1,8 @@
 -- The report that is written is that of the definitions: a mark stands for a chain of citations.
 use Rattle.std.proofs.Common.{◌≡◌, ◌∙◌, ℕ, suc, ◌<◌, Bool, true, false, ◌||◌, List, [], ◌∷◌, ◌++◌}
 use Rattle.std.proofs.Common.{length, map, get_or, Option, None, refl, sym, ap, subst, arith, ◌↔◌}
-use Rattle.std.proofs.Common.{true≢false, append-nil}
+use Rattle.std.proofs.Common.{append-nil}
+use Rattle.std.proofs.lemmas.Grind.{common_steps}
 use Rattle.std.specs.Prelude.{Decides, codes, flat_map}
 use Rattle.std.specs.List.{AllZip}
 use Rattle.std.proofs.lemmas.List.{get_or-map, length-map}
@@ -22,9 +23,8 @@ use Rattle.mm_spec.proofs.RestsLaw.{rows_of as rows_of_theorems}
 use Rattle.mm_work.specs.Citing.{Citing, HasCitation, theorem_at}
 use Rattle.mm_rows.specs.Marks.{Marks, mark, IsMatrix}
 use Rattle.mm_report.specs.Rows.{report_row_of, rows_of, marks_of}
-use Rattle.mm_report.specs.Reports.{open_theorem_count, report_of}
+use Rattle.mm_report.specs.Reports.{open_theorem_count, report_of, unmarked_report_of}
 use Rattle.mm_report.specs.CitingRows.{citing_rows, citing_rows_of}
-use Rattle.mm_report.specs.Reports.{unmarked_report_of}
 use Rattle.mm_report.specs.Told.{told_of}
 use Rattle.mm_run.specs.Judging.{IsFaultless}
 use Rattle.mm_run.proofs.OutputLaw.{is_output}
@@ -153,10 +153,7 @@ unmarked_is_report request opened axioms names rows citing told no_marks axioms_
   where
     none_of_three : (a b c : Bool) → (a || (b || c)) ≡ false
         → (a ≡ false) × (b ≡ false) × (c ≡ false)
-    none_of_three false false false none = (refl, refl, refl)
-    none_of_three true b c none = absurd (true≢false none)
-    none_of_three false true c none = absurd (true≢false none)
-    none_of_three false false true none = absurd (true≢false none)
+    none_of_three a b c none = grind (arith, common_steps)
 
 -- a report without sections of marks is the output of its text
 pub unmarked_is_output : (request : Request) (d : Contents) (c : Citing) (axioms : List ℕ)
@@ -167,9 +164,8 @@ unmarked_is_output request d c axioms is_faultless axioms_are no_marks =
     let db = d.statements in
     let opened = open_theorem_count request.with_open d axioms in
     let all_complete : AreComplete db =
-    subst AreComplete (sym is_faultless.is_counted.statements_are)
-    (counted_complete request.with_open d.read
-    (reads_complete _ _ d.read None is_faultless.has_no_fault.0)) in
+    subst AreComplete (sym is_faultless.is_counted.statements_are) (counted_complete
+    request.with_open d.read (reads_complete _ _ d.read None is_faultless.has_no_fault.0)) in
     let are_valid : AllAreValid db =
     subst AllAreValid (sym is_faultless.is_counted.statements_are) is_faultless.has_no_fault.1 in
     let rows = rows_of_theorems db request all_complete are_valid (theorems db) in

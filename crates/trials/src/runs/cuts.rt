@@ -48,8 +48,8 @@ fn every_cut_gives_the_same_report(rt: HostRuntime) -> Result<(), AllocError> {
 const WITH_COMMENT: &[u8] =
     b"$c wff |- ( -> ) $.\n$v p q $.\nwp $f wff p $.\nwq $f wff q $.\nwi $a wff ( p -> q ) $.\nax-1 $a |- ( p -> ( q -> p ) ) $.\n$( a $c b $)\nwi2 $p wff ( p -> ( q -> p ) ) $= wp wq wp wi wi $.\n";
 
-// The first text is cut within `$(`, `$c` and `$)`; the second within its first symbol, twice at one
-// place.
+// The first text is cut within `$(`, `$c` and `$)`; the second within its first symbol, twice at
+// one place.
 #[test]
 fn cuts_in_words_give_the_same_report(rt: HostRuntime) -> Result<(), AllocError> {
     let alloc = rt.alloc();

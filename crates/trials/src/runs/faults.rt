@@ -62,8 +62,8 @@ fn faults_of_proofs(rt: HostRuntime) -> Result<(), AllocError> {
     )
 }
 
-/// Proofs of `a1i`, which stand in line 8 from column 41 on (`A1I_UP_TO_PROOF`), and what is written
-/// for them.
+/// Proofs of `a1i`, which stand in line 8 from column 41 on (`A1I_UP_TO_PROOF`), and what is
+/// written for them.
 const PROOFS: [(&[u8], &[u8]); 31] = [
     (b"", b"refused 8:42 E31\n"),
     (b"?", b"refused 8:41 E32\n"),

@@ -1,10 +1,9 @@
 use Rattle.std.proofs.Common.{◌≡◌, ◌∙◌, ◌+◌, ◌-◌, ◌<◌, ℕ, List, length, get_or, refl, sym, ap}
 use Rattle.std.proofs.Common.{arith, replicate, nat_le, nat_lt, nat_eq, ◌&&◌, ◌||◌}
 use Rattle.std.proofs.lemmas.List.{length-replicate, get_or-replicate}
-use Rattle.mm_frame.proofs.ChainsLaw.{no_chains_at_start, no_links_are_linked}
-use Rattle.mm_frame.proofs.ChainsLaw.{chains_for_equal_tests, has_symbol_with_disjoint}
-use Rattle.mm_frame.proofs.ChainsLaw.{has_symbol_without_disjoint, symbol_lt_symbol_count}
-use Rattle.mm_frame.proofs.ChainsLaw.{has_symbol_lt_length, members_below}
+use Rattle.mm_frame.proofs.ChainsLaw.{no_chains_at_start, no_links_are_linked, has_symbol_lt_length}
+use Rattle.mm_frame.proofs.ChainsLaw.{chains_for_equal_tests, symbol_lt_symbol_count, members_below}
+use Rattle.mm_frame.proofs.ChainsLaw.{has_symbol_with_disjoint, has_symbol_without_disjoint}
 use Rattle.mm_spec.specs.Derivation.{is_member}
 use Rattle.mm_spec.specs.Frame.{symbol_names}
 use Rattle.mm_database.specs.DisjointIndex.{has_symbol_by_width}

@@ -31,8 +31,7 @@ loop-variable-preserved g c = λ x y.
     ] in
     passing_with_next_element (λ (z : ℕ). is_higher_variable_in_row b (row_of rows z) z vs at y) vs
     c.loop-variable.variable-index s s x _ _ _ c.loop-variable-test.true c.variable-item.is
-    (c.loop-variable.invariant x y)
-    (step ∙ ap₂ (λ (r : List (ℕ × ℕ)) (l : ℕ). has_pair ps x y
+    (c.loop-variable.invariant x y) (step ∙ ap₂ (λ (r : List (ℕ × ℕ)) (l : ℕ). has_pair ps x y
     || (nat_eq x l && is_higher_variable_in_row b r l vs at y)) c.row-row.ensures
     c.number-low.ensures)
 

@@ -31,9 +31,8 @@ loop-pair-preserved g c = λ x y.
           (sym c.is_active_higher_pair.ensures ∙ w.if-is_active_higher_pair.true)
           (ap (λ v. v.items) w.pairs-is ∙ w.in_ok-push.ensures.items)
       | else-is_active_higher_pair w ↦
-          no_pair_if_failing ps qs low next.0 x y (passes next)
-          (sym c.is_active_higher_pair.ensures ∙ w.if-is_active_higher_pair.false)
-          (ap (λ v. v.items) w.pairs-is)
+          no_pair_if_failing ps qs low next.0 x y (passes next) (sym c.is_active_higher_pair.ensures
+          ∙ w.if-is_active_higher_pair.false) (ap (λ v. v.items) w.pairs-is)
     ] in
     any_with_next_element (λ (p : ℕ × ℕ). nat_eq y p.0 && (nat_eq x low && passes p)) row i (0, 0)
     _ _ _ c.loop-pair-test.true (c.loop-pair.invariant x y) step

@@ -35,10 +35,9 @@ returns g c =
     ∙ rw (← c.blocks-blocks.ensures.blocks_are) (c.in_ok-append_all_active_wide.ensures j y)
     ∙ ap (λ (xs : List (ℕ × ℕ)). has_pair xs j y
     || (is_member variables y && (has_pair ps y j && is_active_local b j k))) c.clear.ensures.items)
-    c.sort_and_dedup_pairs-2.new.pairs.items c.sort_and_dedup_pairs-2.ensures.rising
-    (λ x y. c.sort_and_dedup_pairs-2.ensures.members_stay x y ∙
-    c.in_ok-add_pairs_by_statement.ensures x y
-    ∙ ap (λ (hs : List (ℕ × ℕ)). has_pair c.add_narrow.new.pairs.items x y
+    c.sort_and_dedup_pairs-2.new.pairs.items c.sort_and_dedup_pairs-2.ensures.rising (λ x y.
+    c.sort_and_dedup_pairs-2.ensures.members_stay x y ∙ c.in_ok-add_pairs_by_statement.ensures x y ∙
+    ap (λ (hs : List (ℕ × ℕ)). has_pair c.add_narrow.new.pairs.items x y
     || list_any (λ p. has_later hs p x y) hs) c.deref.ensures.value
     ∙ ap (λ z. z || list_any (λ p. has_later c.sort_and_dedup_pairs.new.pairs.items p x y)
     c.sort_and_dedup_pairs.new.pairs.items)

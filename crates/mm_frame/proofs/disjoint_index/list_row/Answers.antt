@@ -3,8 +3,7 @@ use Rattle.std.proofs.lemmas.Result.{on_ok_weaker}
 use Rattle.mm_database.specs.Pairs.{has_pair}
 use Rattle.mm_database.specs.DisjointIndex.{HaveBlocks, IsRowOfPairs, has_narrow_pair}
 use Rattle.mm_frame.proofs.DisjointRowsLaw.{row_of_equal_tests, higher_have_blocks}
-use Rattle.mm_frame.proofs.DisjointRowsLaw.{chained_in_range}
-use Rattle.mm_frame.proofs.DisjointRowsLaw.{chained_are_higher}
+use Rattle.mm_frame.proofs.DisjointRowsLaw.{chained_in_range, chained_are_higher}
 use Rattle.mm_frame.proofs.disjoint_index.list_row.Goals as goal
 
 pub list_chained-requires-clause-have_indices : goal.list_chained-requires-clause-have_indices

@@ -34,10 +34,9 @@ returns-then-not-is_fitting-clause-tells_match g c =
       | in-Floating w ↦
           typed_tested nodes es parts hs j part_index h is_fitting next_part_index
           w.in-Floating.typecode w.in-Floating.is (w.is_fitting-is ∙
-          w.begins_with_typecode-is_fitting.ensures
-          ∙ ap₂ (λ ns e. bytes_eq (entry_formula ns e) (w.in-Floating.typecode ∷ string_of ns
-          e.body)) stay (w.index-premises-j.is ∙ get_or_default es j w.index-premises-j.result
-          no_entry j_lt_length_es)) w.part_index-is
+          w.begins_with_typecode-is_fitting.ensures ∙ ap₂ (λ ns e. bytes_eq (entry_formula ns e)
+          (w.in-Floating.typecode ∷ string_of ns e.body)) stay (w.index-premises-j.is ∙
+          get_or_default es j w.index-premises-j.result no_entry j_lt_length_es)) w.part_index-is
       | in-Essential+in_ok-is_fitting-in-Essential w ↦
           let n = w.in-Essential.part_count in
           essential_tested nodes es parts hs j part_index h is_fitting next_part_index n
@@ -78,10 +77,9 @@ loop-j-preserved g c =
       | in-Floating w ↦
           typed_tested nodes es parts hs j part_index h is_fitting next_part_index
           w.in-Floating.typecode w.in-Floating.is (w.is_fitting-is ∙
-          w.begins_with_typecode-is_fitting.ensures
-          ∙ ap₂ (λ ns e. bytes_eq (entry_formula ns e) (w.in-Floating.typecode ∷ string_of ns
-          e.body)) stay (w.index-premises-j.is ∙ get_or_default es j w.index-premises-j.result
-          no_entry j_lt_length_es)) w.part_index-is
+          w.begins_with_typecode-is_fitting.ensures ∙ ap₂ (λ ns e. bytes_eq (entry_formula ns e)
+          (w.in-Floating.typecode ∷ string_of ns e.body)) stay (w.index-premises-j.is ∙
+          get_or_default es j w.index-premises-j.result no_entry j_lt_length_es)) w.part_index-is
       | in-Essential+in_ok-is_fitting-in-Essential w ↦
           let n = w.in-Essential.part_count in
           essential_tested nodes es parts hs j part_index h is_fitting next_part_index n

@@ -63,9 +63,9 @@ returns-then-not-are_disjoint-clause-tells_disjoint g c =
       c.if-not-are_disjoint.true,
     )
 
-pub loop-pair-preserved-then-are_known_disjoint_masks :
-    goal.loop-pair-preserved-then-are_known_disjoint_masks
-loop-pair-preserved-then-are_known_disjoint_masks g c =
+pub loop-pair-preserved-then-are_disjoint_by_masks :
+    goal.loop-pair-preserved-then-are_disjoint_by_masks
+loop-pair-preserved-then-are_disjoint_by_masks g c =
     let db = c.args.database.now.statements in
     let w = length (symbol_names db) in
     let vs = c.args.owners.now.variable_flags in
@@ -85,18 +85,15 @@ loop-pair-preserved-then-are_known_disjoint_masks g c =
           (disjoint_if_apart db c.args.theorem vs owners c.requires.are_variables
           (get_or es p.0 no_entry).mask (get_or es p.1 no_entry).mask (body_string_at nodes es p.0)
           (body_string_at nodes es p.1) (subst (λ m. AreDisjointMasks db c.args.theorem owners m
-          (get_or es p.1 no_entry).mask) (ap (λ x. x.mask) (c.index-premises-pair.is
-          ∙ get_or_default es p.0 e no_entry in_range.0)) (subst (λ m. AreDisjointMasks db
-          c.args.theorem
-          owners e.mask m) (ap (λ x. x.mask) (c.index-premises-pair-in-loop-pair.is
-          ∙ get_or_default es p.1 f no_entry in_range.1)) (subst (λ (os : List ℕ). AreDisjointMasks
-          db
+          (get_or es p.1 no_entry).mask) (ap (λ x. x.mask) (c.index-premises-pair.is ∙
+          get_or_default es p.0 e no_entry in_range.0)) (subst (λ m. AreDisjointMasks db
+          c.args.theorem owners e.mask m) (ap (λ x. x.mask) (c.index-premises-pair-in-loop-pair.is ∙
+          get_or_default es p.1 f no_entry in_range.1)) (subst (λ (os : List ℕ). AreDisjointMasks db
           c.args.theorem os e.mask f.mask) c.symbols.ensures
-          (c.are_known_disjoint_masks.ensures.are_apart
-          c.if-are_known_disjoint_masks.true)))) (body_masked vs owners nodes es p.0
-          c.requires.are_masked
-          in_range.0) (body_in_range w nodes es p.0 c.requires.formulas_in_range in_range.0)
-          (body_masked vs owners nodes es p.1 c.requires.are_masked in_range.1)
-          (body_in_range w nodes es p.1 c.requires.formulas_in_range in_range.1));
-      cache = c.are_known_disjoint_masks.ensures.cached_are_disjoint;
+          (c.are_disjoint_by_masks.ensures.are_apart c.if-are_disjoint_by_masks.true))))
+          (body_masked vs owners nodes es p.0 c.requires.are_masked in_range.0) (body_in_range w
+          nodes es p.0 c.requires.formulas_in_range in_range.0) (body_masked vs owners nodes es p.1
+          c.requires.are_masked in_range.1) (body_in_range w nodes es p.1
+          c.requires.formulas_in_range in_range.1));
+      cache = c.are_disjoint_by_masks.ensures.cached_are_disjoint;
     }

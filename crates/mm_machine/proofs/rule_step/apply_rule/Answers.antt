@@ -21,9 +21,8 @@ returns-in-Err-clause-nodes_are_kept g c = search (rules, arith, extends_unchang
 pub returns-in-Err-clause-refusal_is_right : goal.returns-in-Err-clause-refusal_is_right
 returns-in-Err-clause-refusal_is_right g c =
     subst (λ (es : List Entry). IsStepRefusalOf c.in-Err.refused (applied
-    c.args.database.now.statements
-    c.args.theorem c.args.rule.now.assertion (entry_formulas c.args.nodes.now es)))
-    c.deref.ensures.value c.in-Err.ensures.tests_rule
+    c.args.database.now.statements c.args.theorem c.args.rule.now.assertion (entry_formulas
+    c.args.nodes.now es))) c.deref.ensures.value c.in-Err.ensures.tests_rule
 
 pub returns-in-Ok-clause-entries_are : goal.returns-in-Ok-clause-entries_are
 returns-in-Ok-clause-entries_are g c =

@@ -19,12 +19,9 @@ read_all-requires-clause-in_order g c =
 pub returns-clause-steps_are_read : goal.returns-clause-steps_are_read
 returns-clause-steps_are_read g c =
     let labels_begin_with_hypotheses =
-    rw (
-      c.with_expected_capacity-labels.ensures,
-      c.as_slice.ensures.value,
-      c.frame.ensures.hypotheses,
-    ) at
-    c.in_ok-extend_from_slice.ensures.items in
+    rw c.with_expected_capacity-labels.ensures at
+    (rw (c.as_slice.ensures.value, c.frame.ensures.hypotheses) at
+    c.in_ok-extend_from_slice.ensures.items) in
     c.into_steps.ensures
     ∙ read_steps_are_compressed_steps c.in_ok-label_count.ensures.reads labels_begin_with_hypotheses
     (c.in_ok-read_all.ensures.reads.theorem ∙ ap (λ s. s.theorem) c.none-letters.ensures)
@@ -50,12 +47,9 @@ read_all-requires-clause-none_read g c =
 pub returns-clause-has_no_fault : goal.returns-clause-has_no_fault
 returns-clause-has_no_fault g c =
     let labels_begin_with_hypotheses =
-    rw (
-      c.with_expected_capacity-labels.ensures,
-      c.as_slice.ensures.value,
-      c.frame.ensures.hypotheses,
-    ) at
-    c.in_ok-extend_from_slice.ensures.items in
+    rw c.with_expected_capacity-labels.ensures at
+    (rw (c.as_slice.ensures.value, c.frame.ensures.hypotheses) at
+    c.in_ok-extend_from_slice.ensures.items) in
     faults_with_closed_brackets c.args.database.now.statements c.args.theorem c.args.end
     c.in_ok-label_count.ensures.reads labels_begin_with_hypotheses
     ∙ rw (c.none-letters.ensures, c.text.ensures, take_rest) at
@@ -65,12 +59,9 @@ pub returns-in_err-read_all-clause-fault_is_first :
     goal.returns-in_err-read_all-clause-fault_is_first
 returns-in_err-read_all-clause-fault_is_first g c =
     let labels_begin_with_hypotheses =
-    rw (
-      c.with_expected_capacity-labels.ensures,
-      c.as_slice.ensures.value,
-      c.frame.ensures.hypotheses,
-    ) at
-    c.in_ok-extend_from_slice.ensures.items in
+    rw c.with_expected_capacity-labels.ensures at
+    (rw (c.as_slice.ensures.value, c.frame.ensures.hypotheses) at
+    c.in_ok-extend_from_slice.ensures.items) in
     on_same_err c.from_residual-in_err-read_all.result c.in_err-read_all.field-0.0 _
     c.from_residual-in_err-read_all.ensures.1
     (rw (faults_with_closed_brackets c.args.database.now.statements c.args.theorem c.args.end

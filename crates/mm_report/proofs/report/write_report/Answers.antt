@@ -5,8 +5,7 @@ use Rattle.mm_spec.specs.Text.{Bytes}
 use Rattle.mm_spec.specs.Assertion.{label_at}
 use Rattle.mm_spec.specs.Report.{report, section, line}
 use Rattle.mm_report.specs.Rows.{rows_of}
-use Rattle.mm_report.specs.Reports.{marked_part, open_theorem_count, sections_of}
-use Rattle.mm_report.specs.Reports.{text_request}
+use Rattle.mm_report.specs.Reports.{marked_part, open_theorem_count, sections_of, text_request}
 use Rattle.mm_report.specs.Told.{told_of}
 use Rattle.mm_report.specs.Sent.{Sent}
 use Rattle.mm_report.specs.declared.choices.Choice.{Choice}

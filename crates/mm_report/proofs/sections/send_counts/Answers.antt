@@ -19,10 +19,9 @@ loop-row-preserved g c =
     record {
       row_le_rows = omega arith;
       sent =
-          sent_row count_line
-          (λ k. report_row_of c.args.marked.now (slice_index_or c.args.labels.now k []) k)
-          c.loop-row.invariant.sent
-          (rw c.label.ensures at c.send_count_line.ensures);
+          sent_row count_line (λ k. report_row_of c.args.marked.now (slice_index_or
+          c.args.labels.now k []) k) c.loop-row.invariant.sent (rw c.label.ensures at
+          c.send_count_line.ensures);
     }
 
 pub returns : goal.returns

@@ -10,7 +10,6 @@ abbrev pub invariant-loop-row : goal.invariant-loop-row
 invariant-loop-row g l = record {
   row_le_rows : l.row ≤ l.marked.rows;
   sent : Sent (g.W.Write.contents l.fn.to) (g.W.Write.contents l.to) l.fn.sink l.sink
-      (flat_map count_line
-      (map (λ i. report_row_of l.marked (slice_index_or l.labels i []) i) (range_with_len 0
-      l.row)));
+      (flat_map count_line (map (λ i. report_row_of l.marked (slice_index_or l.labels i []) i)
+      (range_with_len 0 l.row)));
 }

@@ -43,8 +43,7 @@ returns-in-Err-Fault g c =
     (subst (λ (ts : List ℕ). HasFault db (get_or ts i 0) c.in-Err-Fault.fault)
     c.theorems-theorems.ensures.theorems
     (subst (λ (e : VerifyRefused). IsVerifyRefusalOf db (get_or c.theorems-theorems.result.now i 0)
-    e)
-    c.in-Err-Fault.field-0-is c.in-Err-Fault.ensures.refusal_is_right)))
+    e) c.in-Err-Fault.field-0-is c.in-Err-Fault.ensures.refusal_is_right)))
 
 pub loop-theorem-preserved : goal.loop-theorem-preserved
 loop-theorem-preserved g c =

@@ -10,12 +10,11 @@ use Rattle.mm_spec.specs.declared.Code.TheVariants.{OpenNumber}
 use Rattle.mm_proof.specs.declared.refused.ProofRefused.TheVariants.{Fault as Faulty}
 use Rattle.mm_proof.specs.Refused.{StartsWith}
 use Rattle.std.proofs.lemmas.List.{drop_more}
-use Rattle.mm_proof.proofs.LettersLaw.{on_same_err, continues_from_start, letter_fault_is_first}
-use Rattle.mm_proof.proofs.LettersLaw.{open_number_is_first_fault, no_fault_at_end}
-use Rattle.mm_proof.proofs.LettersLaw.{continues_at_end, steps_are_all_steps, words_have_letters}
-use Rattle.mm_proof.proofs.LettersLaw.{StandsBefore, stands_before_rest}
-use Rattle.mm_proof.proofs.LettersLaw.{number_with_letters_is_begun}
-use Rattle.mm_proof.proofs.LettersLaw.{number_without_letters_is_not_begun}
+use Rattle.mm_proof.proofs.LettersLaw.{on_same_err, StandsBefore}
+use Rattle.mm_proof.proofs.LettersLaw.{continues_from_start, continues_at_end, steps_are_all_steps}
+use Rattle.mm_proof.proofs.LettersLaw.{letter_fault_is_first, number_without_letters_is_not_begun}
+use Rattle.mm_proof.proofs.LettersLaw.{open_number_is_first_fault, number_with_letters_is_begun}
+use Rattle.mm_proof.proofs.LettersLaw.{no_fault_at_end, words_have_letters, stands_before_rest}
 use Rattle.mm_proof.proofs.letters.LettersRead.read_all.Goals as goal
 
 pub returns-in_err-read_word-clause-fault_is_first :

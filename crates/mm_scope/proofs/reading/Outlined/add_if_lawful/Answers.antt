@@ -9,9 +9,8 @@ use Rattle.mm_scope.specs.Formulas.{judged}
 use Rattle.mm_scope.specs.Scopes.{names_in}
 use Rattle.mm_database.specs.Names.{names_of}
 use Rattle.mm_scope.proofs.KnowsLaw.{least_before_next}
-use Rattle.mm_scope.proofs.NumberedLaw.{declared, symbol_names_no_shorter}
-use Rattle.mm_scope.proofs.NumberedLaw.{declared_names_are_symbol_names, taken_numbers}
-use Rattle.mm_scope.proofs.NumberedLaw.{formulas_with_statement}
+use Rattle.mm_scope.proofs.NumberedLaw.{declared, taken_numbers, formulas_with_statement}
+use Rattle.mm_scope.proofs.NumberedLaw.{symbol_names_no_shorter, declared_names_are_symbol_names}
 use Rattle.mm_scope.proofs.reading.Outlined.add_if_lawful.Goals as goal
 
 pub fault-requires-clause-few_names : goal.fault-requires-clause-few_names

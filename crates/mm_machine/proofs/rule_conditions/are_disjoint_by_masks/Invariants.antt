@@ -3,7 +3,7 @@ use Rattle.mm_machine.specs.declared.owners.TheConstants.{OTHERS}
 use Rattle.mm_machine.specs.DisjointCache.{AreDisjointAt}
 use Rattle.mm_machine.specs.Masks.{IsDisjointFromMask}
 use Rattle.mm_machine.proofs.OwnersLaw.{SoFar}
-use Rattle.mm_machine.proofs.rule_conditions.are_known_disjoint_masks.Given as goal
+use Rattle.mm_machine.proofs.rule_conditions.are_disjoint_by_masks.Given as goal
 
 abbrev pub invariant-loop-bit : goal.invariant-loop-bit
 invariant-loop-bit g l = record {

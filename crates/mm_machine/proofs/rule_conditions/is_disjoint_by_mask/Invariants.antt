@@ -4,7 +4,7 @@ use Rattle.mm_spec.specs.Citation.{context_at}
 use Rattle.mm_machine.specs.declared.owners.TheConstants.{OTHERS}
 use Rattle.mm_machine.specs.DisjointCache.{AreDisjointAt}
 use Rattle.mm_machine.proofs.OwnersLaw.{SoFar}
-use Rattle.mm_machine.proofs.rule_conditions.is_known_disjoint_from_mask.Given as goal
+use Rattle.mm_machine.proofs.rule_conditions.is_disjoint_by_mask.Given as goal
 
 abbrev pub invariant-loop-bit : goal.invariant-loop-bit
 invariant-loop-bit g l = record {
