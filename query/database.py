@@ -26,6 +26,7 @@ if TYPE_CHECKING:
 
 # Counts the forms in which results are kept. A change of what they hold has to change it.
 FORM = 2
+NO_CITATIONS = "the report has no section 'citations'"
 
 
 @dataclass
@@ -43,7 +44,7 @@ class Dependence:
     theorems: list[str]
     marks: Marks
     chosen: Sequence[int]  # for each column that of `marks`
-    whole_graph: Graph | None
+    graph_if_known: Graph | None
     left_out: Callable[[str], str] = lambda label: ""
     """Why an axiom isn't among those chosen, as the end of a sentence."""
 
@@ -127,9 +128,9 @@ class Dependence:
     @property
     def graph(self) -> Graph:
         """The citations. NoAnswer where DATABASE is a report without them."""
-        if self.whole_graph is None:
-            raise NoAnswer(f"{self.name}: the report has no section 'citations'")
-        return self.whole_graph
+        if self.graph_if_known is None:
+            raise NoAnswer(f"{self.name}: {NO_CITATIONS}")
+        return self.graph_if_known
 
 
 @dataclass
@@ -203,7 +204,7 @@ class Database:
 
     @cached_property
     def program(self) -> Program:
-        """What judges it."""
+        """The program that judges it, ready to run."""
         return program.ready()
 
     @cached_property
@@ -257,7 +258,7 @@ class Database:
         """
         found = self.prepared
         if found.cites is None:
-            raise NoAnswer(f"{self.name}: the report has no section 'citations'")
+            raise NoAnswer(f"{self.name}: {NO_CITATIONS}")
         return self.graph_of(found, found.cites)
 
     def graph_of(self, found: Prepared, cites: Lists) -> Graph:

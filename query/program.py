@@ -126,6 +126,7 @@ class Program:
         return total.hexdigest()
 
 
+# packages/files/commands.py has the same, since it can't import this; test_code.py compares them.
 def located(command: str) -> str | None:
     """Where a command is. A folder of PATH that is relative to the working folder doesn't count,
     since whoever fills that folder could bring a command; nor does the working folder itself, in
@@ -174,7 +175,7 @@ def version() -> str:
 
 
 def ready() -> Program:
-    """The same, built where it is a script that does so."""
+    """What `found` finds, built first where it is a script that builds the program."""
     program = found()
     program.prepare()
     return program

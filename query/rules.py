@@ -29,6 +29,8 @@ MENTIONED = re.compile(DISCOURAGED.pattern.encode())
 DISCOURAGED_PROOF = re.compile(r"\(Proof\s+modification\s+is\s+discouraged\.\)")
 MARKED = re.compile(rb"\$\(\s+\$j(?=\s)")
 TOKEN = re.compile(r"'([^']*)'|\"([^\"]*)\"|(;)|([^\s;'\"]+)")
+QUOTED = "'"
+"""Stands for a quoted word: no other word has this sign."""
 MOST_REASONS = 1_000_000
 """So many reasons are remembered at the most."""
 SHOWN_FORMULA = 200
@@ -369,8 +371,8 @@ def usage_in(text: Text, words: list[tuple[int, str, bool]], *, is_ended: bool) 
     line = text.line(words[0][0])
     labels = [word.strip() for _, word, is_quoted in words if is_quoted]
     theorem = labels[0] if labels else ""
-    shape = [word if not is_quoted else "'" for _, word, is_quoted in words]
-    is_right = shape[1:4] == ["'", "avoids", "'"] and set(shape[3:]) == {"'"} and is_ended
+    shape = [QUOTED if is_quoted else word for _, word, is_quoted in words]
+    is_right = shape[1:4] == [QUOTED, "avoids", QUOTED] and set(shape[3:]) == {QUOTED} and is_ended
     yield Usage(line, theorem, Claim(theorem, tuple(labels[1:]), line) if is_right else None)
 
 

@@ -177,6 +177,12 @@ class Text:
         number = bisect_right(self._firsts, assertion.number) - 1
         return number if number >= 0 else None
 
+    def chapter_number(self, assertion: Assertion) -> str | None:
+        """The number of the header under which an assertion stands, such as "2.6.1"; None before
+        the first one."""
+        header = self.header(assertion)
+        return None if header is None else self.headers[header].number
+
     @cached_property
     def _mathboxes(self) -> list[tuple[int, int, str]]:
         """For each mathbox its first assertion, the one after its last, and the name. A header

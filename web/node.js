@@ -7,7 +7,7 @@ import { compile, report, version } from "./library.js";
 import { packWhenAsked } from "./packing.js";
 import { encoded } from "./packer/bytes.js";
 import { page } from "./page.js";
-import { Status } from "./statuses.js";
+import { Exit, Status } from "./statuses.js";
 import { Ending, STDERR, STDOUT, failedBy, join, outOfMemory, piecesOf, sizeOf, writeAll } from "./streams.js";
 
 /**
@@ -42,7 +42,7 @@ async function status(words, assets) {
         writeAll(STDOUT, encoded(line.text));
         return 0;
     }
-    if (line.ends === "misread") throw new Ending(2, line.text);
+    if (line.ends === "misread") throw new Ending(Exit.invalid, line.text);
     const pieces = piecesOf(line.file);
     const answer = await report(module, sizeOf(pieces), (bytes) => join(pieces, bytes()), line.request);
     if (answer.status === Status.noMemory) throw outOfMemory();

@@ -12,14 +12,14 @@ import { sumOf } from "./packer/sum.js";
 import { readText } from "./packer/text.js";
 
 /** @typedef {import("./packer/making.js").Wishes} Wishes */
-/** @typedef {import("./packer/reports.js").Request} Request */
+/** @typedef {import("./packer/reports.js").PageRequest} PageRequest */
 /** @typedef {import("./packer/typesetting.js").Entities} Entities */
 
 /**
  * What a thread is asked for once the text is verified: what stands in the text, `name` being how the page calls it; or
  * the proofs behind a part of it.
- * @typedef {{ name: string, request: Request, report: Uint8Array, wishes: Wishes, entities: Entities }} TextTask
- * @typedef {{ request: Request, report: Uint8Array, behind: number }} ProofTask
+ * @typedef {{ name: string, request: PageRequest, report: Uint8Array, wishes: Wishes, entities: Entities }} TextTask
+ * @typedef {{ request: PageRequest, report: Uint8Array, behind: number }} ProofTask
  */
 
 /**

@@ -12,20 +12,20 @@ import { pageFile } from "./packer/file.js";
 import { NoAnswer, packComparison, sideOf } from "./packer/making.js";
 import { packMarks } from "./packer/pack.js";
 import { ProofPacker } from "./packer/proofs.js";
-import { OddReport } from "./packer/reports.js";
+import { OddReport, PACKED_REPORT } from "./packer/reports.js";
 import { UnreadableText, readText } from "./packer/text.js";
 import { visible } from "./packer/visible.js";
 import { Packing, shared } from "./packing.js";
 import { answerOf } from "./program.js";
-import { Status } from "./statuses.js";
+import { Exit, Status } from "./statuses.js";
 import { Ending, STDOUT, join, outOfMemory, piecesOf, sizeOf, writeAll } from "./streams.js";
 
 /** @typedef {import("./packer/file.js").Shell} Shell */
-/** @typedef {import("./packer/reports.js").Request} Request */
+/** @typedef {import("./packer/reports.js").PageRequest} PageRequest */
 /** @typedef {import("./packing.js").ProofTask} ProofTask */
 /** @typedef {import("./packing.js").TextTask} TextTask */
 /** @typedef {import("./program.js").Said} Said */
-/** @typedef {import("./types.js").Request} Whole */
+/** @typedef {import("./types.js").Request} Request */
 /** @typedef {import("./types.js").Tables} Tables */
 
 /**
@@ -35,7 +35,7 @@ import { Ending, STDOUT, join, outOfMemory, piecesOf, sizeOf, writeAll } from ".
 
 /**
  * What verifies a text, the module or a program, and what is said of faults.
- * @typedef {{ judge: (data: Uint8Array, request: Whole) => Promise<Said>, tables: Tables }} Core
+ * @typedef {{ judge: (data: Uint8Array, request: Request) => Promise<Said>, tables: Tables }} Core
  */
 
 /**
@@ -49,7 +49,7 @@ import { Ending, STDOUT, join, outOfMemory, piecesOf, sizeOf, writeAll } from ".
  * @property {Naming} naming
  * @property {string} title
  * @property {string[]} watched labels of axioms
- * @property {Request} request
+ * @property {PageRequest} request
  * @property {Naming | null} older
  * @property {string | null} program what verifies in place of the module
  */
@@ -112,7 +112,7 @@ function readPageWords(words) {
 
 /** @param {string} why */
 function misread(why) {
-    return new Ending(2, `mmdepend: ${visible(why)}; ${USAGE}\n`);
+    return new Ending(Exit.invalid, `mmdepend: ${visible(why)}; ${USAGE}\n`);
 }
 
 /**
@@ -136,7 +136,7 @@ function loadedText(word) {
         return sharedCopy(gunzipSync(bytes, { maxOutputLength: READING_LIMIT }));
     } catch (error) {
         if (error instanceof RangeError) throw error;
-        throw new Ending(3, `mmdepend: ${visible(word)}: the compressed file is damaged\n`);
+        throw new Ending(Exit.failed, `mmdepend: ${visible(word)}: the compressed file is damaged\n`);
     }
 }
 
@@ -156,7 +156,7 @@ function sharedCopy(bytes) {
  * @param {string} lack such as `has no axiom`
  */
 function lacking(word, lack) {
-    return new Ending(2, `mmdepend: ${visible(word)}: ${lack}\n`);
+    return new Ending(Exit.invalid, `mmdepend: ${visible(word)}: ${lack}\n`);
 }
 
 /**
@@ -187,20 +187,18 @@ async function judgeFor(program, module, size) {
 }
 
 /**
- * Verifies a text. Returns its report with matrix, citations and statements, of all typecodes: chains may lead over other
- * assertions than those of one typecode. Its bytes are shared, and the module's memory is free.
+ * Verifies a text. Returns the report of which the page is packed. Its bytes are shared, and the module's memory is free.
  * @param {string} word how the command line calls it
  * @param {Uint8Array} data
- * @param {Request} request
+ * @param {PageRequest} request
  * @param {Core} core
  */
 async function verifiedReport(word, data, request, { judge, tables }) {
-    const wanted = /** @type {const} */ ({ only: null, report: "matrix,citations,statements", form: 2 });
-    const answer = await judge(data, { ...request, ...wanted });
+    const answer = await judge(data, { ...request, ...PACKED_REPORT });
     if (answer.status === Status.noMemory) throw outOfMemory();
     if (answer.status === Status.refused) {
         const fault = faultOf(data, refusalOf(answer.report));
-        throw new Ending(1, `mmdepend: ${explained(visible(word), fault, tables)}\n`);
+        throw new Ending(Status.refused, `mmdepend: ${explained(visible(word), fault, tables)}\n`);
     }
     if (answer.status !== Status.accepted) throw new Error(`the module answers ${answer.status}`);
     return sharedCopy(answer.report);
@@ -211,7 +209,7 @@ class Database {
     /**
      * @param {Naming} naming
      * @param {Uint8Array} data
-     * @param {Request} request
+     * @param {PageRequest} request
      * @param {Uint8Array} report
      */
     constructor({ word, name }, data, request, report) {
@@ -246,7 +244,7 @@ function seeAxioms(labels, { word, axioms }) {
  * Packs what became of an older release, which is read and verified for that.
  * @param {Naming} naming
  * @param {Database} now
- * @param {Request} request
+ * @param {PageRequest} request
  * @param {Core} core
  * @param {Deflating} blocks
  */
@@ -319,7 +317,7 @@ async function made(asked, tools) {
     } catch (error) {
         // What the module says is read; what another program says may be anything.
         if (asked.program === null || !(error instanceof OddReport || error instanceof UnreadableText)) throw error;
-        throw new Ending(3, `mmdepend: ${visible(asked.program)}: ${visible(error.message)}\n`);
+        throw new Ending(Exit.failed, `mmdepend: ${visible(asked.program)}: ${visible(error.message)}\n`);
     } finally {
         await Promise.all([threads.text.end(), threads.proofs.end()]);
     }

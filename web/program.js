@@ -4,7 +4,7 @@ import { spawnSync } from "node:child_process";
 import { READING_LIMIT } from "./library.js";
 import { isRefusal } from "./packer/faults.js";
 import { visible } from "./packer/visible.js";
-import { Status } from "./statuses.js";
+import { Exit, Status } from "./statuses.js";
 import { Ending, failedBy, outOfMemory } from "./streams.js";
 
 /** @typedef {import("./types.js").Request} Request */
@@ -38,8 +38,8 @@ export function answerOf(path, data, request) {
     const { status, stdout, stderr, error } = spawnSync(path, wordsFor(request), limits);
     if (failedBy(error, "ENOBUFS")) throw outOfMemory();
     // A program that ends before it has read all of the text says more by its status.
-    if (error && !failedBy(error, "EPIPE")) throw new Ending(3, `mmdepend: ${visible(path)} can't be run\n`);
-    if (status === null || !isAnswer(status, stdout)) throw new Ending(3, `mmdepend: ${why(path, status, stderr)}\n`);
+    if (error && !failedBy(error, "EPIPE")) throw new Ending(Exit.failed, `mmdepend: ${visible(path)} can't be run\n`);
+    if (status === null || !isAnswer(status, stdout)) throw new Ending(Exit.failed, `mmdepend: ${why(path, status, stderr)}\n`);
     return { status, report: stdout };
 }
 

@@ -2,6 +2,7 @@
 
 import * as fs from "node:fs";
 import { READING_LIMIT } from "./library.js";
+import { Exit, Status } from "./statuses.js";
 
 /** How many bytes are read or written at a time. */
 const PIECE = 1 << 22;
@@ -63,7 +64,7 @@ export function writeAll(file, bytes) {
         try {
             at += whenReady(() => fs.writeSync(file, bytes, from, count));
         } catch (error) {
-            throw new Ending(3, "mmdepend: writing failed\n");
+            throw new Ending(Exit.failed, "mmdepend: writing failed\n");
         }
     }
 }
@@ -79,7 +80,7 @@ function readInto(file, into, at) {
         return whenReady(() => fs.readSync(file, into, at, Math.min(PIECE, into.length - at), null));
     } catch (error) {
         if (failedBy(error, "EOF")) return 0;
-        throw new Ending(3, "mmdepend: reading failed\n");
+        throw new Ending(Exit.failed, "mmdepend: reading failed\n");
     }
 }
 
@@ -92,7 +93,7 @@ function opened(name) {
     try {
         return fs.openSync(name);
     } catch (error) {
-        throw new Ending(3, "mmdepend: cannot open the file\n");
+        throw new Ending(Exit.failed, "mmdepend: cannot open the file\n");
     }
 }
 
@@ -139,6 +140,7 @@ export function sizeOf(pieces) {
     return pieces.reduce((sum, piece) => sum + piece.length, 0);
 }
 
+/** How the program ends where there is too little memory. */
 export function outOfMemory() {
-    return new Ending(4, "mmdepend: out of memory\n");
+    return new Ending(Status.noMemory, "mmdepend: out of memory\n");
 }

@@ -56,8 +56,7 @@ def row_of(text: Text, one: Assertion | None) -> list[Value]:
     """The label of an assertion, where it stands, and its line."""
     if one is None:
         return [None, None, None]
-    header = text.header(one)
-    where = text.mathbox(one) or (None if header is None else text.headers[header].number)
+    where = text.mathbox(one) or text.chapter_number(one)
     return [one.label, where, text.line(one.place)]
 
 

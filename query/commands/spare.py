@@ -13,7 +13,6 @@ from query.spare.changes import Changer, ProofRange, Wanted
 from query.spare.kept import Change
 from query.spare.judge import judge_changes, rewritten
 from query.spare.rules import UNREAD
-from query.text import Text
 
 COLUMNS = ("how", "theorem", "loses", "replaced", "by", "step", "bytes", "chapter")
 
@@ -154,7 +153,7 @@ def rows_of(database: Database, changes: list[Change]) -> list[list[Value]]:
         if change.proof is None and not change.loses:
             continue
         loses = [axiom for axiom in change.loses if axiom in axioms] or None
-        chapter = chapter_of(database.text, label)
+        chapter = database.text.chapter_number(database.text.by_label[label])
         if change.proof is None:
             rows.append(["cascade", label, loses, None, None, None, None, chapter])
             continue
@@ -165,12 +164,6 @@ def rows_of(database: Database, changes: list[Change]) -> list[list[Value]]:
         for step in steps or [[None, None, None]]:
             rows.append(["direct", label, loses, *step, longer, chapter])
     return rows
-
-
-def chapter_of(text: Text, label: str) -> str | None:
-    """The number of the header under which a theorem stands."""
-    header = text.header(text.by_label[label])
-    return None if header is None else text.headers[header].number
 
 
 def new_statement(database: Database, changes: list[Change], label: str) -> str:

@@ -17,7 +17,7 @@ from query.spare.kept import Change, Replaced
 from query.spare.index import GivenUp
 from query.spare.rules import Rule, bits_of, joined, rules_of
 from query.spare.proofs import Proof, Step, Unfit, run
-from query.spare.search import AllSteps, Search, Shelf, Steps, World
+from query.spare.search import AllSteps, Search, Shelf, Steps, State
 from query.spare.sharing import number_at_once, searched
 from query.spare.writing import Writer, laid_out, line_width
 
@@ -82,8 +82,8 @@ class Changer:
             for row, label in enumerate(prepared.theorems)
         }
         self.bit_of = {label: 1 << bit for bit, label in enumerate(self.columns)}
-        self.world = World(self.rests(prepared.theorems))
-        self.old_rests = list(self.world.rests)
+        self.state = State(self.rests(prepared.theorems))
+        self.old_rests = list(self.state.rests)
         conventions = conventions_of(
             self.rules, wanted.cites_discouraged, wanted.cites_old, wanted.cites_mathboxes
         )
@@ -172,7 +172,7 @@ class Changer:
         cited = self.cites[number]
         if change is not None and change.proof is not None:
             cited = [self.numbers[each] for each in change.labels() if each in self.numbers]
-        self.world.rest(number, self.resting(cited))
+        self.state.rest(number, self.resting(cited))
         return change
 
     def is_sought(self, number: int) -> bool:
@@ -223,8 +223,8 @@ class Changer:
             except GivenUp:
                 is_given_up = True
         if change is None:
-            self.world.rest(number, rests)
-        lost = old & ~self.world.rests[number]
+            self.state.rest(number, rests)
+        lost = old & ~self.state.rests[number]
         if change is None and (lost or is_given_up):
             change = Change(self.names[number], (), is_given_up=is_given_up)
         if change is not None:
@@ -235,7 +235,7 @@ class Changer:
         """The axioms on which rests what cites these."""
         rests = 0
         for number in cited:
-            rests |= self.world.rests[number]
+            rests |= self.state.rests[number]
         return rests
 
     def changed(self, number: int, rests: int, wanted: int) -> Change | None:
@@ -253,7 +253,7 @@ class Changer:
                 return None
             proof = self.proof(number)
             if self.wanted.is_shorter:
-                steps = AllSteps(self.shelf, self.world, rule, proof, rests).shortest()
+                steps = AllSteps(self.shelf, self.state, rule, proof, rests).shortest()
             elif self.needs(proof, wanted):
                 steps = self.best(rule, proof, wanted & rests, rests)
             return None if steps is None else self.made(rule, proof, steps, proof_range, rests)
@@ -271,17 +271,17 @@ class Changer:
 
     def needs(self, proof: Proof, wanted: int) -> bool:
         """Whether a step whose formula is proved cites what rests on these axioms."""
-        rests = self.world.rests
+        rests = self.state.rests
         return any(rests[step.rule] & wanted for steps in proof.steps.values() for step in steps)
 
     def best(self, rule: Rule, proof: Proof, axioms: int, rests: int) -> Steps | None:
         """A proof without as many of the axioms as are found: all at once that it can do without
         one by one, or else one after the other, in the order in which they are wanted."""
         if axioms.bit_count() > 1 and not self.closed:
-            axioms &= AllSteps(self.shelf, self.world, rule, proof, rests).losable()
+            axioms &= AllSteps(self.shelf, self.state, rule, proof, rests).losable()
         if not axioms:
             return None
-        search = Search(self.shelf, self.world, rule, proof)
+        search = Search(self.shelf, self.state, rule, proof)
         search.closed = self.closed
         steps = search.without(axioms, rests)
         if steps is not None or axioms.bit_count() == 1:
@@ -318,7 +318,7 @@ class Changer:
             has_other_steps = change.replaced or left < len(proof.steps)
             if not has_other_steps or len(written) >= len(old):
                 return None
-        self.world.rest(rule.number, new)
+        self.state.rest(rule.number, new)
         return change
 
     def replaced(self, tree: int, step: Step, was: dict[Step, None]) -> Replaced:

@@ -8,7 +8,7 @@ from dataclasses import dataclass
 from query.spare.index import GivenUp
 from query.spare.rules import Rule, Rules
 from query.spare.proofs import Proof, Step
-from query.spare.search import Citable, Search, Shelf, World, step_of
+from query.spare.search import Citable, Search, Shelf, State, step_of
 from query.spare.trees import Binding
 
 HOW = ("same", "weaker", "instance")
@@ -27,8 +27,8 @@ class Repeat:
 class Ways(Search):
     """All steps by which statements before a theorem prove it from its own hypotheses."""
 
-    def __init__(self, shelf: Shelf, world: World, theorem: Rule, proof: Proof) -> None:
-        super().__init__(shelf, world, theorem, proof)
+    def __init__(self, shelf: Shelf, state: State, theorem: Rule, proof: Proof) -> None:
+        super().__init__(shelf, state, theorem, proof)
         self.found: list[Step] = []
         for tree in proof.given:
             self.free.add(tree, None, self.keys[tree])
@@ -73,7 +73,7 @@ class Finder:
     def __init__(self, rules: Rules, shelf: Shelf) -> None:
         self.rules = rules
         self.shelf = shelf
-        self.world = World([])
+        self.state = State([])
         self.given_up: list[str] = []
         """The theorems of which it isn't found what they repeat, since that takes too long."""
 
@@ -82,7 +82,7 @@ class Finder:
         given = {each.number: each.label for each in theorem.essential()}
         proof = Proof(self.rules.scope(theorem), given, theorem.tree, {theorem.tree: {}})
         best: tuple[int, int] | None = None
-        ways = Ways(self.shelf, self.world, theorem, proof)
+        ways = Ways(self.shelf, self.state, theorem, proof)
         for step in ways.alike(theorem.tree):
             if self.how(theorem, step) == "same":
                 return Repeat(theorem.label, self.rules[step.rule].label, "same")

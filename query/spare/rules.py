@@ -73,11 +73,7 @@ class Rules:
         self._parsed: dict[tuple[str, str], int] = {}
         self._known = self.restored(kept) if kept is not None else iter(())
         self._rules: list[Rule] = []
-        typecodes: dict[str, str] = {}
-        self._is_fixed = all(
-            typecodes.setdefault(symbol, typecode) == typecode
-            for typecode, symbol in self.floating.values()
-        )
+        self._has_fixed_typecodes = has_fixed_typecodes(self.floating)
         for assertion in text.assertions:
             self._rules.append(self.rule(assertion))
 
@@ -101,7 +97,7 @@ class Rules:
                 typecode, symbol = each.formula.split(" ")
                 leaves[symbol] = self.grammar.variable(typecode, symbol)
                 slots.append(~self.trees.heads[leaves[symbol]])
-        scope = "" if self._is_fixed else " ".join(each.formula for each in given)
+        scope = "" if self._has_fixed_typecodes else " ".join(each.formula for each in given)
         found = [self.given(assertion, each, leaves, scope) for each in given]
         is_logical = assertion.typecode == self.typecode_proved
         rule = Rule(assertion.number, assertion.label, is_logical, -1, found, slots)
@@ -251,6 +247,12 @@ def floating_of(data: bytes) -> dict[str, tuple[str, str]]:
         label.decode(): (typecode.decode(), variable.decode())
         for label, typecode, variable in FLOATING.findall(without_comments(data))
     }
+
+
+def has_fixed_typecodes(floating: Mapping[str, tuple[str, str]]) -> bool:
+    """Whether no variable has `$f` of several typecodes, so that a formula has the same tree under
+    all hypotheses."""
+    return len({*floating.values()}) == len({variable for _, variable in floating.values()})
 
 
 def joined(numbers: Iterable[int]) -> int:

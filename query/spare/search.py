@@ -62,7 +62,7 @@ class Citable:
     pairs: list[tuple[int, int]]
 
 
-class World:
+class State:
     """On which axioms each assertion rests, while proofs are changed. Axioms are bits."""
 
     def __init__(self, rests: list[int]) -> None:
@@ -204,9 +204,9 @@ class Search:
 
     closed = 0
 
-    def __init__(self, shelf: Shelf, world: World, theorem: Rule, proof: Proof) -> None:
+    def __init__(self, shelf: Shelf, state: State, theorem: Rule, proof: Proof) -> None:
         self.shelf = shelf
-        self.world = world
+        self.state = state
         self.theorem = theorem
         self.proof = proof
         self.trees = shelf.rules.trees
@@ -227,7 +227,7 @@ class Search:
         may_be = self.may_be
         if self.closed:
             may_be = self.shelf.conventions.allowed(self.theorem.number)
-        wanted = may_be & ~self.world.blocked(rests & ~axioms)
+        wanted = may_be & ~self.state.blocked(rests & ~axioms)
         self.flags = flags = f"{wanted:0{self.theorem.number}b}"[::-1]
         self.wanted_closed = wanted & self.closed
         self.candidates, self.tried, self.new = {}, {}, {}
@@ -257,7 +257,7 @@ class Search:
         """A step of the proof itself by which a formula is free."""
         free = self.free.steps
         for step in self.proof.steps[tree]:
-            if not self.world.rests[step.rule] & axioms and all(
+            if not self.state.rests[step.rule] & axioms and all(
                 premise in free for premise in step.premises
             ):
                 return step
@@ -395,14 +395,14 @@ class Search:
 class AllSteps(Search):
     """All steps by which the formulas of a proof follow from one another, its own and others."""
 
-    def __init__(self, shelf: Shelf, world: World, theorem: Rule, proof: Proof, rests: int) -> None:
-        super().__init__(shelf, world, theorem, proof)
+    def __init__(self, shelf: Shelf, state: State, theorem: Rule, proof: Proof, rests: int) -> None:
+        super().__init__(shelf, state, theorem, proof)
         self.rests = rests
         self.steps: dict[int, dict[Step, None]] = {}
         for tree in self.keys:
             self.free.add(tree, None, self.keys[tree])
         self.tree = -1
-        wanted = self.may_be & ~world.blocked(rests)
+        wanted = self.may_be & ~state.blocked(rests)
         flags = f"{wanted:0{theorem.number}b}"[::-1]
         for self.tree in proof.steps:
             self.steps[self.tree] = dict(proof.steps[self.tree])
@@ -417,7 +417,7 @@ class AllSteps(Search):
 
     def losable(self) -> int:
         """The axioms that the theorem can do without, each of them alone."""
-        rests = self.world.rests
+        rests = self.state.rests
         resting = dict.fromkeys(self.steps, self.rests)
         resting.update(dict.fromkeys(self.proof.given, 0))
         is_changed = True

@@ -17,7 +17,7 @@ from typing import Protocol
 from query import system
 from query.parallel import Task, begun
 from query.spare.kept import Change, to_fields, from_fields
-from query.spare.search import World
+from query.spare.search import State
 
 STRETCH = 50
 """So many theorems that are searched are one piece of work."""
@@ -37,10 +37,10 @@ class Found:
 
 class Searching(Protocol):
     """What is shared. `old_rests` are the axioms on which each assertion rests at first, and
-    `world` has those on which it rests now."""
+    `state` has those on which it rests now."""
 
     old_rests: list[int]
-    world: World
+    state: State
 
     def is_sought(self, number: int) -> bool:
         """Whether a theorem may be searched."""
@@ -96,7 +96,7 @@ def searched(search: Searching, numbers: Sequence[int], at_once: int) -> Iterato
 
 def start(search: Searching, stretch: Stretch) -> None:
     """Lets a process search a stretch. Where there can't be another one, this one will."""
-    stretch.before = len(search.world.changed)
+    stretch.before = len(search.state.changed)
     try:
         stretch.task = begun(partial(to_json, search, stretch.numbers))
     except OSError:
@@ -108,7 +108,7 @@ def to_json(search: Searching, numbers: Sequence[int]) -> bytes:
     found = {}
     for number in numbers:
         change = search.change(number)
-        rests = search.world.rests[number]
+        rests = search.state.rests[number]
         if change is not None or rests != search.old_rests[number]:
             fields = None if change is None else to_fields(change)
             found[number] = [hex(rests), fields]
@@ -129,15 +129,15 @@ def taken(search: Searching, stretch: Stretch) -> Iterator[Change | None]:
         yield from map(search.change, stretch.numbers)
         return
     found = from_json(stretch.task.result())
-    others = set(search.world.changed[stretch.before :])
+    others = set(search.state.changed[stretch.before :])
     for number in stretch.numbers:
         one = found.get(number, Found(search.old_rests[number], None))
         if others and search.may_differ(number, others):
             yield search.change(number)
-            if search.world.rests[number] != one.rests:
+            if search.state.rests[number] != one.rests:
                 others.add(number)
         else:
-            search.world.rest(number, one.rests)
+            search.state.rest(number, one.rests)
             yield one.change
 
 

@@ -166,18 +166,22 @@ class CommandLine(World):
         self.assertEqual(self.query("same", "small.mm", "wi2", "--format=json").rows(), [])
 
     def test_hostile_labels(self) -> None:
-        world = invented(random.Random(3), 10, HOSTILE)
-        self.write("hostile.mm", world.text)
+        database = invented(random.Random(3), 10, HOSTILE)
+        self.write("hostile.mm", database.text)
         for label in HOSTILE:
-            wanted = [axiom for axiom in world.axioms if axiom in world.rests(label) | {label}]
+            wanted = [
+                axiom for axiom in database.axioms if axiom in database.rests(label) | {label}
+            ]
             self.assertEqual(self.answers("rests", "hostile.mm", "--", label), wanted)
-            self.assertEqual(self.answers("falls", "hostile.mm", "--", label), world.users(label))
+            self.assertEqual(
+                self.answers("falls", "hostile.mm", "--", label), database.users(label)
+            )
             done = self.query("falls", "hostile.mm", "--format=json", "--", label)
-            self.assertEqual([row["theorem"] for row in done.rows()], world.users(label))
+            self.assertEqual([row["theorem"] for row in done.rows()], database.users(label))
         for form in ("dot", "graphml", "edges"):
             done = self.query("graph", "hostile.mm", f"--as={form}")
             self.assertEqual((done.status, done.err), (0, ""))
-            for label in world.cites:
+            for label in database.cites:
                 self.assertIn(label, done.out)
 
     def test_a_label_is_never_an_option(self) -> None:

@@ -1,4 +1,5 @@
-"""The code itself: formatted, typed, in small functions. What is installed of Debian is asked."""
+"""The code itself: formatted, typed, in small functions, what stands twice the same, and its
+packages named. What is installed of Debian is asked."""
 
 import ast
 import os
@@ -131,10 +132,6 @@ class Code(unittest.TestCase):
                     self.assertLessEqual(lines, MOST_LINES, f"{path.name}: {node.name}")
 
 
-if __name__ == "__main__":
-    unittest.main()
-
-
 class Copies(unittest.TestCase):
     """What stands twice, since one place can't import the other, is the same."""
 
@@ -168,3 +165,7 @@ class Packages(unittest.TestCase):
         self.assertTrue(needed)
         for need in sorted(needed):
             self.assertEqual(installed[need], told.get(need, need), need)
+
+
+if __name__ == "__main__":
+    unittest.main()

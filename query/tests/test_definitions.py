@@ -7,9 +7,9 @@ import unittest
 from collections.abc import Sequence
 
 from query.definitions import Definitions
-from query.grammar import Grammar, NotRead, FormulaReader, Tree
+from query.grammar import STEPS, STEPS_OF_SYMBOL, FormulaReader, Grammar, NotRead, Tree
 from query.tests.repositories import changed
-from query.tests.world import DATABASES, World, program, database_text
+from query.tests.world import DATABASES, World, database_text, needs_program
 
 LOGIC = """$c |- wff class setvar ( ) <-> -> A. = e. { | } T. E. C_ Foo F/ [ / ] $.
 $v ph ps x y z A B C $.
@@ -143,7 +143,7 @@ class Rules(World):
         self.assertEqual([row.split("\t")[0] for row in rows[1:]], ["df-sb", "df-ss"])
 
 
-@unittest.skipUnless(program(), "the program isn't built")
+@needs_program
 class RealDatabases(unittest.TestCase):
     """set.mm, iset.mm and nf.mm. `conventions` names the four definitions for which the rules are
     too strict."""
@@ -228,8 +228,6 @@ class Counted:
 class Trees(unittest.TestCase):
     """Grammars made by chance; each formula has the tree that trying everything finds."""
 
-    VARIABLES = VARIABLES
-
     def test_by_chance(self) -> None:
         chance = random.Random(4)
         counts = {"one tree": 0, "two ways": 0, "isn't built": 0, "not the same": 0}
@@ -284,11 +282,11 @@ class Trees(unittest.TestCase):
     def test_long_formulas(self) -> None:
         """Nothing is recursive, and a formula that takes too long is given up."""
         grammar = Grammar()
-        grammar.add("n", "p", ["a", "P"], self.VARIABLES)
+        grammar.add("n", "p", ["a", "P"], VARIABLES)
         deep = ["a"] * 20_000 + ["P"]
-        self.assertEqual(len(grammar.tree("p", deep, self.VARIABLES).rules), 20_000)
-        grammar.add("two", "p", ["P", "P"], self.VARIABLES)
-        reader = FormulaReader(grammar, ["P"] * 3000, self.VARIABLES)
+        self.assertEqual(len(grammar.tree("p", deep, VARIABLES).rules), 20_000)
+        grammar.add("two", "p", ["P", "P"], VARIABLES)
+        reader = FormulaReader(grammar, ["P"] * 3000, VARIABLES)
         with self.assertRaisesRegex(NotRead, "too long"):
             reader.tree("p")
         self.assertLess(reader.left, 0)
@@ -324,7 +322,7 @@ class Trees(unittest.TestCase):
             else:
                 with self.assertRaisesRegex(NotRead, told):
                     reader.tree("p")
-            self.assertLessEqual(before, 2000 + 20 * len(symbols))
+            self.assertLessEqual(before, STEPS + STEPS_OF_SYMBOL * len(symbols))
 
 
 if __name__ == "__main__":

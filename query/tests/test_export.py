@@ -39,21 +39,25 @@ class Export(World):
 
     def test_by_chance(self) -> None:
         for seed in range(5):
-            world = invented(random.Random(seed))
-            self.write("chance.mm", world.text)
+            database = invented(random.Random(seed))
+            self.write("chance.mm", database.text)
             tables = self.tables("chance.mm", "--all")
             labels = [row[0] for row in tables.execute("SELECT label FROM statement ORDER BY id")]
-            self.assertEqual(sorted(labels), sorted(world.labels()))
+            self.assertEqual(sorted(labels), sorted(database.labels()))
             names = "JOIN statement AS a ON a.id = {} JOIN statement AS b ON b.id = {}"
             query = f"SELECT a.label, b.label FROM citation {names.format('citing', 'cited')}"
-            wanted = {(theorem, cited) for theorem, all in world.cites.items() for cited in all}
+            wanted = {(theorem, cited) for theorem, all in database.cites.items() for cited in all}
             self.assertEqual(set(tables.execute(query)), wanted)
             query = f"SELECT a.label, b.label FROM mark {names.format('theorem', 'axiom')}"
-            axioms = {*world.axioms, *world.syntax}
-            wanted = {(each, axiom) for each in world.cites for axiom in world.rests(each) & axioms}
+            axioms = {*database.axioms, *database.syntax}
+            wanted = {
+                (each, axiom) for each in database.cites for axiom in database.rests(each) & axioms
+            }
             self.assertEqual(set(tables.execute(query)), wanted)
             kinds = dict(tables.execute("SELECT label, kind FROM statement"))
-            self.assertEqual({each for each in kinds if kinds[each] == "theorem"}, set(world.cites))
+            self.assertEqual(
+                {each for each in kinds if kinds[each] == "theorem"}, set(database.cites)
+            )
 
     def test_columns(self) -> None:
         self.write("parts.mm", PARTS)

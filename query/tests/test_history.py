@@ -230,7 +230,8 @@ class Revisions(History):
 
 
 class Kept(History):
-    """What is known of a revision is kept, and what somebody else put there isn't believed."""
+    """What is known of a revision is kept, and what somebody else put there isn't believed. On
+    `ax-ac2` rest two theorems of BASE, none where FREED changed it, and two again with ADDED."""
 
     def setUp(self) -> None:
         super().setUp()

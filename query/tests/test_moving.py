@@ -29,12 +29,12 @@ class Moved(World):
         moved = refused = 0
         for seed in range(3):
             chance = random.Random(seed)
-            world = invented(chance, chance.randint(4, 8))
-            path = str(self.folder / self.write(f"{seed}.mm", world.text))
-            lines = world.text.splitlines()
-            labels = world.axioms + world.theorems()
+            database = invented(chance, chance.randint(4, 8))
+            path = str(self.folder / self.write(f"{seed}.mm", database.text))
+            lines = database.text.splitlines()
+            labels = database.axioms + database.theorems()
             of = {label: next(line for line in lines if f" {label} $" in line) for label in labels}
-            for theorem in world.theorems():
+            for theorem in database.theorems():
                 for place in chance.sample(labels, 2):
                     if place == theorem:
                         continue
@@ -69,17 +69,17 @@ class Moved(World):
 
     def test_after(self) -> None:
         for seed in range(3):
-            world = invented(random.Random(seed), 7)
-            path = str(self.folder / self.write(f"{seed}.mm", world.text))
+            database = invented(random.Random(seed), 7)
+            path = str(self.folder / self.write(f"{seed}.mm", database.text))
             order = [line.split("\t")[-1] for line in self.answers("order", path, "--format=tsv")][
                 1:
             ]
-            for theorem in world.theorems():
-                cited = sorted(world.cites[theorem], key=order.index)
+            for theorem in database.theorems():
+                cited = sorted(database.cites[theorem], key=order.index)
                 [[what, label, where, line]] = asked("move", path, theorem)
                 self.assertEqual((what, label), ("after", cited[-1] if cited else ""))
                 if cited:
-                    self.assertIn(f" {label} $", world.text.splitlines()[int(line) - 1])
+                    self.assertIn(f" {label} $", database.text.splitlines()[int(line) - 1])
                     self.assertEqual(where, "")
 
     def test_where(self) -> None:

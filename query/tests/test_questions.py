@@ -28,64 +28,64 @@ class Questions(World):
         patch.start()
         self.addCleanup(patch.stop)
 
-    def worlds(self, count: int = 12) -> list[tuple[Invented, str, random.Random]]:
+    def databases(self, count: int = 12) -> list[tuple[Invented, str, random.Random]]:
         """Databases, each with its path and what chooses in it."""
         found = []
         for seed in range(count):
             chance = random.Random(seed)
             labels = random.Random(seed).sample(HOSTILE, len(HOSTILE)) if seed % 3 == 2 else None
-            world = invented(chance, chance.randint(4, 10), labels)
-            self.write(f"{seed}.mm", world.text)
-            found.append((world, str(self.folder / f"{seed}.mm"), chance))
+            database = invented(chance, chance.randint(4, 10), labels)
+            self.write(f"{seed}.mm", database.text)
+            found.append((database, str(self.folder / f"{seed}.mm"), chance))
         return found
 
     def test_rests(self) -> None:
-        for world, path, _ in self.worlds():
-            for label in world.labels():
-                rests = world.rests(label) | ({label} if label not in world.cites else set())
-                logic = [axiom for axiom in world.axioms if axiom in rests]
-                every = [axiom for axiom in world.syntax + world.axioms if axiom in rests]
-                theorems = [theorem for theorem in world.cites if theorem in rests - {label}]
+        for database, path, _ in self.databases():
+            for label in database.labels():
+                rests = database.rests(label) | ({label} if label not in database.cites else set())
+                logic = [axiom for axiom in database.axioms if axiom in rests]
+                every = [axiom for axiom in database.syntax + database.axioms if axiom in rests]
+                theorems = [theorem for theorem in database.cites if theorem in rests - {label}]
                 self.assertEqual(first(asked("rests", path, "--", label)), logic)
                 self.assertEqual(first(asked("rests", "--all", path, "--", label)), every)
                 self.assertEqual(first(asked("rests", "--theorems", path, "--", label)), theorems)
 
     def test_rests_by_the_logical_part(self) -> None:
         tried = 0
-        for world, path, _ in self.worlds():
-            for label in world.cites:
-                rests = world.rests(label, True)
-                every = [axiom for axiom in world.syntax + world.axioms if axiom in rests]
+        for database, path, _ in self.databases():
+            for label in database.cites:
+                rests = database.rests(label, True)
+                every = [axiom for axiom in database.syntax + database.axioms if axiom in rests]
                 words = ("rests", "--all", "--essential", path, "--", label)
                 self.assertEqual(first(asked(*words)), every)
-                tried += rests != world.rests(label)
+                tried += rests != database.rests(label)
         self.assertGreater(tried, 5)
 
     def test_rests_of_several(self) -> None:
-        for world, path, chance in self.worlds(6):
-            labels = chance.sample(world.theorems(), 3)
-            rests = set().union(*(world.rests(label) for label in labels))
-            wanted = [axiom for axiom in world.axioms if axiom in rests]
+        for database, path, chance in self.databases(6):
+            labels = chance.sample(database.theorems(), 3)
+            rests = set().union(*(database.rests(label) for label in labels))
+            wanted = [axiom for axiom in database.axioms if axiom in rests]
             rows = asked("rests", path, "--", *labels)
             self.assertEqual(first(rows), wanted)
             for axiom, whose in rows:
-                mine = [label for label in labels if axiom in world.rests(label)]
+                mine = [label for label in labels if axiom in database.rests(label)]
                 self.assertEqual(whose, " ".join(mine))
 
     def test_falls(self) -> None:
-        for world, path, chance in self.worlds():
-            users = {label: set(world.users(label)) for label in world.labels()}
-            for label in world.labels():
-                wanted = [each for each in world.cites if each in users[label]]
+        for database, path, chance in self.databases():
+            users = {label: set(database.users(label)) for label in database.labels()}
+            for label in database.labels():
+                wanted = [each for each in database.cites if each in users[label]]
                 self.assertEqual(first(asked("falls", path, "--", label)), wanted)
             for _ in range(6):
-                one, two, other = chance.sample(world.labels(), 3)
+                one, two, other = chance.sample(database.labels(), 3)
                 for word, both in (
                     ("--any-of", users[one] | users[two]),
                     ("--all-of", users[one] & users[two]),
                 ):
                     words = ("falls", path, word, f"--without={other}", "--", one, two)
-                    wanted = [each for each in world.cites if each in both - users[other]]
+                    wanted = [each for each in database.cites if each in both - users[other]]
                     rows = asked(*words)
                     self.assertEqual(first(rows), wanted)
                     for each, on in rows:
@@ -93,34 +93,34 @@ class Questions(World):
                         self.assertEqual(on, " ".join(resting))
 
     def test_cites_and_cited_by(self) -> None:
-        for world, path, chance in self.worlds():
-            for label in world.labels():
+        for database, path, chance in self.databases():
+            for label in database.labels():
                 self.assertEqual(
-                    second(asked("cites", path, "--", label)), world.cites.get(label, [])
+                    second(asked("cites", path, "--", label)), database.cites.get(label, [])
                 )
-                users = [each for each in world.cites if label in world.cites[each]]
+                users = [each for each in database.cites if label in database.cites[each]]
                 self.assertEqual(first(asked("cited-by", path, "--", label)), users)
-                on = chance.choice(world.labels())
+                on = chance.choice(database.labels())
                 brings = [
                     each
-                    for each in world.cites.get(label, [])
-                    if each == on or on in world.rests(each)
+                    for each in database.cites.get(label, [])
+                    if each == on or on in database.rests(each)
                 ]
                 found = second(asked("cites", path, f"--on={on}", "--", label))
                 self.assertEqual(found, brings)
             uncited = [
                 label
-                for label in world.cites
-                if not any(label in cited for cited in world.cites.values())
+                for label in database.cites
+                if not any(label in cited for cited in database.cites.values())
             ]
             self.assertEqual(first(asked("uncited", path)), uncited)
 
     def test_why(self) -> None:
         tried = 0
-        for world, path, chance in self.worlds():
+        for database, path, chance in self.databases():
             for _ in range(12):
-                label, on = chance.choice(world.theorems()), chance.choice(world.labels())
-                chains = all_chains(world, label, on) if label != on else []
+                label, on = chance.choice(database.theorems()), chance.choice(database.labels())
+                chains = all_chains(database, label, on) if label != on else []
                 with mock.patch("query.context.Context.tell") as tell:
                     chain = first(asked("why", path, "--", label, on))
                     edges = asked("why", path, "--all", "--", label, on)
@@ -138,21 +138,23 @@ class Questions(World):
 
     def test_way_out(self) -> None:
         tried = 0
-        for world, path, chance in self.worlds(8):
+        for database, path, chance in self.databases(8):
             for _ in range(4):
-                label, on = chance.choice(world.theorems()), chance.choice(world.labels())
+                label, on = chance.choice(database.theorems()), chance.choice(database.labels())
                 rows = asked("way-out", path, "--", label, on)
-                if on not in world.rests(label):
+                if on not in database.rests(label):
                     self.assertEqual(rows, [])
                     continue
-                size = smallest_cut(world, label, on)
+                size = smallest_cut(database, label, on)
                 for word in ("first", "last"):
                     cut = {(row[2], row[3]) for row in rows if row[1] == word}
                     self.assertEqual(len(cut), size)
-                    self.assertFalse(still_rests(world, label, on, cut))
-                between = {each for chain in all_chains(world, label, on) for each in chain}
+                    self.assertFalse(still_rests(database, label, on, cut))
+                between = {each for chain in all_chains(database, label, on) for each in chain}
                 applies = [
-                    each for each in world.cites if each in between and on in world.cites[each]
+                    each
+                    for each in database.cites
+                    if each in between and on in database.cites[each]
                 ]
                 self.assertEqual([row[2] for row in rows if row[1] == "applies"], applies)
                 self.assertEqual({row[0] for row in rows}, {label})
@@ -161,14 +163,14 @@ class Questions(World):
 
     def test_way_out_of_all(self) -> None:
         tried = 0
-        for world, path, _ in self.worlds(8):
-            edges = [(one, cited) for one in world.cites for cited in world.cites[one]]
-            for on in world.axioms:
+        for database, path, _ in self.databases(8):
+            edges = [(one, cited) for one in database.cites for cited in database.cites[one]]
+            for on in database.axioms:
                 rows: dict[str, list[list[str]]] = {}
                 for label, *row in asked("way-out", path, "--", on):
                     rows.setdefault(label, []).append(row)
-                for label in world.users(on):
-                    single = [e for e in edges if not still_rests(world, label, on, {e})]
+                for label in database.users(on):
+                    single = [e for e in edges if not still_rests(database, label, on, {e})]
                     self.assertEqual(label in rows, bool(single))
                     if single:
                         self.assertEqual([row[0] for row in rows[label]], ["first", "last"])
@@ -180,11 +182,11 @@ class Questions(World):
 
     def test_frees(self) -> None:
         tried = 0
-        for world, path, chance in self.worlds(20):
-            on = chance.choice(world.labels())
+        for database, path, chance in self.databases(20):
+            on = chance.choice(database.labels())
             numbers = {}
-            for label in world.users(on):
-                wanted = freed(world, on, {label})
+            for label in database.users(on):
+                wanted = freed(database, on, {label})
                 self.assertEqual(second(asked("frees", path, "--", on, label)), wanted)
                 numbers[label] = len(wanted)
                 tried += len(wanted) > 1
@@ -192,8 +194,8 @@ class Questions(World):
             self.assertEqual({label: int(count) for count, label in most}, numbers)
             counts = [int(count) for count, _ in most]
             self.assertEqual(counts, sorted(counts, reverse=True))
-            some = chance.sample(world.theorems(), 2)
-            wanted = freed(world, on, set(some))
+            some = chance.sample(database.theorems(), 2)
+            wanted = freed(database, on, set(some))
             found = asked("frees", path, "--", on, *some)
             self.assertEqual(second(found), wanted)
             self.assertEqual(
@@ -204,13 +206,13 @@ class Questions(World):
     def test_keep(self) -> None:
         """What is kept is as an axiom that is given up together with the one that is asked for."""
         tried = 0
-        for world, path, chance in self.worlds(20):
-            on = chance.choice(world.labels())
-            users = world.users(on)
+        for database, path, chance in self.databases(20):
+            on = chance.choice(database.labels())
+            users = database.users(on)
             if len(users) < 3:
                 continue
             kept = chance.choice(users)
-            cites = {**world.cites, kept: [on]}
+            cites = {**database.cites, kept: [on]}
             keep = f"--keep={kept}"
             others = [label for label in users if label != kept]
             numbers = {}
@@ -234,14 +236,14 @@ class Questions(World):
         self.assertGreater(tried, 3)
 
     def test_top(self) -> None:
-        for world, path, _ in self.worlds():
-            sizes = [(len(world.users(axiom)), axiom) for axiom in world.axioms]
+        for database, path, _ in self.databases():
+            sizes = [(len(database.users(axiom)), axiom) for axiom in database.axioms]
             best = sorted(sizes, key=lambda pair: -pair[0])[:2]
             found = asked("top", path, "2")
             self.assertEqual(found, [[str(count), label] for count, label in best])
             heavy = [
-                (sum(axiom in world.rests(label) for axiom in world.axioms), label)
-                for label in world.cites
+                (sum(axiom in database.rests(label) for axiom in database.axioms), label)
+                for label in database.cites
             ]
             best = sorted(heavy, key=lambda pair: -pair[0])[:3]
             found = asked("top", path, "--theorems", "3")
@@ -250,43 +252,43 @@ class Questions(World):
             self.assertEqual(asked("top", path, "--below", "3"), few)
 
     def test_within_and_same(self) -> None:
-        for world, path, chance in self.worlds():
+        for database, path, chance in self.databases():
             logic = {
-                label: {axiom for axiom in world.axioms if axiom in world.rests(label)}
-                for label in world.cites
+                label: {axiom for axiom in database.axioms if axiom in database.rests(label)}
+                for label in database.cites
             }
-            allowed = set(chance.sample(world.axioms, 2))
-            wanted = [label for label in world.cites if logic[label] <= allowed]
+            allowed = set(chance.sample(database.axioms, 2))
+            wanted = [label for label in database.cites if logic[label] <= allowed]
             self.assertEqual(first(asked("within", path, "--", *allowed)), wanted)
-            label = chance.choice(world.theorems())
+            label = chance.choice(database.theorems())
             same = [
-                other for other in world.cites if other != label and logic[other] == logic[label]
+                other for other in database.cites if other != label and logic[other] == logic[label]
             ]
             self.assertEqual(first(asked("same", path, "--", label)), same)
 
     def test_graph(self) -> None:
-        for world, path, chance in self.worlds(6):
-            edges = [[one, cited] for one in world.cites for cited in world.cites[one]]
+        for database, path, chance in self.databases(6):
+            edges = [[one, cited] for one in database.cites for cited in database.cites[one]]
             found = [line[0].split(" ") for line in asked("graph", path, "--as", "edges")]
             self.assertEqual(found, edges)
-            label, on = chance.choice(world.theorems()), chance.choice(world.axioms)
-            below = world.rests(label) | {label}
+            label, on = chance.choice(database.theorems()), chance.choice(database.axioms)
+            below = database.rests(label) | {label}
             found = [line[0].split(" ") for line in asked("graph", path, "--as=edges", "--", label)]
             self.assertEqual(found, [edge for edge in edges if edge[0] in below])
-            chains = all_chains(world, label, on)
+            chains = all_chains(database, label, on)
             pairs = {pair for chain in chains for pair in itertools.pairwise(chain)}
             lines = asked("graph", path, "--as=edges", "--", label, on)
             self.assertEqual({tuple(line[0].split(" ")) for line in lines}, pairs)
 
 
-def all_chains(world: Invented, label: str, on: str) -> list[list[str]]:
+def all_chains(database: Invented, label: str, on: str) -> list[list[str]]:
     """All chains of citations from one assertion to another."""
     if label == on:
         return [[on]]
     return [
         [label, *rest]
-        for cited in world.cites.get(label, [])
-        for rest in all_chains(world, cited, on)
+        for cited in database.cites.get(label, [])
+        for rest in all_chains(database, cited, on)
     ]
 
 
@@ -313,17 +315,17 @@ def kept_freed(cites: dict[str, list[str]], on: str, kept: str, again: set[str])
     ]
 
 
-def still_rests(world: Invented, label: str, on: str, gone: set[tuple[str, str]]) -> bool:
+def still_rests(database: Invented, label: str, on: str, gone: set[tuple[str, str]]) -> bool:
     """Whether a theorem rests on an assertion without some of the citations."""
     return any(
-        (label, cited) not in gone and (cited == on or still_rests(world, cited, on, gone))
-        for cited in world.cites.get(label, [])
+        (label, cited) not in gone and (cited == on or still_rests(database, cited, on, gone))
+        for cited in database.cites.get(label, [])
     )
 
 
-def smallest_cut(world: Invented, label: str, on: str) -> int:
+def smallest_cut(database: Invented, label: str, on: str) -> int:
     """How many citations have to go, at least."""
-    chains = [list(itertools.pairwise(chain)) for chain in all_chains(world, label, on)]
+    chains = [list(itertools.pairwise(chain)) for chain in all_chains(database, label, on)]
     edges = {edge for chain in chains for edge in chain}
     for size in range(1, len(edges) + 1):
         for some in itertools.combinations(edges, size):
@@ -332,10 +334,10 @@ def smallest_cut(world: Invented, label: str, on: str) -> int:
     return 0
 
 
-def freed(world: Invented, on: str, again: set[str]) -> list[str]:
+def freed(database: Invented, on: str, again: set[str]) -> list[str]:
     """What no longer rests on an assertion where these theorems cite nothing that does."""
-    gone = {(label, cited) for label in again for cited in world.cites[label]}
-    return [label for label in world.users(on) if not still_rests(world, label, on, gone)]
+    gone = {(label, cited) for label in again for cited in database.cites[label]}
+    return [label for label in database.users(on) if not still_rests(database, label, on, gone)]
 
 
 if __name__ == "__main__":

@@ -362,8 +362,8 @@ class ByChance(World):
                     continue
                 rule = changer.rules[one.number]
                 proof = run(changer.rules, changer.numbers, rule, changer.text.proof(one))
-                rests = changer.world.rests[one.number]
-                all_steps = AllSteps(changer.shelf, changer.world, rule, proof, rests)
+                rests = changer.state.rests[one.number]
+                all_steps = AllSteps(changer.shelf, changer.state, rule, proof, rests)
                 found = all_steps.losable()
                 for axiom in before[one.label]:
                     is_lost = bool(found & changer.bit_of[axiom])

@@ -23,7 +23,7 @@ from query.tests.commands import (
     keep_in_git,
     words_of,
 )
-from query.tests.world import MMQUERY, Done, World, program
+from query.tests.world import MMQUERY, Done, World, needs_program
 
 LIMITS = (0, 1, 100, 4096)
 
@@ -299,7 +299,7 @@ def wait_for(is_so: Callable[[], bool], seconds: float = 20) -> None:
         time.sleep(0.02)
 
 
-@unittest.skipUnless(program(), "the program isn't built")
+@needs_program
 class Python(unittest.TestCase):
     """What no command may have: a traceback."""
 

@@ -112,15 +112,15 @@ class Structure(World):
 
     def test_order_by_chance(self) -> None:
         for seed in range(5):
-            world = invented(random.Random(seed))
-            self.write("chance.mm", world.text)
+            database = invented(random.Random(seed))
+            self.write("chance.mm", database.text)
             rows = self.rows("order", "chance.mm")
             counts = {row[4]: row[3] for row in rows}
-            for label in world.cites:
-                rests = world.rests(label).intersection(world.axioms)
+            for label in database.cites:
+                rests = database.rests(label).intersection(database.axioms)
                 self.assertEqual(counts[label], str(len(rests)))
-            for label in world.axioms:
-                self.assertEqual(counts[label], str(len(world.users(label))))
+            for label in database.axioms:
+                self.assertEqual(counts[label], str(len(database.users(label))))
 
     def test_unfinished(self) -> None:
         self.assertEqual(self.rows("unfinished", "db.mm"), [["1", "todo"]])

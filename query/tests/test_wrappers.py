@@ -32,14 +32,14 @@ class Wrappers(World):
         """All that is made by chance has the same form, but for what is about a built formula."""
         counts = [0, 0, 0]
         for seed in range(25):
-            world = invented(random.Random(seed))
-            path = str(self.folder / self.write("db.mm", world.text))
-            for on in world.labels():
-                users = world.users(on)
+            database = invented(random.Random(seed))
+            path = str(self.folder / self.write("db.mm", database.text))
+            for on in database.labels():
+                users = database.users(on)
                 wanted = []
                 for each in users:
-                    resting = [cited for cited in world.cites[each] if cited in {on, *users}]
-                    is_alike = on != "wi" and (on in world.built) == (each in world.built)
+                    resting = [cited for cited in database.cites[each] if cited in {on, *users}]
+                    is_alike = on != "wi" and (on in database.built) == (each in database.built)
                     if resting == [on] or is_alike:
                         wanted.append(each)
                     counts[0] += resting == [on] and not is_alike
@@ -83,9 +83,9 @@ class Wrappers(World):
 
     def test_it_is_as_keeping_them(self) -> None:
         for seed in range(8):
-            world = invented(random.Random(seed))
-            path = str(self.folder / self.write("db.mm", world.text))
-            for on in world.axioms:
+            database = invented(random.Random(seed))
+            path = str(self.folder / self.write("db.mm", database.text))
+            for on in database.axioms:
                 kept = self.labels(path, on)
                 keep = [f"--keep={label}" for label in kept]
                 self.assertEqual(

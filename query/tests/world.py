@@ -34,12 +34,19 @@ def program() -> str | None:
     return str(built) if built.exists() else None
 
 
+NOT_BUILT = "the program isn't built"
+
+
 def built_program() -> str:
     """The path of the program. A test that asks for it is skipped where there is none."""
     found = program()
     if found is None:
-        raise unittest.SkipTest("the program isn't built")
+        raise unittest.SkipTest(NOT_BUILT)
     return found
+
+
+needs_program = unittest.skipUnless(program(), NOT_BUILT)
+"""Skips a class of tests that run the program where there is none."""
 
 
 @dataclass
@@ -60,7 +67,7 @@ class Done:
         return found
 
 
-@unittest.skipUnless(program(), "the program isn't built")
+@needs_program
 class World(unittest.TestCase):
     """A test in a folder of its own, with a cache folder and a temporary folder of its own."""
 
@@ -210,35 +217,35 @@ class Invented:
 def invented(chance: random.Random, theorems: int = 9, labels: list[str] | None = None) -> Invented:
     """A database made by chance. The first labels are taken from those given."""
     names = iter((labels or []) + [f"l{number}" for number in range(2 * theorems + 9)])
-    world = Invented()
+    database = Invented()
     lines = ["$c |- wff ( -> ) $.", "$v p $.", "wp $f wff p $.", "wi $a wff ( p -> p ) $."]
     unary = "${{ h.{0} $e |- p $. {0} ${1} |- p {2}$. $}}"
     order: list[str] = []
     for number in range(theorems + theorems // 2 + 1):
         label = next(names)
-        if number < 2 or chance.random() < 0.3 and len(world.axioms) < theorems // 2:
-            world.axioms.append(label)
+        if number < 2 or chance.random() < 0.3 and len(database.axioms) < theorems // 2:
+            database.axioms.append(label)
             lines.append(unary.format(label, "a", ""))
         else:
             cited = chance.sample(order, min(len(order), chance.choice([0, 1, 1, 2, 2, 3, 4])))
-            lines.append(proved(world, label, cited, chance.random() < 0.4))
+            lines.append(proved(database, label, cited, chance.random() < 0.4))
             rank = {each: place for place, each in enumerate(["wi"] + order)}
-            world.essential[label] = sorted(cited, key=rank.__getitem__)
-            world.cites[label] = sorted(world.cites[label], key=rank.__getitem__)
+            database.essential[label] = sorted(cited, key=rank.__getitem__)
+            database.cites[label] = sorted(database.cites[label], key=rank.__getitem__)
         order.append(label)
-    world.text = "\n".join(lines) + "\n"
-    return world
+    database.text = "\n".join(lines) + "\n"
+    return database
 
 
-def proved(world: Invented, label: str, cited: list[str], builds: bool) -> str:
+def proved(database: Invented, label: str, cited: list[str], builds: bool) -> str:
     """A theorem that applies these assertions one after the other, over a built formula or not."""
-    builds = builds or not world.built.isdisjoint(cited)
+    builds = builds or not database.built.isdisjoint(cited)
     formula = "( p -> p )" if builds else "p"
-    parts = ["wp " if each in world.built or not builds else "wp wi " for each in cited]
+    parts = ["wp " if each in database.built or not builds else "wp wi " for each in cited]
     steps = "".join(reversed(parts)) + f"h.{label} " + "".join(f"{each} " for each in cited)
-    world.cites[label] = list(cited) + (["wi"] if "wp wi " in parts else [])
+    database.cites[label] = list(cited) + (["wi"] if "wp wi " in parts else [])
     if builds:
-        world.built.add(label)
+        database.built.add(label)
     return f"${{ h.{label} $e |- {formula} $. {label} $p |- {formula} $= {steps}$. $}}"
 
 

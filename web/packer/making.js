@@ -6,8 +6,8 @@ import { Side } from "./statements.js";
 import { visible } from "./visible.js";
 
 /** @typedef {import("./pack.js").About} About */
-/** @typedef {import("./pack.js").Blocks} Blocks */
-/** @typedef {import("./reports.js").Request} Request */
+/** @typedef {import("./pack.js").BlockSink} BlockSink */
+/** @typedef {import("./reports.js").PageRequest} PageRequest */
 /** @typedef {import("./text.js").Text} Text */
 
 /** Something that the page of a database needs and the database lacks; the message is a sentence for the reader. */
@@ -40,7 +40,7 @@ export class NoAnswer extends Error {
  * @param {string} name how the page calls the file
  * @param {number} bytes how many the file has
  * @param {string | null} sha256
- * @param {Request} request
+ * @param {PageRequest} request
  * @param {Wishes} wishes
  * @returns {About}
  */
@@ -62,7 +62,7 @@ export function aboutPage(name, bytes, sha256, { only, essential, open }, { make
  * A text beside what its report says of marks and citations. NoAnswer where a page would have nothing to show.
  * @param {string} name how the page calls the file
  * @param {Text} text
- * @param {Request} request
+ * @param {PageRequest} request
  * @param {Uint8Array} report that of the program with matrix, citations and statements, in form 2 and of all typecodes
  */
 export function sideOf(name, text, request, report) {
@@ -78,7 +78,7 @@ export function sideOf(name, text, request, report) {
  * Packs what became of an older release.
  * @param {Named} older
  * @param {Named} now
- * @param {Blocks} blocks
+ * @param {BlockSink} blocks
  */
 export function packComparison(older, now, blocks) {
     for (const { name, side } of [older, now]) {

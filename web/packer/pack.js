@@ -34,7 +34,7 @@ import { visible } from "./visible.js";
 
 /**
  * What takes blocks by their names, such as a map.
- * @typedef {{ set: (name: string, block: Uint8Array) => unknown }} Blocks
+ * @typedef {{ set: (name: string, block: Uint8Array) => unknown }} BlockSink
  */
 
 /** How many comments are in a block. */
@@ -132,7 +132,7 @@ class MatrixPacker {
 /**
  * The matrix, the number of users of each column, and the citations.
  * @param {Dependence} dependence
- * @param {Blocks} blocks
+ * @param {BlockSink} blocks
  */
 export function packMarks(dependence, blocks) {
     const packer = new MatrixPacker(dependence);
@@ -273,7 +273,7 @@ function symbolsOf(text, vocabulary, entities) {
  * @param {Text} text
  * @param {About} about
  * @param {Entities} entities
- * @param {Blocks} blocks
+ * @param {BlockSink} blocks
  */
 function packStatements(text, about, entities, blocks) {
     const vocabulary = new Vocabulary(text);
@@ -306,7 +306,7 @@ function packStatements(text, about, entities, blocks) {
 /**
  * The comments in chunks, the flags of each, and the texts below the titles of chapters.
  * @param {Text} text
- * @param {Blocks} blocks
+ * @param {BlockSink} blocks
  */
 function packComments(text, blocks) {
     const { source: data, comments, commentEnds } = text;
@@ -338,7 +338,7 @@ function packComments(text, blocks) {
  * @param {Text} text
  * @param {About} about
  * @param {Entities} entities
- * @param {Blocks} blocks
+ * @param {BlockSink} blocks
  */
 export function packText(text, about, entities, blocks) {
     packStatements(text, about, entities, blocks);
@@ -348,7 +348,7 @@ export function packText(text, about, entities, blocks) {
 /**
  * Packs what the reports give.
  * @param {Dependence} dependence
- * @param {Blocks} blocks
+ * @param {BlockSink} blocks
  */
 export function packReports(dependence, blocks) {
     packMarks(dependence, blocks);

@@ -20,7 +20,7 @@ import { UnreadableText } from "./text.js";
 
 /** @typedef {import("./reports.js").Dependence} Dependence */
 /** @typedef {import("./text.js").Text} Text */
-/** @typedef {import("./pack.js").Blocks} Blocks */
+/** @typedef {import("./pack.js").BlockSink} BlockSink */
 
 const Letter = { A: 0x41, T: 0x54, U: 0x55, Y: 0x59, Z: 0x5a };
 /** How many letters can be the last of a number, and how many can stand before it. */
@@ -206,7 +206,7 @@ export class ProofPacker {
 
     /**
      * Packs what is needed to read proofs.
-     * @param {Blocks} blocks
+     * @param {BlockSink} blocks
      */
     packFrames(blocks) {
         blocks.set("proof-floating", packFloating(this.text));
@@ -231,7 +231,7 @@ export class ProofPacker {
      * Packs the steps of proofs, from one block on to before another one.
      * @param {number} first
      * @param {number} end
-     * @param {Blocks} blocks
+     * @param {BlockSink} blocks
      */
     packSteps(first, end, blocks) {
         const { length } = this.dependence.theorems;
@@ -281,6 +281,7 @@ export class ProofPacker {
     }
 
     /**
+     * Packs a compressed proof: collects its labels, hypotheses first, and then reads its letters.
      * @param {number} theorem
      * @param {number} start behind the bracket
      * @param {number} end
@@ -294,6 +295,7 @@ export class ProofPacker {
     }
 
     /**
+     * Packs the letters of a compressed proof: a number is a label's step, or repeats a marked one.
      * @param {number} start
      * @param {number} end
      */
@@ -317,6 +319,7 @@ export class ProofPacker {
     }
 
     /**
+     * Packs a proof in words: each word's label is put as a step at once, so `labels` only hands it over.
      * @param {number} start
      * @param {number} end
      */

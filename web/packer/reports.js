@@ -8,6 +8,8 @@ import { Byte, Cutter, Numbers, isSame, textAt } from "./bytes.js";
 
 /** @typedef {import("./text.js").Text} Text */
 
+/** Of which report a page is packed: all typecodes, since chains may lead over other assertions than those of one. */
+export const PACKED_REPORT = /** @type {const} */ ({ only: null, report: "matrix,citations,statements", form: 2 });
 
 /** A report that isn't as it has to be. */
 export class OddReport extends Error {}
@@ -70,12 +72,11 @@ class Lines {
         if (this.bytes[end] !== Byte.colon) throw new OddReport("a line of a report has no label");
         return end;
     }
-
 }
 
 /**
- * What was asked for.
- * @typedef {object} Request
+ * What is asked for of a page: which axioms it has, and what cites. The program is asked besides for sections in a form.
+ * @typedef {object} PageRequest
  * @property {string | null} only the typecode of the axioms, or null for all
  * @property {boolean} essential
  * @property {boolean} open
@@ -139,7 +140,7 @@ export class Dependence {
 class Reader {
     /**
      * @param {Text} text
-     * @param {Request} request
+     * @param {PageRequest} request
      */
     constructor(text, request) {
         this.text = text;
@@ -379,7 +380,7 @@ function readDigits(report, place, digits, bits, start) {
 /**
  * What each theorem of a text cites. The marks are left out, and so nothing says that they agree.
  * @param {Text} text
- * @param {Request} request
+ * @param {PageRequest} request
  * @param {Uint8Array} report
  * @returns {Dependence}
  */
@@ -396,7 +397,7 @@ export function readCitations(text, request, report) {
  * On which axioms each theorem of a text rests, and what it cites, by the matrix in form 2 and by the citations, both
  * of all typecodes. Of the columns those of the typecode that is wanted are kept.
  * @param {Text} text
- * @param {Request} request
+ * @param {PageRequest} request
  * @param {Uint8Array} report
  * @returns {Dependence}
  */

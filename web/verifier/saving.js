@@ -3,7 +3,7 @@
 import { element } from "../view/elements.js";
 import { reportFor } from "./verification.js";
 
-/** @typedef {import("../packer/reports.js").Request} Request */
+/** @typedef {import("../packer/reports.js").PageRequest} PageRequest */
 /** @typedef {import("./types.js").Chosen} Chosen */
 /** @typedef {import("./types.js").ReportName} ReportName */
 /** @typedef {import("./verification.js").Tools} Tools */
@@ -31,7 +31,7 @@ function fileName(name, report, form) {
 export class Saving {
     /**
      * @param {Tools} tools
-     * @param {Request} request
+     * @param {PageRequest} request
      * @param {Chosen} database
      * @param {() => void} begin shows the view at the start
      */

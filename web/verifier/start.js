@@ -12,9 +12,10 @@ import { TOO_LONG } from "../packer/faults.js";
 import { visible } from "../packer/visible.js";
 
 /** @typedef {import("../view/elements.js").Child} Child */
-/** @typedef {import("../packer/reports.js").Request} Request */
+/** @typedef {import("../packer/reports.js").PageRequest} PageRequest */
 /** @typedef {import("./types.js").Chosen} Chosen */
 /** @typedef {import("./types.js").Fault} Fault */
+/** @typedef {import("./types.js").PackedBlocks} PackedBlocks */
 /** @typedef {import("./types.js").Reply} Reply */
 /** @typedef {import("./verification.js").Tools} Tools */
 
@@ -23,7 +24,7 @@ const TITLE = document.title;
 
 /** The blocks that the workers made. A block that is read at the start leaves them then. */
 class MadeBlocks {
-    /** @param {Map<string, Uint8Array>} blocks */
+    /** @param {PackedBlocks} blocks */
     constructor(blocks) {
         this.blocks = blocks;
     }
@@ -139,7 +140,7 @@ class Start {
         this.main.querySelector("h1")?.focus();
     }
 
-    /** What the form asks for. @returns {Request} */
+    /** @returns {PageRequest} what the form asks for */
     get request() {
         const fields = new FormData(this.form);
         const only = String(fields.get("only") ?? "").trim();
@@ -239,8 +240,8 @@ class Start {
     }
 
     /**
-     * @param {Map<string, Uint8Array>} blocks
-     * @param {Request} request
+     * @param {PackedBlocks} blocks
+     * @param {PageRequest} request
      * @param {Chosen} database
      */
     async show(blocks, request, database) {

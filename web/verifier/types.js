@@ -1,7 +1,7 @@
 // The shapes of what the page that verifies and its workers tell one another.
 
 /** @typedef {import("../packer/faults.js").Fault} Fault */
-/** @typedef {import("../packer/reports.js").Request} Request */
+/** @typedef {import("../packer/reports.js").PageRequest} PageRequest */
 /** @typedef {import("../packer/typesetting.js").Entities} Entities */
 
 /**
@@ -21,10 +21,12 @@
  * write a report to be saved, to pack texts (that of the database, and then that of the older release), or to pack what
  * their reports say.
  * @typedef {{ task: "look", blob: Blob }
- *     | { task: "verify", file: Contents, module: Uint8Array, request: Request }
- *     | { task: "save", file: Contents, module: Uint8Array, request: Request, report: ReportName, form: 1 | 2 }
- *     | { task: "pack", files: Chosen[], reports: Uint8Array[], request: Request, maker: string, entities: Entities }} Ask
+ *     | { task: "verify", file: Contents, module: Uint8Array, request: PageRequest }
+ *     | { task: "save", file: Contents, module: Uint8Array, request: PageRequest, report: ReportName, form: 1 | 2 }
+ *     | { task: "pack", files: Chosen[], reports: Uint8Array[], request: PageRequest, maker: string, entities: Entities }} Ask
  */
+
+/** @typedef {Map<string, Uint8Array>} PackedBlocks the blocks that were packed, by their names */
 
 /** @typedef {"all" | "matrix" | "counts" | "usage" | "citations" | "statements"} ReportName */
 
@@ -35,7 +37,7 @@
  *     | { stage: "seen" }
  *     | { stage: "verified", report: Uint8Array, memory: number }
  *     | { stage: "saved", report: Contents }
- *     | { stage: "packed", blocks: Map<string, Uint8Array> }
+ *     | { stage: "packed", blocks: PackedBlocks }
  *     | { stage: "refused", fault: Fault }
  *     | { stage: "memory" }
  *     | { stage: "unread" }

@@ -2,9 +2,10 @@
 
 import { Helper } from "./helpers.js";
 
-/** @typedef {import("../packer/reports.js").Request} Request */
+/** @typedef {import("../packer/reports.js").PageRequest} PageRequest */
 /** @typedef {import("./types.js").Chosen} Chosen */
 /** @typedef {import("./types.js").Contents} Contents */
+/** @typedef {import("./types.js").PackedBlocks} PackedBlocks */
 /** @typedef {import("./types.js").ReportName} ReportName */
 /** @typedef {import("./types.js").Tables} Tables */
 /** @typedef {import("./types.js").Reply} Reply */
@@ -22,7 +23,7 @@ import { Helper } from "./helpers.js";
 export class Verification {
     /**
      * @param {Tools} tools
-     * @param {Request} request
+     * @param {PageRequest} request
      * @param {Chosen[]} files that of the page, and then the older release
      * @param {(text: string, part: number | null) => void} tell is told what is done, and how much of it
      */
@@ -41,7 +42,7 @@ export class Verification {
 
     /**
      * Does it all. Stopped where there is no answer; `current` is the database of which that is said.
-     * @returns {Promise<Map<string, Uint8Array>>}
+     * @returns {Promise<PackedBlocks>}
      */
     async run() {
         /** @type {Uint8Array[]} */
@@ -106,7 +107,7 @@ export class Verification {
 /**
  * A report of the program, for a file that was accepted. Stopped where there is no answer.
  * @param {Tools} tools
- * @param {Request} request
+ * @param {PageRequest} request
  * @param {Contents} file
  * @param {ReportName} report
  * @param {1 | 2} form

@@ -6,16 +6,19 @@ import { sizeOf } from "./contents.js";
 import { faultOf, refusalOf } from "../packer/faults.js";
 import { NoAnswer, aboutPage, packComparison, sideOf } from "../packer/making.js";
 import { packReports, packText } from "../packer/pack.js";
+import { PACKED_REPORT } from "../packer/reports.js";
 import { sumOf } from "../packer/sum.js";
 import { readText } from "../packer/text.js";
 import { Status } from "../statuses.js";
 
-/** @typedef {import("../packer/reports.js").Request} Request */
+/** @typedef {import("../packer/reports.js").PageRequest} PageRequest */
 /** @typedef {import("./types.js").Ask} Ask */
 /** @typedef {import("./types.js").Chosen} Chosen */
 /** @typedef {import("./types.js").Contents} Contents */
+/** @typedef {import("./types.js").PackedBlocks} PackedBlocks */
 /** @typedef {import("./types.js").Reply} Reply */
 /** @typedef {import("../packer/typesetting.js").Entities} Entities */
+/** @typedef {import("../types.js").Request} Request */
 
 /** How many bytes of a file are read at a time. */
 const STEP = 1 << 22;
@@ -25,11 +28,6 @@ const STEP = 1 << 22;
  * @type {{ onmessage: (event: { data: Ask }) => void, postMessage: (reply: Reply, transfer?: Transferable[]) => void }}
  */
 const here = /** @type {any} */ (globalThis);
-
-/**
- * A report, as the module is asked for it.
- * @typedef {Request & { report: string, form: 1 | 2 }} Wanted
- */
 
 /** There is no more memory. */
 class NoMemory extends Error {}
@@ -70,7 +68,7 @@ async function fill(file, bytes) {
  * Has the module write a report of a file. What it answers stays in its memory.
  * @param {Uint8Array} module
  * @param {Contents} file
- * @param {Wanted} request
+ * @param {Request} request
  */
 async function acceptedReport(module, file, request) {
     const compiled = await compile(module);
@@ -84,14 +82,11 @@ async function acceptedReport(module, file, request) {
 }
 
 /**
- * Verifies a file, and tells what the page needs of it: matrix, citations and statements, of all typecodes, since chains
- * may lead over other assertions than those of one typecode.
- * @param {{ file: Contents, module: Uint8Array, request: Request }} asked
+ * Verifies a file, and tells the report of which the page is packed.
+ * @param {{ file: Contents, module: Uint8Array, request: PageRequest }} asked
  */
 async function verify({ file, module, request }) {
-    /** @type {Wanted} */
-    const wanted = { ...request, only: null, report: "matrix,citations,statements", form: 2 };
-    const answer = await acceptedReport(module, file, wanted);
+    const answer = await acceptedReport(module, file, { ...request, ...PACKED_REPORT });
     if (!answer) return;
     const written = answer.report.slice();
     here.postMessage({ stage: "verified", report: written, memory: answer.memory }, [written.buffer]);
@@ -128,7 +123,7 @@ async function pack({ files, reports, request, maker, entities }) {
     const [now, older] = databases;
     const { text, dependence } = now.side;
     const about = aboutPage(now.name, text.source.length, (await sum) ?? null, request, { maker });
-    /** @type {Map<string, Uint8Array>} */
+    /** @type {PackedBlocks} */
     const blocks = new Map();
     packText(text, about, entities, blocks);
     packReports(dependence, blocks);

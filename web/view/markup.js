@@ -97,6 +97,7 @@ const CLOSED_BY = new Map([
 ]);
 /** So many elements may be within one another; what would be in more is text. */
 const DEEPEST = 40;
+/** What is decoded in a comment with markup. Those of `$t` are all of HTML's: see typesetting.js of the packer. */
 const ENTITIES = new Map(Object.entries({ lt: "<", gt: ">", amp: "&", quot: '"', nbsp: "\u00a0" }));
 
 /**
@@ -205,7 +206,7 @@ class Reader {
     /** @param {string} text */
     text(text) {
         if (text === "") return;
-        const shown = this.isMarkup ? text.replace(/&(#?\w+);/g, decoded) : text;
+        const shown = this.isMarkup ? text.replace(/&(\w+);/g, decoded) : text;
         const last = this.children[this.children.length - 1];
         if (last && last.type === "text") last.text += shown;
         else this.children.push({ type: "text", text: shown });

@@ -50,11 +50,11 @@ class Browser(ABC):
         """Opens an address."""
 
     @abstractmethod
-    def run(self, script: str, *words: Any) -> Any:
+    def run(self, script: str, *given: Any) -> Any:
         """What the body of a function returns in the page."""
 
     @abstractmethod
-    def call(self, function: str, *words: Any) -> Any:
+    def call(self, function: str, *given: Any) -> Any:
         """The answer of a function of the page that may wait."""
 
     @abstractmethod
@@ -85,11 +85,11 @@ class Browser(ABC):
         """Counts whether nothing came into the console, where that can be read."""
         same(self.messages(), [], f"{self.name}: messages in the console {when}")
 
-    def wait(self, script: str, *words: Any, seconds: float = 30) -> Any:
+    def wait(self, script: str, *given: Any, seconds: float = 30) -> Any:
         """Waits until an expression has a value that isn't false."""
         end = time.time() + seconds
         while time.time() < end:
-            value = self.run(f"return {script}", *words)
+            value = self.run(f"return {script}", *given)
             if value:
                 return value
             time.sleep(0.01)
@@ -140,11 +140,11 @@ class Driven(Browser):
     def go(self, address: str) -> None:
         self.driver.get(address)
 
-    def run(self, script: str, *words: Any) -> Any:
-        return self.driver.execute_script(script, *words)
+    def run(self, script: str, *given: Any) -> Any:
+        return self.driver.execute_script(script, *given)
 
-    def call(self, function: str, *words: Any) -> Any:
-        return self.driver.execute_async_script(waiting(function), *words)
+    def call(self, function: str, *given: Any) -> Any:
+        return self.driver.execute_async_script(waiting(function), *given)
 
     def press(self, *keys: str) -> None:
         webdriver.ActionChains(self.driver).send_keys(*keys).perform()
@@ -181,8 +181,8 @@ class Chromium(Driven):
 
     def emulate(self, scheme: str, media: str = "") -> bool:
         features = [{"name": "prefers-color-scheme", "value": scheme}]
-        words = {"media": media, "features": features}
-        self.driver.execute_cdp_cmd("Emulation.setEmulatedMedia", words)
+        given = {"media": media, "features": features}
+        self.driver.execute_cdp_cmd("Emulation.setEmulatedMedia", given)
         return True
 
     def messages(self) -> list[str]:
@@ -216,13 +216,13 @@ class Firefox(Browser):
         self.page = address.split("#")[0]
         self.marionette.ask("WebDriver:Navigate", {"url": address})
 
-    def run(self, script: str, *words: Any) -> Any:
+    def run(self, script: str, *given: Any) -> Any:
         # What is defined on `window` has to be seen by later scripts.
-        told = {"script": script, "args": list(words), "sandbox": None}
+        told = {"script": script, "args": list(given), "sandbox": None}
         return self.marionette.ask("WebDriver:ExecuteScript", told)
 
-    def call(self, function: str, *words: Any) -> Any:
-        told = {"script": waiting(function), "args": list(words), "sandbox": None}
+    def call(self, function: str, *given: Any) -> Any:
+        told = {"script": waiting(function), "args": list(given), "sandbox": None}
         return self.marionette.ask("WebDriver:ExecuteAsyncScript", told)
 
     def press(self, *keys: str) -> None:
@@ -235,8 +235,8 @@ class Firefox(Browser):
     def choose(self, selector: str, paths: list[Path]) -> None:
         told = {"using": "css selector", "value": selector}
         (field,) = self.marionette.ask("WebDriver:FindElement", told).values()
-        words = {"id": field, "text": "\n".join(map(str, paths))}
-        self.marionette.ask("WebDriver:ElementSendKeys", words)
+        given = {"id": field, "text": "\n".join(map(str, paths))}
+        self.marionette.ask("WebDriver:ElementSendKeys", given)
 
     def size(self, width: int, height: int) -> bool:
         size = {"width": width, "height": height}
