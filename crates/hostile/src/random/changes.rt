@@ -1,7 +1,7 @@
 //! Random changes of texts.
 
 use super::chance::Chance;
-use super::reading::{Word, Words};
+use super::word_lists::{Word, Words};
 
 /// What is inserted into texts: words that occur in few texts, and statements with a fault.
 const INSERTED: [Word; 54] = [

@@ -2,7 +2,7 @@
 
 use super::chance::Chance;
 use super::formulas::FLOATING;
-use super::reading::{Word, Words};
+use super::word_lists::{Word, Words};
 use std::alloc::Global;
 
 /// The letters that end a number. `EARLIER_LETTERS` has those that may be before them.

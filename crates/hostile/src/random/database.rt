@@ -3,7 +3,7 @@
 use super::chance::Chance;
 use super::compressed::compressed;
 use super::formulas::{ALL_VARIABLES, Formula, VariableRange, conditional, random_formula};
-use super::reading::{Word, Words};
+use super::word_lists::{Word, Words};
 use std::alloc::Global;
 
 /// Symbols, axioms and a theorem that others cite. Each line is one word, except for the proof of

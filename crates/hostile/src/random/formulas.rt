@@ -1,7 +1,7 @@
 //! Random formulas, with the proofs that they are formulas.
 
 use super::chance::Chance;
-use super::reading::{Word, Words};
+use super::word_lists::{Word, Words};
 use std::alloc::Global;
 
 /// The variables.

@@ -8,7 +8,7 @@ mod changes;
 mod compressed;
 mod database;
 mod formulas;
-mod texts;
+mod word_lists;
 
 use crate::calls::{ended, plan_of};
 use chance::Chance;
@@ -17,11 +17,11 @@ use database::random_database;
 use mm_plan::Cutting;
 use mm_run::RunEnd;
 use mm_spec::Sections;
-use reading::text_of;
 use std::alloc::Global;
 use std::process::Abort;
 use std::sync::Wait;
 use std::thread::Threads;
+use word_lists::text_of;
 
 /// How many texts there are.
 const TEXTS: usize = 2000;
