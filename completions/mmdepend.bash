@@ -24,9 +24,14 @@ _mmdepend() {
             if [[ "'|-'" == "$word"* ]]; then COMPREPLY=("'|-'"); fi
             return
             ;;
+        --against)
+            mapfile -t COMPREPLY < <(compgen -f -- "$word")
+            compopt -o filenames 2>/dev/null
+            return
+            ;;
         *)
             case $word in
-                -*) words='--only --report --form --essential --open --workers --pieces --help -h --version -V' ;;
+                -*) words='--only --report --form --essential --open --against --workers --pieces --help -h --version -V' ;;
                 *)
                     mapfile -t COMPREPLY < <(compgen -f -- "$word")
                     compopt -o filenames 2>/dev/null

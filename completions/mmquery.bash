@@ -8,44 +8,45 @@ _mmquery() {
         words='verify rests falls cites cited-by uncited why way-out frees spare repeats top within same compare review history gate chapters order unfinished discouraged mathboxes definitions move graph picture page set-proof export cache --help --version'
     else
         case ${COMP_WORDS[1]}:$before in
-            verify:--format | rests:--format | falls:--format | cites:--format | cited-by:--format | uncited:--format | why:--format | way-out:--format | frees:--format | spare:--format | repeats:--format | top:--format | within:--format | same:--format | compare:--format | history:--format | chapters:--format | order:--format | unfinished:--format | discouraged:--format | mathboxes:--format | definitions:--format | move:--format | export:--format | cache:--format) words='text tsv csv json' ;;
+            verify:--format | rests:--format | falls:--format | cites:--format | cited-by:--format | uncited:--format | why:--format | way-out:--format | frees:--format | spare:--format | repeats:--format | top:--format | within:--format | same:--format | compare:--format | history:--format | chapters:--format | order:--format | unfinished:--format | discouraged:--format | mathboxes:--format | move:--format | export:--format | cache:--format) words='text tsv csv json' ;;
             review:--format) words='text tsv csv json markdown' ;;
-            gate:--format) words='text json github markdown' ;;
+            gate:--format) words='text log json github markdown' ;;
+            definitions:--format) words='text tsv csv json github' ;;
             graph:--as) words='dot graphml edges' ;;
             cache:cache) words='show clear' ;;
             *)
                 case ${COMP_WORDS[1]}:$word in
-                    verify:-*) words='--each --most --essential --open --format --no-cache -h --help' ;;
-                    rests:-*) words='--theorems --apart --only --all --axioms --ignore-definitions --essential --open --format --before --main --mathbox --under --like --not --among --no-cache -h --help' ;;
-                    falls:-*) words='--any-of --all-of --without --only --all --axioms --ignore-definitions --essential --open --format --before --main --mathbox --under --like --not --among --no-cache -h --help' ;;
-                    cites:-*) words='--on --essential --open --format --before --main --mathbox --under --like --not --among --no-cache -h --help' ;;
-                    cited-by:-*) words='--essential --open --format --before --main --mathbox --under --like --not --among --no-cache -h --help' ;;
-                    uncited:-*) words='--essential --open --format --before --main --mathbox --under --like --not --among --no-cache -h --help' ;;
-                    why:-*) words='--all --essential --open --format --no-cache -h --help' ;;
-                    way-out:-*) words='--keep --keep-wrappers --essential --open --format --before --main --mathbox --under --like --not --among --no-cache -h --help' ;;
-                    frees:-*) words='--most --keep --keep-wrappers --essential --open --format --before --main --mathbox --under --like --not --among --no-cache -h --help' ;;
-                    spare:-*) words='--all --shorter --new-steps --theorem --write --proof --only --open --jobs --cite-discouraged --cite-old --cite-mathboxes --change-discouraged --format --no-cache -h --help' ;;
-                    repeats:-*) words='--only --open --kept --format --before --main --mathbox --under --like --not --among --no-cache -h --help' ;;
-                    top:-*) words='--theorems --below --against --only --all --axioms --ignore-definitions --essential --open --format --before --main --mathbox --under --like --not --among --no-cache -h --help' ;;
-                    within:-*) words='--list --only --all --axioms --ignore-definitions --essential --open --format --before --main --mathbox --under --like --not --among --no-cache -h --help' ;;
-                    same:-*) words='--only --all --axioms --ignore-definitions --essential --open --format --before --main --mathbox --under --like --not --among --no-cache -h --help' ;;
-                    compare:-*) words='--only --all --axioms --ignore-definitions --essential --open --format --no-cache -h --help' ;;
-                    review:-*) words='--only --all --axioms --ignore-definitions --essential --open --format --no-cache -h --help' ;;
-                    history:-*) words='--of --essential --open --format --no-cache -h --help' ;;
-                    gate:-*) words='--base --merge-base --config --config-of-new --summary --format --no-cache -h --help' ;;
-                    chapters:-*) words='--only --all --axioms --ignore-definitions --essential --open --format --no-cache -h --help' ;;
-                    order:-*) words='--only --all --axioms --ignore-definitions --essential --open --format --before --main --mathbox --under --like --not --among --no-cache -h --help' ;;
-                    unfinished:-*) words='--essential --open --format --before --main --mathbox --under --like --not --among --no-cache -h --help' ;;
-                    discouraged:-*) words='--essential --open --format --before --main --mathbox --under --like --not --among --no-cache -h --help' ;;
-                    mathboxes:-*) words='--essential --open --format --before --main --mathbox --under --like --not --among --no-cache -h --help' ;;
-                    definitions:-*) words='--essential --open --format --before --main --mathbox --under --like --not --among --no-cache -h --help' ;;
-                    move:-*) words='--to --format --no-cache -h --help' ;;
-                    graph:-*) words='--as --essential --open --no-cache -h --help' ;;
-                    picture:-*) words='--png --across --down --only --all --axioms --ignore-definitions --essential --open --no-cache -h --help' ;;
-                    page:-*) words='--only --title --against --watch --essential --open --no-cache -h --help' ;;
-                    set-proof:-*) words='--no-cache -h --help' ;;
-                    export:-*) words='--sqlite --only --all --axioms --ignore-definitions --essential --open --format --no-cache -h --help' ;;
-                    cache:-*) words='--format --no-cache -h --help' ;;
+                    verify:-*) words='--each --most --essential --open --format --no-cache --limit-time --limit-memory -h --help' ;;
+                    rests:-*) words='--theorems --apart --only --all --axioms --ignore-definitions --essential --open --format --before --main --mathbox --under --like --not --among --no-cache --limit-time --limit-memory -h --help' ;;
+                    falls:-*) words='--any-of --all-of --without --only --all --axioms --ignore-definitions --essential --open --format --before --main --mathbox --under --like --not --among --no-cache --limit-time --limit-memory -h --help' ;;
+                    cites:-*) words='--on --essential --open --format --before --main --mathbox --under --like --not --among --no-cache --limit-time --limit-memory -h --help' ;;
+                    cited-by:-*) words='--essential --open --format --before --main --mathbox --under --like --not --among --no-cache --limit-time --limit-memory -h --help' ;;
+                    uncited:-*) words='--essential --open --format --before --main --mathbox --under --like --not --among --no-cache --limit-time --limit-memory -h --help' ;;
+                    why:-*) words='--all --essential --open --format --no-cache --limit-time --limit-memory -h --help' ;;
+                    way-out:-*) words='--keep --keep-wrappers --essential --open --format --before --main --mathbox --under --like --not --among --no-cache --limit-time --limit-memory -h --help' ;;
+                    frees:-*) words='--most --keep --keep-wrappers --essential --open --format --before --main --mathbox --under --like --not --among --no-cache --limit-time --limit-memory -h --help' ;;
+                    spare:-*) words='--all --shorter --new-steps --theorem --write --proof --only --open --jobs --cite-discouraged --cite-old --cite-mathboxes --change-discouraged --format --no-cache --limit-time --limit-memory -h --help' ;;
+                    repeats:-*) words='--only --open --kept --format --before --main --mathbox --under --like --not --among --no-cache --limit-time --limit-memory -h --help' ;;
+                    top:-*) words='--theorems --below --against --only --all --axioms --ignore-definitions --essential --open --format --before --main --mathbox --under --like --not --among --no-cache --limit-time --limit-memory -h --help' ;;
+                    within:-*) words='--list --only --all --axioms --ignore-definitions --essential --open --format --before --main --mathbox --under --like --not --among --no-cache --limit-time --limit-memory -h --help' ;;
+                    same:-*) words='--only --all --axioms --ignore-definitions --essential --open --format --before --main --mathbox --under --like --not --among --no-cache --limit-time --limit-memory -h --help' ;;
+                    compare:-*) words='--only --all --axioms --ignore-definitions --essential --open --format --no-cache --limit-time --limit-memory -h --help' ;;
+                    review:-*) words='--only --all --axioms --ignore-definitions --essential --open --format --no-cache --limit-time --limit-memory -h --help' ;;
+                    history:-*) words='--of --essential --open --format --no-cache --limit-time --limit-memory -h --help' ;;
+                    gate:-*) words='--base --merge-base --config --config-of-new --summary --all --format --no-cache --limit-time --limit-memory -h --help' ;;
+                    chapters:-*) words='--only --all --axioms --ignore-definitions --essential --open --format --no-cache --limit-time --limit-memory -h --help' ;;
+                    order:-*) words='--only --all --axioms --ignore-definitions --essential --open --format --before --main --mathbox --under --like --not --among --no-cache --limit-time --limit-memory -h --help' ;;
+                    unfinished:-*) words='--essential --open --format --before --main --mathbox --under --like --not --among --no-cache --limit-time --limit-memory -h --help' ;;
+                    discouraged:-*) words='--essential --open --format --before --main --mathbox --under --like --not --among --no-cache --limit-time --limit-memory -h --help' ;;
+                    mathboxes:-*) words='--essential --open --format --before --main --mathbox --under --like --not --among --no-cache --limit-time --limit-memory -h --help' ;;
+                    definitions:-*) words='--trust --equality --basis --expand --without --essential --open --format --before --main --mathbox --under --like --not --among --no-cache --limit-time --limit-memory -h --help' ;;
+                    move:-*) words='--to --format --no-cache --limit-time --limit-memory -h --help' ;;
+                    graph:-*) words='--as --essential --open --no-cache --limit-time --limit-memory -h --help' ;;
+                    picture:-*) words='--png --across --down --only --all --axioms --ignore-definitions --essential --open --no-cache --limit-time --limit-memory -h --help' ;;
+                    page:-*) words='--only --title --against --watch --essential --open --no-cache --limit-time --limit-memory -h --help' ;;
+                    set-proof:-*) words='--no-cache --limit-time --limit-memory -h --help' ;;
+                    export:-*) words='--sqlite --only --all --axioms --ignore-definitions --essential --open --format --no-cache --limit-time --limit-memory -h --help' ;;
+                    cache:-*) words='--format --no-cache --limit-time --limit-memory -h --help' ;;
                 esac
                 ;;
         esac

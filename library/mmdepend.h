@@ -14,11 +14,12 @@
  *   A bool is 0 or 1.
  * - `room.at` is a multiple of 16, and the room has at least 16 * `room.units` bytes.
  * - The room, `out`, what `written` points to, and the struct mmdepend_room itself don't
- *   overlap one another, nor the text or the typecode. So the struct doesn't lie within the memory
+ *   overlap one another, nor a text or the typecode. So the struct doesn't lie within the memory
  *   that it names.
  * - During the call nobody else reads or writes the room, the struct that names it, `out`, or what
  *   `written` points to: no other thread, no signal handler, no other process.
- * - During the call the text and the typecode don't change. A file that is mapped into memory and
+ * - The calling thread has 64 kB of stack left. A call was seen to take 25.8 kB, whatever the text.
+ * - During the call the texts and the typecode don't change. A file that is mapped into memory and
  *   shared (MAP_SHARED) may change when somebody writes to it: copy it first.
  */
 #ifndef MMDEPEND_H
@@ -89,6 +90,22 @@ uint32_t mmdepend_report(struct mmdepend_room *room, const uint8_t *text, size_t
                          const uint8_t *only, size_t only_len, bool has_only,
                          uint32_t sections, uint32_t form, bool essential, bool with_open,
                          uint8_t *out, size_t out_len, size_t *written);
+
+/* Verifies every proof of two databases, OLD and NEW, and writes what the one has and the other hasn't
+ * to the front of `out`, as `mmdepend --against OLD NEW` does; or if one has a fault, the refusal of
+ * the first that has, after the word `old` or `new`.
+ *
+ * old_text, new_text: the databases, each as `text` of mmdepend_report. The room is for both: six times the
+ *     length of both and a megabyte is enough for the databases that there are.
+ * only: the typecode of the assertions and of the axioms that are told, of both, if `has_only`.
+ * room, essential, with_open, out, written: as with mmdepend_report.
+ *
+ * The result is one of mmdepend_status, and never _NO_SUCH_REQUEST: _ACCEPTED if neither database
+ * has a fault, _REFUSED if one has. */
+uint32_t mmdepend_against(struct mmdepend_room *room, const uint8_t *old_text, size_t old_text_len,
+                          const uint8_t *new_text, size_t new_text_len, const uint8_t *only,
+                          size_t only_len, bool has_only, bool essential, bool with_open,
+                          uint8_t *out, size_t out_len, size_t *written);
 
 /* Puts the version's text at the front of `out`, as much of it as `out_len` bytes hold, and returns
  * the length of the whole text in bytes. It isn't ended by a zero byte. */

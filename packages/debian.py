@@ -56,6 +56,14 @@ PKG_CONFIG = f"""prefix=/usr
 includedir=${{prefix}}/include
 libdir=/{LIBRARIES}
 """
+# Python keeps beside a module what it compiled of it, where root runs it. dpkg doesn't know of it.
+PRERM = """#!/bin/sh
+set -e
+modules="$DPKG_ROOT/usr/lib/python3/dist-packages"
+rm -f "$modules"/__pycache__/mmdepend.*.pyc
+rmdir "$modules/__pycache__" 2>/dev/null || :
+find "$DPKG_ROOT/usr/share/mmdepend" -name __pycache__ -prune -exec rm -rf {} +
+"""
 # Where each completion goes.
 COMPLETIONS = {
     "mmdepend.bash": "bash-completion/completions/mmdepend",
@@ -123,6 +131,7 @@ def put_control(packed: Packed, root: Path) -> None:
     put(control / "md5sums", "".join(sums))
     put(control / "shlibs", f"libmmdepend {major} mmdepend (>= {packed.version})\n")
     put(control / "triggers", "activate-noawait ldconfig\n")
+    put(control / "prerm", PRERM, 0o755)
 
 
 def make(packed: Packed, folder: Path) -> Path:

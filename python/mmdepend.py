@@ -16,18 +16,22 @@ import ctypes
 import ctypes.util
 import mmap
 import os
+from contextlib import suppress
 from dataclasses import dataclass, field
 from functools import cache, cached_property
 from pathlib import Path
 from typing import Literal
 
-__all__ = ["FAULTS", "PARTS", "Refused", "Report", "report", "version"]
+__all__ = ["FAULTS", "PARTS", "Refused", "Report", "against", "report", "version"]
 
 # The parts of a report by their names, each with its bit. `all` are the first three of the others.
 PARTS = {"all": 7, "matrix": 1, "counts": 2, "usage": 4, "citations": 8, "statements": 16}
 USAGE = PARTS["usage"]
 NAMES = ("libmmdepend.so.0", "libmmdepend.so")
 UNIT = 16
+# A longer text is refused, with this code and at this place, whatever stands in it.
+MOST_BYTES = 2_147_483_647
+TOO_LONG = (1, 1, "E00")
 # How memory is taken of which only this process has use. Windows gives no other.
 PRIVATE = {"flags": mmap.MAP_PRIVATE | mmap.MAP_ANONYMOUS} if os.name == "posix" else {}
 # The room that is lent at first, for a byte of the text, and the least of it.
@@ -80,41 +84,35 @@ FAULTS = {
     "E45": "in a compressed proof, a number for which there is nothing",
 }
 
-ARGUMENTS = (
-    ctypes.c_void_p,
-    ctypes.c_char_p,
-    ctypes.c_size_t,
-    ctypes.c_char_p,
-    ctypes.c_size_t,
-    ctypes.c_bool,
-    ctypes.c_uint32,
-    ctypes.c_uint32,
-    ctypes.c_bool,
-    ctypes.c_bool,
-    ctypes.c_void_p,
-    ctypes.c_size_t,
-    ctypes.c_void_p,
-)
+BYTES = (ctypes.c_char_p, ctypes.c_size_t)
+OUT = (ctypes.c_void_p, ctypes.c_size_t, ctypes.c_void_p)
+FLAGS = (ctypes.c_bool, ctypes.c_bool)
+SECTIONS_AND_FORM = (ctypes.c_uint32, ctypes.c_uint32)
+# The arguments of `mmdepend_report` and of `mmdepend_against`.
+ARGUMENTS = (ctypes.c_void_p, *BYTES, *BYTES, ctypes.c_bool, *SECTIONS_AND_FORM, *FLAGS, *OUT)
+ARGUMENTS_OF_TWO = (ctypes.c_void_p, *BYTES, *BYTES, *BYTES, ctypes.c_bool, *FLAGS, *OUT)
 
 
 class Refused(Exception):
     """The database has a fault: the first one stands at this line and column, both from 1, and has
-    this code, such as E37. Columns count bytes. `text` says in English what is wrong."""
+    this code, such as E37. Columns count bytes. `text` says in English what is wrong. Where two
+    databases are compared, `side` says which one it is, `old` or `new`."""
 
-    def __init__(self, line: int, column: int, code: str) -> None:
-        super().__init__(f"{line}:{column} {code}")
+    def __init__(self, line: int, column: int, code: str, side: str = "") -> None:
+        super().__init__(f"{side} {line}:{column} {code}".lstrip())
         self.line = line
         self.column = column
         self.code = code
+        self.side = side
 
     @property
     def text(self) -> str:
         """What is wrong. It is empty for a code of a later version of the library."""
         return FAULTS.get(self.code, "")
 
-    def __reduce__(self) -> tuple[type["Refused"], tuple[int, int, str]]:
+    def __reduce__(self) -> tuple[type["Refused"], tuple[int, int, str, str]]:
         """By what it is made again where it is copied or comes from another process."""
-        return Refused, (self.line, self.column, self.code)
+        return Refused, (self.line, self.column, self.code, self.side)
 
 
 class Room(ctypes.Structure):
@@ -138,7 +136,10 @@ class Memory:
         return self
 
     def __exit__(self, *error: object) -> None:
-        self.pages.close()
+        # Where an interrupt came into `address`, the view is still there. The region is given back
+        # when nobody has it any more, and what came goes on.
+        with suppress(BufferError):
+            self.pages.close()
 
     def address(self) -> int:
         """Where it begins. The view is given up at once, so that the region can be given back."""
@@ -158,6 +159,8 @@ def library() -> ctypes.CDLL:
         loaded = ctypes.CDLL(path)
         loaded.mmdepend_report.restype = ctypes.c_uint32
         loaded.mmdepend_report.argtypes = ARGUMENTS
+        loaded.mmdepend_against.restype = ctypes.c_uint32
+        loaded.mmdepend_against.argtypes = ARGUMENTS_OF_TWO
         loaded.mmdepend_version.restype = ctypes.c_size_t
         loaded.mmdepend_version.argtypes = (ctypes.c_void_p, ctypes.c_size_t)
         return loaded
@@ -166,13 +169,14 @@ def library() -> ctypes.CDLL:
 
 @dataclass(frozen=True)
 class Request:
-    """What is requested of a report, as the library takes it."""
+    """What is requested of a report, as the library takes it. Of two databases that are compared,
+    sections and form are of no meaning."""
 
-    sections: int
-    form: int
     only: bytes | None
     essential: bool
     open_theorems: bool
+    sections: int = 0
+    form: int = 1
 
 
 def up_to(size: int) -> int:
@@ -180,19 +184,19 @@ def up_to(size: int) -> int:
     return -(-size // mmap.PAGESIZE) * mmap.PAGESIZE
 
 
-def once(text: bytes, request: Request, room: Memory, out: Memory) -> tuple[int, int]:
-    """One call of the library: its status, and the length of the output."""
+def once(texts: list[bytes], request: Request, room: Memory, out: Memory) -> tuple[int, int]:
+    """One call of the library, on one text or two: its status, and the length of the output."""
     lent = Room(room.address(), room.size // UNIT)
     written = ctypes.c_size_t()
-    status = library().mmdepend_report(
+    of_two = len(texts) == 2
+    call = library().mmdepend_against if of_two else library().mmdepend_report
+    status = call(
         ctypes.byref(lent),
-        text,
-        len(text),
+        *(argument for text in texts for argument in (text, len(text))),
         request.only or b"",
         len(request.only or b""),
         request.only is not None,
-        request.sections,
-        request.form,
+        *(() if of_two else (request.sections, request.form)),
         request.essential,
         request.open_theorems,
         out.address(),
@@ -202,17 +206,18 @@ def once(text: bytes, request: Request, room: Memory, out: Memory) -> tuple[int,
     return status, written.value
 
 
-def output(text: bytes, request: Request) -> tuple[int, bytes]:
+def output(texts: list[bytes], request: Request) -> tuple[int, bytes]:
     """The status and the output, with as much memory as it takes. What isn't used of memory that is
     lent is never really taken from the system, so the first try is generous. MemoryError, which
     says what room was too small, if the system gives no more."""
-    room_size = up_to(ROOM_FOR_A_BYTE * len(text) + LEAST)
-    out_size = up_to((5 if request.sections & USAGE else 2) * len(text) + LEAST)
+    size = sum(map(len, texts))
+    room_size = up_to(ROOM_FOR_A_BYTE * size + LEAST)
+    out_size = up_to((5 if request.sections & USAGE else 2) * size + LEAST)
     too_small = 0
     while True:
         try:
             with Memory(room_size) as room, Memory(out_size) as out:
-                status, written = once(text, request, room, out)
+                status, written = once(texts, request, room, out)
                 if status not in (TOO_SHORT, NO_MEMORY):
                     return status, out.pages[:written]
         except MemoryError as error:
@@ -233,11 +238,34 @@ def of_type(value: object, types: tuple[type, ...], name: str) -> None:
         raise TypeError(f"{name} is to be {wanted}, and not {type(value).__name__}")
 
 
+def plain(text: bytes | bytearray | memoryview | mmap.mmap) -> bytes:
+    """The bytes of a text as an object of `bytes` itself: one of a class of its own may say another
+    length than it has. Refused where there are too many."""
+    of_type(text, (bytes, bytearray, memoryview, mmap.mmap), "text")
+    if type(text) is not bytes:
+        with memoryview(text) as view:
+            if view.nbytes > MOST_BYTES:
+                raise Refused(*TOO_LONG)
+            return view.tobytes()
+    if len(text) > MOST_BYTES:
+        raise Refused(*TOO_LONG)
+    return text
+
+
+def cut(text: bytes | bytearray | memoryview | mmap.mmap) -> bytes:
+    """The same, but of a text that is too long one byte more than a text may have."""
+    of_type(text, (bytes, bytearray, memoryview, mmap.mmap), "text")
+    if type(text) is bytes:
+        return text if len(text) <= MOST_BYTES else text[: MOST_BYTES + 1]
+    with memoryview(text) as view, view.cast("B") as flat:
+        return flat[: MOST_BYTES + 1].tobytes()
+
+
 def sections_of(part: str) -> int:
     """The bits of the parts that are named, with commas between them."""
     of_type(part, (str,), "part")
     sections = 0
-    for name in part.split(","):
+    for name in str.split(part, ","):
         if name not in PARTS:
             raise ValueError(f"no part of a report is called {name!r}")
         sections |= PARTS[name]
@@ -245,10 +273,26 @@ def sections_of(part: str) -> int:
 
 
 def refused(line: bytes) -> Refused:
-    """What a refusal says: `refused LINE:COLUMN CODE`."""
-    _, place, code = line.split()
-    at, column = place.split(b":")
-    return Refused(int(at), int(column), code.decode("ascii"))
+    """What a refusal says: `refused LINE:COLUMN CODE`, after `old` or `new` for two databases."""
+    *side, _, place, code = line.decode("ascii").split()
+    at, column = place.split(":")
+    return Refused(int(at), int(column), code, "".join(side))
+
+
+def answer(texts: list[bytes], request: Request) -> bytes:
+    """What the library writes, if it refuses none of the texts."""
+    status, written = output(texts, request)
+    if status == REFUSED:
+        raise refused(written)
+    if status != ACCEPTED:
+        raise AssertionError(f"the library ended with status {status}")
+    return written
+
+
+def typecode_of(only: str | None) -> bytes | None:
+    """A typecode as the library takes it."""
+    of_type(only, (str, type(None)), "only")
+    return None if only is None else str.encode(only, "utf-8")
 
 
 def report(
@@ -273,20 +317,37 @@ def report(
     `only` can't be written as UTF-8, TypeError if an argument has another type, MemoryError if
     memory runs out, and OSError if the shared library isn't found.
     """
-    of_type(text, (bytes, bytearray, memoryview, mmap.mmap), "text")
-    of_type(only, (str, type(None)), "only")
+    typecode = typecode_of(only)
     of_type(form, (int,), "form")
     sections = sections_of(part)
     if form not in (1, 2):
         raise ValueError(f"no form of the matrix has the number {form!r}")
-    typecode = None if only is None else only.encode("utf-8")
-    request = Request(sections, form, typecode, essential, open_theorems)
-    status, written = output(text if isinstance(text, bytes) else bytes(text), request)
-    if status == REFUSED:
-        raise refused(written)
-    if status != ACCEPTED:
-        raise AssertionError(f"the library ended with status {status}")
-    return written
+    request = Request(typecode, bool(essential), bool(open_theorems), sections, int(form))
+    return answer([plain(text)], request)
+
+
+def against(
+    old: bytes | bytearray | memoryview | mmap.mmap,
+    new: bytes | bytearray | memoryview | mmap.mmap,
+    *,
+    only: str | None = None,
+    essential: bool = False,
+    open_theorems: bool = False,
+) -> bytes:
+    """Verifies two databases and returns the bytes that say what the one has and the other hasn't,
+    as `mmdepend --against OLD NEW` writes them.
+
+    `old` and `new` are the databases. The other arguments, and what is raised, are those of
+    `report`. Where one of the databases has a fault, Refused is raised for the first that has, and
+    its `side` is `old` or `new`.
+    """
+    request = Request(typecode_of(only), bool(essential), bool(open_theorems))
+    try:
+        old_text = plain(old)
+    except Refused as error:
+        raise Refused(error.line, error.column, error.code, "old") from None
+    # A text that is too long is handed over cut: it is refused, and OLD is told before it.
+    return answer([old_text, cut(new)], request)
 
 
 @dataclass(frozen=True)

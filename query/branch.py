@@ -8,20 +8,31 @@ that is a finding.
 from __future__ import annotations
 
 import os
-from collections.abc import Mapping
+from collections.abc import Iterator, Mapping
 from dataclasses import dataclass, field, replace
 from pathlib import Path
 
-from query.config import FILE_NAME, Config, Misread, load_config, read_config
+from query import attributes
+from query.config import FILE_NAME, MOST_CONFIG_BYTES, Config, Misread, load_config, read_config
 from query.errors import NoAnswer, shown
 from query.git import NoRepository, Repository, repository_of, short
 from query.objects import Objects, id_of
 from query.rules import Finding
-from query.source import is_of_git, path_from_top, place_of, read_plainly
-from query.weakened import losses
+from query.source import (
+    MOST_DATABASE_BYTES,
+    is_of_git,
+    path_from_top,
+    place_of,
+    read_plainly,
+    see_plain,
+)
 
 ANCHORS = ("refs/remotes/origin/HEAD", "refs/remotes/origin/main")
 """Whose `mmdepend.toml` says what the base is, where `--base` doesn't: the first that is there."""
+MOST_READ = 16 * MOST_CONFIG_BYTES
+"""Bytes of an `mmdepend.toml` that are looked at. Of one that is too long that is told."""
+FREE_GROWTH = 1 << 26
+"""How many bytes longer than twice OLD a database may be. A few bytes in git can be gigabytes."""
 
 
 @dataclass(frozen=True)
@@ -79,10 +90,13 @@ def branch_of(word: str) -> Branch:
 
 @dataclass(frozen=True)
 class Asked:
-    """What is asked of a database. `findings` are of the rule `config`, and `paths` has for names
-    of files the paths from the top of the repository."""
+    """What is asked of a database. `config` judges, `before` is the file of OLD, and `brought` that
+    of NEW, where it is another one and can be read. `findings` are of the rules `config` and
+    `plain`, and `paths` has for names of files the paths from the top of the repository."""
 
     config: Config
+    before: Config = Config()
+    brought: Config | None = None
     findings: tuple[Finding, ...] = ()
     notes: tuple[str, ...] = ()
     paths: Mapping[str, str] = field(default_factory=dict)
@@ -129,16 +143,56 @@ def brought(branch: Branch, wish: Wish) -> Brought:
         given = outside(branch, objects, wish)
         base = base_of(objects, given) if wish.base is None else wish.base
         places, notes = places_of(branch, objects, base, wish)
-        path = shown(branch.path)
-        old, new = (objects.content(tree, branch.path) for tree in (places.old, places.new))
-        if old is None:
-            raise NoAnswer(f"{path}: not in {places.said}; `mmquery verify` checks a new database")
-        if new is None:
-            raise NoAnswer(f"{path}: {short(places.head)} has no such file")
+        old, new = texts_of(objects, places, branch.path)
         if objects.entry(places.new, branch.path) != objects.entry(places.head, branch.path):
-            notes.append(f"lines of {path} are those of its merge with {places.said}")
+            notes.append(f"lines of {shown(branch.path)} are those of its merge with {places.said}")
         asked = asked_of(objects, places, wish, branch.repository, given)
+        beside = [
+            *of_attributes(objects, places, branch.path, old, new),
+            *of_twins(objects, places, branch.path),
+        ]
+        asked = replace(asked, findings=(*asked.findings, *beside))
     return Brought(old, new, places.said, places.old, asked, tuple(notes))
+
+
+def texts_of(objects: Objects, places: Places, path: str) -> tuple[bytes, bytes]:
+    """The database in OLD, which is plain, and in NEW. NoAnswer where one has none."""
+    old = objects.content(places.old, path)
+    if old is None:
+        raise NoAnswer(
+            f"{shown(path)}: not in {places.said}; `mmquery verify` checks a new database"
+        )
+    see_plain(f"{shown(path)} in {places.said}", old)
+    most = min(MOST_DATABASE_BYTES, 2 * len(old) + FREE_GROWTH)
+    new = objects.content(places.new, path, most)
+    if new is None:
+        raise NoAnswer(f"{shown(path)}: {short(places.head)} has no such file")
+    return old, new
+
+
+def of_attributes(
+    objects: Objects, places: Places, path: str, old: bytes, new: bytes
+) -> Iterator[Finding]:
+    """What breaks the rule `plain` by attributes of git."""
+    try:
+        before = attributes.text_of(objects, places.old, path, old)
+    except NoAnswer:  # nobody knows what these say; who mends them has to pass
+        before = [attributes.Text(old, {})]
+    after = attributes.text_of(objects, places.new, path, new)
+    for reason in attributes.given_newly(before, after):
+        yield Finding("plain", path, 0, "", "", reason)
+
+
+def of_twins(objects: Objects, places: Places, path: str) -> Iterator[Finding]:
+    """What breaks the rule `plain` by names that elsewhere are one name. NoAnswer where OLD has
+    such names and NEW still has them: nobody knows which file is meant."""
+    for each in dict.fromkeys((path, FILE_NAME, *attributes.places(path))):
+        before = objects.twins(places.old, each)
+        for name in objects.twins(places.new, each):
+            told = f"{shown(name)} stands beside it, which some systems take for the same name"
+            if name in before:
+                raise NoAnswer(f"not judged: {shown(each)}: {told}")
+            yield Finding("plain", each, 0, "", "", told)
 
 
 def places_of(branch: Branch, objects: Objects, base: str, wish: Wish) -> tuple[Places, list[str]]:
@@ -183,7 +237,7 @@ def base_of(objects: Objects, given: Config | None) -> str:
     repository = objects.repository
     for name in ANCHORS:
         if repository.has_reference(name):
-            data = objects.content(repository.commit(name), FILE_NAME)
+            data = objects.content(repository.commit(name), FILE_NAME, MOST_READ)
             return Config.base if data is None else read_config(data, f"{name}:{FILE_NAME}").base
     raise NoAnswer(
         f"git has no revision '{Config.base}', whose {FILE_NAME} would say what the base is;"
@@ -200,19 +254,23 @@ def asked_of(
     path = FILE_NAME
     if wish.config is not None:
         path = tracked(objects, repository, wish.config, places.head, places.tip) or FILE_NAME
-    here, after = (objects.content(tree, path) for tree in (places.tip, places.new))
+    here, after = (objects.content(tree, path, MOST_READ) for tree in (places.tip, places.new))
     if wish.is_config_of_new:
         note = f"what is asked stands in {shown(path)} of the branch itself"
-        return Asked(config_of(after, path), (), (note,) if here != after else (), {path: path})
+        notes = (note,) if here != after else ()
+        return Asked(config_of(after, path), notes=notes, paths={path: path})
     if here is None and path != FILE_NAME:
         raise NoAnswer(
             f"{shown(path)}: the branch brings it, and the base has none; --config-of-new takes it"
         )
     name = path if here == after else f"{short(places.tip)}:{path}"
     config = config_of(here, name)
-    before = here if places.old == places.tip else objects.content(places.old, path)
-    findings, notes = compared(config_of(before, path) if before != here else config, after, path)
-    return Asked(config, findings, notes if before != after else (), {name: path, path: path})
+    asked = Asked(config, config, paths={name: path, path: path})
+    before = here
+    if places.old != places.tip:
+        before = objects.content(places.old, path, MOST_READ)
+        asked = replace(asked, before=config_of(before, path))
+    return asked if before == after else compared(asked, after, path)
 
 
 def config_of(data: bytes | None, name: str) -> Config:
@@ -220,14 +278,12 @@ def config_of(data: bytes | None, name: str) -> Config:
     return Config() if data is None else read_config(data, name)
 
 
-def compared(
-    old: Config, after: bytes | None, name: str
-) -> tuple[tuple[Finding, ...], tuple[str, ...]]:
-    """The findings of the rule `config` for a file of NEW, and a note where it is another one than
-    that of OLD and asks nothing less."""
+def compared(asked: Asked, after: bytes | None, name: str) -> Asked:
+    """What is asked, with the file of NEW, which is another one than that of OLD."""
     try:
         new = config_of(after, name)
     except Misread as why:
-        return (Finding("config", name, why.line, "", "", why.reason),), ()
-    note = f"{shown(name)} isn't that of the base; what it asks counts once the base has it"
-    return tuple(losses(old, replace(new, name=name))), (note,)
+        finding = Finding("config", name, why.line, "", "", why.reason)
+        return replace(asked, findings=(finding,))
+    note = f"{shown(name)} isn't that of the base; both judge, and it counts once the base has it"
+    return replace(asked, brought=replace(new, name=name), notes=(note,))

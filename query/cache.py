@@ -151,10 +151,13 @@ def make_room(folder: str, size: int) -> None:
 
 
 def clear() -> None:
-    """Removes all that is kept. OSError where that fails."""
+    """Removes all that is kept, and the secret. OSError where that fails."""
+    secret.remove()
     folder = own_folder()
     if folder is None or not os.path.isdir(folder):
         return
     for _, _, path in entries(folder):
         with suppress(FileNotFoundError):
             os.unlink(path)
+    with suppress(OSError):
+        os.rmdir(folder)

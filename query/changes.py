@@ -42,11 +42,6 @@ class Side:
             known = self.cited[label] = frozenset(labels[each] for each in cited)
         return known
 
-    def has_citation(self, citing: str, cited: str) -> bool:
-        """Whether a theorem of this database cites an assertion of it."""
-        user, used = self.graph.index.get(citing), self.graph.index.get(cited)
-        return user is not None and used is not None and used in self.graph.cites[user]
-
     def users(self, axiom: str) -> list[str]:
         """The theorems that rest on an axiom, in file order; none where it isn't one here."""
         column = self.dependence.columns.get(axiom)

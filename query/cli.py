@@ -10,12 +10,13 @@ import gc
 import os
 from typing import NoReturn
 
-from query import progress, signals
+from query import limits, progress, signals
 from query.commands import Command, command, names, summaries
 from query.context import Context
 from query.errors import NoAnswer, nearest, shown, tell
 from query.filters import Filters, add_filters, filters_of
-from query.options import Parser
+from query.limits import Limits
+from query.options import Parser, add_limits
 from query.output import Output, reason, write_all
 
 VERSION = "mmquery 0.1.0\n"
@@ -52,6 +53,7 @@ def parser_of(chosen: Command) -> Parser:
     if chosen.lists:
         add_filters(parser)
     parser.flag("--no-cache", "keep no result, and use none that was kept")
+    add_limits(parser)
     parser.add_argument("-h", "--help", action="store_true", help="show this page")
     return parser
 
@@ -100,6 +102,7 @@ def run(words: list[str]) -> int:
         return 0
     arguments = parser_of(chosen).read(words[1:])
     out = Output(getattr(arguments, "format", "text"))
+    limits.choose(Limits(arguments.limit_time, arguments.limit_memory))
     progress.begin()
     try:
         filters = filters_of(arguments) if chosen.lists else Filters()

@@ -16,11 +16,13 @@ from pathlib import Path
 from typing import Any
 
 from query.errors import NoAnswer, shown
+from query.limits import MOST_GIVEN, Limits
 
 FILE_NAME = "mmdepend.toml"
 
 RULES = (
     "axioms",
+    "definitions",
     "watched",
     "newly",
     "new",
@@ -29,15 +31,21 @@ RULES = (
     "open",
     "mathboxes",
     "discouraged",
+    "plain",
     "config",
 )
 """The rules of the gate, in the order in which it tells what breaks them."""
+CHOSEN = "definitions"
+"""The rule that counts only where the file says so, by a key of this name."""
+DEFAULTS = frozenset(RULES) - {CHOSEN}
+"""The rules that count where the file says nothing."""
 
-TEXT, LABELS, SWITCH, LISTS = (
+TEXT, LABELS, SWITCH, LISTS, NUMBER = (
     "a text",
     "a list of labels",
     "true or false",
     "a table of lists of labels",
+    f"a whole number from 1 to {MOST_GIVEN}",
 )
 
 # The type of each key. A table is one more of these.
@@ -46,7 +54,8 @@ SHAPE: Shape = {
     "base": TEXT,
     "typecode": TEXT,
     "watch": LABELS,
-    "rules": {rule: SWITCH for rule in RULES},
+    CHOSEN: SWITCH,
+    "rules": {rule: SWITCH for rule in RULES if rule in DEFAULTS},
     "allow": {
         "axioms": LABELS,
         "newly": LISTS,
@@ -57,6 +66,8 @@ SHAPE: Shape = {
         "discouraged": LABELS,
     },
     "claims": LISTS,
+    "limit-time": NUMBER,
+    "limit-memory": NUMBER,
 }
 HEADING = re.compile(r"\s*\[([^\[\]]+)\]\s*(?:#.*)?\Z")
 PART = r"""(?:[\w-]+|"[^"]*"|'[^']*')"""
@@ -65,6 +76,16 @@ LABEL = re.compile(r"[A-Za-z0-9._-]+\Z")
 PATTERN = re.compile(r"[A-Za-z0-9._-]*\*?\Z")
 MOST_CONFIG_BYTES = 1 << 20
 """How many bytes of a file are read."""
+MOST_DEPTH, MOST_PARTS, MOST_WORD = 8, 8, 10_000
+"""How deep brackets may stand in one another, how many parts a key may have, and how many signs a
+word. Python's reader of TOML takes the square of the parts, and calls itself for each bracket."""
+PIECE = re.compile(
+    r"\"{3}(?:[^\\]|\\.)*?(?:\"{3,5}|\Z)|'{3}.*?(?:'{3,5}|\Z)"
+    r"|\"(?:[^\"\\\n]|\\.)*\"?|'[^'\n]*'?"
+    r"|#[^\n]*|[\[\]{}.=,\n]|[^\s\[\]{}.=,\"'#]+",
+    re.DOTALL,
+)
+"""A piece of the file: a text, a remark, a sign or a word. A text may be one that isn't closed."""
 
 
 @dataclass(frozen=True)
@@ -102,13 +123,14 @@ class Config:
     typecode: str | None = None
     """That of the axioms which the rule `axioms` judges; None for all."""
     watch: tuple[str, ...] = ()
-    rules: frozenset[str] = frozenset(RULES)
+    rules: frozenset[str] = DEFAULTS
     allowed: Mapping[str, Labels] = field(default_factory=dict)
     """Of the rules `axioms`, `avoids`, `open`, `mathboxes` and `discouraged`: what may break
     them."""
     resting: Mapping[str, Mapping[str, Labels]] = field(default_factory=dict)
     """Of the rules `newly` and `new`: for watched axioms the theorems that may rest on them."""
     claims: tuple[Claim, ...] = ()
+    limits: Limits = Limits()
     lines: Mapping[tuple[str, ...], int] = field(default_factory=dict)
     """For each key and table the line where it stands."""
 
@@ -166,16 +188,34 @@ def read_config(data: bytes, name: str) -> Config:
         raise Misread(name, f"longer than {MOST_CONFIG_BYTES} bytes")
     try:
         text = data.decode("utf-8")
+        see_small(text, name)
         table = tomllib.loads(text)
     except UnicodeDecodeError:
         raise Misread(name, "not UTF-8") from None
     except ValueError as error:
         raise Misread(name, shown(str(error))) from None
-    except RecursionError:
-        raise Misread(name, "nested too deeply") from None
     lines = lines_of(text)
     Checker(lines, name).check(table, SHAPE, ())
     return config_of(table, name, lines)
+
+
+def see_small(text: str, name: str) -> None:
+    """Misread where something in the file is so long or so deep that it would take long to read."""
+    depth, parts, line = 0, 1, 1
+    for piece in PIECE.finditer(text):
+        sign = piece[0]
+        if len(sign) > MOST_WORD and not sign.startswith("#"):
+            raise Misread(name, f"a word of more than {MOST_WORD} characters", line)
+        depth += (sign in ("[", "{")) - (sign in ("]", "}"))
+        if depth > MOST_DEPTH:
+            raise Misread(name, "nested too deeply", line)
+        if sign == ".":
+            parts += 1
+        elif sign in ("=", ",", "\n", "[", "{"):
+            parts = 1
+        if parts > MOST_PARTS:
+            raise Misread(name, f"a key of more than {MOST_PARTS} parts", line)
+        line += sign.count("\n")
 
 
 def config_of(table: Mapping[str, Any], name: str, lines: Mapping[tuple[str, ...], int]) -> Config:
@@ -186,7 +226,7 @@ def config_of(table: Mapping[str, Any], name: str, lines: Mapping[tuple[str, ...
     """
     rules = table.get("rules", {})
     allow = table.get("allow", {})
-    rules = {"new": rules.get("newly", True), **rules}
+    rules = {"new": rules.get("newly", True), **rules, CHOSEN: table.get(CHOSEN, False)}
     resting = {"newly": allow.get("newly", {}), "new": allow.get("new", allow.get("newly", {}))}
     return Config(
         name=name,
@@ -205,6 +245,7 @@ def config_of(table: Mapping[str, Any], name: str, lines: Mapping[tuple[str, ...
             Claim(theorem, tuple(axioms), lines.get(("claims", theorem), 0))
             for theorem, axioms in table.get("claims", {}).items()
         ),
+        limits=Limits(table.get("limit-time"), table.get("limit-memory")),
         lines=lines,
     )
 
@@ -244,9 +285,10 @@ class Checker:
                 self.check_word(key, here, patterns=path[0] == "allow")
                 self.check_value(words, LABELS, here)
             return
-        types = {TEXT: str, LABELS: list, SWITCH: bool, LISTS: dict}
+        types = {TEXT: str, LABELS: list, SWITCH: bool, LISTS: dict, NUMBER: int}
         key = shown(".".join(path))
-        if not isinstance(value, types[wanted]):
+        is_number = type(value) is int and 1 <= value <= MOST_GIVEN
+        if not isinstance(value, types[wanted]) or (wanted == NUMBER and not is_number):
             raise self.fail(path, f"'{key}' isn't {wanted}, but {kind_of(value)}")
         if isinstance(value, list):
             self.check_labels(value, path)

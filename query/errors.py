@@ -2,6 +2,7 @@
 status 2."""
 
 import os
+import re
 from collections.abc import Iterable
 from contextlib import suppress
 
@@ -33,6 +34,16 @@ def shown(text: str, kept: str = "") -> str:
     )
 
 
+COMMANDS_OF_SERVERS = re.compile(r"(?<=#)#|(?<=:):|#(?=\[)")
+
+
+def quiet(text: str) -> str:
+    """A text for the log of a server, in which nothing is a command: those of Azure and TeamCity
+    begin with `##`, and those of GitHub with `::` or `##[`. The second sign is written as
+    `\\x23` or `\\x3a`."""
+    return COMMANDS_OF_SERVERS.sub(lambda sign: escaped(ord(sign[0])), text)
+
+
 def nearest(word: str, known: Iterable[str], cutoff: float = NEAR_WORD) -> str:
     """Which of the known words is meant, as the end of a sentence; empty where none is near. One
     that differs in capital letters alone is nearest. Of many words only those are compared that
@@ -61,8 +72,8 @@ def escaped(number: int) -> str:
 
 
 def tell(text: str) -> None:
-    """Writes a line to standard error."""
-    put(f"mmquery: {shown(text)}\n")
+    """Writes a line to standard error, which often is the log of a server."""
+    put(f"mmquery: {quiet(shown(text))}\n")
 
 
 def put(text: str) -> None:

@@ -24,7 +24,7 @@ from query.objects import Objects
 from query.options import Options
 from query.parallel import Task, begun
 from query.prepared import Prepared
-from query.source import NO_TEXT, Source, inflated
+from query.source import NO_TEXT, Source, see_plain
 
 AT_ONCE = 4
 """So many revisions are judged at once, where there are as many processors."""
@@ -98,9 +98,10 @@ def figures(objects: Objects, revision: Revision, question: Question) -> Figures
         data = objects.content(revision.commit, revision.path)
         if data is None:
             return Figures(fault=f"there is no {shown(revision.path)}")
-        source = Source(name, inflated(name, data))
+        see_plain(name, data)
     except NoAnswer as why:
         return Figures(fault=str(why))
+    source = Source(name, data)
     if source.is_report():
         return Figures(fault=NO_TEXT)
     parts = kept(Database(source, question.options, question.uses_cache), question.theorem)

@@ -1,59 +1,102 @@
-"""What the gate found, written for people, as JSON, as annotations of GitHub and in Markdown."""
+"""What the gate found, written for people, for logs, as JSON, as annotations of GitHub and in
+Markdown. Each form is made in pieces, so that what is found need not be kept."""
 
 from __future__ import annotations
 
+import json
 import os
 import re
-from collections.abc import Mapping
-from dataclasses import asdict, dataclass, field
+from collections.abc import Callable, Iterable, Iterator, Mapping
+from dataclasses import asdict, dataclass, field, replace
+from itertools import chain
 
-from query.errors import shown
+from query.errors import quiet, shown
 from query.rules import Finding
 
-MOST_ROWS = 1000
-"""How many findings a summary in Markdown lists."""
+MOST_TOLD = 1000
+"""How many findings are told, where not all are asked for, and how many a summary has."""
 MOST_SUMMARY_BYTES = 1_000_000
 """How long a summary is at the most, with what the file has already: GitHub takes 1 MB."""
 SHOWN_TEXT = 1000
-"""How many characters of a text a summary shows."""
+"""How many characters of a label or a reason are told. A label may have as many as the text."""
 ENDING = 500
 """Bytes that are kept for the last line of a summary."""
-
-MARKS = re.compile(r"([\\`*_{}\[\]<>()#+!|&~:@$])")
-"""What means something in Markdown within a line."""
+PIPE = re.compile(r"(\\?)\|")
 
 
-@dataclass(frozen=True)
+@dataclass
 class Verdict:
     """The answer of the gate.
 
-    `database` is the one that was judged and `base` what it was compared with, in words. `notes`
-    are remarks that don't change the answer. `paths` has for names of files their paths from the
-    top of the repository.
+    `database` is the one that was judged and `base` what it was compared with, in words. `found`
+    gives the findings, once. `notes` are remarks that don't change the answer. `paths` has for
+    names of files their paths from the top of the repository.
     """
 
     database: str
     base: str
     rules: tuple[str, ...]
-    findings: list[Finding]
+    found: Iterable[Finding]
     notes: list[str] = field(default_factory=list)
     paths: Mapping[str, str] = field(default_factory=dict)
+    count: int = 0
+    """How many findings there were, as far as they were taken."""
+    first: list[Finding] = field(default_factory=list)
+    """The first ones, as many as are told at the most."""
+
+    def told(self, is_short: bool) -> Iterator[Finding]:
+        """The findings, or the first ones."""
+        for finding in self.found:
+            finding = cut(finding)
+            self.count += 1
+            if self.count <= MOST_TOLD:
+                self.first.append(finding)
+            if self.count <= MOST_TOLD or not is_short:
+                yield finding
 
     @property
     def has_passed(self) -> bool:
         """Whether nothing was found."""
-        return not self.findings
+        return not self.count
 
     def path(self, finding: Finding) -> str:
         """The path of a finding's file from the top of the repository."""
         return self.paths.get(finding.file, finding.file)
 
+    def more(self, told: int = MOST_TOLD) -> int:
+        """How many there were besides so many that were told."""
+        return max(0, self.count - told)
+
+
+def cut(finding: Finding) -> Finding:
+    """A finding whose texts are cut where they are long."""
+    label, axiom, why = (
+        text if len(text) <= SHOWN_TEXT else text[:SHOWN_TEXT] + " .."
+        for text in (finding.label, finding.axiom, finding.reason)
+    )
+    return replace(finding, label=label, axiom=axiom, reason=why)
+
+
+def answer(verdict: Verdict) -> str:
+    """The answer in a word or two."""
+    return counted(verdict.count, "finding") if verdict.count else "passed"
+
+
+def counted(count: int, word: str) -> str:
+    """A number of things that have this word."""
+    return f"{count} {word}{'s' if count > 1 else ''}"
+
 
 def summary(verdict: Verdict) -> str:
     """The answer in one line."""
-    count = len(verdict.findings)
-    answer = f"{count} finding{'s' if count > 1 else ''}" if count else "passed"
-    return f"{answer}: {verdict.database} compared with {verdict.base}"
+    return f"{answer(verdict)}: {verdict.database} compared with {verdict.base}"
+
+
+def rest(findings: int, notes: int = 0) -> str:
+    """How many findings and notes aren't told; "" where all are."""
+    numbers = ((findings, "more finding"), (notes, "more note"))
+    counts = [counted(count, word) for count, word in numbers if count]
+    return f"and {' and '.join(counts)}" if counts else ""
 
 
 def finding_line(finding: Finding) -> str:
@@ -64,39 +107,51 @@ def finding_line(finding: Finding) -> str:
     return shown(f"{where}: {label}{finding.reason} [{finding.rule}]")
 
 
-def as_text(verdict: Verdict) -> str:
+def as_text(verdict: Verdict, is_short: bool) -> Iterator[str]:
     """For people: a line for each finding, then the answer in one."""
-    lines = [finding_line(finding) for finding in verdict.findings]
-    lines += [shown(f"note: {note}") for note in verdict.notes]
-    return "".join(line + "\n" for line in (*lines, shown(summary(verdict))))
+    for finding in verdict.told(is_short):
+        yield finding_line(finding) + "\n"
+    if is_short and verdict.more():
+        yield f"{rest(verdict.more())}, which --all tells\n"
+    for note in verdict.notes:
+        yield shown(f"note: {note}") + "\n"
+    yield shown(summary(verdict)) + "\n"
 
 
-def as_object(verdict: Verdict) -> dict[str, object]:
+def as_log(verdict: Verdict, is_short: bool) -> Iterator[str]:
+    """The same for the log of a server, which takes nothing in it for a command."""
+    return map(quiet, as_text(verdict, is_short))
+
+
+def as_json(verdict: Verdict, is_short: bool) -> Iterator[str]:
     """As a JSON object. Paths are from the top of the repository; what isn't there is null."""
-    return {
-        "passed": verdict.has_passed,
+    findings = verdict.told(is_short)
+    first = next(findings, None)
+    known = {
+        "passed": first is None,
         "database": verdict.database,
         "base": verdict.base,
         "rules": list(verdict.rules),
-        "findings": [
-            {key: value or None for key, value in asdict(each).items()}
-            | {"file": verdict.path(each)}
-            for each in verdict.findings
-        ],
-        "notes": verdict.notes,
     }
+    yield json.dumps(known, indent=1).removesuffix("\n}") + ',\n "findings": ['
+    sign = "\n"
+    for finding in chain([] if first is None else [first], findings):
+        fields = {key: value or None for key, value in asdict(finding).items()}
+        yield sign + json.dumps(fields | {"file": verdict.path(finding)})
+        sign = ",\n"
+    last = {"more": verdict.more() if is_short else 0, "notes": verdict.notes}
+    yield "\n ],\n" + json.dumps(last, indent=1).removeprefix("{\n") + "\n"
 
 
 def escaped(text: str, *, is_property: bool = False) -> str:
     """A text within a command of GitHub, by the rules of its runner."""
-    text = shown(text.replace("%", "%25").replace("\r", "%0D").replace("\n", "%0A"))
+    text = quiet(shown(text.replace("%", "%25").replace("\r", "%0D").replace("\n", "%0A")))
     return text.replace(":", "%3A").replace(",", "%2C") if is_property else text
 
 
-def as_annotations(verdict: Verdict) -> str:
+def as_annotations(verdict: Verdict, is_short: bool) -> Iterator[str]:
     """As GitHub's annotations of files, one for each finding, then the answer in one line."""
-    lines = []
-    for finding in verdict.findings:
+    for finding in verdict.told(is_short):
         properties = [f"file={escaped(verdict.path(finding), is_property=True)}"]
         if finding.line:
             properties.append(f"line={finding.line}")
@@ -104,55 +159,55 @@ def as_annotations(verdict: Verdict) -> str:
             properties.append(f"col={finding.column}")
         properties.append(f"title={escaped(f'mmquery gate ({finding.rule})', is_property=True)}")
         label = f"{finding.label}: " if finding.label else ""
-        lines.append(f"::error {','.join(properties)}::{escaped(label + finding.reason)}")
-    lines += [f"::notice::{escaped(note)}" for note in verdict.notes]
+        yield f"::error {','.join(properties)}::{escaped(label + finding.reason)}\n"
+    if is_short and verdict.more():
+        yield f"mmquery gate: {rest(verdict.more())}, which --all tells\n"
+    for note in verdict.notes:
+        yield f"::notice::{escaped(note)}\n"
     # A line that began with `::` would be a command, and the name of a file may.
-    lines.append(f"mmquery gate: {shown(summary(verdict))}")
-    return "".join(line + "\n" for line in lines)
+    yield f"mmquery gate: {quiet(shown(summary(verdict)))}\n"
 
 
 def in_markdown(text: str) -> str:
-    """A text in Markdown that shows it as it is, cut where it is long."""
-    cut = text if len(text) <= SHOWN_TEXT else text[:SHOWN_TEXT] + " .."
-    return MARKS.sub(r"\\\1", shown(cut))
+    """A text in Markdown, as code: in that nothing is a link, a mention or a tag. Within a table
+    only `|` means something, unless a `\\` stands before it; behind another one it would again."""
+    text = shown(text if len(text) <= SHOWN_TEXT else text[:SHOWN_TEXT] + " ..")
+    fence = "`" * (max((len(run) for run in re.findall("`+", text)), default=0) + 1)
+    pad = " " if text.startswith("`") or text.endswith("`") or not text.strip() else ""
+    text = PIPE.sub(lambda sign: sign[1] + (r"\x7c" if sign[1] else r"\|"), text)
+    return f"{fence}{pad}{text}{pad}{fence}" if text else ""
 
 
-def as_markdown(verdict: Verdict) -> str:
+def as_markdown(verdict: Verdict, is_short: bool) -> Iterator[str]:
     """As a summary in Markdown: the answer, a table of the findings, and the notes."""
-    return markdown_within(verdict, MOST_SUMMARY_BYTES)
+    for _ in verdict.told(is_short):
+        pass
+    yield markdown_within(verdict, MOST_SUMMARY_BYTES)
 
 
 def as_summary(verdict: Verdict, path: str) -> str:
-    """The same for the end of a file, which may have something already."""
+    """The same, of what was told, for the end of a file, which may have something already."""
     try:
         return markdown_within(verdict, MOST_SUMMARY_BYTES - os.stat(path).st_size)
     except OSError:
-        return as_markdown(verdict)
+        return markdown_within(verdict, MOST_SUMMARY_BYTES)
 
 
 def markdown_within(verdict: Verdict, room: int) -> str:
     """The same of no more bytes than there is room, as far as the answer itself allows."""
     lines = Lines(room - ENDING)
-    lines.add(f"### mmquery gate: {in_markdown(summary(verdict))}", "")
-    if verdict.findings:
+    compared = f"{in_markdown(verdict.database)} compared with {in_markdown(verdict.base)}"
+    lines.add(f"### mmquery gate: {answer(verdict)}: {compared}", "")
+    if verdict.first:
         lines.add("| Rule | Place | Label | Axiom | Reason |", "|---|---|---|---|---|")
     listed = 0
-    for finding in verdict.findings[:MOST_ROWS]:
+    for finding in verdict.first:
         where = verdict.path(finding) + (f":{finding.line}" if finding.line else "")
-        words = (finding.rule, where, finding.label, finding.axiom, finding.reason)
-        listed += lines.add("| " + " | ".join(in_markdown(word) for word in words) + " |")
+        words = (where, finding.label, finding.axiom, finding.reason)
+        listed += lines.add(f"| {' | '.join([finding.rule, *map(in_markdown, words)])} |")
     noted = sum(lines.add("", f"Note: {in_markdown(note)}") for note in verdict.notes)
-    return lines.text() + rest(len(verdict.findings) - listed, len(verdict.notes) - noted)
-
-
-def rest(findings: int, notes: int) -> str:
-    """How many findings and notes a summary doesn't list."""
-    counts = [
-        f"{count} more {word}{'s' if count > 1 else ''}"
-        for count, word in ((findings, "finding"), (notes, "note"))
-        if count
-    ]
-    return f"\nand {' and '.join(counts)}\n" if counts else ""
+    left = rest(verdict.more(listed), len(verdict.notes) - noted)
+    return lines.text() + (f"\n{left}\n" if left else "")
 
 
 class Lines:
@@ -174,3 +229,13 @@ class Lines:
     def text(self) -> str:
         """All of them."""
         return "".join(line + "\n" for line in self.lines)
+
+
+FORMS: dict[str, Callable[[Verdict, bool], Iterator[str]]] = {
+    "text": as_text,
+    "log": as_log,
+    "json": as_json,
+    "github": as_annotations,
+    "markdown": as_markdown,
+}
+"""The forms by their names; the first is the default."""

@@ -28,6 +28,9 @@ HEAD = re.compile(r"HEAD(?![^:^~@])")
 NOWHERE = "/dev/null"
 """The file that is empty. Git knows it by this name on each system."""
 
+MOST_SECONDS = 100
+"""By the clock, for each call of git. A merge can be made to take hours."""
+
 SETTINGS = (
     "safe.bareRepository=explicit",
     "protocol.allow=never",
@@ -38,8 +41,11 @@ SETTINGS = (
     "core.warnAmbiguousRefs=true",
     "submodule.recurse=false",
     "gc.auto=0",
+    "merge.renames=false",
 )
-"""What git is told at each call; it goes before what files of settings say."""
+"""What git is told at each call; it goes before what files of settings say. Renames aren't looked
+for in merges, since that compares each file with each other one; where one would matter, there is a
+conflict instead."""
 
 SURROUNDINGS = {
     "LC_ALL": "C",
@@ -200,9 +206,13 @@ def call(
             capture_output=True,
             env={**surroundings, **SURROUNDINGS, **(more or {})},
             check=False,
+            timeout=MOST_SECONDS,
         )
     except OSError as error:
         raise NoAnswer(f"git can't be run: {error.strerror}") from None
+    except subprocess.TimeoutExpired:
+        asked = next((word for word in words if not word.startswith("-")), "")
+        raise NoAnswer(f"not judged: git {asked} needs more than {MOST_SECONDS} seconds") from None
 
 
 def are_one(one: Path, other: Path) -> bool:

@@ -38,6 +38,13 @@ class Unbuilt(NotRead):
         super().__init__("it isn't built by the syntax axioms before it")
 
 
+class Twofold(NotRead):
+    """It has more than one tree."""
+
+    def __init__(self) -> None:
+        super().__init__("it can be read in two ways")
+
+
 class Part(NamedTuple):
     """A part of a formula: its typecode, where it begins and the symbol after its last one."""
 
@@ -92,9 +99,13 @@ class Grammar:
         """For each its symbols, with typecodes in place of variables."""
         self.has_empty = False
         """Whether an axiom has no symbol."""
+        self.size = 0
+        """How many symbols the axioms have."""
         self.equal: dict[str, list[tuple[int, int]]] = {}
         """For each in which a variable occurs again, the numbers of two occurrences among those of
         all variables."""
+        self.typecodes: dict[str, str] = {}
+        """The typecode of each."""
         self._constants: dict[str, list[str]] = {}
 
     def add(
@@ -106,9 +117,11 @@ class Grammar:
             kind = variables.get(symbol)
             nexts, key = (node.symbols, symbol) if kind is None else (node.parts, kind)
             node = nexts.setdefault(key, Node(typecode))
+        self.size += len(symbols)
         if node.rule is None:
             node.rule = label
             self.has_empty = self.has_empty or not symbols
+            self.typecodes[label] = typecode
             names = [each for each in symbols if each in variables]
             self.arguments[label] = [variables[each] for each in names]
             self.shapes[label] = tuple(variables.get(each, each) for each in symbols)
@@ -267,5 +280,5 @@ def parts_of(item: Item) -> list[Part]:
 def only(several: list[Kind]) -> Kind:
     """The only one. NotRead where there are two."""
     if len(several) > 1:
-        raise NotRead("it can be read in two ways")
+        raise Twofold
     return several[0]

@@ -10,21 +10,24 @@ from __future__ import annotations
 import hashlib
 import os
 import subprocess
-import unicodedata
-from collections.abc import Mapping
+from collections.abc import Iterator, Mapping
 from contextlib import ExitStack
-from dataclasses import dataclass
 from pathlib import Path
 from types import TracebackType
 
 from query import temporary
 from query.errors import NoAnswer, shown
 from query.git import NOWHERE, Repository, call, said, short
+from query.source import MOST_DATABASE_BYTES
+from query.trees import FOLDER, LINK, SUBMODULE, Entry, Malformed, entries_of, told, twins
 
 ATTRIBUTES = "* merge -text -ident !filter !eol !working-tree-encoding\n"
 """These go before all that `.gitattributes` of a commit say: texts are merged as texts."""
 
-LINK, SUBMODULE = b"120000", b"160000"
+NOT_JUDGED = {LINK: "a link, and what it names", SUBMODULE: "a submodule, which"}
+"""Modes of what isn't followed, in words."""
+MOST_TREE_BYTES = 1 << 24
+"""How long a folder may be: some 300,000 files."""
 POINTER = b"version https://git-lfs.github.com/spec/"
 """How a file begins that stands for one kept elsewhere, by Git LFS."""
 
@@ -35,14 +38,30 @@ NOBODY = {
 }
 
 
-@dataclass(frozen=True)
-class Entry:
-    """What a folder of a commit has under a name."""
+def call_apart(
+    own: Path,
+    *words: str,
+    folder: Path | None = None,
+    given: bytes = b"",
+    more: Mapping[str, str] | None = None,
+) -> subprocess.CompletedProcess[bytes]:
+    """Runs git on a repository that we made, in another folder where that is given. No file of
+    settings but its own is read."""
+    apart = {
+        "HOME": str(own),
+        "XDG_CONFIG_HOME": str(own),
+        "GIT_CONFIG_GLOBAL": NOWHERE,
+        "GIT_CONFIG_NOSYSTEM": "1",
+        **(more or {}),
+    }
+    return call(f"--git-dir={own}", *words, folder=folder or own, given=given, more=apart)
 
-    mode: bytes
-    kind: bytes
-    name: str
-    """The full id."""
+
+def make_empty(folder: Path) -> None:
+    """Makes a folder an empty repository, without settings."""
+    for name in ("refs", "objects/info", "info"):
+        (folder / name).mkdir(parents=True)
+    (folder / "HEAD").write_text("ref: refs/heads/none\n")
 
 
 class Objects:
@@ -52,6 +71,10 @@ class Objects:
         self.repository = repository
         self.folder = Path()
         self.opened = ExitStack()
+        self.tops: dict[str, str] = {}
+        """For each commit and tree that was asked for the id of its tree."""
+        self.listed: dict[str, dict[bytes, Entry]] = {}
+        """For each tree that was read what it has."""
 
     def __enter__(self) -> Objects:
         with ExitStack() as opened:
@@ -70,9 +93,7 @@ class Objects:
 
     def make(self) -> None:
         """Makes the repository of our own."""
-        for name in ("refs", "objects/info", "info"):
-            (self.folder / name).mkdir(parents=True)
-        (self.folder / "HEAD").write_text("ref: refs/heads/none\n")
+        make_empty(self.folder)
         (self.folder / "info/attributes").write_text(ATTRIBUTES)
         borrowed = git_path(os.fsencode(self.repository.path("objects")))
         (self.folder / "objects/info/alternates").write_bytes(borrowed + b"\n")
@@ -87,17 +108,9 @@ class Objects:
         (self.folder / "config").write_text(settings + "\n")
 
     def ask(self, *words: str, given: bytes = b"") -> subprocess.CompletedProcess[bytes]:
-        """Runs git on the repository of our own. No file of settings but ours is read."""
-        own = str(self.folder)
-        more = {
-            "HOME": own,
-            "XDG_CONFIG_HOME": own,
-            "GIT_CONFIG_GLOBAL": NOWHERE,
-            "GIT_CONFIG_NOSYSTEM": "1",
-            "GIT_INDEX_FILE": str(self.folder / "index"),
-            **NOBODY,
-        }
-        return call(f"--git-dir={own}", *words, folder=self.folder, given=given, more=more)
+        """Runs git on the repository of our own."""
+        more = {"GIT_INDEX_FILE": str(self.folder / "index"), **NOBODY}
+        return call_apart(self.folder, *words, given=given, more=more)
 
     def must(self, *words: str, given: bytes = b"") -> bytes:
         """What git answers. NoAnswer where it fails."""
@@ -159,67 +172,81 @@ class Objects:
         made = self.must("commit-tree", tree, "-p", commit, "-m", "the working tree")
         return made.decode("ascii").strip()
 
-    def listing(self, tree: str) -> dict[bytes, Entry]:
-        """What stands in a folder, given by the full id of a commit or a tree."""
-        found = {}
-        for line in self.must("ls-tree", "-z", tree).split(b"\0"):
-            head, sign, name = line.partition(b"\t")
-            if sign:
-                mode, kind, hexadecimal = head.split()
-                found[name] = Entry(mode, kind, hexadecimal.decode("ascii"))
-        return found
+    def read(self, kind: str, name: str, most: int, path: str) -> bytes:
+        """The bytes of an object, which is at this path. NoAnswer where there are more than `most`:
+        an object of a few bytes can be made to unpack to gigabytes."""
+        size = int(self.must("cat-file", "-s", name))
+        if size > most:
+            raise NoAnswer(f"not judged: {shown(path)} has {size} bytes, and {most} are taken")
+        return self.must("cat-file", kind, name)
+
+    def listing(self, tree: str, path: str) -> dict[bytes, Entry]:
+        """What stands in a folder on the way to a path, given by the full id of its tree. NoAnswer
+        where the tree isn't as git writes it: git could check out something else than it reads."""
+        if tree not in self.listed:
+            data = self.read("tree", tree, MOST_TREE_BYTES, path)
+            try:
+                self.listed[tree] = entries_of(data, len(tree) // 2)
+            except Malformed as why:
+                raise NoAnswer(
+                    f"not judged: the tree {short(tree)} on the way to {shown(path)} isn't"
+                    f" well-formed: {why}"
+                ) from None
+        return self.listed[tree]
+
+    def way(self, tree: str, path: str) -> Iterator[tuple[bytes, dict[bytes, Entry]]]:
+        """The parts of a path from the top, with `/`, and what stands in the folder of each, as far
+        as it leads in a commit or a tree."""
+        if tree not in self.tops:
+            top = self.must("rev-parse", "--verify", "--end-of-options", tree + "^{tree}")
+            self.tops[tree] = top.decode("ascii").strip()
+        found = Entry(FOLDER, self.tops[tree])
+        for part in os.fsencode(path).split(b"/"):
+            if not found.is_folder:
+                return
+            beside = self.listing(found.name, path)
+            yield part, beside
+            if part not in beside:
+                return
+            found = beside[part]
 
     def entry(self, tree: str, path: str) -> Entry | None:
-        """The file of a commit or a tree at a path from the top, with `/`; None where it has none.
-
-        NoAnswer where the path leads through a link or into a submodule, or where another name
-        stands beside a name of it that differs in case alone: elsewhere these may be one file.
-        """
-        found = Entry(b"", b"tree", tree)
-        for part in os.fsencode(path).split(b"/"):
-            if found.kind != b"tree":
-                return None
-            beside = self.listing(found.name)
-            see_alone(part, beside, path)
-            if part not in beside:
-                return None
-            found = beside[part]
-            name = shown(os.fsdecode(part))
-            if found.mode == LINK:
-                raise NoAnswer(f"{shown(path)}: {name} is a link, and what it names isn't judged")
-            if found.mode == SUBMODULE:
-                raise NoAnswer(f"{shown(path)}: {name} is a submodule, which isn't judged")
-        if found.kind != b"blob":
+        """The file of a commit or a tree at a path from the top; None where it has none. NoAnswer
+        where the path leads through a link or into a submodule."""
+        way = list(self.way(tree, path))
+        found = None
+        for part, beside in way:
+            if {b"HEAD", b"objects", b"refs"} <= beside.keys():
+                raise NoAnswer(f"{shown(path)}: lies beside the files of a bare repository")
+            found = beside.get(part)
+            what = NOT_JUDGED.get(b"" if found is None else found.mode)
+            if what is not None:
+                raise NoAnswer(f"{shown(path)}: {told(part)} is {what} isn't judged")
+        if found is None or len(way) <= path.count("/"):
+            return None
+        if found.is_folder:
             raise NoAnswer(f"{shown(path)}: is a folder")
         return found
 
-    def content(self, tree: str, path: str) -> bytes | None:
-        """The bytes of that file; None where there is none."""
+    def twins(self, tree: str, path: str) -> list[str]:
+        """The names that stand beside one on the way to a path, and elsewhere are the same one:
+        they differ in case alone, say. By their paths from the top."""
+        found: list[bytes] = []
+        above = b""
+        for part, beside in self.way(tree, path):
+            found += [above + name for name in twins(part, beside)]
+            above += part + b"/"
+        return [os.fsdecode(name) for name in found]
+
+    def content(self, tree: str, path: str, most: int = MOST_DATABASE_BYTES) -> bytes | None:
+        """The bytes of that file; None where there is none. NoAnswer where there are too many."""
         entry = self.entry(tree, path)
         if entry is None:
             return None
-        data = self.must("cat-file", "blob", entry.name)
+        data = self.read("blob", entry.name, most, path)
         if data.startswith(POINTER):
             raise NoAnswer(f"{shown(path)}: a pointer of Git LFS, and not what it stands for")
         return data
-
-
-def see_alone(part: bytes, beside: Mapping[bytes, Entry], path: str) -> None:
-    """NoAnswer where a name can't be told from another one everywhere, or where the folder has the
-    files of a bare repository."""
-    folded = [name for name in beside if name != part and fold(name) == fold(part)]
-    if folded:
-        raise NoAnswer(
-            f"{shown(path)}: {shown(os.fsdecode(folded[0]))} stands beside it, which differs in"
-            " case alone"
-        )
-    if {b"HEAD", b"objects", b"refs"} <= beside.keys():
-        raise NoAnswer(f"{shown(path)}: lies beside the files of a bare repository")
-
-
-def fold(name: bytes) -> str:
-    """What names have in common that some file systems take for one."""
-    return unicodedata.normalize("NFC", os.fsdecode(name)).casefold()
 
 
 def git_path(path: bytes) -> bytes:

@@ -193,6 +193,22 @@ def add_choice_of_citations(parser: Parser) -> None:
     add_open(parser)
 
 
+def add_limits(parser: Parser) -> None:
+    """Adds `--limit-time` and `--limit-memory`."""
+    parser.value(
+        "--limit-time",
+        "SECONDS",
+        "of the processor, for verifying a text (else: 10, and 5 for each MB)",
+        type=positive,
+    )
+    parser.value(
+        "--limit-memory",
+        "MB",
+        "for verifying a text (else: 256, and 64 for each MB)",
+        type=positive,
+    )
+
+
 def options_of(arguments: argparse.Namespace) -> Options:
     """The options among the arguments of a command; those it doesn't take have their default."""
     given = {name: value for name, value in vars(arguments).items() if value not in (None, False)}

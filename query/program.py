@@ -1,23 +1,31 @@
 """The program `mmdepend`: where it is, and how it is run."""
 
+from __future__ import annotations
+
 import hashlib
 import os
 import re
 import shutil
-from collections.abc import Mapping, Sequence
+from collections.abc import Callable, Mapping, Sequence
 from dataclasses import dataclass
 from functools import cached_property
+from typing import TYPE_CHECKING
 
-from query import signals, system
+from query import limits, signals, system
 from query.errors import NoAnswer, shown
 from query.faults import Refused
 from query.output import reason
 from query.source import Source
 
+if TYPE_CHECKING:
+    from query.clock import Clock
+
 REFUSAL = re.compile(rb"refused ([1-9][0-9]{0,9}):([1-9][0-9]{0,9}) (E[0-9]{2})\n")
 PIPE = 1 << 20  # bytes that wait in a pipe
 MOST_OUTPUT_BYTES = 2_000_000_000
 """Bytes that are read of what the program says. Of set.mm it says 47 million."""
+NO_MEMORY = 4
+"""The status of a program that lacks memory."""
 HOME = os.path.dirname(os.path.dirname(os.path.realpath(__file__)))
 SCRIPT = "mmdepend.mjs"
 """The program for Node."""
@@ -26,7 +34,7 @@ SCRIPT = "mmdepend.mjs"
 class Running:
     """The program while it runs. A signal that ends the command ends it too. It gets the open files
     `passed`, and the variables `surroundings` in place of ours. Its standard error is ours, or kept
-    where that `is_kept`."""
+    where that `is_kept`. With `allowed` its seconds and memory are limited."""
 
     def __init__(
         self,
@@ -36,10 +44,13 @@ class Running:
         is_kept: bool,
         passed: Sequence[int] = (),
         surroundings: Mapping[str, str] | None = None,
+        allowed: Allowed | None = None,
     ) -> None:
         # It takes 6 milliseconds, and an answer that is kept needs no program.
         import subprocess
 
+        self.allowed = allowed
+        limit = None if allowed is None else allowed.limiting()
         with signals.held():
             self.errors = system.unnamed() if is_kept else None
             try:
@@ -51,10 +62,19 @@ class Running:
                     pipesize=PIPE,
                     pass_fds=passed,
                     env=surroundings,
+                    preexec_fn=limit,
                 )
             except OSError as error:
                 raise NoAnswer(f"{shown(path)} can't be run: {reason(error)}") from None
             self.number = signals.at_stop(self.process.kill)
+        self.clock = None if allowed is None or limit is not None else self.watched(allowed)
+
+    def watched(self, allowed: Allowed) -> Clock:
+        """Where the system has no limits, the clock that ends the program after the seconds."""
+        # See system.limiting.
+        from query.clock import Clock
+
+        return Clock(allowed.seconds, self.process.kill)
 
     def ended(self) -> tuple[bytes, bytes, int]:
         """What it wrote to standard output and to standard error, and its status, once it has
@@ -63,13 +83,34 @@ class Running:
         out = bytearray()
         while chunk := os.read(self.process.stdout.fileno(), PIPE):
             out += chunk
-            if len(out) > MOST_OUTPUT_BYTES:
+            if len(out) > self.most_output:
                 self.process.kill()
                 break
         self.process.stdout.close()
         self.process.wait()
         signals.forget(self.number)
+        if self.clock is not None:
+            self.clock.stop()
         return out, self.said(), self.process.returncode
+
+    @property
+    def most_output(self) -> int:
+        """How many bytes are read of what it writes."""
+        memory = MOST_OUTPUT_BYTES if self.allowed is None else self.allowed.memory
+        return min(memory, MOST_OUTPUT_BYTES)
+
+    def exceeded(self, status: int, said: int) -> str:
+        """Which limit ended it, in words; "" where none did. `said` is how many bytes it wrote."""
+        if self.allowed is None:
+            return ""
+        memory = self.allowed.memory
+        if said > self.most_output:
+            return f"{self.most_output // limits.MEGABYTE} MB for what the program says of it"
+        if system.is_out_of_time(status) or (self.clock is not None and self.clock.has_rung):
+            return f"{self.allowed.seconds} seconds of the processor (--limit-time)"
+        if status == NO_MEMORY:
+            return f"{memory // limits.MEGABYTE} MB of memory (--limit-memory), or than there are"
+        return ""
 
     def said(self) -> bytes:
         """What it wrote to standard error, where that is kept."""
@@ -87,6 +128,26 @@ class Running:
 
 
 @dataclass(frozen=True)
+class Allowed:
+    """What a run of the program may take: seconds of the processor, and bytes of memory. Node sets
+    aside more than it uses, and limits the memory of its module by itself."""
+
+    seconds: int
+    memory: int
+    is_node: bool
+
+    def limiting(self) -> Callable[[], None] | None:
+        """What limits a process before the program begins in it."""
+        return system.limiting(self.seconds, None if self.is_node else self.memory)
+
+
+def allowed_for(size: int, is_node: bool) -> Allowed:
+    """What a run over so many bytes may take."""
+    chosen = limits.chosen()
+    return Allowed(chosen.seconds_for(size), chosen.bytes_for(size), is_node)
+
+
+@dataclass(frozen=True)
 class Program:
     """The program at a path, or the one for Node, which the command `node` runs."""
 
@@ -98,12 +159,16 @@ class Program:
         with open(self.path, "rb") as file:
             return file.read()
 
-    def running(self, words: list[str], given: int | None, is_kept: bool) -> Running:
+    def running(
+        self, words: list[str], given: int | None, is_kept: bool, size: int | None = None
+    ) -> Running:
         """The program while it runs with these words, and an open file as standard input; None for
-        an empty one."""
+        an empty one. Where that has so many bytes, by these it is limited."""
+        allowed = None if size is None else allowed_for(size, self.node is not None)
         if self.node is None:
-            return Running(self.path, words, given, is_kept)
-        return Running(self.node, [self.path, *words], given, is_kept, (), without_node())
+            return Running(self.path, words, given, is_kept, allowed=allowed)
+        line = [self.path, *words]
+        return Running(self.node, line, given, is_kept, (), without_node(), allowed)
 
     def prepare(self) -> None:
         """Has the program built where it is a script that does so, as in a clone. What that says
@@ -186,18 +251,16 @@ def report(program: Program, source: Source, words: list[str]) -> bytes:
     the source, NoAnswer where it has no answer."""
     running = over(program, source, words)
     try:
-        answer = judged_report(source, running)
+        return judged_report(source, running)
     finally:
         running.stop()
-    source.see_unchanged()
-    return answer
 
 
 def over(program: Program, source: Source, words: list[str]) -> Running:
     """The program running over a source."""
     descriptor = source.opened()
     try:
-        return program.running(words, descriptor, True)
+        return program.running(words, descriptor, True, len(source.data))
     finally:
         os.close(descriptor)
 
@@ -205,8 +268,9 @@ def over(program: Program, source: Source, words: list[str]) -> Running:
 def judged_report(source: Source, running: Running) -> bytes:
     """The report of a running program."""
     out, errors, status = running.ended()
-    if len(out) > MOST_OUTPUT_BYTES:
-        raise NoAnswer(f"{source.name}: what the program says of it takes more than 2 GB")
+    exceeded = running.exceeded(status, len(out))
+    if exceeded:
+        raise NoAnswer(f"{source.name}: not judged: the text needs more than {exceeded}")
     if status == 0:
         return out
     refusal = REFUSAL.fullmatch(out)

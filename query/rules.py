@@ -14,18 +14,20 @@ from collections.abc import Callable, Iterable, Iterator
 from dataclasses import astuple, dataclass
 from functools import cached_property, partial
 
+from query.arrivals import Arrivals
 from query.assertions import Assertion
 from query.boxes import exposed
 from query.changes import Comparison, Side, text_of_side
 from query.config import RULES, Claim, Config, Labels, is_meant
 from query.graph import Graph
+from query.includes import new_includes
+from query.introduced import introduced
 from query.parallel import begun
 from query.remarks import tokens
 from query.statements import difference, statement_of
 from query.text import Text
 
 DISCOURAGED = re.compile(r"\(New\s+usage\s+is\s+discouraged\.\)")
-MENTIONED = re.compile(DISCOURAGED.pattern.encode())
 DISCOURAGED_PROOF = re.compile(r"\(Proof\s+modification\s+is\s+discouraged\.\)")
 MARKED = re.compile(rb"\$\(\s+\$j(?=\s)")
 TOKEN = re.compile(r"'([^']*)'|\"([^\"]*)\"|(;)|([^\s;'\"]+)")
@@ -35,6 +37,8 @@ MOST_REASONS = 1_000_000
 """So many reasons are remembered at the most."""
 SHOWN_FORMULA = 200
 """How many characters of a formula are shown."""
+SHOWN_INCLUDE = 100
+"""How many characters of a comment with an include are shown."""
 SHOWN_BEFORE = 60
 """How many of these stand before the place where two formulas differ."""
 
@@ -59,9 +63,11 @@ class Case:
 
     comparison: Comparison
     config: Config
-    config_findings: tuple[Finding, ...] = ()
-    """What breaks the rule `config`, by `compared` of `query/branch.py`: what the file of NEW asks
-    less than that of OLD, or its fault."""
+    brought: tuple[Finding, ...] = ()
+    """What breaks the rules `plain` and `config` by what was found beside the text."""
+    tells_all: bool = False
+    """Whether each theorem that rests on a watched axiom is told, and not only the first one for
+    each proof that is the cause."""
 
     @property
     def old(self) -> Side:
@@ -99,6 +105,12 @@ class Case:
         return self.config.typecode in (None, typecode)
 
     @cached_property
+    def arrivals(self) -> Arrivals:
+        """What came to rest on watched axioms."""
+        was = self.comparison.theorems.moved | self.comparison.to_old
+        return Arrivals(self.comparison, was, watched_axioms(self), self.config)
+
+    @cached_property
     def open(self) -> frozenset[str]:
         """The theorems of NEW that are left open."""
         return frozenset(one.label for one in self.text.assertions if one.is_open)
@@ -124,12 +136,22 @@ def shown_change(old: str, new: str) -> tuple[str, str]:
 
 
 def axioms(case: Case) -> Iterator[Finding]:
-    """An axiom is new, changed or gone, and isn't allowed."""
-    judged = set()
+    """An axiom is new, changed or gone, and isn't allowed. What the rule `definitions` judges is
+    left to it."""
+    judged: set[str] = set()
+    if "definitions" in case.config.rules:
+        judged |= introduced(case.comparison).apart
     for label, reason in (*axioms_now(case), *axioms_gone(case)):
         if label not in judged and not case.config.allows("axioms", label):
             yield case.finding("axioms", label, reason, label)
         judged.add(label)
+
+
+def definitions(case: Case) -> Iterator[Finding]:
+    """What is called a definition isn't sound, and isn't allowed by its whole label; or one that
+    was sound no longer is."""
+    for label, reason in introduced(case.comparison).broken(case.config):
+        yield case.finding("definitions", label, reason, label)
 
 
 def axioms_now(case: Case) -> Iterator[tuple[str, str]]:
@@ -246,34 +268,40 @@ def watched_axioms(case: Case) -> list[str]:
 
 def newly(case: Case) -> Iterator[Finding]:
     """A theorem that was there before newly rests on a watched axiom, and isn't allowed."""
-    for theorem, axiom, way in rests_now(case, "newly"):
-        yield case.finding("newly", theorem, f"newly rests on {axiom}: {way}", axiom)
+    yield from arrived(case, "newly", "newly rests on")
 
 
 def new(case: Case) -> Iterator[Finding]:
     """A new theorem rests on a watched axiom, and isn't allowed."""
-    for theorem, axiom, way in rests_now(case, "new"):
-        reason = f"a new theorem that rests on {axiom}: {way}"
-        yield case.finding("new", theorem, reason, axiom)
+    yield from arrived(case, "new", "a new theorem that rests on")
 
 
-def rests_now(case: Case, rule: str) -> Iterator[tuple[str, str, str]]:
-    """The theorems that rest on a watched axiom and didn't, with the axiom and the way: for `newly`
-    those that were there before, for `new` the others."""
-    comparison = case.comparison
-    for axiom in watched_axioms(case):
-        rested = set(case.old.users(comparison.to_old.get(axiom, "")))
-        reasons = None
-        for theorem in case.new.users(axiom):
-            was_there = theorem in comparison.to_old
-            if was_there != (rule == "newly") or case.was(theorem) in rested:
-                continue
-            if case.config.may_rest(rule, theorem, axiom):
-                continue
-            reasons = reasons or comparison.why_gained(axiom)
-            citing, cited = reasons.why(theorem)
-            way = "it cites" if citing == theorem else f"{citing}, on which it rests, cites"
-            yield theorem, axiom, f"{way} {cited}"
+def arrived(case: Case, rule: str, how: str) -> Iterator[Finding]:
+    """What breaks one of these rules: the first theorem for each proof that is the cause, or all
+    theorems with all axioms."""
+    if not case.tells_all:
+        for each in case.arrivals.effects(rule):
+            others = f" and {more(each.axioms, 'watched axiom')}" if each.axioms else ""
+            way = way_of(each.theorem, each.citing, each.cited)
+            so_do = f"; with {more(each.theorems, 'theorem')} by that" if each.theorems else ""
+            reason = f"{how} {each.axiom}{others}: {way}{so_do}"
+            yield case.finding(rule, each.theorem, reason, each.axiom)
+        return
+    for arrival in case.arrivals.all(rule):
+        for column in arrival.columns:
+            axiom = case.new.dependence.axioms[column]
+            way = way_of(arrival.theorem, *case.arrivals.cause(arrival.row, column))
+            yield case.finding(rule, arrival.theorem, f"{how} {axiom}: {way}", axiom)
+
+
+def more(count: int, word: str) -> str:
+    """So many more things that have this word."""
+    return f"{count} more {word}{'s' if count > 1 else ''}"
+
+
+def way_of(theorem: str, citing: str, cited: str) -> str:
+    """In words, why a theorem rests on an axiom."""
+    return f"{'it' if citing == theorem else f'{citing}, on which it rests,'} cites {cited}"
 
 
 def claims(case: Case) -> Iterator[Finding]:
@@ -500,13 +528,18 @@ def mathboxes(case: Case) -> Iterator[Finding]:
             yield case.finding("mathboxes", labels[0], reason)
 
 
-def discouraged_labels(text: Text) -> list[str]:
-    """The assertions whose comment says that new usage is discouraged, in file order. Where the
-    text says it, the assertion comes next."""
-    places = (match.start() for match in MENTIONED.finditer(text.data))
+def labels_marked(text: Text, mark: re.Pattern[str]) -> list[str]:
+    """The assertions whose comment has a mark, in file order. Where the text says it, the assertion
+    comes next."""
+    places = (match.start() for match in re.finditer(mark.pattern.encode(), text.data))
     numbers = sorted({bisect_right(text.places, place) for place in places})
     found = [text.assertions[number] for number in numbers if number < len(text.assertions)]
-    return [one.label for one in found if is_discouraged(text, one)]
+    return [one.label for one in found if mark.search(text.comment(one))]
+
+
+def discouraged_labels(text: Text) -> list[str]:
+    """The assertions whose comment says that new usage is discouraged, in file order."""
+    return labels_marked(text, DISCOURAGED)
 
 
 def is_discouraged(text: Text, assertion: Assertion) -> bool:
@@ -520,11 +553,12 @@ def is_proof_discouraged(text: Text, assertion: Assertion) -> bool:
 
 
 def discouraged(case: Case) -> Iterator[Finding]:
-    """A theorem newly cites one whose new usage is discouraged, and that isn't allowed."""
+    """A theorem newly cites one whose new usage is discouraged, and that isn't allowed; or a mark
+    is gone, or newly hidden."""
     marked = dict.fromkeys(discouraged_labels(case.text))
     for user, cited in citations(case.new.graph, marked):
         was, used = case.was(user), case.was(cited)
-        if case.old.has_citation(was, used) or case.config.allows("discouraged", user):
+        if used in case.old.cites(was) or case.config.allows("discouraged", user):
             continue
         yield case.finding("discouraged", user, f"cites {cited}, whose new usage is discouraged")
     for label in discouraged_labels(case.old_text):
@@ -532,15 +566,42 @@ def discouraged(case: Case) -> Iterator[Finding]:
         if now and now not in marked and not case.config.allows("discouraged", now):
             reason = "its comment no longer says `(New usage is discouraged.)`"
             yield case.finding("discouraged", now, reason)
+    before = hidden_marks(case.old_text)
+    for label, mark in hidden_marks(case.text):
+        if (case.was(label), mark) not in before and not case.config.allows("discouraged", label):
+            reason = f"another comment stands behind that with `{mark}`, so metamath.exe misses it"
+            yield case.finding("discouraged", label, reason)
+
+
+def hidden_marks(text: Text) -> dict[tuple[str, str], None]:
+    """The labels with the marks that stand in the comment of an assertion, and not in the one right
+    before it, which alone metamath.exe reads."""
+    return {
+        (label, " ".join(found[0].split())): None
+        for mark in (DISCOURAGED, DISCOURAGED_PROOF)
+        for label in labels_marked(text, mark)
+        if (found := mark.search(text.comment(text.by_label[label])))
+        and not mark.search(text.nearest_comment(text.by_label[label]))
+    }
+
+
+def plain(case: Case) -> Iterator[Finding]:
+    """Another program would take something else for the database than what is judged."""
+    yield from (each for each in case.brought if each.rule == "plain")
+    for include in new_includes(case.old_text.data, case.text.data):
+        shown = include.words[:SHOWN_INCLUDE] + " .." * (len(include.words) > SHOWN_INCLUDE)
+        reason = f"a comment that metamath.exe reads as an include: $( {shown} $)"
+        yield Finding("plain", case.new.name, case.text.line(include.place), "", "", reason)
 
 
 def config(case: Case) -> Iterator[Finding]:
     """The file `mmdepend.toml` of NEW asks less than that of OLD, or has a fault."""
-    yield from case.config_findings
+    yield from (each for each in case.brought if each.rule == "config")
 
 
 JUDGES: dict[str, Callable[[Case], Iterator[Finding]]] = {
     "axioms": axioms,
+    "definitions": definitions,
     "watched": watched,
     "newly": newly,
     "new": new,
@@ -549,6 +610,7 @@ JUDGES: dict[str, Callable[[Case], Iterator[Finding]]] = {
     "open": open_theorems,
     "mathboxes": mathboxes,
     "discouraged": discouraged,
+    "plain": plain,
     "config": config,
 }
 assert tuple(JUDGES) == RULES
@@ -558,7 +620,7 @@ APART = ("mathboxes", "discouraged")
 """The rules that look at all citations. Each is judged by a process of its own."""
 
 
-def judge(case: Case) -> list[Finding]:
+def judge(case: Case) -> Iterator[Finding]:
     """What breaks the rules that the file doesn't switch off, rule by rule."""
     rules = [rule for rule in RULES if rule in case.config.rules]
     # The processes are copies of this one: what all of them ask for is found before they begin.
@@ -566,12 +628,11 @@ def judge(case: Case) -> list[Finding]:
     size = len(case.text.data)
     tasks = {rule: begun(partial(in_bytes, case, rule), size) for rule in rules if rule in APART}
     try:
-        found = {rule: list(JUDGES[rule](case)) for rule in rules if rule not in tasks}
-        found |= {rule: of_bytes(task.result()) for rule, task in tasks.items()}
+        for rule in rules:
+            yield from of_bytes(tasks[rule].result()) if rule in tasks else JUDGES[rule](case)
     finally:
         for task in tasks.values():
             task.stop()
-    return [one for rule in rules for one in found[rule]]
 
 
 def in_bytes(case: Case, rule: str) -> bytes:

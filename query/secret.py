@@ -9,6 +9,7 @@ from __future__ import annotations
 
 import os
 import stat
+from contextlib import suppress
 from pathlib import Path
 
 from query import system
@@ -84,39 +85,48 @@ def opened_file(path: str) -> int:
 
 def wrong_secret(path: str) -> str | None:
     """Why the secret can't be used; None where it can, or isn't there yet."""
+    return looked_at(path)[0]
+
+
+def looked_at(path: str) -> tuple[str | None, bytes | None]:
+    """The same, and the secret where there is one that can be used. What is read is what was looked
+    at: the file is opened once."""
     wrong = wrong_folder(os.path.dirname(path))
     if wrong is not None:
-        return f"{os.path.dirname(path)}: {wrong}"
+        return f"{os.path.dirname(path)}: {wrong}", None
     try:
         descriptor = opened_file(path)
     except FileNotFoundError:
-        return None
+        return None, None
     except OSError as error:
-        return f"{path}: {reason(error)}"
+        return f"{path}: {reason(error)}", None
     try:
         state = os.fstat(descriptor)
         wrong = wrong_owner(state, OTHERS_ALL)
-        if wrong is None and state.st_size != SIZE:
-            wrong = f"it has {state.st_size} bytes, where {SIZE} are wanted"
-        return None if wrong is None else f"{path}: {wrong}"
+        found = os.read(descriptor, SIZE + 1) if wrong is None else b""
     finally:
         os.close(descriptor)
+    if wrong is None and len(found) != SIZE:
+        wrong = f"it has {state.st_size} bytes, where {SIZE} are wanted"
+    return (None, found) if wrong is None else (f"{path}: {wrong}", None)
 
 
 def read() -> bytes | None:
     """The secret; None where there is none that can be used."""
     path = location()
-    if path is None or wrong_secret(path) is not None:
-        return None
-    try:
-        descriptor = opened_file(path)
-    except OSError:
-        return None
-    try:
-        found = os.read(descriptor, SIZE + 1)
-    finally:
-        os.close(descriptor)
-    return found if len(found) == SIZE else None
+    return None if path is None else looked_at(path)[1]
+
+
+def remove() -> None:
+    """Removes the secret, and its folder where nothing else is in it, if the folder is the user's
+    own. OSError where that fails."""
+    path = location()
+    if path is None or wrong_folder(os.path.dirname(path)) is not None:
+        return
+    with suppress(FileNotFoundError):
+        os.unlink(path)
+    with suppress(OSError):
+        os.rmdir(os.path.dirname(path))
 
 
 def read_or_make() -> bytes | None:

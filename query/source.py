@@ -1,71 +1,52 @@
 """What DATABASE names: a file, `-`, a revision in git, compressed or not; a database or a
 report."""
 
-import io
+import errno
 import os
 import stat
-import zlib
+from contextlib import suppress
 from dataclasses import dataclass
 from typing import TYPE_CHECKING
 
 from query import signals, system
 from query.errors import NoAnswer, shown
 from query.output import reason
+from query.unpacking import packer_of, unpacked
 
 if TYPE_CHECKING:
     from pathlib import Path
 
     from query.git import Repository
 
-# The program refuses longer texts, so no more than one byte more is unpacked.
+# The program refuses longer texts, so no more than some bytes more are read.
 MOST_DATABASE_BYTES = 2_147_483_647
 NO_TEXT = "a report, where the database is wanted"
 """Why a report isn't enough for a question on the text."""
-GZIP, BZIP2, XZ = b"\x1f\x8b", b"BZh", b"\xfd7zXZ\0"
+PIECE = 1 << 22  # bytes that are read at once of what may have no end
 
 
 @dataclass(frozen=True)
 class Source:
-    """The bytes that DATABASE names, not compressed.
-
-    `name` is how messages call it. `path` is the file that has these bytes, None where none has;
-    `stamp` tells whether it is still the same.
-    """
+    """The bytes that DATABASE names, not compressed. They were read once: the program and Node get
+    them from here, since a file may be changed meanwhile. `name` is how messages call them."""
 
     name: str
     data: bytes
-    path: str | None = None
-    stamp: tuple[int, ...] = ()
 
     def opened(self) -> int:
-        """A descriptor from which the bytes can be read, for the program. OSError where none can be
-        made, NoAnswer where the file was changed."""
-        if self.path is not None:
-            descriptor = os.open(self.path, system.READING)
-            if stamp_of(descriptor) != self.stamp:
-                os.close(descriptor)
-                self.changed()
-            return descriptor
+        """A descriptor from which the bytes can be read, for another program: that of a file, or
+        where files may not become so large of a pipe. OSError where none can be made."""
         with signals.held():
             descriptor = system.unnamed()
-        view = memoryview(self.data)
-        while view:
-            view = view[os.write(descriptor, view) :]
+        try:
+            write_whole(descriptor, self.data)
+        except OSError as error:
+            os.close(descriptor)
+            if error.errno != errno.EFBIG:
+                raise
+            return piped(self.data)
         os.lseek(descriptor, 0, os.SEEK_SET)
         return descriptor
-
-    def see_unchanged(self) -> None:
-        """NoAnswer where the file was changed since it was read."""
-        if self.path is not None:
-            descriptor = os.open(self.path, system.READING)
-            stamp = stamp_of(descriptor)
-            os.close(descriptor)
-            if stamp != self.stamp:
-                self.changed()
-
-    def changed(self) -> None:
-        """Raises NoAnswer."""
-        raise NoAnswer(f"{self.name}: was changed while it was read")
 
     def is_report(self) -> bool:
         """Whether it is a report or a refusal. Neither is ever the beginning of a database that is
@@ -81,19 +62,37 @@ class Source:
             raise NoAnswer(f"{self.name}: {NO_TEXT}")
 
 
-def stamp_of(descriptor: int) -> tuple[int, ...]:
-    """What changes where a file is changed."""
-    state = os.fstat(descriptor)
-    return state.st_dev, state.st_ino, state.st_size, state.st_mtime_ns, state.st_ctime_ns
+def write_whole(descriptor: int, data: bytes) -> None:
+    """Writes all of these bytes. OSError where that can't be done."""
+    view = memoryview(data)
+    while view:
+        view = view[os.write(descriptor, view) :]
+
+
+def piped(data: bytes) -> int:
+    """The end of a pipe from which the bytes can be read. A thread writes them, as long as somebody
+    reads."""
+    # It takes 2 milliseconds, and files may be large enough nearly everywhere.
+    import threading
+
+    reading, writing = os.pipe()
+
+    def write() -> None:
+        with suppress(OSError):
+            write_whole(writing, data)
+        os.close(writing)
+
+    threading.Thread(target=write, daemon=True).start()
+    return reading
 
 
 def source_of(word: str) -> Source:
     """The bytes that a word DATABASE names. NoAnswer where they can't be read."""
     name = shown(word)
     if word == "-":
-        return Source("standard input", inflated("standard input", read_all(0, "standard input")))
+        return of_bytes("standard input", read_all(0, "standard input"))
     if is_of_git(word):
-        return Source(name, inflated(name, of_git(word)))
+        return Source(name, of_git(word))
     try:
         descriptor = os.open(word, system.READING)
     except FileNotFoundError:
@@ -101,22 +100,16 @@ def source_of(word: str) -> Source:
     except OSError as error:
         raise NoAnswer(f"{name}: {reason(error)}") from None
     try:
-        return of_file(word, name, descriptor)
+        if stat.S_ISDIR(os.fstat(descriptor).st_mode):
+            raise NoAnswer(f"{name}: is a folder")
+        return of_bytes(name, read_all(descriptor, name))
     finally:
         os.close(descriptor)
 
 
-def of_file(word: str, name: str, descriptor: int) -> Source:
-    """The bytes of an open file."""
-    mode = os.fstat(descriptor).st_mode
-    if stat.S_ISDIR(mode):
-        raise NoAnswer(f"{name}: is a folder")
-    stamp = stamp_of(descriptor)
-    data = read_all(descriptor, name)
-    plain = inflated(name, data)
-    if plain is not data or not stat.S_ISREG(mode):
-        return Source(name, plain)
-    return Source(name, data, os.path.abspath(word), stamp)
+def of_bytes(name: str, data: bytes) -> Source:
+    """The bytes of a file, which may be compressed."""
+    return Source(name, unpacked(name, data, MOST_DATABASE_BYTES))
 
 
 def read_plainly(path: "Path") -> bytes | None:
@@ -138,10 +131,16 @@ def read_plainly(path: "Path") -> bytes | None:
 
 
 def read_all(descriptor: int, name: str) -> bytes:
-    """All that can be read."""
+    """All that can be read, up to some more than a database may have."""
+    state = os.fstat(descriptor)
     try:
         with open(descriptor, "rb", buffering=0, closefd=False) as file:
-            return file.readall()
+            if stat.S_ISREG(state.st_mode) and state.st_size <= MOST_DATABASE_BYTES:
+                return file.readall()
+            data = bytearray()
+            while len(data) <= MOST_DATABASE_BYTES and (piece := file.read(PIECE)):
+                data += piece
+            return bytes(data)
     except OSError as error:
         raise NoAnswer(f"{name}: {reason(error)}") from None
 
@@ -175,7 +174,7 @@ def is_of_git(word: str) -> bool:
 
 
 def of_git(word: str) -> bytes:
-    """The bytes of a file in a revision. NoAnswer where there is none."""
+    """The bytes of a file in a revision. NoAnswer where there is none, or it is compressed."""
     # See is_of_git.
     from pathlib import Path
 
@@ -189,7 +188,16 @@ def of_git(word: str) -> bytes:
         content = objects.content(commit, path_from_top(path, repository))
     if content is None:
         raise NoAnswer(f"{shown(path)}: revision {short(commit)} has no such file")
+    see_plain(shown(path), content)
     return content
+
+
+def see_plain(name: str, data: bytes) -> None:
+    """NoAnswer where a file of git is compressed: there a database is plain text, which everybody
+    unpacks alike."""
+    packer = packer_of(data)
+    if packer is not None:
+        raise NoAnswer(f"{name}: compressed by {packer}; in git a database is plain text")
 
 
 def place_of(word: str) -> tuple[str, str]:
@@ -202,34 +210,3 @@ def path_from_top(path: str, repository: "Repository") -> str:
     """The path of `REV:PATH` from the top; with `./` or `../` first it is from the working
     folder."""
     return repository.path_of(path) if path.startswith(("./", "../")) else path
-
-
-def inflated(name: str, data: bytes) -> bytes:
-    """The bytes, or those that they were compressed from. No more than the program reads."""
-    try:
-        if data.startswith(GZIP):
-            # A millisecond for few databases, as that of bz2 and lzma, which some systems lack.
-            import gzip
-
-            return gzip.GzipFile(fileobj=io.BytesIO(data)).read(MOST_DATABASE_BYTES + 1)
-        if data.startswith(BZIP2):
-            # See gzip.
-            import bz2
-
-            return bz2.BZ2File(io.BytesIO(data)).read(MOST_DATABASE_BYTES + 1)
-        if data.startswith(XZ):
-            return of_xz(data)
-    except (OSError, EOFError, zlib.error):
-        raise NoAnswer(f"{name}: the compressed file is damaged") from None
-    return data
-
-
-def of_xz(data: bytes) -> bytes:
-    """The bytes that were compressed by xz. EOFError where the data are damaged."""
-    # See unpacked.
-    import lzma
-
-    try:
-        return lzma.LZMAFile(io.BytesIO(data)).read(MOST_DATABASE_BYTES + 1)
-    except lzma.LZMAError:
-        raise EOFError from None

@@ -21,6 +21,9 @@ READING = os.O_RDONLY | BINARY
 MAKING = os.O_WRONLY | os.O_CREAT | os.O_EXCL | BINARY
 """For `os.open`: a file that isn't there yet, and is written."""
 
+GRACE = 5
+"""Seconds after its limit at which a process is killed that wasn't ended by the limit."""
+
 STOPPING: tuple[signal.Signals, ...] = tuple(
     getattr(signal, name) for name in ("SIGINT", "SIGTERM", "SIGHUP") if hasattr(signal, name)
 )
@@ -80,6 +83,35 @@ def note_use(descriptor: int) -> None:
     """Gives a file the time of now, where that can be done."""
     if os.utime in os.supports_fd:
         os.utime(descriptor)
+
+
+def limiting(seconds: int, memory: int | None) -> Callable[[], None] | None:
+    """What limits the seconds of the processor and the bytes of memory of the process that does it,
+    before another program begins in it; None where there are no such limits, as on Windows. A limit
+    that is lower already stays."""
+    with suppress(ImportError):
+        # Windows has no such module.
+        import resource
+
+        def lower(what: int, soft: int, hard: int) -> None:
+            most = resource.getrlimit(what)[1]
+            within = (hard,) if most == resource.RLIM_INFINITY else (hard, most)
+            # macOS refuses some limits of memory.
+            with suppress(ValueError, OSError):
+                resource.setrlimit(what, (min(soft, *within), min(within)))
+
+        def limit() -> None:
+            lower(resource.RLIMIT_CPU, seconds, seconds + GRACE)
+            if memory is not None:
+                lower(resource.RLIMIT_AS, memory, memory)
+
+        return limit
+    return None
+
+
+def is_out_of_time(status: int) -> bool:
+    """Whether a process ended because of its limit of seconds, by its status as Python has it."""
+    return hasattr(signal, "SIGXCPU") and status == -signal.SIGXCPU
 
 
 def processors() -> int:

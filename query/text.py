@@ -69,17 +69,25 @@ class Text:
     def comment(self, assertion: Assertion) -> str:
         """The whole comment before an assertion, as it stands there; "" if there is none. That is
         the last one since the statement before, where no heading comes after it."""
+        body = next((each for each in self._comments(assertion) if not SPECIAL.match(each)), b"")
+        said = body.decode("latin-1")
+        return "" if HEADING.match(said) else said
+
+    def nearest_comment(self, assertion: Assertion) -> str:
+        """The comment right before an assertion, be it one of `$j`: what metamath.exe takes for
+        its description. "" if there is none."""
+        return next(self._comments(assertion), b"").decode("latin-1")
+
+    def _comments(self, assertion: Assertion) -> Iterator[bytes]:
+        """The comments between the statement before and an assertion, the last one first."""
         before = self.assertions[assertion.number - 1].end if assertion.number else 0
         place = assertion.place
         while True:
             place = self._end_before(before, place)
             if not self.data.endswith(b"$)", before, place):
-                return ""
+                return
             start = self.data.rindex(b"$(", before, place) + 2
-            body = self.data[start : place - 2]
-            if not SPECIAL.match(body):
-                said = body.decode("latin-1")
-                return "" if HEADING.match(said) else said
+            yield self.data[start : place - 2]
             place = start - 2
 
     def _end_before(self, before: Place, place: Place) -> Place:

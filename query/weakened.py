@@ -4,9 +4,11 @@ itself."""
 from __future__ import annotations
 
 from collections.abc import Iterable, Iterator
+from dataclasses import replace
 
-from query.config import RULES, Config, Labels
-from query.rules import Finding
+from query.changes import Comparison, Side
+from query.config import CHOSEN, RULES, Claim, Config, Labels
+from query.rules import Case, Finding, Judge, reason_of_watched
 
 
 def losses(old: Config, new: Config) -> Iterator[Finding]:
@@ -19,9 +21,13 @@ def losses(old: Config, new: Config) -> Iterator[Finding]:
         before = "all axioms" if old.typecode is None else f"the axioms of '{old.typecode}'"
         reason = f"`typecode` leaves those of '{new.typecode}', where {before} were judged"
         yield Finding("config", new.name, line(new, "typecode"), "", "", reason)
+    if CHOSEN in new.rules and CHOSEN not in old.rules:
+        reason = f"`{CHOSEN}` lets definitions that are sound in, where each was judged"
+        yield Finding("config", new.name, line(new, CHOSEN), "", "", reason)
     for rule in RULES:
         if rule in old.rules and rule not in new.rules:
             place = line(new, "rules", rule) or line(new, "rules", "newly")
+            place = line(new, CHOSEN) if rule == CHOSEN else place
             yield Finding("config", new.name, place, "", "", f"the rule `{rule}` is switched off")
     watched = Cover(new.watch)
     for word in old.watch:
@@ -30,6 +36,46 @@ def losses(old: Config, new: Config) -> Iterator[Finding]:
             yield Finding("config", new.name, line(new, "watch"), word, word, reason)
     yield from lost_claims(old, new)
     yield from allowances(old, new)
+    yield from limits(old, new)
+
+
+def limits(old: Config, new: Config) -> Iterator[Finding]:
+    """Limits that are others: a higher one costs more, and a lower one leaves what is longer
+    without an answer."""
+    was, now = old.limits, new.limits
+    pairs = (("time", was.seconds, now.seconds), ("memory", was.megabytes, now.megabytes))
+    for name, before, after in pairs:
+        if before != after:
+            told = ["the default" if each is None else str(each) for each in (before, after)]
+            reason = f"`limit-{name}` was {told[0]}, and is {told[1]}"
+            yield Finding("config", new.name, line(new, f"limit-{name}"), "", "", reason)
+
+
+def mended(config: Config, brought: Config, side: Side) -> Config:
+    """A file without what its own database breaks and another file no longer asks: who takes it
+    back mends what nobody could keep. `side` is the database. What a rule that is off would say
+    breaks nothing."""
+    case = Case(Comparison(side, side), config)
+    judge = Judge(case)
+    kept = {claim.theorem: claim.axioms for claim in brought.claims}
+    claims = []
+    for claim in config.claims:
+        axioms = tuple(
+            axiom
+            for axiom in claim.axioms
+            if "claims" not in config.rules
+            or axiom in kept.get(claim.theorem, ())
+            or not any(judge.judge("claims", replace(claim, axioms=(axiom,)), ""))
+        )
+        claims += [Claim(claim.theorem, axioms, claim.line)] if axioms else []
+    watch = tuple(
+        word
+        for word in config.watch
+        if "watched" not in config.rules
+        or word in brought.watch
+        or not reason_of_watched(case, word)
+    )
+    return replace(config, claims=tuple(claims), watch=watch)
 
 
 def line(config: Config, *path: str) -> int:

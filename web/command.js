@@ -9,7 +9,7 @@ import { visible } from "./packer/visible.js";
 
 /**
  * What the words ask for: a run, or a text for standard output (`help`) or standard error (`misread`).
- * @typedef {{ ends: "run", request: Request, file: string | null }
+ * @typedef {{ ends: "run", request: Request, against: string | null, file: string | null }
  *     | { ends: "help", text: string } | { ends: "misread", text: string }} Line
  */
 
@@ -25,6 +25,7 @@ const OPTIONS = /** @type {const} */ ({
     form: { type: "string" },
     essential: { type: "boolean" },
     open: { type: "boolean" },
+    against: { type: "string" },
     help: { type: "boolean", short: "h" },
     version: { type: "boolean", short: "V" },
 });
@@ -35,6 +36,7 @@ const WITH_VALUE = {
     only: "--only <T>",
     report: "--report <PART>",
     form: "--form <N>",
+    against: "--against <OLD>",
 };
 const HELP = `Verifies a Metamath database and reports on which axioms each theorem rests
 
@@ -53,6 +55,7 @@ matrix, counts, usage, citations, statements, or all, which is the first three [
 [default: 1] [possible values: 1, 2]
       --essential      Count what the logical part of a proof cites, and not what builds its formulas
       --open           Count a theorem whose proof is ? as an axiom
+      --against <OLD>  Write what FILE has and OLD hasn't, and the other way round, in place of the report
   -h, --help           Print help
   -V, --version        Print version
 
@@ -93,6 +96,11 @@ function judge(name, value, isRight, wanted) {
 /** Whether a word is a number from 1 to LARGEST_COUNT, as the program reads numbers. */
 function isCount(/** @type {string} */ word) {
     return /^\+?[0-9]+$/.test(word) && Number(word) >= 1 && Number(word) <= LARGEST_COUNT;
+}
+
+/** Whether a section, or `all`, has this name. */
+function isPart(/** @type {string} */ name) {
+    return PARTS.some((part) => part === name);
 }
 
 /** What was read so far, by the names of options; `file` is the word that is no option. */
@@ -138,6 +146,9 @@ class Found {
         }
         if (name === "workers" || name === "pieces") judge(name, value, isCount(value), `a number from 1 to ${LARGEST_COUNT}`);
         if (name === "form") judge(name, value, FORMS.includes(value), FORMS.join(" or "));
+        if (name === "report") {
+            for (const part of value.split(",")) judge(name, part, isPart(part), `of ${PARTS.join(", ")}`);
+        }
         this.add(name, value);
     }
 
@@ -153,20 +164,15 @@ class Found {
     /** @returns {Line} */
     line() {
         const { values, file } = this;
-        const report = values.get("report") ?? "all";
-        // The program looks at the names of sections last.
-        for (const name of report.split(",")) {
-            judge("report", name, PARTS.some((part) => part === name), `of ${PARTS.join(", ")}`);
-        }
         /** @type {Request} */
         const request = {
-            report,
+            report: values.get("report") ?? "all",
             only: values.get("only") ?? null,
             form: values.get("form") === "2" ? 2 : 1,
             essential: values.has("essential"),
             open: values.has("open"),
         };
-        return { ends: "run", request, file };
+        return { ends: "run", request, against: values.get("against") ?? null, file };
     }
 }
 

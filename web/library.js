@@ -127,12 +127,14 @@ function firstRoom(size) {
 }
 
 /**
- * How many bytes of output are tried first.
- * @param {number} size the text's bytes
+ * How many bytes of output are tried first. What two texts differ in is as long as their statements at the most, if they
+ * are versions of one database.
+ * @param {number} size the bytes of all texts
  * @param {Request} request
+ * @param {boolean} ofTwo whether two texts are compared
  */
-function firstOutput(size, { report, form }) {
-    const bits = bitsOf(report);
+function firstOutput(size, { report, form }, ofTwo) {
+    const bits = ofTwo ? BITS.statements : bitsOf(report);
     const sections = /** @type {(keyof typeof SHARES)[]} */ (Object.keys(SHARES)).filter((name) => bits & BITS[name]);
     return upTo(size * sections.reduce((sum, name) => sum + SHARES[name][form - 1], 0) + MEMORY_PAGE, MEMORY_PAGE);
 }
@@ -146,6 +148,12 @@ function bitsOf(names) {
     return bits.includes(0) ? 0 : bits.reduce((all, bit) => all | bit, 0);
 }
 
+/**
+ * A text: how many bytes it has, and what puts it into the array that `bytes()` gives; to be asked for again after each
+ * wait, since memory may have moved.
+ * @typedef {{ size: number, fill: (bytes: () => Uint8Array) => void | Promise<void> }} Text
+ */
+
 class Run {
     /**
      * @param {WebAssembly.Instance} instance
@@ -153,27 +161,37 @@ class Run {
      * @param {number} most how many bytes of memory it may take
      */
     constructor(instance, request, most) {
+        /** @type {{ at: number, size: number }[]} */
+        this.texts = [];
         this.exports = /** @type {Record<string, Function>} */ (/** @type {unknown} */ (instance.exports));
         this.request = request;
         this.memory = new Memory(/** @type {WebAssembly.Memory} */ (instance.exports.memory), most);
     }
 
     /**
-     * Puts the text and the typecode into memory.
-     * @param {number} size
-     * @param {(bytes: () => Uint8Array) => void | Promise<void>} fill
+     * Puts the texts and the typecode into memory: of each text what is read of it.
+     * @param {Text[]} texts
      */
-    async load(size, fill) {
+    async load(texts) {
         const { memory } = this;
         this.written = memory.take(WRITTEN);
-        this.size = size;
-        this.text = memory.take(size);
+        for (const { size } of texts) {
+            const read = Math.min(size, READING_LIMIT);
+            this.texts.push({ at: memory.take(read), size: read });
+        }
         const name = new TextEncoder().encode(this.request.only ?? "");
         this.only = memory.take(name.length);
         this.onlySize = name.length;
         memory.bytes(this.only, name.length).set(name);
-        const { text } = this;
-        await fill(() => memory.bytes(text, size));
+        for (const [index, { fill }] of texts.entries()) {
+            const { at, size } = this.texts[index];
+            await fill(() => memory.bytes(at, size));
+        }
+    }
+
+    /** How many bytes the texts have together. */
+    get size() {
+        return this.texts.reduce((sum, { size }) => sum + size, 0);
     }
 
     /** The three numbers that the module writes. */
@@ -193,16 +211,15 @@ class Run {
         memory.reach(out + output);
         this.numbers().set([BigInt(at), BigInt(room / UNIT), 0n]);
         const written = /** @type {number} */ (this.written);
+        const ofTwo = this.texts.length === 2;
         const status = Number(
-            this.exports.mmdepend_report(
+            this.exports[ofTwo ? "mmdepend_against" : "mmdepend_report"](
                 BigInt(written),
-                BigInt(/** @type {number} */ (this.text)),
-                BigInt(/** @type {number} */ (this.size)),
+                ...this.texts.flatMap(({ at: text, size }) => [BigInt(text), BigInt(size)]),
                 BigInt(/** @type {number} */ (this.only)),
                 BigInt(/** @type {number} */ (this.onlySize)),
                 request.only === null ? 0 : 1,
-                bitsOf(request.report),
-                request.form,
+                ...(ofTwo ? [] : [bitsOf(request.report), request.form]),
                 request.essential ? 1 : 0,
                 request.open ? 1 : 0,
                 BigInt(out),
@@ -228,7 +245,7 @@ class Run {
      * @returns {Answer}
      */
     answer(room) {
-        let output = firstOutput(/** @type {number} */ (this.size), this.request);
+        let output = firstOutput(this.size, this.request, this.texts.length === 2);
         let needed = MEMORY_PAGE;
         let tooSmall = 0;
         for (;;) {
@@ -285,13 +302,39 @@ class Run {
  *     the module may take
  * @returns {Promise<Answer>}
  */
-export async function report(module, size, fill, request, limits = {}) {
+export function report(module, size, fill, request, limits = {}) {
+    return answered(module, [{ size, fill }], request, limits);
+}
+
+/**
+ * Verifies two texts and writes what the one has and the other hasn't; or if one has a fault, the refusal of the first that
+ * has, after the word `old` or `new`. Of the request `report` and `form` are of no meaning.
+ * @param {WebAssembly.Module} module
+ * @param {Text} oldText
+ * @param {Text} newText
+ * @param {Partial<Request>} request what isn't said is as in the program without options
+ * @param {{ room?: number, most?: number }} [limits] as those of `report`
+ * @returns {Promise<Answer>}
+ */
+export function against(module, oldText, newText, request, limits = {}) {
+    return answered(module, [oldText, newText], request, limits);
+}
+
+/**
+ * One run of the module on one text or two.
+ * @param {WebAssembly.Module} module
+ * @param {Text[]} texts
+ * @param {Partial<Request>} request
+ * @param {{ room?: number, most?: number }} limits
+ * @returns {Promise<Answer>}
+ */
+async function answered(module, texts, request, limits) {
     const whole = { ...PLAIN, ...request };
     const instance = await WebAssembly.instantiate(module, {});
     const run = new Run(instance, whole, limits.most ?? Infinity);
     try {
-        await run.load(Math.min(size, READING_LIMIT), fill);
-        return run.answer(limits.room ?? firstRoom(size));
+        await run.load(texts);
+        return run.answer(limits.room ?? firstRoom(texts.reduce((sum, { size }) => sum + size, 0)));
     } catch (error) {
         if (!(error instanceof Exhausted)) throw error;
         const none = new Uint8Array(0);

@@ -3,12 +3,15 @@
 import { isMainThread } from "node:worker_threads";
 import { inflateRawSync } from "node:zlib";
 import { readWords } from "./command.js";
-import { compile, report, version } from "./library.js";
+import { against, compile, report, version } from "./library.js";
+import { mostMemory } from "./limits.js";
 import { packWhenAsked } from "./packing.js";
 import { encoded } from "./packer/bytes.js";
 import { page } from "./page.js";
 import { Exit, Status } from "./statuses.js";
-import { Ending, STDERR, STDOUT, failedBy, join, outOfMemory, piecesOf, sizeOf, writeAll } from "./streams.js";
+import {
+    Ending, STDERR, STDOUT, failedBy, isInput, join, opened, outOfMemory, piecesIn, piecesOf, sizeOf, writeAll,
+} from "./streams.js";
 
 /**
  * What `web/build` puts into the one file of the program, each deflated and in base64: the module, and what the command
@@ -24,6 +27,42 @@ function inflated(asset) {
 /** @param {string} asset */
 function fromJson(asset) {
     return JSON.parse(new TextDecoder().decode(inflated(asset)));
+}
+
+/** @typedef {Extract<import("./command.js").Line, { ends: "run" }>} RunLine */
+
+/**
+ * The text that pieces make, for the library.
+ * @param {Uint8Array[]} pieces
+ * @returns {import("./library.js").Text}
+ */
+function textOf(pieces) {
+    return { size: sizeOf(pieces), fill: (bytes) => join(pieces, bytes()) };
+}
+
+/**
+ * What is said of the file of a line.
+ * @param {WebAssembly.Module} module
+ * @param {RunLine} line
+ */
+function reported(module, { request, file }) {
+    const { size, fill } = textOf(piecesOf(file));
+    return report(module, size, fill, request, { most: mostMemory(size) });
+}
+
+/**
+ * What is said of the file of a line and of the one that it is compared with.
+ * @param {WebAssembly.Module} module
+ * @param {RunLine} line
+ */
+function compared(module, { request, against: old, file }) {
+    if (isInput(old) && isInput(file)) {
+        throw new Ending(Exit.invalid, "mmdepend: only one of two databases can be the standard input\n");
+    }
+    // Both are opened before either is read, as the program does.
+    const files = [opened(old), opened(file)];
+    const [oldText, newText] = files.map((each) => textOf(piecesIn(each)));
+    return against(module, oldText, newText, request, { most: mostMemory(oldText.size + newText.size) });
 }
 
 /**
@@ -43,8 +82,7 @@ async function status(words, assets) {
         return 0;
     }
     if (line.ends === "misread") throw new Ending(Exit.invalid, line.text);
-    const pieces = piecesOf(line.file);
-    const answer = await report(module, sizeOf(pieces), (bytes) => join(pieces, bytes()), line.request);
+    const answer = line.against === null ? await reported(module, line) : await compared(module, line);
     if (answer.status === Status.noMemory) throw outOfMemory();
     writeAll(STDOUT, answer.report);
     return answer.status;

@@ -1,7 +1,7 @@
 // What the program in Node needs of Node, for who checks its types where Node's own declarations aren't at hand.
 
 declare module "node:child_process" {
-    type Run = { status: number | null; stdout: Uint8Array; stderr: Uint8Array; error?: Error };
+    type Run = { status: number | null; signal: string | null; stdout: Uint8Array; stderr: Uint8Array; error?: Error };
     export function spawnSync(path: string, words: string[], given: { input: Uint8Array; maxBuffer: number }): Run;
 }
 
@@ -67,4 +67,4 @@ declare module "node:util" {
     }): { values: { [name in keyof O]?: Value<O[name]> }; positionals: string[]; tokens: Token[] };
 }
 
-declare const process: { argv: string[]; exitCode: number | undefined };
+declare const process: { argv: string[]; platform: string; exitCode: number | undefined };

@@ -6,6 +6,7 @@ import { setFlagsFromString } from "node:v8";
 import { gunzipSync } from "node:zlib";
 import { Deflating } from "./deflating.js";
 import { READING_LIMIT, compile, report } from "./library.js";
+import { MEGABYTE, MOST_TIMES, mostMemory, mostSeconds, mostUnpacked } from "./limits.js";
 import { encoded } from "./packer/bytes.js";
 import { explained, faultOf, refusalOf } from "./packer/faults.js";
 import { pageFile } from "./packer/file.js";
@@ -18,7 +19,7 @@ import { visible } from "./packer/visible.js";
 import { Packing, shared } from "./packing.js";
 import { answerOf } from "./program.js";
 import { Exit, Status } from "./statuses.js";
-import { Ending, STDOUT, join, outOfMemory, piecesOf, sizeOf, writeAll } from "./streams.js";
+import { Ending, STDOUT, failedBy, join, outOfMemory, piecesOf, sizeOf, writeAll } from "./streams.js";
 
 /** @typedef {import("./packer/file.js").Shell} Shell */
 /** @typedef {import("./packer/reports.js").PageRequest} PageRequest */
@@ -52,6 +53,8 @@ import { Ending, STDOUT, join, outOfMemory, piecesOf, sizeOf, writeAll } from ".
  * @property {PageRequest} request
  * @property {Naming | null} older
  * @property {string | null} program what verifies in place of the module
+ * @property {number | null} seconds of the processor that the program may take for a text
+ * @property {number | null} megabytes of memory that a text may take
  */
 
 const OPTIONS = /** @type {const} */ ({
@@ -64,6 +67,8 @@ const OPTIONS = /** @type {const} */ ({
     essential: { type: "boolean" },
     open: { type: "boolean" },
     program: { type: "string" },
+    "limit-time": { type: "string" },
+    "limit-memory": { type: "string" },
     help: { type: "boolean", short: "h" },
 });
 const USAGE = "usage: node mmdepend.mjs page [OPTIONS] DATABASE > FILE";
@@ -85,6 +90,10 @@ Options:
       --against-name <NAME>
                        The same for OLD
       --program <PATH> Verify by this program, an mmdepend that is built for the system, which takes a third of the time
+      --limit-time <SECONDS>
+                       Of the processor, for this program to verify a text (else: 10, and 5 for each MB)
+      --limit-memory <MB>
+                       For verifying a text (else: 256, and 64 for each MB)
   -h, --help           Print help
 
 The database is verified first. The page loads nothing else; a browser of 2023 or later shows it.
@@ -132,13 +141,31 @@ function loadedText(word) {
     const bytes = shared(sizeOf(pieces));
     join(pieces, bytes);
     if (bytes[0] !== GZIP[0] || bytes[1] !== GZIP[1]) return bytes;
-    try {
-        return sharedCopy(gunzipSync(bytes, { maxOutputLength: READING_LIMIT }));
-    } catch (error) {
-        if (error instanceof RangeError) throw error;
-        throw new Ending(Exit.failed, `mmdepend: ${visible(word)}: the compressed file is damaged\n`);
-    }
+    return sharedCopy(unpacked(word, bytes));
 }
+
+/**
+ * What gzip compressed, and nothing else: no more than the size of the file allows.
+ * @param {string} word
+ * @param {Uint8Array} bytes
+ */
+function unpacked(word, bytes) {
+    const fails = (/** @type {string} */ why) => new Ending(Exit.failed, `mmdepend: ${visible(word)}: ${why}\n`);
+    const most = mostUnpacked(bytes.length);
+    try {
+        const options = { maxOutputLength: Math.min(READING_LIMIT, most), info: true };
+        const { buffer, engine } = /** @type {Unpacked} */ (/** @type {unknown} */ (gunzipSync(bytes, options)));
+        if (engine.bytesWritten === bytes.length) return buffer;
+    } catch (error) {
+        const isLong = failedBy(error, "ERR_BUFFER_TOO_LARGE") && most < READING_LIMIT;
+        if (isLong) throw fails(`the text is more than ${MOST_TIMES} times as long as the file; unpack it first`);
+        if (error instanceof RangeError) throw error;
+        throw fails("the compressed file is damaged");
+    }
+    throw fails("something stands behind what gzip compressed");
+}
+
+/** @typedef {{ buffer: Uint8Array, engine: { bytesWritten: number } }} Unpacked */
 
 /**
  * The same bytes, shared.
@@ -175,15 +202,24 @@ function compiledFor(module, size) {
 
 /**
  * What verifies: the program that is asked for, else the module, which is compiled for a text of so many bytes.
- * @param {string | null} program
+ * @param {Asked} asked
  * @param {Uint8Array} module
  * @param {number} size
  * @returns {Promise<Core["judge"]>}
  */
-async function judgeFor(program, module, size) {
-    if (program !== null) return async (data, request) => answerOf(program, data, request);
+async function judgeFor({ program, seconds, megabytes }, module, size) {
+    const memoryFor = (/** @type {number} */ length) => (megabytes === null ? mostMemory(length) : megabytes * MEGABYTE);
+    if (program !== null) {
+        return async (data, request) => {
+            const allowed = { seconds: seconds ?? mostSeconds(data.length), memory: memoryFor(data.length) };
+            return answerOf(program, data, request, allowed);
+        };
+    }
     const compiled = await compiledFor(module, size);
-    return (data, request) => report(compiled, data.length, (bytes) => bytes().set(data), request);
+    return (data, request) => {
+        const most = memoryFor(data.length);
+        return report(compiled, data.length, (bytes) => bytes().set(data), request, { most });
+    };
 }
 
 /**
@@ -281,6 +317,17 @@ async function blocksOf({ naming, title, watched, request, older }, data, thread
 }
 
 /**
+ * The number that is given for an option; null where none is.
+ * @param {string} option
+ * @param {string | undefined} word
+ */
+function numberOf(option, word) {
+    if (word === undefined) return null;
+    if (!/^[1-9][0-9]{0,5}$/.test(word)) throw misread(`${option} is to be a number from 1 to 999999`);
+    return Number(word);
+}
+
+/**
  * What the words ask for.
  * @param {ReturnType<typeof readPageWords>} read
  * @returns {Asked}
@@ -298,6 +345,8 @@ function askedBy({ values, positionals }) {
         request: { only, essential, open },
         older: against === undefined ? null : { word: against, name: values["against-name"] ?? nameOf(against) },
         program,
+        seconds: numberOf("--limit-time", values["limit-time"]),
+        megabytes: numberOf("--limit-memory", values["limit-memory"]),
     };
 }
 
@@ -308,7 +357,7 @@ function askedBy({ values, positionals }) {
  */
 async function made(asked, tools) {
     const data = loadedText(asked.naming.word);
-    const core = { judge: await judgeFor(asked.program, tools.module, data.length), tables: tools.tables };
+    const core = { judge: await judgeFor(asked, tools.module, data.length), tables: tools.tables };
     // Begun here, they are ready when the text is verified, which takes this thread alone.
     /** @type {Parameters<typeof blocksOf>[2]} */
     const threads = { text: new Packing("text", data), proofs: new Packing("proofs", data) };

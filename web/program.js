@@ -27,16 +27,45 @@ function wordsFor({ report, only, form, essential, open }) {
 }
 
 /**
+ * What a run of the program may take: seconds of the processor, and bytes of memory.
+ * @typedef {{ seconds: number, memory: number }} Allowed
+ */
+
+/** How a shell limits seconds and kilobytes, where the system can, and becomes the program. */
+const LIMITED = 'ulimit -S -t "$1" 2>/dev/null; ulimit -v "$2" 2>/dev/null; shift 2; exec "$@"';
+/** By which status a shell says that it can't become a program. */
+const NO_PROGRAM = [126, 127];
+
+/**
+ * The command that runs the program with these limits. Windows has no such shell.
+ * @param {string} path
+ * @param {string[]} words
+ * @param {Allowed} allowed
+ * @returns {[string, string[]]}
+ */
+function limited(path, words, { seconds, memory }) {
+    if (process.platform === "win32") return [path, words];
+    const kilobytes = Math.ceil(memory / 1024);
+    return ["/bin/sh", ["-c", LIMITED, "sh", String(seconds), String(kilobytes), path, ...words]];
+}
+
+/**
  * What the program at a path says of a text. An Ending with status 3 where it gives no answer.
  * @param {string} path
  * @param {Uint8Array} data
  * @param {Request} request
+ * @param {Allowed} allowed
  * @returns {Said}
  */
-export function answerOf(path, data, request) {
-    const limits = { input: data, maxBuffer: READING_LIMIT };
-    const { status, stdout, stderr, error } = spawnSync(path, wordsFor(request), limits);
+export function answerOf(path, data, request, allowed) {
+    const limits = { input: data, maxBuffer: Math.min(READING_LIMIT, allowed.memory) };
+    const { status, signal, stdout, stderr, error } = spawnSync(...limited(path, wordsFor(request), allowed), limits);
     if (failedBy(error, "ENOBUFS")) throw outOfMemory();
+    if (signal === "SIGXCPU") {
+        const why = `not judged: the text needs more than ${allowed.seconds} seconds of the processor (--limit-time)`;
+        throw new Ending(Exit.failed, `mmdepend: ${why}\n`);
+    }
+    if (status !== null && NO_PROGRAM.includes(status)) throw new Ending(Exit.failed, `mmdepend: ${visible(path)} can't be run\n`);
     // A program that ends before it has read all of the text says more by its status.
     if (error && !failedBy(error, "EPIPE")) throw new Ending(Exit.failed, `mmdepend: ${visible(path)} can't be run\n`);
     if (status === null || !isAnswer(status, stdout)) throw new Ending(Exit.failed, `mmdepend: ${why(path, status, stderr)}\n`);

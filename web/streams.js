@@ -85,11 +85,19 @@ function readInto(file, into, at) {
 }
 
 /**
- * Opens what is to be read.
+ * Whether a name is that of the standard input.
  * @param {string | null} name
  */
-function opened(name) {
-    if (name === null || name === "-") return STDIN;
+export function isInput(name) {
+    return name === null || name === "-";
+}
+
+/**
+ * Opens what is to be read.
+ * @param {string | null} name `null` or `-` is the standard input
+ */
+export function opened(name) {
+    if (name === null || isInput(name)) return STDIN;
     try {
         return fs.openSync(name);
     } catch (error) {
@@ -102,7 +110,14 @@ function opened(name) {
  * @param {string | null} name `null` or `-` is the standard input
  */
 export function piecesOf(name) {
-    const file = opened(name);
+    return piecesIn(opened(name));
+}
+
+/**
+ * The bytes of a file that was opened, up to the limit of a text, in pieces.
+ * @param {number} file
+ */
+export function piecesIn(file) {
     const pieces = [];
     for (let size = 0; size < READING_LIMIT; ) {
         const piece = new Uint8Array(Math.min(PIECE, READING_LIMIT - size));

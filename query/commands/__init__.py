@@ -61,7 +61,7 @@ INDEX: dict[str, tuple[str, str]] = {
     "unfinished": ("structure", "theorems that are left open, and what rests on them"),
     "discouraged": ("structure", "which theorems use one whose new usage is discouraged"),
     "mathboxes": ("structure", "citations of a mathbox from outside it"),
-    "definitions": ("definitions", "whether definitions keep the rules that set.mm has for them"),
+    "definitions": ("definitions", "whether definitions add nothing but names, and if not, why"),
     "move": ("moving", "what has to go along where THEOREM is moved"),
     "graph": ("graphs", "the citations as DOT, GraphML or a list of edges"),
     "picture": ("graphs", "a picture of which theorem rests on which axiom"),

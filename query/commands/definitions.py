@@ -1,47 +1,104 @@
-"""`definitions`: whether definitions keep the rules that set.mm has for them."""
+"""`definitions`: whether definitions are definitions."""
 
 import argparse
+from collections.abc import Iterator
 
-from query.commands import Command
+from query.commands import TABLE_FORMATS, Command
 from query.context import Context
-from query.definitions import Definitions
+from query.database import Database
+from query.definitions import (
+    CONDITIONS,
+    NO,
+    TRUST,
+    TRUSTED,
+    UNKNOWN,
+    YES,
+    Definitions,
+    Verdict,
+    is_definition,
+    rests_by,
+)
+from query.errors import NoAnswer, shown
+from query.findings import escaped
+from query.grounds import BEGINNING
 from query.options import Parser, add_choice_of_citations, add_database, options_of
 from query.output import Value
+from query.unfolding import statement, without
 
-PAGE = """
+PAGE = (
+    """
 Lists in file order the definitions, which are the axioms of typecode |- whose label begins with
-df-, and whether each keeps these rules of set.mm's page `conventions`:
-
- 1. It is ( LEFT <-> RIGHT ) or LEFT = RIGHT, without a $e. LEFT is a form, which a syntax axiom
-    before it has brought, with variables that are all different.
- 2. The form is in no assertion before the definition and in none of its $e, and not in RIGHT.
- 3. No $d is about two variables of LEFT.
- 4. A dummy, which is a variable that RIGHT has and LEFT lacks, is distinct by a $d from all
-    variables.
- 5. A dummy is of typecode setvar.
- 6. RIGHT has a dummy only where it is bound.
+df-, and whether each is sound: what can be proved with it, and doesn't speak of what it defines,
+can be proved without it.
 
 definition  its label
-sound       yes; no: a rule is broken; not judged: whether all are kept isn't seen
-why_not     why it isn't sound or not judged
+sound       yes: all conditions are kept
+            no: one is broken; the status is 1 then
+            not judged: it isn't seen whether all are kept
+            on trust: it is taken as an axiom
+why_not     why it isn't sound or not judged, or would not be sound
+condition   the name of the condition
 
-Not judged is where the formula has no tree or two by the syntax axioms before it, and where it
-takes too long to read; where a dummy isn't of typecode setvar, since a theorem may justify it; and
-where RIGHT has a dummy both where it is bound and where it isn't, since a theorem may say that this
-does no harm. What binds is taken from the definitions. Of a form without one it is believed that
-its variables of typecode setvar are bound in all others of it, as in A. x ph. Nothing is said of
-axioms whose label doesn't begin with df-, and nothing of databases without wff, class, <-> and =.
+The conditions are these. The page SOUNDNESS says what follows from them, and why.
+
+"""
+    + "".join(f"  {name:<9} {what}\n" for name, what in CONDITIONS.items())
+    + """
+--trust names the definitions that are axioms, in place of df-bi, df-clab, df-cleq and df-clel;
+--equality the syntax axioms of equalities, in place of ( wff <-> wff ) and class = class. --basis
+lists on what the verdicts rest: the grammar, what is on trust, the forms without a definition, and
+the theorems about equalities.
+
+--expand writes what LABEL says in primitive forms, its $e first, each on a line; new variables have
+names such as x_1. --without writes a database that has neither the definition LABEL nor its syntax
+axiom, and in which each statement says what it said, unfolded. It is verified first. There is no
+answer where the definition has a dummy, or its right side lacks a variable of the left one.
 
   $ mmquery definitions set.mm --format csv
+  $ mmquery definitions set.mm --basis
 """
-
-WORDS = {True: "yes", False: "no", None: "not judged"}
+)
+COLUMNS = ("definition", "sound", "why_not", "condition")
+LEVELS = {NO: "error", UNKNOWN: "warning"}
 
 
 def configure(parser: Parser) -> None:
     """Adds the words and options."""
     add_database(parser)
+    parser.values(
+        "--trust", "LABEL", "definitions that are axioms; several: by commas, or more options"
+    )
+    parser.values(
+        "--equality", "LABEL", "syntax axioms of equalities; several: by commas, or more options"
+    )
+    parser.flag("--basis", "on what the verdicts rest, in place of the verdicts")
+    parser.value("--expand", "LABEL", "what LABEL says, with all sound definitions unfolded")
+    parser.value("--without", "LABEL", "the database without the definition LABEL")
+    parser.exclude("--basis", "--expand", "--without")
     add_choice_of_citations(parser)
+
+
+def labels_of(words: list[str]) -> list[str]:
+    """The labels of an option that may be given several times."""
+    return [label for word in words for label in word.split(",") if label]
+
+
+def judged(database: Database, trusted: list[str], equalities: list[str]) -> Definitions:
+    """The verdicts on a database. NoAnswer where a label isn't what it should be."""
+    for label in trusted:
+        one = database.assertion(label)
+        if one.kind != "a" or one.typecode != "|-" or not label.startswith(BEGINNING):
+            raise NoAnswer(f"{database.name}: {shown(label)} is no definition")
+    assertions = database.text.assertions
+    found = Definitions(assertions, rests_by(database.graph()), trusted or TRUSTED, equalities)
+    for label in equalities:
+        database.assertion(label)
+        if label not in found.equalities.values():
+            raise NoAnswer(
+                f"{database.name}: {shown(label)} is no syntax axiom of a wff with two parts of"
+                " one typecode, or another one is for this typecode"
+            )
+    return found
 
 
 def run(context: Context, arguments: argparse.Namespace) -> int:
@@ -49,13 +106,55 @@ def run(context: Context, arguments: argparse.Namespace) -> int:
     database = context.database(arguments.database, options_of(arguments))
     database.see_text()
     database.see_axioms()
+    empty = f"{database.name}: no axiom of typecode '|-' has a label that begins with df-"
+    is_list = arguments.expand is None and arguments.without is None and not arguments.basis
+    if is_list and not any(map(is_definition, database.text.assertions)):
+        context.table(COLUMNS, [], empty)
+        return 0
+    trusted, equalities = labels_of(arguments.trust), labels_of(arguments.equality)
+    found = judged(database, trusted, equalities)
+    if arguments.without is not None:
+        context.out.write(without(database, found, arguments.without))
+        return 0
+    if arguments.expand is not None:
+        for line in statement(found, database.assertion(arguments.expand)):
+            context.out.line(line)
+        return 0
+    if arguments.basis:
+        context.table(("what", "label", "says"), map(list, found.basis()), empty)
+        return 0
     rows: list[list[Value]] = [
-        [each.label, WORDS[each.is_sound], each.why]
-        for each in Definitions(database.text.assertions).verdicts()
+        [each.label, each.sound, each.why, each.condition] for each in found.verdicts.values()
     ]
-    why = f"{database.name}: no axiom of typecode '|-' has a label that begins with df-"
-    context.table(["definition", "sound", "why_not"], rows, why, "definition")
-    return 0
+    passing = [found.verdicts[str(row[0])] for row in context.passing(rows)]
+    if any(each.sound != YES for each in passing):
+        context.tell(f"{database.name}: {in_short(passing)}")
+    if context.out.format == "github":
+        context.out.text("".join(annotations(database, passing)))
+    else:
+        shown_rows = [[each.label, each.sound, each.why, each.condition] for each in passing]
+        context.out.table(COLUMNS, shown_rows)
+    return 1 if any(each.sound == NO for each in passing) else 0
 
 
-COMMANDS = [Command("definitions", PAGE, configure, run, lists=True)]
+def in_short(verdicts: list[Verdict]) -> str:
+    """How many there are of each kind, and which are on trust."""
+    counts = {word: sum(each.sound == word for each in verdicts) for word in (YES, NO, UNKNOWN)}
+    said = f"{counts[YES]} sound, {counts[NO]} not, {counts[UNKNOWN]} not judged"
+    trusted = [each.label for each in verdicts if each.sound == TRUST]
+    return said + (f"; on trust: {', '.join(trusted)}" if trusted else "")
+
+
+def annotations(database: Database, verdicts: list[Verdict]) -> Iterator[str]:
+    """The verdicts that aren't `yes` as annotations of GitHub."""
+    text = database.text
+    for each in verdicts:
+        if each.sound in LEVELS:
+            place = f"line={text.line(text.by_label[each.label].place)}"
+            name = escaped(database.name, is_property=True)
+            title = escaped(f"mmquery definitions ({each.condition})", is_property=True)
+            why = escaped(f"{each.label}: {each.sound}: {each.why}")
+            yield f"::{LEVELS[each.sound]} file={name},{place},title={title}::{why}\n"
+
+
+COMMANDS = [Command("definitions", PAGE, configure, run, (*TABLE_FORMATS, "github"), lists=True)]

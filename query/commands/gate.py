@@ -2,10 +2,11 @@
 
 import argparse
 import os
-from collections.abc import Mapping
-from dataclasses import dataclass, field
+from collections.abc import Iterable, Iterator, Mapping
+from dataclasses import dataclass, field, replace
 from pathlib import Path
 
+from query import limits
 from query.branch import Asked, Wish, branch_of, brought, compared, config_of
 from query.changes import Comparison, sides
 from query.commands import Command
@@ -14,14 +15,16 @@ from query.context import Context
 from query.database import Database
 from query.errors import NoAnswer, shown
 from query.faults import Refused
-from query.findings import Verdict, as_annotations, as_markdown, as_object, as_summary, as_text
+from query.findings import FORMS, Verdict, as_summary
 from query.git import short
 from query.options import Options, Parser, add_database
 from query.output import reason
 from query.rules import Case, Finding, judge
-from query.source import Source, inflated
+from query.source import Source
+from query.unpacking import packer_of
+from query.weakened import losses, mended
 
-FORMATS = ("text", "json", "github", "markdown")
+FORMATS = tuple(FORMS)
 ASKED = Options(only=None, open=True)
 """Any axiom may be watched. An open theorem isn't a fault, but breaks a rule."""
 
@@ -32,6 +35,8 @@ mmdepend.toml says which axioms are watched, what is allowed, what is claimed, a
 off. The status is 1 where
 
   axioms       an axiom is new, changed or gone
+  definitions  one that is called df-.. isn't sound, where the file says `definitions = true`; those
+               that are sound, and their syntax axioms, are let in then
   watched      a watched axiom is missing, or its label is another one's
   newly        a theorem that was there before newly rests on a watched axiom; one that was renamed
                (the same statement under another label) was there
@@ -42,12 +47,16 @@ off. The status is 1 where
   mathboxes    a statement of a section `Mathbox for ..` is cited from outside it, or the section no
                longer has it
   discouraged  a theorem newly cites one whose comment says (New usage is discouraged.), or a
-               comment no longer says so
+               comment no longer says so, or hides it
+  plain        another program would take another text: an include in a comment, an attribute of
+               git that changes the file, a name that some systems take for that of the file
   config       the mmdepend.toml that is brought asks less than the base's
-  valid        the database is refused
+  valid        the database is refused, or compressed
 
-unless mmdepend.toml allows it. Each line has file, line, label, reason and rule; the last line says
-what was compared. --format github writes annotations.
+unless mmdepend.toml allows it. An mmdepend.toml that is brought judges as well. Each line has file,
+line, label, reason and rule; the last line says what was compared. What one changed proof does to
+many theorems is one finding, and at most 1000 are told; --all tells each theorem, and all of them.
+--format github writes annotations, and --format log what no server takes for a command.
 
   $ mmquery gate --base origin/main set.mm
 """
@@ -86,6 +95,7 @@ def configure(parser: Parser) -> None:
     parser.value("--config", "FILE", "FILE in place of mmdepend.toml")
     parser.flag("--config-of-new", "judge by the file of NEW, not by the base's")
     parser.value("--summary", "FILE", "adds a summary in Markdown to FILE")
+    parser.flag("--all", "tell each theorem, and all findings")
 
 
 def database_of(source: Source, context: Context) -> Database:
@@ -116,9 +126,8 @@ def asked_of_files(old: str, new: str, wish: Wish) -> Asked:
     if wish.is_config_of_new:
         return Asked(config_of(of_new, name))
     config = config_of(of_old, FILE_NAME if before is None else os.path.relpath(before))
-    if after is None or of_old == of_new:
-        return Asked(config)
-    return Asked(config, *compared(config, of_new, name))
+    asked = Asked(config, config)
+    return asked if after is None or of_old == of_new else compared(asked, of_new, name)
 
 
 def with_base(context: Context, word: str, wish: Wish) -> Request:
@@ -126,21 +135,47 @@ def with_base(context: Context, word: str, wish: Wish) -> Request:
     branch = branch_of(word)
     found = brought(branch, wish)
     name = shown(f"{short(found.commit)}:{branch.path}")
-    old = database_of(Source(name, inflated(name, found.old)), context)
-    new = database_of(Source(shown(word), inflated(shown(word), found.new)), context)
+    old = database_of(Source(name, found.old), context)
+    new = database_of(Source(shown(word), found.new), context)
     paths = {**found.asked.paths, new.name: branch.path}
     return Request(old, new, found.base, found.asked, found.notes, paths)
 
 
-def judged_request(request: Request) -> list[Finding]:
+def found_in(request: Request, tells_all: bool) -> Iterator[Finding]:
     """What breaks the rules. That NEW is refused breaks one too."""
+    packer = packer_of(request.new.source.data)
+    if packer is not None:
+        reason = f"compressed by {packer}; in git a database is plain text"
+        yield Finding("valid", request.new.name, 0, "", "", reason)
+        return
     try:
-        old, new = sides(request.old, request.new)
+        comparison = Comparison(*sides(request.old, request.new))
     except Refused as refused:
         if refused.source is not request.new.source:
             raise
-        return [refusal_of(refused)]
-    return judge(Case(Comparison(old, new), request.asked.config, request.asked.findings))
+        yield refusal_of(refused)
+        return
+    yield from judged(comparison, request.asked, tells_all)
+
+
+def judged(comparison: Comparison, asked: Asked, tells_all: bool) -> Iterator[Finding]:
+    """What breaks the rules by the file that judges, and then what breaks them only by the file
+    that is brought: it would judge what comes later."""
+    brought = asked.brought
+    if brought is None:
+        yield from judge(Case(comparison, asked.config, asked.findings, tells_all))
+        return
+    before = mended(asked.before, brought, comparison.old)
+    is_one = asked.before is asked.config
+    config = before if is_one else mended(asked.config, brought, comparison.old)
+    known = set()
+    beside = (*asked.findings, *losses(before, brought))
+    for each in judge(Case(comparison, config, beside, tells_all)):
+        known.add((each.rule, each.label, each.axiom, each.reason))
+        yield each
+    for each in judge(Case(comparison, brought, (), tells_all)):
+        if (each.rule, each.label, each.axiom, each.reason) not in known:
+            yield replace(each, reason=f"{each.reason}; by the file that is brought")
 
 
 def refusal_of(refused: Refused) -> Finding:
@@ -167,17 +202,22 @@ def run(context: Context, arguments: argparse.Namespace) -> int:
         request = between_files(context, arguments.old, arguments.database, wish)
     else:
         request = with_base(context, arguments.database, wish)
-    rules = tuple(rule for rule in RULES if rule in request.asked.config.rules)
-    found, notes = judged_request(request), request.all_notes()
-    verdict = Verdict(request.new.name, request.base, rules, found, notes, request.paths)
+    limits.choose(limits.chosen().or_else(request.asked.config.limits))
+    verdict = verdict_of(request, found_in(request, arguments.all))
+    for piece in FORMS[context.out.format](verdict, not arguments.all):
+        context.out.text(piece)
+        if arguments.all:
+            context.out.flush()
     if arguments.summary is not None:
         add_summary(arguments.summary, as_summary(verdict, arguments.summary))
-    if context.out.format == "json":
-        context.out.value(as_object(verdict))
-    else:
-        write = {"text": as_text, "github": as_annotations, "markdown": as_markdown}
-        context.out.text(write[context.out.format](verdict))
     return 0 if verdict.has_passed else 1
+
+
+def verdict_of(request: Request, found: Iterable[Finding]) -> Verdict:
+    """The answer to a request."""
+    rules = tuple(rule for rule in RULES if rule in request.asked.config.rules)
+    notes = request.all_notes()
+    return Verdict(request.new.name, request.base, rules, found, notes, request.paths)
 
 
 COMMANDS = [Command("gate", PAGE, configure, run, FORMATS)]

@@ -21,7 +21,7 @@ may be changed by others, where others may read the secret, or where the system 
 a file belongs; standard error says so.
 
 show     the folder, how many results are in it, and how many bytes they take (the default)
-clear    removes them
+clear    removes them, and the secret
 
   $ mmquery cache
   $ mmquery cache clear

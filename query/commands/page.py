@@ -12,7 +12,16 @@ from query.context import Context
 from query.database import Database
 from query.errors import NoAnswer
 from query.options import Options, Parser, add_choice_of_citations, add_database
-from query.program import HOME, SCRIPT, Program, Running, wanted, why_ended, without_node
+from query.program import (
+    HOME,
+    SCRIPT,
+    Program,
+    Running,
+    allowed_for,
+    wanted,
+    why_ended,
+    without_node,
+)
 from query.source import Source
 
 PAGE = """
@@ -52,6 +61,9 @@ def page_words(arguments: argparse.Namespace) -> list[str]:
     for name in ("only", "title"):
         value = getattr(arguments, name)
         words += [] if value is None else [f"--{name}={value}"]
+    for name in ("limit_time", "limit_memory"):
+        value = getattr(arguments, name)
+        words += [] if value is None else [f"--{name.replace('_', '-')}={value}"]
     return words + [f"--watch={word}" for word in arguments.watch]
 
 
@@ -97,10 +109,13 @@ def made_page(databases: list[Database], words: list[str]) -> bytes:
         first, *others = paths
         line = [packer(), "page", *words, *(f"--against={path}" for path in others), first]
         node = wanted("node", "pages are made by Node 18 or later, and there is no command node")
-        running = Running(node, line, None, True, passed, without_node())
+        size = sum(len(database.source.data) for database in databases)
+        allowed = allowed_for(size, True)
+        running = Running(node, line, None, True, passed, without_node(), allowed)
         out, errors, status = running.ended()
-    for database in databases:
-        database.source.see_unchanged()
+    exceeded = running.exceeded(status, len(out))
+    if exceeded:
+        raise NoAnswer(f"{databases[0].name}: not judged: the text needs more than {exceeded}")
     if status == 0:
         return out
     why = why_ended(errors, status)

@@ -1,12 +1,14 @@
 """`review`: what a pull request does to the theorems of a database."""
 
 import argparse
-from collections.abc import Iterable, Sequence
+import re
+from collections.abc import Callable, Iterable, Sequence
 from dataclasses import dataclass, field
 
 from query.changes import Comparison, sides, text_of_side
 from query.commands import TABLE_FORMATS, Command
 from query.context import Context
+from query.introduced import introduced
 from query.order import longest_rising
 from query.options import Parser, add_choice_of_axioms, add_database, options_of
 from query.output import Value
@@ -15,6 +17,9 @@ from query.text import Text
 COLUMNS = ("theorem", "status", "was", "axioms", "gained", "lost", "via", "bytes")
 SHOWN_ROWS = 60
 """Rows of a comment's table, and axioms of a line. A longer one isn't read."""
+SHOWN_LABEL = 200
+"""How many characters of a label, or of a side of a definition, a comment shows."""
+BACKTICKS = re.compile("`+")
 
 PAGE = """
 Lists the theorems that a change from OLD to NEW is about, in file order, and last those that are
@@ -36,7 +41,10 @@ via      for each axiom gained, by what: of the first new citation on a shortest
 bytes    how much longer its text is, from the label to the end; of a new one how long
 
 Only what this change touches itself is listed: `compare` lists all theorems that came to rest on an
-axiom. With --format markdown it is a comment for the pull request, of at most 60 theorems.
+axiom. Standard error says how many axioms of any typecode are new, changed, renamed and gone, and
+of each new or changed definition what it defines, or why it isn't sound. With --format markdown it
+is a comment for the pull request, which says first which axioms these are, then the same of
+definitions, and then has at most 60 theorems.
 
   $ mmquery review v1:set.mm set.mm
   $ mmquery review v1:set.mm set.mm --format markdown
@@ -84,9 +92,27 @@ def run(context: Context, arguments: argparse.Namespace) -> int:
     if context.out.format == "markdown":
         context.out.text(comment(comparison, changes))
         return 0
+    axioms = changed_axioms(comparison)
+    counts = ", ".join(f"{len(labels)} {word}" for word, labels in axioms.items() if labels)
+    counts += "".join(f"; {each}" for each in definitions_in_words(comparison, cut))
+    if counts and changes:
+        context.tell(f"axioms: {counts}")
     empty = f"{old.name} and {new.name} have the same theorems, with the same proofs, in one order"
-    context.table(COLUMNS, [each.row() for each in changes], empty)
+    told = f"; axioms: {counts}" if counts else ""
+    context.table(COLUMNS, [each.row() for each in changes], empty + told)
     return 0
+
+
+def changed_axioms(comparison: Comparison) -> dict[str, list[str]]:
+    """The axioms of any typecode with which something became, by what; their labels in NEW, or of
+    those that are gone in OLD."""
+    pairing = comparison.axioms
+    return {
+        "new": pairing.new,
+        "changed": pairing.changed,
+        "renamed": list(pairing.renamed),
+        "gone": pairing.gone,
+    }
 
 
 def changes_of(comparison: Comparison) -> list[Outcome]:
@@ -159,17 +185,20 @@ def out_of_order(numbered: Iterable[tuple[str, int]]) -> set[str]:
 
 
 def comment(comparison: Comparison, changes: Sequence[Outcome]) -> str:
-    """The comment for a pull request. Labels have no sign that Markdown would read."""
+    """The comment for a pull request. What comes from a database stands as code, in which nothing
+    is a link or a mention, and labels have no sign that would end it."""
     counts = {word: sum(word in each.status for each in changes) for word in STATUSES}
     parts = [f"{count} {STATUSES[word]}" for word, count in counts.items() if count]
-    lines = [f"**Theorems**: {', '.join(parts) if parts else 'no change'}."]
+    lines = [f"**Axioms**: {axioms_in_words(comparison)}.", ""]
+    if definitions := definitions_in_words(comparison, code):
+        lines += ["**Definitions**:", "", *(f"- {each}" for each in definitions), ""]
+    lines += [f"**Theorems**: {', '.join(parts) if parts else 'no change'}."]
     gained = {axiom: len(comparison.gained(axiom)) for axiom in comparison.new.dependence.axioms}
     lost = {axiom: len(comparison.lost(axiom)) for axiom in comparison.old.dependence.axioms}
     for words, counts in (("came to rest on", gained), ("no longer rest on", lost)):
-        named = [f"`{axiom}` ({count})" for axiom, count in counts.items() if count]
+        named = [f"{code(axiom)} ({count})" for axiom, count in counts.items() if count]
         if named:
-            more = f" and {len(named) - SHOWN_ROWS} more" if len(named) > SHOWN_ROWS else ""
-            lines += ["", f"Theorems of both {words} {', '.join(named[:SHOWN_ROWS])}{more}."]
+            lines += ["", f"Theorems of both {words} {listed(named)}."]
     if changes:
         lines += ["", "| theorem | status | axioms | gained | lost | bytes |"]
         lines += ["|---|---|---|---|---|---|"]
@@ -180,15 +209,57 @@ def comment(comparison: Comparison, changes: Sequence[Outcome]) -> str:
     return "\n".join(lines) + "\n"
 
 
+def axioms_in_words(comparison: Comparison) -> str:
+    """How many axioms are new, changed, renamed and gone, and which ones."""
+    parts = []
+    for word, labels in changed_axioms(comparison).items():
+        was = comparison.axioms.renamed if word == "renamed" else {}
+        named = [code(label) + (f" from {code(was[label])}" if was else "") for label in labels]
+        parts += [f"{len(named)} {word} ({listed(named)})"] if named else []
+    return ", ".join(parts) if parts else "no change"
+
+
+def definitions_in_words(comparison: Comparison, shown: Callable[[str], str]) -> list[str]:
+    """What each new or changed definition defines, or why it isn't sound. `shown` says how what
+    comes from a database is."""
+    found = []
+    for label, equation, why in introduced(comparison).told():
+        if equation is None:
+            found.append(f"{shown(label)} is {why.partition(':')[0]}")
+        else:
+            left, right = map(shown, equation)
+            found.append(f"{shown(label)} defines {left} as {right}")
+    more = [f"{len(found) - SHOWN_ROWS} more definitions"] if len(found) > SHOWN_ROWS else []
+    return found[:SHOWN_ROWS] + more
+
+
+def cut(text: str) -> str:
+    """A text, cut where it is long."""
+    return text if len(text) <= SHOWN_LABEL else text[:SHOWN_LABEL] + ".."
+
+
+def listed(words: Sequence[str]) -> str:
+    """Words with commas between, and how many more there are than are shown."""
+    more = f" and {len(words) - SHOWN_ROWS} more" if len(words) > SHOWN_ROWS else ""
+    return ", ".join(words[:SHOWN_ROWS]) + more
+
+
+def code(text: str) -> str:
+    """A label, or symbols, as code, cut where it is long. A symbol may be a backtick."""
+    text = cut(text)
+    longest = max((len(each) for each in BACKTICKS.findall(text)), default=0)
+    fence, space = "`" * (longest + 1), " " if longest else ""
+    return f"{fence}{space}{text}{space}{fence}"
+
+
 def table_line(change: Outcome) -> str:
     """A line of the comment's table."""
-    gained = [
-        f"`{axiom}` via `{via}`" for axiom, via in zip(change.gained, change.via, strict=True)
-    ]
-    lost = [f"`{axiom}`" for axiom in change.lost]
-    status = ", ".join(change.status) + (f" from `{change.was}`" if change.was else "")
+    pairs = zip(change.gained, change.via, strict=True)
+    gained = [f"{code(axiom)} via {code(via)}" for axiom, via in pairs]
+    status = ", ".join(change.status) + (f" from {code(change.was)}" if change.was else "")
     axioms = "" if change.axioms is None else str(change.axioms)
-    fields = (f"`{change.label}`", status, axioms, ", ".join(gained), ", ".join(lost))
+    lost = listed([code(axiom) for axiom in change.lost])
+    fields = (code(change.label), status, axioms, listed(gained), lost)
     return f"| {' | '.join(fields)} | {change.bytes:+} |"
 
 

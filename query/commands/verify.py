@@ -10,6 +10,7 @@ from query.commands import Command
 from query.context import Context
 from query.database import Database
 from query.faults import Refused
+from query.includes import misleading
 from query.options import Parser, add_choice_of_citations, add_database, positive, options_of
 from query.output import Value
 from query.source import Source
@@ -64,12 +65,25 @@ def run(context: Context, arguments: argparse.Namespace) -> int:
         if arguments.each and len(refusals) == arguments.most:
             context.tell(f"{database.name}: there may be more faults than these {arguments.most}")
         return 1
+    tell_includes(context, database)
     if context.out.format == "text":
         context.out.line(f"{database.name}: valid, {axioms} axioms and {theorems} theorems")
     else:
         row: list[Value] = [True, axioms, theorems]
         context.out.table(COLUMNS, [row + [None] * len(FIELDS)])
     return 0
+
+
+def tell_includes(context: Context, database: Database) -> None:
+    """Says of a database that is valid where metamath.exe would read another text."""
+    found = [] if database.is_report else misleading(database.data())
+    if found:
+        line = database.data().count(b"\n", 0, found[0].place) + 1
+        comments = f"{len(found)} comment{'s' if len(found) > 1 else ''}"
+        context.tell(
+            f"{database.name}: {comments} by which metamath.exe reads another text, or none; the"
+            f" first on line {line}: $( {found[0].words[:SHOWN_WORD]} $)"
+        )
 
 
 def others(database: Database, first: Refused, most: int) -> Iterator[Refused]:

@@ -4,7 +4,7 @@ from __future__ import annotations
 
 import re
 from collections import Counter
-from collections.abc import Iterable
+from collections.abc import Iterable, Mapping
 from dataclasses import dataclass, field
 
 from query.letters import letters_of
@@ -71,24 +71,7 @@ class Writing:
         mandatory = len(numbers)
         for item in self.ordered(root):
             numbers.setdefault(self.nodes[item].label, len(numbers))
-        letters: list[str] = []
-        marks = len(numbers)
-        left = [(root, False)]
-        while left:
-            item, is_built = left.pop()
-            node = self.nodes[item]
-            if node.mark >= 0:
-                letters.append(letters_of(node.mark))
-            elif not is_built:
-                left.append((item, True))
-                left += [(part, False) for part in reversed(node.parts)]
-            else:
-                letters.append(letters_of(numbers[node.label]))
-                if node.parts and node.uses > 1:
-                    letters.append("Z")
-                    node.mark = marks
-                    marks += 1
-        return list(numbers)[mandatory:], "".join(letters)
+        return list(numbers)[mandatory:], letters_in(self.nodes, root, numbers)
 
     def ordered(self, root: Item) -> list[Item]:
         """All items, parts before what is made of them, and how often each is used."""
@@ -132,6 +115,28 @@ class Writing:
         rule = self.writer.rules[step.rule]
         parts = [tree if one.is_floating else ~tree for one, tree in zip(rule.given, step.trees)]
         return Made(rule.label, parts)
+
+
+def letters_in(nodes: Mapping[Item, Made], root: Item, numbers: Mapping[str, int]) -> str:
+    """The letters of a proof whose last step is `root`. `numbers` are those of its labels."""
+    letters: list[str] = []
+    marks = len(numbers)
+    left = [(root, False)]
+    while left:
+        item, is_built = left.pop()
+        node = nodes[item]
+        if node.mark >= 0:
+            letters.append(letters_of(node.mark))
+        elif not is_built:
+            left.append((item, True))
+            left += [(part, False) for part in reversed(node.parts)]
+        else:
+            letters.append(letters_of(numbers[node.label]))
+            if node.parts and node.uses > 1:
+                letters.append("Z")
+                node.mark = marks
+                marks += 1
+    return "".join(letters)
 
 
 def line_width(proofs: Iterable[bytes]) -> int:

@@ -30,7 +30,8 @@ wi $a wff ( p -> q ) $.
 class Shape:
     """What is made for a size, and the commands that are run beside it. `size` is that of the
     benchmark, and `small` the one of the test. `is_answer` is whether the answer itself, or what
-    the program says, has the square of the size."""
+    the program says, has the square of the size, and `is_limited` whether the program may need more
+    than a text of this length is allowed, which then has no answer."""
 
     name: str
     make: Callable[[int], Files]
@@ -38,6 +39,7 @@ class Shape:
     small: int
     commands: tuple[str, ...]
     is_answer: bool = False
+    is_limited: bool = False
 
 
 @dataclass(frozen=True)
@@ -232,6 +234,51 @@ def watched_axioms(count: int) -> Files:
     return two(theorems(count), axioms(count) + new, 'watch = ["a*"]\n')
 
 
+def equal_distinct(count: int) -> Files:
+    """Equal `$d` of many variables, a hypothesis with all of them, and axioms behind empty
+    blocks."""
+    made, found = variables(200)
+    some = f"$d {' '.join(found)} $.\n" * 60
+    lines = "".join(f"${{ $}} y{number} $a |- p $.\n" for number in range(count))
+    return one(f"{made}{some}${{ e $e |- {' '.join(found)} $.\n{lines}$}}\n")
+
+
+def long_axiom(count: int) -> Files:
+    """A long axiom without hypotheses, which a proof applies again and again."""
+    return one(f"long $a |- {'( ' * 10 * count}$.\nx $p |- p $= wp {'long ' * count}ax $.\n")
+
+
+def resting_on_all(count: int) -> Files:
+    """Watched axioms, and new theorems of which each rests on all of them: one cites them, and the
+    others one another."""
+    new = theorem("t0", *names(count, "a"))
+    new += "".join(theorem(f"t{number + 1}", f"t{number}") for number in range(count))
+    return two(axioms(count), axioms(count) + new, 'watch = ["a*"]\n')
+
+
+def one_proof(count: int) -> Files:
+    """Theorems that all came to rest on a watched axiom by one proof."""
+    users = theorem("u0", "t") + "".join(
+        theorem(f"u{number + 1}", f"u{number}") for number in range(count)
+    )
+    old, new = theorem("t", "other") + users, theorem("t", "ax") + users
+    return two(old, new, 'watch = ["ax"]\n')
+
+
+def includes(count: int) -> Files:
+    """Comments that begin as includes, with and without one, in both databases and in one."""
+    some = "".join(f"$( Begin $[ f{number} $] $)\n$( Skip x $)\n" for number in range(count))
+    more = "".join(f"$( Skip $[ g{number} $] $)\n" for number in range(count))
+    return two(some + theorems(2), more + theorems(2) + some + f"$( End {'$[ ' * count}$)\n")
+
+
+def hidden_marks(count: int) -> Files:
+    """Marks with comments behind them, and many comments before one label."""
+    mark = "$( (New usage is discouraged.) $)\n"
+    lines = "".join(f"{mark}$( $j x; $)\nm{number} $a |- p $.\n" for number in range(count))
+    return two("", f"{lines}{mark * count}{'$( $j x; $) ' * count}last $a |- p $.\n")
+
+
 def long_chain(count: int) -> Files:
     """A chain of theorems, and others of which each cites its last one and another one."""
     lines = theorem("t0", "ax")
@@ -393,7 +440,8 @@ SHAPES = [
           ("chapters a.mm", "compare a.mm b.mm", "gate a.mm b.mm", "page a.mm",
            "export --sqlite out.db a.mm")),
     Shape("a `$e` before each", many_hypotheses, 2_000, 3_000,
-          ("chapters a.mm", "compare a.mm b.mm", "gate a.mm b.mm"), is_answer=True),
+          ("chapters a.mm", "compare a.mm b.mm", "gate a.mm b.mm"), is_answer=True,
+          is_limited=True),
     Shape("definitions", definitions, 20_000, 10_000, ("definitions a.mm",)),
     Shape("deep blocks", deep_blocks, 200_000, 100_000, ("gate a.mm b.mm", "page b.mm")),
     Shape("axioms", many_axioms, 100_000, 100_000,
@@ -402,6 +450,15 @@ SHAPES = [
     Shape("axioms in other order", axioms_in_other_order, 20_000, 20_000,
           ("compare a.mm b.mm", "gate a.mm b.mm")),
     Shape("watched axioms", watched_axioms, 2_000, 3_000, ("compare a.mm b.mm", "gate a.mm b.mm")),
+    Shape("theorems on all watched axioms", resting_on_all, 300, 600,
+          ("gate a.mm b.mm", "gate --all a.mm b.mm"), is_answer=True),
+    Shape("theorems by one proof", one_proof, 40_000, 20_000,
+          ("gate a.mm b.mm", "gate --all a.mm b.mm", "review a.mm b.mm")),
+    Shape("includes in comments", includes, 100_000, 30_000, ("gate a.mm b.mm", "verify b.mm")),
+    Shape("hidden marks", hidden_marks, 30_000, 20_000, ("gate a.mm b.mm", "discouraged b.mm")),
+    Shape("equal `$d`", equal_distinct, 1_000, 1_000, ("verify a.mm", "rests a.mm y1"),
+          is_limited=True),
+    Shape("a long axiom", long_axiom, 4_000, 4_000, ("verify a.mm",), is_limited=True),
     Shape("a long chain", long_chain, 10_000, 10_000,
           ("frees a.mm ax", "way-out a.mm ax", "why a.mm t500 ax", "uncited a.mm")),
     Shape("a wide theorem", wide, 20_000, 10_000,

@@ -154,6 +154,7 @@ class Cache(World):
         for _ in range(2):
             self.assertEqual(self.query("cache", "clear"), Done("", "", 0))
             self.assertEqual(self.files(), [])
+            self.assertEqual([*self.cache.iterdir(), *self.config.iterdir()], [])
 
     def test_several_at_once(self) -> None:
         command = [str(MMQUERY), "rests", "small.mm", "a2"]

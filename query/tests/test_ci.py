@@ -56,6 +56,13 @@ class Lines(unittest.TestCase):
         for each in used:
             self.assertRegex(each, r"\A(\./mmdepend|[\w./-]+@[0-9a-f]{40})\Z")
 
+    def test_limits(self) -> None:
+        self.assertIn("\n    timeout-minutes: 30\n", JOB.read_text())
+        self.assertIn(" -c fetch.fsckObjects=true fetch ", "".join(commands(ACTION)))
+        for path in (JOB, SCRIPT):
+            self.assertIn("curl -qfsSL --proto =https", path.read_text())
+        self.assertIn(' "${FORMAT:=log}" ', SCRIPT.read_text())
+
     def test_nothing_is_kept_from_elsewhere(self) -> None:
         found = re.findall(r'^"\$program/mmquery" .*', SCRIPT.read_text(), re.MULTILINE)
         self.assertEqual(len(found), 3)
@@ -209,14 +216,38 @@ class Script(Repositories):
         self.assertEqual(done.status, 2, done)
 
     def test_the_action(self) -> None:
-        (self.unpacked / "docs" / "ci").mkdir(parents=True)
-        shutil.copy(SCRIPT, self.unpacked / "docs" / "ci")
-        self.write_sums()
         self.branch()
         self.commit(changed(BASE, ("2p2e4 $p", "ax-cheat $a |- ( 2 + 2 ) = 4 $.\n2p2e4 $p")))
+        runner, done = self.act(self.git("rev-parse", "HEAD").strip())
+        self.assertEqual([each.returncode for each in done], [0, 1], done)
+        self.assertIn(b"ax-cheat: a new axiom", done[1].stdout)
+        self.assertIn("ax-cheat", (runner / "kept" / "changes.tsv").read_text())
+        self.assertIn("ax-cheat", (runner / "summary.md").read_text())
+
+    def test_objects_that_git_does_not_write(self) -> None:
+        """The action fetches none of them."""
+        blob = bytes.fromhex(self.git("rev-parse", "HEAD:db.mm"))
+        entry = b"100644 db.mm\0" + blob
+        for tree in (entry * 2, entry + b"100644 x/y\0" + blob, entry):
+            self.write("object", tree)
+            words = ("hash-object", "-w", "--literally", "-t", "tree", "object")
+            name = self.git(*words)
+            (self.folder / "object").unlink()
+            new = self.git("commit-tree", name, "-p", "main", "-m", "a tree")
+            self.git("update-ref", "refs/heads/odd", new)
+            _, done = self.act(new)
+            self.assertEqual(done[0].returncode == 0, tree == entry, done)
+            self.assertEqual(b"fsck" in done[0].stderr, tree != entry, done)
+
+    def act(self, new: str) -> tuple[Path, list[subprocess.CompletedProcess[bytes]]]:
+        """Runs the steps of the action on a commit, up to the first that fails. Returns the folder
+        of the runner, and what became of the steps."""
+        (self.unpacked / "docs" / "ci").mkdir(parents=True, exist_ok=True)
+        shutil.copy(SCRIPT, self.unpacked / "docs" / "ci")
+        self.write_sums()
         runner = self.folder.parent / "runner"
+        shutil.rmtree(runner, ignore_errors=True)
         runner.mkdir()
-        new = self.git("rev-parse", "HEAD").strip()
         surroundings = self.surroundings(
             GITHUB_ACTION_PATH=str(self.unpacked),
             GITHUB_STEP_SUMMARY=str(runner / "summary.md"),
@@ -230,20 +261,18 @@ class Script(Repositories):
             FORMAT="github",
         )
         del surroundings["MMDEPEND"]
-        statuses = [
-            subprocess.run(
-                ["bash", "-e", "-c", block],
-                cwd=self.folder.parent,
-                env=surroundings,
-                capture_output=True,
-                check=False,
-            )
-            for block in commands(ACTION)
-        ]
-        self.assertEqual([done.returncode for done in statuses], [0, 1], statuses)
-        self.assertIn(b"ax-cheat: a new axiom", statuses[1].stdout)
-        self.assertIn("ax-cheat", (runner / "kept" / "changes.tsv").read_text())
-        self.assertIn("ax-cheat", (runner / "summary.md").read_text())
+        found: list[subprocess.CompletedProcess[bytes]] = []
+        for block in commands(ACTION):
+            if all(done.returncode == 0 for done in found):
+                done = subprocess.run(
+                    ["bash", "-e", "-c", block],
+                    cwd=self.folder.parent,
+                    env=surroundings,
+                    capture_output=True,
+                    check=False,
+                )
+                found.append(done)
+        return runner, found
 
 
 class Modules(World):

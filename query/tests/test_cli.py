@@ -259,7 +259,7 @@ class Places(World):
         self.refuses("rests", "small.mm", "a2", MMDEPEND="/nowhere", why="no program /nowhere")
         for script, why in {
             "exit 3": "status 3",
-            "echo 'mmdepend: out of memory' >&2; exit 4": "small.mm: out of memory",
+            "echo 'mmdepend: out of memory' >&2; exit 4": "small.mm: not judged: the text needs",
             "kill -9 $$": "signal 9",
             "echo nonsense": "small.mm: the program said something that isn't understood",
             "exit 1": "status 1",

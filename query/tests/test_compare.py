@@ -3,6 +3,8 @@
 import json
 import os
 import random
+import re
+from collections import Counter
 from unittest import mock
 
 from query.statements import difference, statement_of
@@ -144,8 +146,8 @@ class Comparisons(World):
             lines = [f"{label!r}" for label in (part.label for part in watched)]
             asked = f"typecode = '|-'\nwatch = [{', '.join(lines)}]\n"
             self.write("mmdepend.toml", asked)
-            done = self.query("gate", "--format", "json", f"old.{number}.mm", f"new.{number}.mm")
-            found = self.json_findings(done.out)
+            words = ("gate", "--format", "json", f"old.{number}.mm", f"new.{number}.mm")
+            found = self.json_findings(self.query(*words, "--all").out)
             wanted = set()
             for part in new.parts:
                 if part.is_axiom:
@@ -157,6 +159,9 @@ class Comparisons(World):
                         rule = "new" if before is None else "newly"
                         wanted.add((rule, part.label, axiom.label))
             self.assertEqual({each for each in found if each[0] in ("newly", "new")}, wanted)
+            theorems = {(rule, label) for rule, label, _ in wanted}
+            told = Counter(rule for rule, _ in theorems)
+            self.assertEqual(by_causes(self.query(*words).out), told)
             tried += len(wanted)
             axioms = {part.label for part in (*old.parts, *new.parts) if part.is_axiom}
             same = {
@@ -164,8 +169,8 @@ class Comparisons(World):
                 for part in new.parts
                 if part.is_axiom and (before := old.part(part.number)) and before == part
             }
-            told = {each[1] for each in found if each[0] == "axioms"}
-            self.assertEqual(told, axioms - same)
+            changed = {each[1] for each in found if each[0] == "axioms"}
+            self.assertEqual(changed, axioms - same)
         self.assertGreater(tried, 50)
 
     @staticmethod
@@ -208,3 +213,13 @@ class Statements(World):
             ("h1 $e |- p", "h1 $e wff p", "the hypotheses"),
         ):
             self.assertIn(said, self.compared(self.ONE, self.ONE.replace(before, after)))
+
+
+def by_causes(out: str) -> Counter[str]:
+    """How many theorems the findings of `newly` and `new` are about, one for each cause."""
+    found: Counter[str] = Counter()
+    for each in json.loads(out)["findings"]:
+        if each["rule"] in ("newly", "new"):
+            more = re.search(r"; with ([0-9]+) more theorems? by that", each["reason"])
+            found[each["rule"]] += 1 + (int(more[1]) if more else 0)
+    return found

@@ -6,7 +6,17 @@ import unittest
 from pathlib import Path
 
 from query.commands.gate import PAGE
-from query.config import RULES, SHAPE, Claim, Config, Labels, Shape, find_config, read_config
+from query.config import (
+    DEFAULTS,
+    RULES,
+    SHAPE,
+    Claim,
+    Config,
+    Labels,
+    Shape,
+    find_config,
+    read_config,
+)
 from query.errors import NoAnswer
 from query.tests.world import TOP
 
@@ -36,7 +46,7 @@ WRONG = (
     ("wach = []", "m.toml:1: there is no key 'wach'; did you mean 'watch'?"),
     (
         "\nqqq = 1",
-        "m.toml:2: there is no key 'qqq'; there are base, typecode, watch, rules,",
+        "m.toml:2: there is no key 'qqq'; there are base, typecode, watch, definitions,",
     ),
     (
         "[rules]\nopne = true",
@@ -85,7 +95,7 @@ class Reading(unittest.TestCase):
         self.assertEqual((config.name, config.base), ("m.toml", "upstream/develop"))
         self.assertEqual(config.typecode, "wff")
         self.assertEqual(config.watch, ("ax-ac2", "ax-r*"))
-        self.assertEqual(config.rules, frozenset(RULES) - {"open"})
+        self.assertEqual(config.rules, DEFAULTS - {"open"})
         self.assertTrue(config.allows("axioms", "df-x") and not config.allows("axioms", "dfx"))
         self.assertTrue(config.allows("open", "o") and not config.allows("mathboxes", "o"))
         for rule in ("newly", "new"):
@@ -107,7 +117,8 @@ class Reading(unittest.TestCase):
         config = read_config(b"", "m.toml")
         resting: dict[str, dict[str, Labels]] = {"newly": {}, "new": {}}
         self.assertEqual(config, Config(name="m.toml", resting=resting, lines=config.lines))
-        self.assertEqual(config.rules, frozenset(RULES))
+        self.assertEqual(config.rules, DEFAULTS)
+        self.assertEqual(read_config(b"definitions = true", "").rules, frozenset(RULES))
         self.assertTrue("anything" in Labels(("*",)) and "" not in Labels(("a",)))
 
     def test_what_is_refused(self) -> None:
@@ -141,12 +152,18 @@ class Guide(unittest.TestCase):
     """What docs/GATE.md and the page of `gate` say."""
 
     def test_each_key_is_explained(self) -> None:
-        told = set(re.findall(r"^\| `([a-z]+(?:\.[a-z]+)*(?:\.[A-Z]+)?)` \|", GUIDE, re.MULTILINE))
+        told = set(
+            re.findall(
+                r"^\| `((?:limit-)?[a-z]+(?:\.[a-z]+)*(?:\.[A-Z]+)?)` \|", GUIDE, re.MULTILINE
+            )
+        )
         wanted = {
             key for key in keys(SHAPE) if not key.startswith(("rules.", "allow.new", "claims"))
         }
         wanted |= {"rules.RULE", "allow.newly.AXIOM", "allow.new.AXIOM", "claims.THEOREM"}
+        wanted -= set(RULES)
         self.assertEqual({each for each in told if each not in (*RULES, "valid")}, wanted)
+        self.assertEqual(GUIDE.count("\n| `definitions` |"), 2, "the key, and the rule")
 
     def test_each_rule_is_explained(self) -> None:
         section = GUIDE.split("\n## The rules\n")[1].split("\n## ")[0]

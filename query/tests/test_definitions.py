@@ -1,28 +1,30 @@
-"""`definitions`: each rule broken by itself, the databases of Debian, and the trees of formulas
-against all trees that there are."""
+"""`definitions`: each condition broken by itself, and what is proved by that; the databases of
+Debian; and the trees of formulas against all trees that there are."""
 
 import itertools
 import random
+import re
+import shutil
 import unittest
+from collections import Counter
 from collections.abc import Sequence
 
-from query.definitions import Definitions
+from query.ambiguity import Comparison, GivenUp, ambiguity
+from query.database import Database
+from query.definitions import CONDITIONS, Definitions, rests_by
 from query.grammar import STEPS, STEPS_OF_SYMBOL, FormulaReader, Grammar, NotRead, Tree
+from query.implied import Clauses
+from query.options import Options
+from query.tests import metamath
 from query.tests.repositories import changed
-from query.tests.world import DATABASES, World, database_text, needs_program
+from query.tests.unsound import AXIOMS, BASE, DATABASES, SYMBOLS, WITHOUT_CONSTANTS
+from query.tests.world import DATABASES as OF_DEBIAN
+from query.tests.world import TOP, World, needs_program
 
-LOGIC = """$c |- wff class setvar ( ) <-> -> A. = e. { | } T. E. C_ Foo F/ [ / ] $.
-$v ph ps x y z A B C $.
-wph $f wff ph $. wps $f wff ps $. vx $f setvar x $. vy $f setvar y $. vz $f setvar z $.
-cA $f class A $. cB $f class B $. cC $f class C $.
-wi $a wff ( ph -> ps ) $.
-wb $a wff ( ph <-> ps ) $.
-wal $a wff A. x ph $.
-cv $a class x $.
-wceq $a wff A = B $.
-wcel $a wff A e. B $.
-cab $a class { x | ph } $.
-ax-1 $a |- ( ph -> ph ) $.
+LOGIC = (
+    SYMBOLS
+    + AXIOMS
+    + """$c T. E. C_ Foo F/ [ / ] $.
 wtru $a wff T. $.
 df-tru $a |- ( T. <-> A. x x = x ) $.
 wex $a wff E. x ph $.
@@ -40,6 +42,8 @@ ${ $d x y $.
 df-foo $a |- Foo = { x | E. y y e. x } $. $}
 last $a |- Foo C_ Foo $.
 """
+)
+OPTIONS = Options(open=True)
 SOUND = ["df-tru", "df-ex", "df-nf", "df-sb", "df-ss", "df-foo"]
 FOO = "df-foo $a |- Foo = { x | E. y y e. x } $. $}"
 SS = "df-ss $a |- ( A C_ B <-> A. x ( x e. A -> x e. B ) ) $. $}"
@@ -49,7 +53,6 @@ BROKEN = (
     ((FOO, "df-foo $a |- A = Foo $. $}"), "df-foo", "no", "its left side is a variable"),
     ((FOO, "${ h $e |- ph $. " + FOO + " $}"), "df-foo", "no", "it has a $e"),
     ((SS, SS.replace("A C_ B <->", "A C_ A <->")), "df-ss", "no", "has a variable twice"),
-    ((SS, SS.replace("A C_ B <->", "A C_ Foo <->")), "df-ss", "not judged", "can't be read"),
     ((SS, SS.replace("A C_ B <->", "A C_ { x | ph } <->")), "df-ss", "no", "more than a form"),
     ((SS, SS.replace("A C_ B <->", "A C_ y <->")), "df-ss", "no", "more than a form"),
     ((FOO, FOO.replace("y e. x", "y e. Foo")), "df-foo", "no", "right side has the form cfoo"),
@@ -105,8 +108,8 @@ class Rules(World):
             found = self.sound(changed(LOGIC, change))
             self.assertEqual(found[label][0], sound, change)
             self.assertIn(why, found[label][1], change)
-            others = {each for each in found if each != label and found[each][0] != "yes"}
-            self.assertEqual(others, set(), change)
+            # What a wrong one says counts as an axiom, so others may not be judged.
+            self.assertNotIn("no", {found[each][0] for each in found if each != label}, change)
 
     def test_a_form_is_as_its_definition(self) -> None:
         """What a form binds is what its right side binds; of a wrong one it is taken as given."""
@@ -120,14 +123,19 @@ class Rules(World):
             self.assertEqual(self.sound(text)["df-foo"][0], sound, other)
 
     def test_formulas_that_are_not_read(self) -> None:
-        twice = changed(LOGIC, ("cfoo $a", "wbad $a wff ph -> ps $.\ncfoo $a"))
-        twice += "${ $d x ph $. wbar $a wff [ $. df-bar $a |- ( [ <-> T. -> T. -> T. ) $. $}\n"
-        self.assertIn("it can be read in two ways", self.sound(twice)["df-bar"][1])
-        cycle = "cc $a class A $. " + LOGIC[LOGIC.index("wi $a") :]
-        head = LOGIC[: LOGIC.index("wi $a")]
-        found = self.sound(head + cycle)
-        left = {each for each in found if found[each][0] == "not judged"}
-        self.assertEqual(left, {*SOUND} - {"df-ex", "df-nf"})  # those have no class
+        """One axiom without a tree, or a grammar with two, and nothing is judged."""
+        for more, why in (
+            ("wbad $a wff ph -> ps $.", "a formula of typecode wff begins with one of that"),
+            ("wbad $a wff A. A ph $.", "df-tru can't be read: it can be read in two ways"),
+            ("wbad $a wff E. A ph $.", "df-ex can't be read: it can be read in two ways"),
+            ("wbad $a wff ! x $. wbae $a wff ! A $.", "the formula ! <setvar> has two trees"),
+            ("cc $a class A $.", "df-tru can't be read: it can be read in two ways"),
+            ("bad $a |- ( ph $.", "bad can't be read: it isn't built by the syntax axioms"),
+            ("ce $a class $.", "an axiom has no symbol"),
+        ):
+            found = self.sound(LOGIC.replace("cfoo $a", f"$c ! $. {more}\ncfoo $a"))
+            self.assertEqual({sound for sound, _ in found.values()}, {"not judged"}, more)
+            self.assertTrue(any(why in told for _, told in found.values()), (found, why))
 
     def test_other_databases(self) -> None:
         self.write("db.mm", "$c |- a b $.\ndf-a $a |- a b $.\n")
@@ -142,41 +150,174 @@ class Rules(World):
         rows = self.answers("definitions", "db.mm", "--like", "df-s*", "--format", "tsv")
         self.assertEqual([row.split("\t")[0] for row in rows[1:]], ["df-sb", "df-ss"])
 
+    def test_open_theorems(self) -> None:
+        """A theorem that is left open says nothing."""
+        text = LOGIC.replace("biid $a |- ( ph <-> ph )", "biid $p |- ( ph <-> ph ) $= ?")
+        self.write("open.mm", text)
+        rows = self.query("definitions", "open.mm", "--open", "--format=json").rows()
+        self.assertEqual(rows[0]["why_not"], "no theorem says that wb is reflexive")
+        through = text + "bi $p |- ( ph <-> ph ) $= wph biid $.\n"
+        self.write("open.mm", through)
+        rows = self.query("definitions", "open.mm", "--open", "--format=json").rows()
+        self.assertEqual(rows[0]["why_not"], "bi, which says that wb is reflexive, rests on biid")
+
+
+class Proved(World):
+    """Wrong definitions, each with the proof of something new."""
+
+    def test_something_new_is_proved(self) -> None:
+        """The program and metamath.exe verify the proof, and the definition isn't sound."""
+        for each in DATABASES:
+            path = self.folder / self.write("bad.mm", each.database())
+            self.assertEqual(
+                self.query("verify", "bad.mm").out.split(":")[1][:6], " valid", each.name
+            )
+            if shutil.which("metamath"):
+                (said,) = metamath.asked(path, ["verify proof *"])
+                self.assertIn("All proofs in the database were verified", said, each.name)
+                self.assertNotRegex(said, r"\?(Error|Warning)", each.name)
+            done = self.query("definitions", "bad.mm", "--format=json", *each.options)
+            found = {row["definition"]: row for row in done.rows()}
+            verdicts = {
+                label: (row["sound"], row["condition"] or "") for label, row in found.items()
+            }
+            self.assertEqual(verdicts, each.verdicts, each.name)
+            is_wrong = any(sound == "no" for sound, _ in verdicts.values())
+            self.assertEqual(done.status, int(is_wrong), each.name)
+
+    def test_what_they_share_is_sound(self) -> None:
+        """A right definition in the same place, so that what is found is by the wrong one."""
+        for base in (BASE, WITHOUT_CONSTANTS):
+            right = "$c Bar $. wbar $a wff Bar y $.\n"
+            right += "${ $d x y $. df-bar $a |- ( Bar y <-> A. x x = y ) $. $}\n"
+            self.write("good.mm", base + right)
+            (row,) = self.query("definitions", "good.mm", "--format=json").rows()
+            self.assertEqual((row["sound"], row["why_not"]), ("yes", None))
+
+    def test_each_condition_is_broken(self) -> None:
+        """By one of these databases at least, alone."""
+        broken = {condition for each in DATABASES for _, condition in each.verdicts.values()}
+        self.assertEqual(broken - {""}, CONDITIONS.keys())
+        self.assertEqual(len({each.name for each in DATABASES}), len(DATABASES))
+
+
+class Page(unittest.TestCase):
+    """docs/SOUNDNESS.md has the conditions of the program, and examples that are tried here."""
+
+    TEXT = (TOP / "docs" / "SOUNDNESS.md").read_text("utf-8")
+
+    def test_conditions(self) -> None:
+        table = self.TEXT[self.TEXT.index("## The conditions") :]
+        self.assertEqual(re.findall(r"^\| `(\w+)` \|", table, re.M), list(CONDITIONS))
+
+    def test_examples(self) -> None:
+        blocks = re.findall(r"^```\n(.*?)^```$", self.TEXT, re.M | re.S)
+        self.assertGreater(len(blocks), 7)
+        texts = [" ".join((each.base + each.text).split()) for each in DATABASES]
+        for block in blocks:
+            lines = block.splitlines()
+            self.assertTrue(
+                any(all(line in text for line in lines) for text in texts), (block, texts)
+            )
+
+
+class Chosen(World):
+    """What is on trust, what is an equality, and on what the verdicts rest."""
+
+    def test_trust(self) -> None:
+        (order,) = (each for each in DATABASES if each.options)
+        self.write("db.mm", LOGIC)
+        rows = self.query("definitions", "db.mm", "--trust", "df-tru,df-ex", "--format=json").rows()
+        sound = {row["definition"]: row["sound"] for row in rows}
+        self.assertEqual(sound, dict.fromkeys(SOUND, "yes") | dict.fromkeys(SOUND[:2], "on trust"))
+        wrong = LOGIC.replace("df-ex $a |- ( E. x ph <->", "df-ex $a |- ( E. x ph ->")
+        self.write("db.mm", wrong)
+        done = self.query("definitions", "db.mm", "--format=json")
+        self.assertEqual(done.status, 1)
+        self.assertEqual({row["condition"] for row in done.rows()}, {None, "form", "rests"})
+        done = self.query("definitions", "db.mm", "--trust=df-ex", "--format=json")
+        self.assertEqual(done.status, 0)
+        found = {str(row["definition"]): row for row in done.rows()}
+        self.assertEqual(found["df-ex"]["sound"], "on trust")
+        self.assertIn("neither ( LEFT <-> RIGHT )", str(found["df-ex"]["why_not"]))
+        # Nothing says that equals may be put into E. x ph, so Foo isn't judged.
+        self.assertEqual(found["df-foo"]["sound"], "not judged")
+        self.assertIn("equals may be put into wex", str(found["df-foo"]["why_not"]))
+        self.refuses("definitions", "db.mm", "--trust", "df-none", why="has no assertion 'df-none'")
+        self.refuses("definitions", "db.mm", "--trust", "biid", why="biid is no definition")
+        self.write("order.mm", order.database())
+        for label in ("wal", "cfoo", "biid"):
+            why = f"{label} is no syntax axiom of a wff with two parts"
+            self.refuses("definitions", "order.mm", "--equality", label, why=why)
+        self.refuses("definitions", "order.mm", "--equality", "wlt,wceq", why="or another one is")
+
+    def test_basis(self) -> None:
+        self.write("db.mm", LOGIC)
+        rows = self.query("definitions", "db.mm", "--basis", "--format=json").rows()
+        found = {(str(row["what"]), row["label"]): row["says"] for row in rows}
+        self.assertEqual(found["grammar", None], "each formula has one tree")
+        self.assertEqual(found["equality", "wb"], "( wff <-> wff )")
+        self.assertEqual(found["primitive", "wal"], "wff A. setvar wff")
+        self.assertEqual(found["theorem", "biid"], "wb is reflexive")
+        renames = "the variable that wal binds may have another name"
+        self.assertEqual(found["theorem", "cbvalv"], renames)
+
+    def test_annotations(self) -> None:
+        self.write("db.mm", changed(LOGIC, BROKEN[0][0], (SS, SS.replace("C_ B <->", "C_ A <->"))))
+        done = self.query("definitions", "db.mm", "--format=github")
+        first, second = done.lines()
+        pattern = r"::error file=db.mm,line=\d+,title=mmquery definitions \({}\)::{}: no: .*"
+        self.assertRegex(first, pattern.format("left", "df-ss"))
+        self.assertRegex(second, pattern.format("form", "df-foo"))
+        self.assertRegex(done.err, r"db.mm: 4 sound, 2 not, 0 not judged")
+
 
 @needs_program
 class RealDatabases(unittest.TestCase):
-    """set.mm, iset.mm and nf.mm. `conventions` names the four definitions for which the rules are
-    too strict."""
+    """Those of Debian. `conventions` names the four definitions that are axioms."""
 
-    KNOWN = {"df-bi", "df-clab", "df-cleq", "df-clel"}
+    TRUSTED = ["df-bi", "df-clab", "df-cleq", "df-clel"]
 
-    def found(self, name: str) -> tuple[int, set[str], dict[str, str]]:
-        """How many there are, which break a rule, and why others aren't judged."""
-        path = DATABASES / name
+    def found(self, name: str) -> tuple[Counter[str], dict[str, str], bool | None]:
+        """How many there are of each kind, why others aren't judged, and whether the grammar is
+        unambiguous."""
+        path = OF_DEBIAN / name
         if not path.exists():
             self.skipTest(f"{name} isn't installed")
-        verdicts = list(Definitions(database_text(path.read_bytes()).assertions).verdicts())
-        broken = {each.label for each in verdicts if each.is_sound is False}
-        left = {each.label: str(each.why) for each in verdicts if each.is_sound is None}
-        return len(verdicts), broken, left
+        database = Database.opened(str(path), uses_cache=False, options=OPTIONS)
+        judged = Definitions(database.text.assertions, rests_by(database.graph()))
+        verdicts = judged.verdicts.values()
+        trusted = [each.label for each in verdicts if each.sound == "on trust"]
+        self.assertIn(trusted, ([], self.TRUSTED))
+        left = {
+            each.label: str(each.why) for each in verdicts if each.sound in ("no", "not judged")
+        }
+        return Counter(each.sound for each in verdicts), left, judged.ambiguity.is_unambiguous
 
     def test_set(self) -> None:
-        count, broken, left = self.found("set.mm")
-        self.assertEqual((count, broken), (1267, self.KNOWN))
+        counts, left, is_unambiguous = self.found("set.mm")
+        self.assertEqual(counts, {"yes": 1262, "on trust": 4, "not judged": 1})
         self.assertEqual(left, {"df-gmdl": "the dummy c stands also where nothing binds it"})
+        self.assertTrue(is_unambiguous)
 
     def test_iset(self) -> None:
-        self.assertEqual(self.found("iset.mm"), (188, self.KNOWN, {}))
+        counts, left, is_unambiguous = self.found("iset.mm")
+        self.assertEqual(counts, {"yes": 183, "on trust": 4, "not judged": 1})
+        self.assertIn("equals under a condition may be put into wbd", left["df-bdc"])
+        self.assertTrue(is_unambiguous)
 
     def test_nf(self) -> None:
-        count, broken, left = self.found("nf.mm")
-        self.assertEqual((count, broken), (156, self.KNOWN))
-        why = "the dummy ph is no setvar, so it needs a justification"
-        self.assertEqual(left, {"df-tru": why})
+        counts, left, is_unambiguous = self.found("nf.mm")
+        self.assertEqual((counts, left), ({"yes": 152, "on trust": 4}, {}))
+        self.assertTrue(is_unambiguous)
 
-    def test_ql(self) -> None:
-        count, broken, left = self.found("ql.mm")
-        self.assertEqual((len(left), broken), (count, set()))
+    def test_other_languages(self) -> None:
+        for name, count in (("ql.mm", 28), ("hol.mm", 11)):
+            counts, left, is_unambiguous = self.found(name)
+            self.assertEqual(counts, {"not judged": count})
+            why = "there is no equality, ( wff <-> wff ) or class = class"
+            self.assertEqual(set(left.values()), {why})
+            self.assertTrue(is_unambiguous)
 
 
 Rule = tuple[str, str, tuple[str, ...]]
@@ -223,6 +364,107 @@ class Counted:
                 if one:
                     count += one * self.ways(rest, middle, end, {**bound, first: part})
         return min(2, count)
+
+
+class Grammars(unittest.TestCase):
+    """Whether grammars are unambiguous, against the trees of short formulas."""
+
+    KINDS = {"P": "p", "Q": "q", "R": "r"}
+
+    def both(self, rules: Sequence[tuple[str, str]]) -> tuple[Grammar, Grammar]:
+        """The grammar of these axioms, a typecode and symbols each, and the one that is turned."""
+        grammar, backward = Grammar(), Grammar()
+        for number, (typecode, body) in enumerate(rules):
+            grammar.add(f"r{number}", typecode, body, self.KINDS)
+            backward.add(f"r{number}", typecode, body[::-1], self.KINDS)
+        return grammar, backward
+
+    def is_double(self, grammar: Grammar, symbols: Sequence[str]) -> bool:
+        """Whether a formula has two trees, of some typecode."""
+        for typecode in "pqr":
+            try:
+                grammar.tree(typecode, symbols, self.KINDS)
+            except NotRead as why:
+                if "two ways" in str(why):
+                    return True
+        return False
+
+    def test_by_chance(self) -> None:
+        """What is said to be unambiguous has no formula with two trees; and of what is said to have
+        one, that formula has."""
+        chance = random.Random(11)
+        counts: Counter[bool | None] = Counter()
+        for _ in range(150):
+            rules = [
+                (chance.choice("pqr"), "".join(chance.choices("abcPQR", k=chance.randint(1, 4))))
+                for _ in range(chance.randint(1, 6))
+            ]
+            grammar, backward = self.both(rules)
+            found = ambiguity(grammar, backward)
+            counts[found.is_unambiguous] += 1
+            if found.is_unambiguous is False:
+                words = found.why.removeprefix("the formula ").removesuffix(" has two trees")
+                symbols = re.sub("<(.)>", lambda match: match[1].upper(), words).split(" ")
+                self.assertTrue(self.is_double(grammar, symbols), (rules, words))
+            if found.is_unambiguous:
+                for length in range(1, 5):
+                    for symbols_of in itertools.product("abcPQR", repeat=length):
+                        self.assertFalse(self.is_double(grammar, symbols_of), (rules, symbols_of))
+        self.assertGreater(counts[True], 30, counts)
+
+    def test_known_ones(self) -> None:
+        """Grammars in which the difference shows late, or never."""
+        for rules, is_unambiguous in (
+            # `{ x | ph }` and `{ A }`, `( x e. A |-> B )` and `( x e. A -> ph )`, as in set.mm.
+            ((("p", "{RbQ}"), ("p", "{P}"), ("p", "R"), ("q", "PcP")), True),
+            ((("p", "(RcPaP)"), ("q", "(QbQ)"), ("q", "PcP"), ("p", "R")), True),
+            ((("p", "(PPP)"), ("q", "(QbQ)"), ("q", "PPP"), ("p", "a")), True),
+            ((("p", "aRa"), ("p", "aPa"), ("p", "R")), False),
+            ((("p", "(PPP)"), ("p", "(QP)"), ("q", "PP")), False),
+            ((("p", "aP"), ("p", "Pb")), None),
+            ((("p", "Pb"), ("p", "(PcP)")), True),
+            ((("p", "PcP"),), None),
+            ((("p", "a"), ("q", "b"), ("p", "Q"), ("q", "P")), None),
+        ):
+            self.assertEqual(ambiguity(*self.both(rules)).is_unambiguous, is_unambiguous, rules)
+
+    def test_large_ones(self) -> None:
+        """The steps grow with the grammar, and what takes too many is given up."""
+        long = [("p", "(" * 20_000 + "P)")]
+        self.assertTrue(ambiguity(*self.both(long)).is_unambiguous)
+        wide = [("p", f"({'abc'[number % 3]}{'ab' * number}P)") for number in range(200)]
+        self.assertTrue(ambiguity(*self.both(wide)).is_unambiguous)
+        grammar, backward = Grammar(), Grammar()
+        kinds = {
+            f"{name}{number}".upper(): f"{name}{number}" for number in range(60) for name in "st"
+        }
+        for number in range(59):
+            for one, other in itertools.product("st", repeat=2):
+                label, body = f"{one}{other}{number}", [f"{other}{number + 1}".upper(), one + other]
+                grammar.add(label, f"{one}{number}", body, kinds)
+                backward.add(label, f"{one}{number}", body[::-1], kinds)
+        with self.assertRaises(GivenUp):
+            Comparison(grammar, turned=False).answer()
+        self.assertTrue(ambiguity(grammar, backward).is_unambiguous)
+
+
+class Implied(unittest.TestCase):
+    """What follows from clauses, against trying everything."""
+
+    def test_by_chance(self) -> None:
+        chance = random.Random(5)
+        for _ in range(200):
+            rules = [
+                (chance.randint(0, 5), [chance.randint(0, 5) for _ in range(chance.randint(0, 2))])
+                for _ in range(chance.randint(0, 8))
+            ]
+            clauses: Clauses[int] = Clauses()
+            for head, conditions in rules:
+                clauses.add(head, conditions)
+            wanted: set[int] = set()
+            for _ in range(7):
+                wanted |= {head for head, conditions in rules if wanted.issuperset(conditions)}
+            self.assertEqual(clauses.implied(), wanted, rules)
 
 
 class Trees(unittest.TestCase):

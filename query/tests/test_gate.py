@@ -84,7 +84,7 @@ class Bases(Repositories):
         self.assertEqual(self.gate(status=0), [])
         self.assertEqual(self.gate("--merge-base", "--base", "main", "db.mm", status=0), [])
         self.write("tip.mm", changed(BASE, FREED))
-        lines = self.gate("tip.mm", "db.mm", status=1)
+        lines = self.gate("--all", "tip.mm", "db.mm", status=1)
         self.assertEqual(len(lines), 2)
         self.assertIn("db.mm:12: axac3: newly rests on ax-ac2: it cites ax-ac2 [newly]", lines)
 
@@ -115,6 +115,9 @@ class Bases(Repositories):
         self.commit(changed(BASE, FREED))
         self.commit(BASE)
         lines = self.gate("--base", "HEAD~1", "db.mm", status=1)
+        told = "newly rests on ax-ac2: it cites ax-ac2; with 1 more theorem by that [newly]"
+        self.assertEqual(lines, [f"db.mm:12: axac3: {told}"])
+        lines = self.gate("--all", "--base", "HEAD~1", "db.mm", status=1)
         self.assertEqual([line.split(": ")[1] for line in lines], ["axac3", "zorn"])
         self.assertEqual(self.gate("--base", "HEAD~2", "db.mm", status=0), [])
         self.assertEqual(self.gate("--base", "main", "db.mm", status=0), [])
@@ -358,16 +361,17 @@ class Rules(Repositories):
         self.breaks("new", BASE + more, part, allow='[allow.newly]\nax-ac2 = ["more"]\n')
         self.breaks("new", BASE + more, part, allow='[allow.new]\nax-ac2 = ["more"]\n')
         user = "user $p |- ( p -> ( p -> p ) ) $= wp free $.\n"
-        part = "user: newly rests on ax-ac2: free, on which it rests, cites axac3"
         both = changed(new, ("= wp axac3 $.\n", "= wp axac3 $.\n" + user))
         self.breaks(
             "newly",
             both,
-            "free: newly",
-            part,
+            "free: newly rests on ax-ac2: it cites axac3; with 1 more theorem by that",
             before=BASE + user,
             allow='[allow.newly]\nax-ac2 = ["free", "user"]\n',
         )
+        part = "user: newly rests on ax-ac2: free, on which it rests, cites axac3"
+        self.write("mmdepend.toml", WATCH + '[allow.newly]\nax-ac2 = ["free"]\n')
+        self.breaks("newly", both, part, before=BASE + user, allow="")
 
     def test_renames(self) -> None:
         self.assertEqual(self.gate_of(BASE.replace("zorn", "zorn1"), status=0), [])
@@ -545,8 +549,8 @@ class Rules(Repositories):
                 for name in ("db.mm", "new.mm")
             )
             case = Case(Comparison(*sides(old, new)), Config())
-            apart = judge(case)
-        self.assertEqual(judge(case), apart)
+            apart = list(judge(case))
+        self.assertEqual(list(judge(case)), apart)
         self.assertEqual({one.rule for one in apart}, {"mathboxes", "discouraged"})
 
     def test_a_database_that_is_refused(self) -> None:
@@ -599,7 +603,7 @@ class Outputs(Repositories):
             commands[0],
             "::error file=sub/a%2Cb%3A 100%25.mm,line=6,title=mmquery gate (axioms)"
             "::df-4: a changed axiom: the formula changed, from |- ( 2 + 2 ) = 4 to"
-            " |- ::error::%250A,:<b>",
+            r" |- :\x3aerror:\x3a%250A,:<b>",
         )
         self.assertEqual(done.lines()[2][:24], "mmquery gate: 2 findings")
 
@@ -617,7 +621,7 @@ class Outputs(Repositories):
         done = self.query("gate", "--base", "main", "--format", "markdown", "db.mm")
         rows = [line for line in done.lines() if line.startswith("| axioms")]
         self.assertEqual(len(rows), 2)
-        self.assertIn(r"\|\<script\>\|\`\*\_\[x\]\(y\)", rows[1])
+        self.assertIn(r"``a new axiom: \|- \|<script>\|`*_[x](y)``", rows[1])
 
     def test_a_summary_is_added(self) -> None:
         self.write("summary.md", "before\n")
@@ -625,7 +629,7 @@ class Outputs(Repositories):
         self.gate("--base", "main", "--summary", "summary.md", "db.mm", status=1)
         text = (self.folder / "summary.md").read_text()
         self.assertTrue(text.startswith("before\n### mmquery gate: 1 finding"))
-        self.assertIn("| axioms | db.mm\\:10 | ax-cheat |", text)
+        self.assertIn("| axioms | `db.mm:10` | `ax-cheat` |", text)
 
 
 class Page(Repositories):

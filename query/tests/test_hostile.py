@@ -2,6 +2,7 @@
 control that is found. The first class has the ways that were passed once, by their numbers; the
 others have more."""
 
+import json
 import os
 import re
 import subprocess
@@ -10,7 +11,9 @@ import unittest
 from collections.abc import Mapping
 from pathlib import Path
 
+from query.findings import in_markdown
 from query.tests.repositories import ADDED, BASE, WATCH, Repositories, changed
+from query.tests.shapes import proof
 from query.tests.world import DATABASES, TOP
 
 CHEAT = (
@@ -369,7 +372,7 @@ class TheTwelve(Hostile):
         done = self.query("gate", "--base", "main", "db.mm")
         self.assertEqual(done.status, 0)
         self.assertIn(
-            "note: mmdepend.toml isn't that of the base; what it asks counts once", done.out
+            "note: mmdepend.toml isn't that of the base; both judge, and it counts once", done.out
         )
         (self.folder / "mmdepend.toml").unlink()
         self.assertEqual(self.rules(), ["config"])
@@ -470,7 +473,8 @@ class TheTwelve(Hostile):
             self.write(name, BASE)
             self.git("add", name)
             self.git("commit", "--quiet", "--message", name)
-            self.is_refused(why=f"{name} stands beside it, which differs in case alone")
+            told = f"{name} stands beside it, which some systems take for the same name [plain]"
+            self.assertEqual(self.findings()[1].split(": ", 1)[1], told)
             self.git("reset", "--quiet", "--hard", "HEAD~1")
         self.assertEqual(self.findings(), [CHEAT_FOUND])
 
@@ -626,6 +630,17 @@ class OfGit(Hostile):
             self.write("mmdepend.toml", text)
             self.assertIn(why, self.findings()[-1])
 
+    def test_a_pipe_in_place_of_a_file(self) -> None:
+        self.branch()
+        for name in ("db.mm", "mmdepend.toml"):
+            text = (self.folder / name).read_text()
+            (self.folder / name).unlink()
+            os.mkfifo(self.folder / name)
+            self.is_refused(why=f"{name}: is no plain file")
+            (self.folder / name).unlink()
+            self.write(name, text)
+        self.assertEqual(self.findings(status=0), [])
+
     def test_a_branch_that_hides_the_database(self) -> None:
         self.branch()
         self.git("rm", "--quiet", "db.mm")
@@ -751,6 +766,202 @@ class OfTexts(Hostile):
         )
 
 
+class Files(Hostile):
+    """Files `mmdepend.toml` that are brought, and what they would do to later pull requests."""
+
+    def test_one_that_asks_what_is_not_so(self) -> None:
+        self.asks(WATCH)
+        for more, found in (
+            ('[claims]\nzorn = ["ax-ac2"]\n', "zorn: rests on ax-ac2: it cites axac3, which does"),
+            ('[claims]\nnone = ["ax-ac2"]\n', "none: there is no theorem 'none'"),
+            ("", ""),
+        ):
+            self.write("mmdepend.toml", WATCH + more)
+            self.commit(BASE + ADDED)
+            lines = self.findings(status=1 if found else 0)
+            told = f"mmdepend.toml:3: {found}; by the file that is brought [claims]"
+            self.assertEqual(lines, [told] if found else [])
+        self.write("mmdepend.toml", 'watch = ["ax-ac2", "ax-none"]\n')
+        self.commit(BASE)
+        told = "ax-none: a watched axiom that is missing; by the file that is brought [watched]"
+        self.assertEqual(self.findings(), [f"mmdepend.toml:1: {told}"])
+
+    def test_one_that_switches_a_rule_on(self) -> None:
+        todo = BASE + "todo $p |- p $= ? $.\n"
+        self.asks("[rules]\nopen = false\n", before=todo)
+        self.write("mmdepend.toml", "")
+        self.commit(todo)
+        told = "todo: a theorem whose proof is left open; by the file that is brought [open]"
+        self.assertEqual(self.findings(), [f"db.mm:16: {told}"])
+        self.write("mmdepend.toml", '[allow]\nopen = ["todo"]\n')
+        self.commit(todo)
+        told = "mmdepend.toml:2: todo: `allow.open` has 'todo' now [config]"
+        self.assertEqual(self.findings(), [told])
+
+    def test_a_mend_of_what_is_broken(self) -> None:
+        """Who takes back what the base itself breaks passes; the rest of the file still counts."""
+        broken = 'watch = ["ax-ac2", "ax-none"]\n[claims]\n'
+        broken += 'zorn = ["ax-ac2", "df-4"]\nnone = ["ax-1"]\nfree = ["ax-ac2"]\n'
+        self.asks(broken)
+        self.commit(BASE + ADDED)
+        self.assertEqual(self.rules(), ["watched", "claims", "claims"])
+        mended = 'watch = ["ax-ac2"]\n[claims]\nzorn = ["df-4"]\nfree = ["ax-ac2"]\n'
+        self.write("mmdepend.toml", mended)
+        self.commit(BASE + ADDED)
+        self.assertEqual(self.findings(status=0), [])
+        self.write("mmdepend.toml", mended.replace('free = ["ax-ac2"]\n', ""))
+        self.commit(BASE + ADDED)
+        told = "mmdepend.toml: free: the claim that free avoids ax-ac2 is dropped [config]"
+        self.assertEqual(self.findings(), [told])
+        self.write("mmdepend.toml", mended)
+        self.commit(changed(BASE, CHEAT))
+        self.assertEqual(self.findings(), [CHEAT_FOUND])
+
+    def test_what_breaks_nothing_is_not_mended(self) -> None:
+        """While its rule is off, what isn't so breaks nothing, and may be meant for later."""
+        broken = 'watch = ["ax-none"]\n[claims]\nzorn = ["ax-ac2"]\n'
+        self.asks("[rules]\nwatched = false\nclaims = false\n")
+        self.git("checkout", "--quiet", "main")
+        self.ask(broken + "[rules]\nwatched = false\nclaims = false\n")
+        self.git("checkout", "--quiet", "-B", "work", "main")
+        self.write("mmdepend.toml", "[rules]\nwatched = false\nclaims = false\n")
+        self.commit(BASE)
+        self.assertEqual(self.rules(), ["config", "config"])
+
+    def test_what_a_pull_request_breaks_it_does_not_mend(self) -> None:
+        """To drop a claim that only NEW breaks is no mend."""
+        self.asks(WATCH + '[claims]\nfree = ["ax-ac2"]\n')
+        self.write("mmdepend.toml", WATCH)
+        self.commit(NEEDS)
+        self.assertEqual(self.rules(), ["newly", "claims", "config"])
+
+    def test_keys_that_take_long_to_read(self) -> None:
+        self.asks(WATCH)
+        for text, why in (
+            (".".join("a" * 30_000) + " = 1\n", "a key of more than 8 parts"),
+            (f"[{'.'.join('a' * 30_000)}]\n", "a key of more than 8 parts"),
+            ("x = " + "[" * 30_000, "nested too deeply"),
+            ("x = " + "{a=" * 30_000, "nested too deeply"),
+            (f"base = '{'a' * 30_000}'\n", "a word of more than 10000 characters"),
+            ('"\\' * 30_000, "a word of more than 10000 characters"),
+        ):
+            self.write("mmdepend.toml", text)
+            self.commit(BASE)
+            lines = self.findings()
+            self.assertEqual(len(lines), 1)
+            self.assertTrue(lines[0].startswith("mmdepend.toml:1: ") and why in lines[0], lines)
+        self.write("mmdepend.toml", WATCH + "[claims]\n'19.2' = ['a.b.c.d.e.f.g.h.i.j']\n")
+        self.commit(BASE)
+        self.assertIn("there is no theorem '19.2'", self.findings()[0])
+
+
+class Many(Hostile):
+    """Findings without end."""
+
+    def test_one_proof(self) -> None:
+        cited = ["free", *(f"u{number}" for number in range(1499))]
+        users = "".join(
+            f"u{number} $p |- ( p -> ( p -> p ) ) $= wp {label} $.\n"
+            for number, label in enumerate(cited)
+        )
+        self.asks(WATCH, before=BASE + users)
+        self.commit(NEEDS + users)
+        told = "newly rests on ax-ac2: it cites axac3; with 1500 more theorems by that [newly]"
+        self.assertEqual(self.findings(), [f"db.mm:15: free: {told}"])
+        words = ("--base", "main", "db.mm", "--all")
+        lines = self.findings(*words)
+        self.assertEqual(len(lines), 1501)
+        last = "u1499: newly rests on ax-ac2: free, on which it rests, cites axac3 [newly]"
+        self.assertEqual(lines[-1], f"db.mm:1515: {last}")
+        done = self.query("gate", *words, "--format", "json")
+        found = json.loads(done.out)
+        self.assertEqual((len(found["findings"]), found["more"]), (1501, 0))
+
+    def test_many_axioms(self) -> None:
+        """A finding for each theorem, and no more than 1000."""
+        axioms = "".join(f"ax-x{number} $a |- p $.\n" for number in range(40))
+        cited = proof([f"ax-x{number}" for number in range(40)])
+        proofs = "".join(f"t{number} $p |- p $= {cited}$.\n" for number in range(1200))
+        two = "${ two.1 $e |- p $. two.2 $e |- p $. two $a |- p $. $}\n"
+        self.asks('watch = ["ax-*"]\n[allow]\naxioms = ["*"]\n')
+        self.commit(BASE + two + axioms + proofs)
+        done = self.query("gate", "--base", "main", "db.mm")
+        lines = done.lines()
+        reason = "a new theorem that rests on ax-x0 and 39 more watched axioms: it cites ax-x0"
+        self.assertEqual(lines[0], f"db.mm:57: t0: {reason} [new]")
+        self.assertEqual(lines[1000], "and 200 more findings, which --all tells")
+        self.assertRegex(lines[1001], r"\A1200 findings: ")
+        self.assertEqual(len(lines), 1002)
+        for form in ("json", "github", "markdown", "log"):
+            done = self.query("gate", "--base", "main", "db.mm", "--format", form)
+            self.assertLess(len(done.out), 500_000)
+            self.assertIn("200", done.out)
+        done = self.query("gate", "--base", "main", "db.mm", "--all")
+        self.assertEqual(done.lines()[-1][:14], "48000 findings")
+        self.assertEqual(len(done.lines()), 48001)
+
+    def test_a_label_that_is_as_long_as_the_text(self) -> None:
+        self.asks('watch = ["ax-*"]\n[allow]\naxioms = ["*"]\n')
+        label = "ax-" + "x" * 100_000
+        users = "".join(f"t{number} $p |- p $= wp {label} $.\n" for number in range(5))
+        self.commit(BASE + f"{label} $a |- p $.\n" + users)
+        for form in ("text", "json", "github", "markdown", "log"):
+            done = self.query("gate", "--base", "main", "db.mm", "--format", form)
+            self.assertEqual(done.status, 1)
+            self.assertLess(len(done.out), 50_000, form)
+
+
+class Logs(Hostile):
+    """Words that servers obey in what is logged."""
+
+    WORDS = (
+        "##vso[task.setvariable]x",
+        "##[error]x",
+        "##teamcity[x]",
+        "::error::x",
+        ":::x",
+        "#[x]",
+    )
+
+    def test_symbols(self) -> None:
+        self.branch()
+        words = " ".join(self.WORDS)
+        text = changed(BASE, ("$c wff", f"$c {words} wff"))
+        self.commit(text + f"ax-cheat $a |- {words} $.\n")
+        for form in ("log", "github"):
+            done = self.query("gate", "--base", "main", "db.mm", "--format", form)
+            self.assertEqual(done.status, 1)
+            for line in done.lines():
+                self.assertNotRegex(line.removeprefix("::error"), r"##|#\[")
+                if form == "log":
+                    self.assertNotIn("::", line)
+            self.assertIn(r"#\x23vso[task.setvariable]x", done.out)
+        plain = self.query("gate", "--base", "main", "db.mm")
+        self.assertIn(words, plain.out)
+
+    def test_code_in_tables(self) -> None:
+        """No cell is ended by what stands in it, and so no code."""
+        for text, wanted in (
+            ("a|b", r"`a\|b`"),
+            (r"a\|b", r"`a\\x7cb`"),
+            (r"a\\|b", r"`a\\\x7cb`"),
+            ("||", r"`\|\|`"),
+            ("`", "`` ` ``"),
+            ("a``b`", "``` a``b` ```"),
+            ("", ""),
+        ):
+            self.assertEqual(in_markdown(text), wanted)
+            self.assertNotRegex(in_markdown(text), r"(?<!\\)(?:\\\\)*\|")
+
+    def test_standard_error(self) -> None:
+        self.branch()
+        self.commit(BASE, "##[error]x")
+        done = self.query("gate", "--base", "main", "HEAD:##[error]x")
+        self.assertEqual(done.status, 2)
+        self.assertNotRegex(done.err, r"##|#\[")
+        self.assertIn(r"#\x23[error]x", done.err)
+
+
 class Honest(Hostile):
     """What has to pass."""
 
@@ -766,6 +977,30 @@ class Honest(Hostile):
         ):
             self.commit(text)
             self.assertEqual(self.findings(status=0), [])
+
+    def test_merges_of_three(self) -> None:
+        """What a commit with three parents has is judged, whatever its parents have."""
+        for name in ("one", "two"):
+            self.git("checkout", "--quiet", "-B", name, "main")
+            self.commit(BASE, name)
+        for text, found in ((BASE + ADDED, []), (changed(BASE, CHEAT), [CHEAT_FOUND])):
+            self.git("checkout", "--quiet", "-B", "work", "main")
+            self.git("merge", "--quiet", "--no-commit", "--no-ff", "one", "two")
+            self.commit(text)
+            self.assertEqual(len(self.git("log", "-1", "--format=%P").split()), 3)
+            self.assertEqual(self.findings(status=1 if found else 0), found)
+
+    def test_labels_in_a_circle(self) -> None:
+        three = BASE + "ax-a $a |- 2 $.\nax-b $a |- ( 2 + 2 ) $.\nax-c $a |- 4 $.\n"
+        circle = three.replace("ax-a ", "x ").replace("ax-c ", "ax-a ")
+        circle = circle.replace("ax-b ", "ax-c ").replace("x ", "ax-b ")
+        self.asks('watch = ["ax-a", "ax-b", "ax-c"]\n', before=three)
+        self.commit(circle)
+        lines = self.findings()
+        self.assertEqual(len([line for line in lines if line.endswith("[axioms]")]), 3)
+        self.assertEqual(len([line for line in lines if line.endswith("[watched]")]), 3)
+        self.commit(three + ADDED)
+        self.assertEqual(self.findings(status=0), [])
 
     def test_a_base_that_goes_on(self) -> None:
         self.branch()

@@ -1,7 +1,11 @@
 """The module for Python: with how much memory it calls the library, of which this has a stand-in.
 `tests/library` tries the library itself."""
 
+import ctypes
 import importlib.util
+import mmap
+import os
+import subprocess
 import sys
 import unittest
 from collections.abc import Callable
@@ -85,6 +89,102 @@ class Room(unittest.TestCase):
                 self.reported(1, 1 << 30)
             self.assertIn("the system gives no", str(caught.exception))
             self.assertNotIn("too small", str(caught.exception))
+
+
+class Longer(bytes):
+    """Bytes that say that they are longer, and something else than they are."""
+
+    def __len__(self) -> int:
+        return 1 << 20
+
+    def __bytes__(self) -> bytes:
+        return b"another text"
+
+
+class Texts(unittest.TestCase):
+    """What is handed to the library of a text."""
+
+    def setUp(self) -> None:
+        self.module = module()
+        self.given: list[bytes] = []
+
+    def report(self, text: object, **more: object) -> None:
+        """Has a text reported by a stand-in, which notes what it was given."""
+
+        def once(texts: list[bytes], *_: object) -> tuple[int, int]:
+            self.given += texts
+            return int(self.module.ACCEPTED), 0
+
+        with mock.patch.object(self.module, "once", once):
+            self.module.report(text, **more)
+
+    def test_other_classes_are_copied(self) -> None:
+        shared = mmap.mmap(-1, mmap.PAGESIZE)
+        shared[:4] = b"text"
+        whole = shared[:]
+        for text in (Longer(b"text"), bytearray(b"text"), memoryview(b"text"), b"text"):
+            self.report(text)
+            self.assertEqual((type(self.given[-1]), self.given[-1]), (bytes, b"text"))
+        self.report(shared)
+        self.assertEqual(self.given[-1], whole)
+        shared.close()
+
+    def test_a_text_that_is_too_long(self) -> None:
+        """It is refused as the program refuses it, and nothing is lent for it."""
+        with mmap.mmap(-1, self.module.MOST_BYTES + 1) as long:
+            for text in (long, memoryview(long)):
+                with self.assertRaises(self.module.Refused) as caught:
+                    self.report(text)
+                found = caught.exception
+                self.assertEqual((found.line, found.column, found.code), (1, 1, "E00"))
+                if isinstance(text, memoryview):
+                    text.release()
+        self.assertEqual(self.given, [])
+
+    def test_an_interrupt(self) -> None:
+        """It is what is raised, also where it comes while the address is looked up."""
+        held: list[object] = []
+
+        def once(texts: object, request: object, room: mock.Mock, out: object) -> tuple[int, int]:
+            held.append(ctypes.c_char.from_buffer(room.pages))
+            raise KeyboardInterrupt
+
+        with mock.patch.object(self.module, "once", once):
+            self.assertRaises(KeyboardInterrupt, self.module.report, b"text")
+
+    def test_the_real_library(self) -> None:
+        if not os.environ.get("MMDEPEND_LIBRARY"):
+            self.skipTest("MMDEPEND_LIBRARY names no library")
+        text = b"$c wff $."
+        plain = self.module.report(text, "counts")
+        self.assertEqual(self.module.report(Longer(text), "counts"), plain)
+        self.assertRaises(self.module.Refused, self.module.report, Longer(b"$c wff"), "counts")
+        self.assertEqual(self.module.against(Longer(text), text), self.module.against(text, text))
+        with self.assertRaises(self.module.Refused) as caught:
+            self.module.against(text, Longer(b"$c wff"))
+        self.assertEqual(caught.exception.side, "new")
+
+
+@unittest.skipUnless((TOP / "out/web/index.js").exists(), "web/build wasn't run")
+class Node(unittest.TestCase):
+    """The module for Node, with the core beside it."""
+
+    def test_a_buffer_that_is_filled_anew(self) -> None:
+        script = (
+            "import { report } from './index.js';"
+            "const bad = Buffer.from('$c wff  '), good = Buffer.from('$c wff $.');"
+            "const text = Buffer.from(bad); const first = report(text); good.copy(text);"
+            "console.log(await first.then(() => 'accepted', (error) => error.code));"
+            "const whole = Buffer.from(good); const second = report(whole); whole.fill(0);"
+            "console.log(await second.then(() => 'accepted', (error) => error.code));"
+        )
+        done = subprocess.run(
+            ["node", "--input-type=module", "-e", script],
+            cwd=TOP / "out/web",
+            capture_output=True,
+            check=False,
+        )
+        self.assertEqual(done.stdout.split(), [b"E08", b"accepted"], done.stderr)
 
 
 if __name__ == "__main__":

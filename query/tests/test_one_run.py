@@ -119,7 +119,8 @@ class OneRun(World):
         database = Database.opened(str(self.folder / "small.mm"), Options(), False)
         with mock.patch.dict("os.environ", {"MMDEPEND": built_program()}):
             with mock.patch.object(programs, "MOST_OUTPUT_BYTES", len(self.data) - 1):
-                self.assertRaisesRegex(NoAnswer, "takes more than 2 GB", database.graph)
+                why = "needs more than 0 MB for what the program says of it"
+                self.assertRaisesRegex(NoAnswer, why, database.graph)
             with mock.patch.object(programs, "MOST_OUTPUT_BYTES", len(self.data)):
                 self.assertEqual(len(database.graph().labels), 7)
 

@@ -14,6 +14,7 @@ from query.commands import command, names
 from query.tests.world import TOP, built_program, program
 
 SOURCE = "crates/mm_line/src/options.rt"
+SECTIONS = "crates/mm_line/src/sections.rt"
 
 
 @dataclass(frozen=True)
@@ -55,6 +56,12 @@ def strings(name: str, text: str) -> list[str]:
     return re.findall(r'"([^"]*)"', found)
 
 
+def section_names() -> list[str]:
+    """The names that `--report` takes, as the source lists them."""
+    listed = first(r"vec!\[in alloc;(.*?)\]", read(SECTIONS)) or ""
+    return re.findall(r'"([^"]*)"', listed)
+
+
 def of_source(text: str) -> Options:
     """Those of the program, as its source declares them."""
     found = dict(HELP)
@@ -69,9 +76,8 @@ def of_source(text: str) -> Options:
                 found[name] = Option(None, value, values, default)
         name = first(r'\.long\("(\w+)"\)', function) or ""
         if name:
-            default = default or first(r"\[default: (\w+)\]", function)
-            constant = {"report": "SECTION_NAMES", "form": "FORMS"}.get(name, "none")
-            found[name] = Option(None, value, tuple(sorted(strings(constant, text))), default)
+            taken = {"report": section_names(), "form": strings("FORMS", text)}.get(name, [])
+            found[name] = Option(None, value, tuple(sorted(taken)), default)
     return found
 
 
@@ -82,7 +88,7 @@ def of_help(text: str) -> Options:
         match = re.match(r"\s+(?:-(\w), )?--([a-z-]+)(?: <(\w+)>)?\s+(\S.*)", line)
         if match:
             short, name, value, told = match.groups()
-            listed = first(r"between them: (.*)", told)
+            listed = first(r"between them: ([^\[]*)", told)
             limits = re.search(r"(\d+) to (\d+)", told)
             values = (first(r"\[possible values: (.*?)\]", told) or "").split(", ")
             if listed:
@@ -133,7 +139,7 @@ def of_fish(text: str) -> Options:
     """Those that fish completes."""
     found = {}
     for short, name, taken, words in re.findall(
-        r"^complete -c mmdepend(?: -s (\w))? -l (\w+)( -x)?(?: -a (\S.*?))? -d", text, re.M
+        r"^complete -c mmdepend(?: -s (\w))? -l (\w+)( -x| -r -F)?(?: -a (\S.*?))? -d", text, re.M
     ):
         listed = re.sub(r"['()]|__fish_append ,", "", words).split() if name != "only" else []
         found[name] = Option(short or None, "VALUE" if taken else None, values_of(listed))
@@ -214,11 +220,12 @@ class OfTheProgram(unittest.TestCase):
 
     def test_the_source(self) -> None:
         """It is read as it is meant."""
-        self.assertEqual(len(self.known), 9)
+        self.assertEqual(len(self.known), 10)
         self.assertEqual(self.known["workers"], Option(None, "N", ("1..64",), "4"))
         self.assertEqual(self.known["form"], Option(None, "N", ("1", "2"), "1"))
         self.assertEqual(self.known["only"], Option(None, "T"))
         self.assertEqual(self.known["open"], Option())
+        self.assertEqual(self.known["against"], Option(None, "OLD"))
         self.assertEqual(self.known["report"].default, "all")
         self.assertEqual(len(self.known["report"].values), 6)
 
@@ -276,7 +283,7 @@ class OfTheProgram(unittest.TestCase):
 
     def test_the_sections(self) -> None:
         """Header, modules and types have the names of `--report`, and the same bits."""
-        listed = strings("SECTION_NAMES", read(SOURCE))
+        listed = section_names()
         tree = ast.parse(read("python/mmdepend.py"))
         bits = next(
             ast.literal_eval(each.value)
@@ -293,7 +300,7 @@ class OfTheProgram(unittest.TestCase):
 
     def test_the_fields_of_requests(self) -> None:
         """The types for JavaScript name each option on which the output depends."""
-        fields = set(self.known) - {"workers", "pieces", *HELP}
+        fields = set(self.known) - {"workers", "pieces", "against", *HELP}
         interface = first(r"interface Request \{(.*?)\n\}", read("packages/files/index.d.ts")) or ""
         self.assertEqual(set(re.findall(r"^    (\w+)\?:", interface, re.M)), fields)
         typedef = first(r"@typedef \{object\} Request(.*?)\*/", read("web/types.js")) or ""

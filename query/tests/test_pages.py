@@ -290,7 +290,9 @@ class Folders(unittest.TestCase):
             if file.parts[0] == "crates":
                 self.assertIn(file.parts[1], self.crates)
                 if len(file.parts) > 3:
-                    self.assertIn(file.parts[2], ("must-fail", "proofs", "specs", "src"))
+                    self.assertIn(
+                        file.parts[2], ("must-fail", "proofs", "specs", "src", "wrong-bodies")
+                    )
 
 
 class Language(World):
@@ -317,7 +319,7 @@ class Language(World):
             if "`t` cites nothing" in row[2]:
                 self.assertEqual(self.query("cites", "point.mm", "t").out, "")
             tried += 1
-        self.assertEqual(tried, 10)
+        self.assertEqual(tried, 11)
 
 
 class ReportPage(World):

@@ -69,6 +69,7 @@ impl<A: Allocator> Display for Table<A> {
 mod tests;
 """
 
+BY_GUARD = ["crates/below/src/lib.rt by_guard", "crates/below/src/lib.rt by_guarded"]
 NOT_REACHED = ["by_contract", "by_test", "by_variable", "not_called", "called_by_none"]
 
 
@@ -83,6 +84,7 @@ class MadeUp(unittest.TestCase):
         self.write("crates/below/src/lib.rt", BELOW)
         self.write("crates/below/src/tests.rt", "pub fn help() { by_test() }\n")
         self.write("crates/trials/src/surface.rt", "#[test]\nfn calls() { by_guard() }\n")
+        self.surface_only = [f"{place} a reason" for place in BY_GUARD]
         titles = [*NOT_REACHED, "Table::not_called"]
         self.reasons = [f"crates/below/src/lib.rt {title} a reason" for title in titles]
 
@@ -95,6 +97,7 @@ class MadeUp(unittest.TestCase):
     def complaints(self, reasons: list[str]) -> list[str]:
         """What the script says of the repository with these reasons, without its last line."""
         self.write("tests/unreached.txt", "\n".join(["# a heading", *reasons, ""]))
+        self.write("tests/surface_only.txt", "\n".join([*self.surface_only, ""]))
         done = subprocess.run([SCRIPT, self.top], capture_output=True, encoding="utf-8")
         said = done.stdout.splitlines()[:-1]
         self.assertEqual((done.returncode, done.stderr), (1 if said else 0, ""))
@@ -116,6 +119,24 @@ class MadeUp(unittest.TestCase):
             said = self.complaints([line for line in self.reasons if line != left_out])
             self.assertEqual(len(said), 1, said)
             self.assertIn(" ".join(left_out.split()[:2]) + ": nothing reaches it", said[0])
+
+    def test_what_the_guard_alone_reaches(self) -> None:
+        needed = self.surface_only
+        self.surface_only = []
+        said = self.complaints(self.reasons)
+        self.assertEqual([line.split(":")[0] for line in said], BY_GUARD)
+        self.assertTrue(all("tests/surface_only.txt lacks it" in line for line in said), said)
+        self.surface_only = [*needed, "crates/below/src/lib.rt by_main a reason"]
+        said = self.complaints(self.reasons)
+        self.assertEqual(len(said), 1, said)
+        self.assertIn("by_main: tests/surface_only.txt has a reason", said[0])
+
+    def test_a_function_of_the_same_file_is_meant(self) -> None:
+        hidden = "pub fn by_main() {}\npub fn main_calls() { by_main() }\n"
+        self.write("crates/hides/src/lib.rt", hidden)
+        self.write("crates/below/src/lib.rt", BELOW.replace("fn by_main()", "fn by_other_main()"))
+        said = self.complaints([])
+        self.assertTrue(any("crates/hides/src/lib.rt main_calls" in line for line in said), said)
 
     def test_a_reason_that_is_not_needed(self) -> None:
         for line in (

@@ -70,12 +70,35 @@ class Reviewed(World):
         )
         self.write("new.mm", SMALL.replace("a2 $p", "a3 $p") + news)
         lines = self.answers("review", "old.mm", "new.mm", "--format", "markdown")
-        self.assertEqual(lines[0], f"**Theorems**: {SHOWN_ROWS + 5} new, 1 renamed.")
-        self.assertEqual(lines[4], "| `a3` | renamed from `a2` |  |  |  | +0 |")
+        self.assertEqual(lines[0], "**Axioms**: no change.")
+        self.assertEqual(lines[2], f"**Theorems**: {SHOWN_ROWS + 5} new, 1 renamed.")
+        self.assertEqual(lines[6], "| `a3` | renamed from `a2` |  |  |  | +0 |")
         self.assertEqual(sum(line.startswith("| `") for line in lines), SHOWN_ROWS)
         self.assertIn("6 more aren't shown", lines[-1])
         same = self.answers("review", "old.mm", "old.mm", "--format", "markdown")
-        self.assertEqual(same, ["**Theorems**: no change."])
+        self.assertEqual(same, ["**Axioms**: no change.", "", "**Theorems**: no change."])
+
+    def test_axioms_come_first(self) -> None:
+        """Whatever their typecode, and whatever the options choose."""
+        ax = "ax-1 $a |- ( p -> ( q -> p ) ) $."
+        for text, said in (
+            (SMALL + "cheat $a |- p $.\n", "1 new (`cheat`)"),
+            (SMALL + "wx $a wff -> $.\n", "1 new (`wx`)"),
+            (SMALL.replace("ax-1", "ax-x"), "1 renamed (`ax-x` from `ax-1`)"),
+            (
+                SMALL.replace("ax1 $p", "ax1o $p").replace(ax, ax[:-2] + "$. ax1 $a |- p $."),
+                "1 new",
+            ),
+            (SMALL + "www.evil.example $a |- p $.\n", "1 new (`www.evil.example`)"),
+            (SMALL + "GH-1 $a |- p $.\n" + "x" * 300 + " $a |- q $.\n", f"`{'x' * 200}..`)"),
+            (SMALL.split("ax-1 $a")[0], "2 gone (`ax-1`, `ax-mp`)"),
+        ):
+            self.write("new.mm", text)
+            words = ("review", "old.mm", "new.mm", "--all")
+            lines = self.answers(*words, "--format", "markdown")
+            self.assertTrue(lines[0].startswith("**Axioms**: "), lines)
+            self.assertIn(said, lines[0])
+            self.assertRegex(self.query(*words).err, "axioms: [123] (new|renamed|gone)")
 
     def test_by_chance(self) -> None:
         """Of two databases made by chance: what is new and gone, and what each new one rests on."""

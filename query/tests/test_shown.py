@@ -181,25 +181,28 @@ class Summary(unittest.TestCase):
 
     def test_below_one_megabyte(self) -> None:
         for findings, size in ((1, 10), (900, 400), (2000, 100), (3000, 5000), (1, 3_000_000)):
-            said = as_markdown(self.verdict(findings, size))
+            said = "".join(as_markdown(self.verdict(findings, size), True))
             self.assertLess(len(said.encode()), MOST_SUMMARY_BYTES)
             self.assertTrue(said.startswith("### mmquery gate: "))
             if findings > 1000:
                 self.assertRegex(said, r"\nand [0-9]+ more findings")
-        self.assertNotIn("*" * (SHOWN_TEXT + 1), said.replace("\\", ""))
+        self.assertNotIn("*" * (SHOWN_TEXT + 1), said)
 
     def test_with_what_the_file_has(self) -> None:
         path = Path(os.environ.get("TMPDIR", "/tmp")) / f"summary-{os.getpid()}"
         self.addCleanup(path.unlink)
         for _ in range(4):
             with path.open("a") as file:
-                file.write(as_summary(self.verdict(900, 200), str(path)))
+                verdict = self.verdict(900, 200)
+                self.assertEqual(len(list(verdict.told(True))), 900)
+                file.write(as_summary(verdict, str(path)))
         self.assertLess(path.stat().st_size, MOST_SUMMARY_BYTES)
         self.assertEqual(path.read_text().count("### mmquery gate"), 4)
 
     def test_annotations(self) -> None:
         found = [Finding("axioms", f"a{EVIL}.mm", 1, "", "", EVIL + "\n::error::x")]
-        said = as_annotations(Verdict("set.mm", "base", ("axioms",), found, [EVIL]))
+        verdict = Verdict("set.mm", "base", ("axioms",), found, [EVIL])
+        said = "".join(as_annotations(verdict, True))
         self.assertEqual(shown(said, "\n"), said)
         self.assertEqual(len(said.splitlines()), 3)
 

@@ -257,6 +257,7 @@ class Interrupts(World):
                 stderr=subprocess.PIPE,
             )
             wait_for(lambda: pids.exists() and pids.read_text().count("\n") == 1)
+            wait_for(partial(is_waiting, process.pid))
             process.send_signal(number)
             out, errors = process.communicate(timeout=20)
             self.assertEqual((process.returncode, out), (128 + number, b""))
@@ -280,6 +281,12 @@ class Interrupts(World):
                 process.send_signal(signal.SIGINT)
         out, errors = process.communicate()
         self.assertEqual((out, errors, process.returncode), (b"ax-1\nax-mp\n", b"", 0))
+
+
+def is_waiting(pid: int) -> bool:
+    """Whether a process waits for something. Python looks whether a signal has come before it
+    begins to wait. One that comes right after that look is answered when the wait ends."""
+    return Path(f"/proc/{pid}/stat").read_text().rpartition(")")[2].split()[0] == "S"
 
 
 def has_ended(pid: str) -> bool:

@@ -13,6 +13,7 @@ import sys
 import tempfile
 import unittest
 from collections.abc import Iterator
+from functools import partial
 from pathlib import Path
 from unittest import mock
 
@@ -23,7 +24,7 @@ from query.program import located
 from query.tests.commands import NEWER, WHOLE, keep_in_git, words_of
 from query.tests.lacking import ALL, MODULES
 from query.tests.test_spare_sharing import many
-from query.tests.test_statuses import has_ended, wait_for
+from query.tests.test_statuses import has_ended, is_waiting, wait_for
 from query.tests.world import PROGRAM_FOR_NODE, TOP, Done, World
 
 LACKING = Path(__file__).resolve().parent / "lacking.py"
@@ -31,6 +32,7 @@ SOME = (
     *("os.fork", "os.memfd_create", "os.geteuid", "os.O_CLOEXEC", "os.O_NOFOLLOW"),
     *("os.O_NONBLOCK", "os.sched_getaffinity", "os.link", "os.supports_fd", "/dev/fd", "fcntl"),
     *("signal.setitimer", "signal.SIGHUP", "signal.pthread_sigmask", "fcntl.F_SETPIPE_SZ"),
+    "resource",
 )
 """What mmquery uses where it is there, each of which is taken away by itself too."""
 
@@ -203,6 +205,7 @@ class Lacking(World):
                 stderr=subprocess.PIPE,
             )
             wait_for(lambda: (self.folder / "pids").exists())
+            wait_for(partial(is_waiting, process.pid))
             process.send_signal(signal.SIGINT)
             _, said = process.communicate(timeout=20)
             self.assertEqual((process.returncode, said), (130, b"mmquery: interrupted\n"))

@@ -1,12 +1,10 @@
 // Texts from outside without signs that no screen shows.
 
-/** Control bytes, signs without width, marks of direction, and halves of signs. */
-const UNSEEN = new RegExp(
-    "[\\x00-\\x1f\\x7f-\\x9f\\xad\\u034f\\u061c\\u115f\\u1160\\u17b4\\u17b5\\u180b-\\u180f\\u200b-\\u200f" +
-        "\\u2028-\\u202e\\u2060-\\u206f\\u2800\\u3164\\ud800-\\udfff\\ufe00-\\ufe0f\\ufeff\\uffa0\\ufff0-\\uffff" +
-        "\\u{e0000}-\\u{e0fff}]",
-    "gu",
-);
+/**
+ * Control bytes, what Unicode lets a screen pass over, signs of format, ends of lines, a pattern of no dots, halves of
+ * signs, and what is no sign.
+ */
+const UNSEEN = /[\p{Cc}\p{Default_Ignorable_Code_Point}\p{Cf}\p{Zl}\p{Zp}\u2800\p{Cs}\ufff0-\uffff]/gu;
 
 /**
  * The text with every sign that no screen shows, or that turns the direction of others, replaced by one for it.

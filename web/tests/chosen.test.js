@@ -56,3 +56,33 @@ test("what is no text is told so", async () => {
         assert.equal(Buffer.compare(Buffer.from(await taken(text)), Buffer.from(text.replace("\ufeff", ""))), 0);
     }
 });
+
+test("a file that is changed in place is read once", async () => {
+    const texts = [TEXT, TEXT.replace("x $a", "y $a"), TEXT.replace("x $a", "z $a")];
+    for (const pack of [(/** @type {string} */ text) => Buffer.from(text), (/** @type {string} */ text) => gzipSync(text)]) {
+        for (const isShared of [true, false]) {
+            let reads = 0;
+            const bytes = () => pack(texts[Math.min(reads++, 2)]);
+            const changing = /** @type {File} */ (
+                /** @type {unknown} */ ({
+                    name: "x.mm",
+                    size: bytes().length,
+                    arrayBuffer: async () => new Uint8Array(bytes()).buffer,
+                    slice: () => new Blob([bytes()]),
+                    stream: () => new Blob([bytes()]).stream(),
+                })
+            );
+            const { file } = await chosen(changing, isShared, () => {});
+            const read = () => new Response(file).text();
+            assert.equal(await read(), texts[1]);
+            assert.equal(await read(), texts[1]);
+            assert.equal(reads, 2);
+        }
+    }
+});
+
+test("a compressed file of few bytes and a long text", async () => {
+    const long = gzipSync(new Uint8Array(30_000_000).fill(32));
+    await assert.rejects(taken(long), (error) => error instanceof Unfit && /100 times as long/.test(error.message));
+    assert.equal((await taken(gzipSync(new Uint8Array(10_000_000).fill(32)))).length, 10_000_000);
+});

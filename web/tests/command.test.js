@@ -33,6 +33,18 @@ test("options and the file", () => {
     assert.deepEqual(asked("--only - --report all"), { ...PLAIN, only: "-", file: null });
 });
 
+test("the older database", () => {
+    const against = (/** @type {string[]} */ ...words) => {
+        const read = readWords(words, "7");
+        return read.ends === "run" ? [read.against, read.file] : read.ends;
+    };
+    assert.deepEqual(against("a.mm"), [null, "a.mm"]);
+    assert.deepEqual(against("--against", "old.mm", "new.mm"), ["old.mm", "new.mm"]);
+    assert.deepEqual(against("new.mm", "--against=-"), ["-", "new.mm"]);
+    assert.equal(against("--against"), "misread");
+    assert.equal(against("--against=a", "--against=b"), "misread");
+});
+
 test("lines that are wrong, each told in one line", () => {
     const wrong = [
         ..."--bogus|-x|a b|--only|--only --open|--only -- a|--open=|--open=1|--help=1|--form=3|--form=".split("|"),
@@ -47,9 +59,9 @@ test("lines that are wrong, each told in one line", () => {
 });
 
 test("what comes first counts", () => {
-    for (const line of ["--help --bogus", "-hx", "-V --open --open", "--report=foo -h", "a -h b"]) {
+    for (const line of ["--help --bogus", "-hx", "-V --open --open", "a -h b"]) {
         assert.equal(asked(line), "help", line);
     }
-    for (const line of ["--bogus -h", "-xh", "--form=3 -h", "a b -h"]) assert.equal(asked(line), "misread", line);
+    for (const line of ["--bogus -h", "-xh", "--form=3 -h", "--report=foo -h", "a b -h"]) assert.equal(asked(line), "misread", line);
     assert.equal(textFor(["-V"]), "mmdepend 7\n");
 });

@@ -2,7 +2,7 @@
 
 import assert from "node:assert/strict";
 import { test } from "node:test";
-import { plainText, readComment } from "../view/markup.js";
+import { LONGEST_COMMENT, plainText, readComment } from "../view/markup.js";
 
 /**
  * The parts of a comment of one paragraph.
@@ -80,4 +80,13 @@ test("comments that are made to hurt are read in passing", { timeout: 20_000 }, 
         readComment(comment);
         said(comment);
     }
+});
+
+test("of a comment without end the beginning is read", () => {
+    const formula = "( p -> q ) ".repeat(20);
+    const long = `\` ${formula}\` and so on `.repeat(40_000);
+    const { paragraphs } = readComment(long);
+    assert.ok(JSON.stringify(paragraphs).length < 2 * LONGEST_COMMENT);
+    assert.ok(plainText(long, (math) => math).length < LONGEST_COMMENT + 10);
+    readComment(`\` ${"( p -> q ) ".repeat(1_000_000)}\``);
 });

@@ -102,6 +102,11 @@ test("texts that are made to hurt are read in passing", { timeout: 20_000 }, () 
 test("signs that no screen shows", () => {
     assert.equal(visible("a\x1b\x7f\u200b\u202eb"), "a\u241b\u2421\ufffd\ufffdb");
     assert.equal(visible("\u2200\u{1d465}"), "\u2200\u{1d465}");
+    const unseen = ["\xad", "\u034f", "\u061c", "\u115f", "\u17b4", "\u180e", "\u2028", "\u2066", "\u2800", "\u3164", "\ufe0f"];
+    for (const sign of [...unseen, "\ufeff", "\ufff9", "\u{13430}", "\u{1bca0}", "\u{1d173}", "\u{1d17a}", "\u{e0020}"]) {
+        assert.equal(visible(`a${sign}b`), "a\ufffdb", sign.codePointAt(0)?.toString(16));
+    }
+    for (const sign of ["\u{1d172}", "\u{1d165}", "\u0338", "\u05d0", "\u0628", "\u{10330}"]) assert.equal(visible(sign), sign);
 });
 
 test("the page of the bibliography is an address of a page, or none", () => {

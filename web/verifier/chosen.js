@@ -1,10 +1,9 @@
 // The files that are dropped or chosen.
 
 import { visible } from "../packer/visible.js";
+import { MOST_TIMES, mostUnpacked } from "../limits.js";
 
 /** @typedef {import("./types.js").Chosen} Chosen */
-/** @typedef {import("./types.js").Contents} Contents */
-
 /** The program refuses longer texts, so no more than one byte more is unpacked. */
 const MOST_DATABASE_BYTES = 2_147_483_647;
 const GZIP = [0x1f, 0x8b];
@@ -33,21 +32,9 @@ export class Unfit extends Error {}
 export class TooLong extends Error {}
 
 /**
- * What a file begins with.
- * @param {File} file
- * @param {string} name
- */
-async function beginning(file, name) {
-    try {
-        return new Uint8Array(await file.slice(0, 100).arrayBuffer());
-    } catch (error) {
-        throw new Unfit(`${name} can't be read. It may be a folder, or have been changed or removed.`);
-    }
-}
-
-/**
- * The database that a file is, unpacked where it is compressed by gzip. Unfit where it is none, TooLong where it has
- * too many bytes.
+ * The database that a file is, unpacked where it is compressed by gzip. The file is read once, and all that is done later
+ * is done with what was read: it may be changed in place meanwhile, and then what is shown would be another text than the
+ * one that was verified. Unfit where it is none, TooLong where it has too many bytes.
  * @param {File} file
  * @param {boolean} isShared whether workers can read what the browser holds
  * @param {(part: string) => void} tell is told what takes time
@@ -55,36 +42,26 @@ async function beginning(file, name) {
  */
 export async function chosen(file, isShared, tell) {
     const name = visible(file.name);
-    const bytes = await beginning(file, name);
+    if (file.size > MOST_DATABASE_BYTES) throw new TooLong();
+    const bytes = await bytesOf(file, name);
     const begins = (/** @type {number[]} */ signs) => signs.every((sign, at) => bytes[at] === sign);
     const other = OTHERS.find(({ signs }) => begins(signs));
     if (other) throw new Unfit(`${name} is compressed by ${other.name}, which no browser unpacks. Unpack it first.`);
-    const first = new TextDecoder("latin1").decode(bytes);
+    const first = new TextDecoder("latin1").decode(bytes.subarray(0, 100));
     if (REPORT.test(first)) throw new Unfit(`${name} is a report of the program, where the database is wanted.`);
     if (begins(GZIP)) {
         tell(`Unpacking ${name}`);
-        return { name, file: await forWorkers(await unpacked(file, name), name, isShared) };
+        const text = await unpacked(bytes, name);
+        return { name, file: isShared ? text : await bytesOf(text, name) };
     }
     if (NO_TEXT.test(first) || DOCUMENT.test(first)) {
         throw new Unfit(`${name} is no text: it begins with bytes that no database has. A database is a file .mm.`);
     }
-    if (file.size > MOST_DATABASE_BYTES) throw new TooLong();
-    return { name, file: await forWorkers(file, name, isShared) };
+    return { name, file: isShared ? new Blob([bytes]) : bytes };
 }
 
 /**
- * A text as workers can read it.
- * @param {Blob} file
- * @param {string} name
- * @param {boolean} isShared
- * @returns {Promise<Contents>}
- */
-async function forWorkers(file, name, isShared) {
-    return isShared ? file : bytesOf(file, name);
-}
-
-/**
- * The bytes of a file.
+ * The bytes of a file, or of what the browser holds.
  * @param {Blob} file
  * @param {string} name
  */
@@ -93,35 +70,51 @@ async function bytesOf(file, name) {
         return new Uint8Array(await file.arrayBuffer());
     } catch (error) {
         if (error instanceof RangeError) throw error;
-        throw new Unfit(`${name} can't be read. It may have been changed or removed.`);
+        throw new Unfit(`${name} can't be read. It may be a folder, or have been changed or removed.`);
     }
 }
 
 /**
  * The text that a file was compressed from by gzip, held by the browser and not by the page. The file may have several
  * members, one behind the other. Browsers unpack one, and don't say where it ends, so the places are tried where another
- * one could begin.
- * @param {File} file
+ * one could begin. Unfit where it is damaged, or the text is too long for the size of the file.
+ * @param {Uint8Array} bytes
  * @param {string} name
  */
-async function unpacked(file, name) {
-    const whole = await inflated(file, 0);
+async function unpacked(bytes, name) {
+    const most = Math.min(MOST_DATABASE_BYTES, mostUnpacked(bytes.length));
+    try {
+        return await joined(bytes, name, most);
+    } catch (error) {
+        if (!(error instanceof TooLong) || most === MOST_DATABASE_BYTES) throw error;
+        throw new Unfit(`The text of ${name} is more than ${MOST_TIMES} times as long as the file. Unpack it first.`);
+    }
+}
+
+/**
+ * The texts of all members, one behind the other. TooLong where there are more than so many bytes.
+ * @param {Uint8Array} bytes
+ * @param {string} name
+ * @param {number} most
+ */
+async function joined(bytes, name, most) {
+    const whole = await inflated(bytes, most);
     if (whole) return whole;
-    const places = memberPlaces(await bytesOf(file, name));
+    const places = memberPlaces(bytes);
     /** @type {Blob[]} */
     const parts = [];
     let size = 0;
     let start = 0;
     let tries = 0;
     for (const end of places) {
-        const part = await inflated(file.slice(start, end), size);
+        const part = await inflated(bytes.subarray(start, end), most - size);
         if (part) {
             parts.push(part);
             size += part.size;
             start = end;
         } else if (++tries > MOST_TRIES) break;
     }
-    if (start < file.size) throw new Unfit(`${name} can't be unpacked: the compressed file is damaged.`);
+    if (start < bytes.length) throw new Unfit(`${name} can't be unpacked: the compressed file is damaged.`);
     return new Blob(parts);
 }
 
@@ -138,26 +131,27 @@ function* memberPlaces(bytes) {
 }
 
 /**
- * What one member was compressed from, or null where it is no whole one. TooLong where the text has too many bytes.
- * @param {Blob} member
- * @param {number} before how many bytes of the text came before
+ * What one member was compressed from, or null where it is no whole one. TooLong where that has more than so many bytes.
+ * @param {Uint8Array} member
+ * @param {number} most
  */
-async function inflated(member, before) {
+async function inflated(member, most) {
     const Inflater = /** @type {{ new (format: string): ReadableWritablePair<Uint8Array, BufferSource> }} */ (
         /** @type {any} */ (globalThis).DecompressionStream
     );
-    let size = before;
+    let size = 0;
     const counter = new TransformStream({
         transform(part, controller) {
             size += part.length;
-            if (size > MOST_DATABASE_BYTES) controller.error(new TooLong());
+            if (size > most) controller.error(new TooLong());
             else controller.enqueue(part);
         },
     });
     try {
-        return await new Response(member.stream().pipeThrough(new Inflater("gzip")).pipeThrough(counter)).blob();
+        const given = new Blob([member]).stream();
+        return await new Response(given.pipeThrough(new Inflater("gzip")).pipeThrough(counter)).blob();
     } catch (error) {
-        if (size > MOST_DATABASE_BYTES) throw new TooLong();
+        if (size > most) throw new TooLong();
         return null;
     }
 }

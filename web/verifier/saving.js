@@ -81,7 +81,7 @@ export class Saving {
             element("a", { href: this.address, download: fileName(database.name, report, form) }).click();
             this.status.textContent = "";
         } catch (error) {
-            this.status.textContent = "The report can't be written: the file was changed, or there is too little memory.";
+            this.status.textContent = "The report can't be written: there is too little memory.";
         }
         this.button.disabled = false;
     }

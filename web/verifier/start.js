@@ -288,7 +288,6 @@ class Start {
     sayStop(reply, name) {
         if (reply.stage === "refused") this.sayFault(reply.fault, name);
         else if (reply.stage === "memory") this.sayNoMemory(name);
-        else if (reply.stage === "unread") this.sayUnfit(`${name} can't be read. It was changed or removed meanwhile.`);
         else if (reply.stage === "lacking") this.say("There is nothing to show", element("p", {}, reply.message));
         else this.sayFailure(reply.stage === "failed" ? reply.message : reply.stage);
     }
@@ -302,8 +301,8 @@ class Start {
     sayNoMemory(name) {
         this.say(
             "There is too little memory",
-            element("p", {}, `The browser gives the page too little memory to verify ${name}.`),
-            element("p", {}, "The core can have 4 GB at most, for the text and some five to ten times as much again."),
+            element("p", {}, `To verify ${name} takes more memory than the browser gives, or than a text of its length gets.`),
+            element("p", {}, "The core can have 256 MB and 64 bytes for each byte of the text, and 4 GB at most."),
             element("p", {}, "So nothing is known of it. Close other pages, or use the program."),
         );
     }

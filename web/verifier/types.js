@@ -5,7 +5,8 @@
 /** @typedef {import("../packer/typesetting.js").Entities} Entities */
 
 /**
- * The text of a database: as the browser holds it, or its bytes where workers can't read what the browser holds.
+ * The text of a database, which was read once: as the browser holds it, or its bytes where workers can't read what the
+ * browser holds.
  * @typedef {Blob | Uint8Array} Contents
  */
 
@@ -40,7 +41,6 @@
  *     | { stage: "packed", blocks: PackedBlocks }
  *     | { stage: "refused", fault: Fault }
  *     | { stage: "memory" }
- *     | { stage: "unread" }
  *     | { stage: "lacking", message: string }
  *     | { stage: "failed", message: string }} Reply
  */

@@ -2,6 +2,7 @@
 // blocks.
 
 import { compile, report } from "../library.js";
+import { mostMemory } from "../limits.js";
 import { sizeOf } from "./contents.js";
 import { faultOf, refusalOf } from "../packer/faults.js";
 import { NoAnswer, aboutPage, packComparison, sideOf } from "../packer/making.js";
@@ -32,21 +33,12 @@ const here = /** @type {any} */ (globalThis);
 /** There is no more memory. */
 class NoMemory extends Error {}
 
-/** A file can't be read: it was changed or removed since it was chosen. */
-class Unread extends Error {}
-
 /**
  * The bytes of a file.
  * @param {Contents} file
  */
 async function bytesOf(file) {
-    if (file instanceof Uint8Array) return file;
-    try {
-        return new Uint8Array(await file.arrayBuffer());
-    } catch (error) {
-        if (error instanceof RangeError) throw error;
-        throw new Unread();
-    }
+    return file instanceof Uint8Array ? file : new Uint8Array(await file.arrayBuffer());
 }
 
 /**
@@ -72,7 +64,8 @@ async function fill(file, bytes) {
  */
 async function acceptedReport(module, file, request) {
     const compiled = await compile(module);
-    const answer = await report(compiled, sizeOf(file), (bytes) => fill(file, bytes), request);
+    const most = mostMemory(sizeOf(file));
+    const answer = await report(compiled, sizeOf(file), (bytes) => fill(file, bytes), request, { most });
     if (answer.status === Status.noMemory) throw new NoMemory();
     if (answer.status === Status.accepted) return answer;
     if (answer.status !== Status.refused) throw new Error(`the module answers ${answer.status}`);
@@ -154,7 +147,6 @@ async function answer(asked) {
  */
 function tellError(error) {
     if (error instanceof NoAnswer) here.postMessage({ stage: "lacking", message: error.message });
-    else if (error instanceof Unread) here.postMessage({ stage: "unread" });
     else if (error instanceof NoMemory || error instanceof RangeError) here.postMessage({ stage: "memory" });
     else here.postMessage({ stage: "failed", message: String(error) });
 }

@@ -62,9 +62,14 @@ export const MOST_GIVEN = 3;
 const LONGEST_WHOLE_LABEL = 20;
 /** A formula with more signs is cut in lists of what was found. */
 const LONGEST_FOUND = 240;
+/** A formula with more signs is cut: steps can double it again and again. None of set.mm is as long. */
+export const LONGEST_FORMULA = 25_000;
 /** So many labels or lines are shown at first. */
 const FIRST_LABELS = 300;
 const FIRST_LINES = 100;
+/** So many entries of other lists are made at a time: a database may have any number of anything. */
+export const MOST_AT_ONCE = 2000;
+const MOST_LABELS_AT_ONCE = 50_000;
 
 /** The elements that are made of the tags of a definition; other names are classes. */
 const TAG_ELEMENTS = new Set(["sub", "sup", "b", "i", "u", "small"]);
@@ -299,7 +304,10 @@ export class Elements {
      * @returns {Child[]}
      */
     variables(variables) {
-        return variables.flatMap((variable, index) => [index > 0 ? ", " : "", this.variable(variable)]);
+        const shown = variables.slice(0, MOST_AT_ONCE);
+        const made = shown.flatMap((variable, index) => [index > 0 ? ", " : "", this.variable(variable)]);
+        const left = variables.length - shown.length;
+        return left > 0 ? [...made, `, and ${withCommas(left)} more`] : made;
     }
 
     /**
@@ -307,8 +315,10 @@ export class Elements {
      * @param {string[][]} groups
      */
     groups(groups) {
-        const items = groups.map((group) => element("li", { class: "group-of-variables" }, this.variables(group)));
-        return element("ul", { class: "variables" }, items);
+        const make = (/** @type {string[]} */ group) => {
+            return element("li", { class: "group-of-variables" }, this.variables(group));
+        };
+        return this.inSteps(element("ul", { class: "variables" }), groups, make);
     }
 
     /**
@@ -333,11 +343,11 @@ export class Elements {
         else {
             given.forEach((index, place) => {
                 if (place > 0) made.append(element("span", { class: "sign" }, " & "));
-                made.append(this.formula(this.model.hypothesisFormulas.at(index)));
+                made.append(this.shortFormula(this.model.hypothesisFormulas.at(index), false, LONGEST_FORMULA));
             });
         }
         if (given.length > 0) made.append(element("span", { class: "sign" }, " ⇒ "));
-        const formula = this.formula(this.model.formulas.at(number));
+        const formula = this.shortFormula(this.model.formulas.at(number), false, LONGEST_FORMULA);
         formula.classList.add("said");
         made.append(formula);
         if (this.model.hasConditions(number)) made.append(" ", this.conditionsMark(number));
@@ -378,7 +388,7 @@ export class Elements {
     labels(numbers, limit = FIRST_LABELS) {
         const list = element("ul", { class: "labels" });
         const make = (/** @type {number} */ number) => element("li", {}, this.link(number), " ");
-        return this.inParts(list, numbers, limit, numbers.length, make);
+        return this.inParts(list, numbers, limit, MOST_LABELS_AT_ONCE, make);
     }
 
     /**
@@ -392,11 +402,23 @@ export class Elements {
 
     /**
      * Fills a list: with the first entries, and on demand with more.
+     * @template Entry
      * @param {HTMLElement} list
-     * @param {ArrayLike<number>} numbers
+     * @param {ArrayLike<Entry>} entries
+     * @param {(entry: Entry) => Node} make
+     */
+    inSteps(list, entries, make) {
+        return this.inParts(list, entries, MOST_AT_ONCE, MOST_AT_ONCE, make);
+    }
+
+    /**
+     * The same, with how many come first, and how many then.
+     * @template Entry
+     * @param {HTMLElement} list
+     * @param {ArrayLike<Entry>} numbers
      * @param {number} limit
      * @param {number} step
-     * @param {(number: number) => Node} make
+     * @param {(entry: Entry) => Node} make
      * @returns {HTMLElement}
      */
     inParts(list, numbers, limit, step, make) {
@@ -459,13 +481,15 @@ export class Elements {
      * @param {number[]} numbers
      */
     byChapter(numbers) {
-        const made = element("div", { class: "chapters" });
+        const found = [];
         let from = 0;
         for (const stretch of this.model.listStretches) {
             let to = from;
             while (to < numbers.length && numbers[to] < stretch.end) to++;
-            if (to === from) continue;
-            const part = numbers.slice(from, to);
+            if (to > from) found.push({ stretch, part: numbers.slice(from, to) });
+            from = to;
+        }
+        return this.inSteps(element("div", { class: "chapters" }), found, ({ stretch, part }) => {
             const title = [
                 element("span", { class: "path" }, stretch.path.slice(0, -1).map((name) => `${name} › `)),
                 element("span", { class: "title" }, stretch.title),
@@ -473,10 +497,8 @@ export class Elements {
                 element("span", { class: "number" }, `${withCommas(part.length)} of ${withCommas(stretch.theorems)}`),
                 this.bar(part.length, stretch.theorems),
             ];
-            made.append(this.fold(title, () => this.labels(part, 1000)));
-            from = to;
-        }
-        return made;
+            return this.fold(title, () => this.labels(part, 1000));
+        });
     }
 
     /**
@@ -525,8 +547,11 @@ export class Elements {
      */
     mathematics(formula) {
         const made = this.emptyFormula();
-        const isTold = this.putRuns(made, this.symbols.runs(formula, false), false);
-        return isTold ? spelled(made, formula) : made;
+        const isLong = formula.length > LONGEST_FORMULA;
+        const shown = isLong ? formula.slice(0, formula.lastIndexOf(" ", LONGEST_FORMULA)) : formula;
+        const isTold = this.putRuns(made, this.symbols.runs(shown, false), false);
+        if (isLong) made.append(" …");
+        return isTold ? spelled(made, shown) : made;
     }
 
     /**

@@ -100,6 +100,17 @@ const DEEPEST = 40;
 /** What is decoded in a comment with markup. Those of `$t` are all of HTML's: see typesetting.js of the packer. */
 const ENTITIES = new Map(Object.entries({ lt: "<", gt: ">", amp: "&", quot: '"', nbsp: "\u00a0" }));
 
+/** So many signs of a comment are read; what is behind them is left out. The longest one of set.mm has less than a sixth. */
+export const LONGEST_COMMENT = 400_000;
+
+/**
+ * A comment up to that length.
+ * @param {string} line
+ */
+function shortened(line) {
+    return line.length <= LONGEST_COMMENT ? line : `${line.slice(0, LONGEST_COMMENT)} …`;
+}
+
 /**
  * Reads a comment.
  * @param {string} line as comments.js of the packer writes it
@@ -108,7 +119,7 @@ const ENTITIES = new Map(Object.entries({ lt: "<", gt: ">", amp: "&", quot: '"',
 export function readComment(line) {
     /** @type {Credit[]} */
     const credits = [];
-    const body = line
+    const body = shortened(line)
         .replace(CREDIT, (_, what, who, date) => {
             credits.push({ what, who, date });
             return "";
@@ -127,7 +138,7 @@ export function readComment(line) {
  */
 export function plainText(line, shown) {
     const reader = new Reader();
-    reader.read(line);
+    reader.read(shortened(line));
     return reader.paragraphs.map((paragraph) => saidBy(closeUp(paragraph), shown)).join(" ");
 }
 

@@ -1,6 +1,6 @@
 // The view of the whole database: the matrix as a picture, counts over the file, axioms by their users, chapters.
 
-import { Colours, counted, element, percent, put, withCommas } from "./elements.js";
+import { Colours, MOST_AT_ONCE, counted, element, percent, put, withCommas } from "./elements.js";
 import { Counts, Picture } from "./picture.js";
 import { Plot } from "./plot.js";
 
@@ -253,20 +253,24 @@ export class Overview {
         const body = element("tbody");
         const more = element("div");
         const atFirst = window.matchMedia(NARROW).matches ? FIRST_AXIOMS_NARROW : FIRST_AXIOMS;
-        const fill = (/** @type {string} */ group, /** @type {boolean} */ all) => {
-            const columns = this.byUsers(this.columnsOfGroup(group));
-            const shown = all ? columns : columns.slice(0, atFirst);
-            body.replaceChildren();
-            put(body, shown.map((column) => this.axiomRow(column)));
+        const add = (/** @type {number[]} */ columns, /** @type {number} */ from, /** @type {number} */ to) => {
+            put(body, columns.slice(from, to).map((column) => this.axiomRow(column)));
             more.replaceChildren();
-            if (shown.length === columns.length) return;
-            const button = element("button", { type: "button", class: "more", onclick: () => fill(group, true) });
-            button.textContent = `Show all ${withCommas(columns.length)}`;
+            const left = columns.length - to;
+            if (left <= 0) return;
+            const next = () => add(columns, to, to + MOST_AT_ONCE);
+            const button = element("button", { type: "button", class: "more", onclick: next });
+            const all = `Show all ${withCommas(columns.length)}`;
+            button.textContent = left <= MOST_AT_ONCE ? all : `Show ${withCommas(MOST_AT_ONCE)} more`;
             more.append(button);
         };
+        const fill = (/** @type {string} */ group) => {
+            body.replaceChildren();
+            add(this.byUsers(this.columnsOfGroup(group)), 0, atFirst);
+        };
         const first = this.groupChoices()[1][0];
-        fill(first, false);
-        const choice = this.choice("axioms-group", "Show", this.groupChoices(), first, (group) => fill(group, false));
+        fill(first);
+        const choice = this.choice("axioms-group", "Show", this.groupChoices(), first, fill);
         const heads = [
             element("th", { scope: "col", role: "columnheader" }, "Axiom"),
             element("th", { scope: "col", role: "columnheader", class: "right" }, "Theorems"),
@@ -319,13 +323,13 @@ export class Overview {
      * @returns {HTMLElement}
      */
     chapterTree(chapters, areOpen = false) {
-        const items = chapters.map((chapter) => {
+        const make = (/** @type {Chapter} */ chapter) => {
             const line = this.chapterLine(chapter);
             if (chapter.children.length === 0) return element("li", { class: "leaf" }, ...line);
             const children = chapter.children.map((index) => this.model.chapters.list[index]);
             return element("li", {}, this.elements.fold(line, () => this.chapterTree(children), areOpen));
-        });
-        return element("ul", { class: "tree" }, items);
+        };
+        return this.elements.inSteps(element("ul", { class: "tree" }), chapters, make);
     }
 
     /**

@@ -148,10 +148,25 @@ class Page {
         return { name: "Not found", parts };
     }
 
+    /**
+     * The view that stands under an address of which no view could be made, so that none of another one stays there.
+     * @param {unknown} error
+     * @returns {View}
+     */
+    failed(error) {
+        const parts = [
+            element("h1", { tabindex: -1 }, "This can't be shown"),
+            element("p", {}, "This is a fault of the page, or the browser has too little memory for it."),
+            element("p", {}, element("code", {}, String(error))),
+            element("p", {}, element("a", { href: "#" }, "To the overview")),
+        ];
+        return { name: "Not shown", parts };
+    }
+
     /** @param {boolean} isFirst */
     async show(isFirst) {
         const turn = ++this.turn;
-        const { name, parts } = await this.view();
+        const { name, parts } = await this.view().catch((error) => this.failed(error));
         if (turn !== this.turn) return; // another address was opened meanwhile
         const { title } = this.model.facts;
         this.main.replaceChildren(...parts);

@@ -1,6 +1,6 @@
 // The view of a theorem's proof: its steps, each with what it uses, what it applies, and what it says.
 
-import { counted, element, withCommas } from "./elements.js";
+import { LONGEST_FORMULA, counted, element, withCommas } from "./elements.js";
 import { Damaged } from "./decode.js";
 import { Derivation, MOST_SIGNS, OtherFormula, TooManySigns } from "./derivation.js";
 import { MOST_STEPS, Proofs, Step, TooManySteps } from "./proofs.js";
@@ -13,8 +13,6 @@ import { Abandoned, Turns } from "./turns.js";
 /** So many steps are shown at first, and more at a time. */
 const FIRST_STEPS = 40;
 const MORE_STEPS = 500;
-/** A formula with more signs is cut: steps can double it again and again. None of set.mm is as long. */
-const LONGEST_FORMULA = 25_000;
 
 export class ProofView {
     /**

@@ -1,7 +1,7 @@
 // What the views of theorems and axioms have in common: the head with comment, hypotheses, formula and conditions.
 
 import { Flag } from "../packer/assertions.js";
-import { element, put, withCommas } from "./elements.js";
+import { LONGEST_FORMULA, element, put, withCommas } from "./elements.js";
 import { readComment } from "./markup.js";
 
 /** @typedef {import("./elements.js").Child} Child */
@@ -26,7 +26,7 @@ export class Statements {
      */
     head(number, comment) {
         const { model, elements } = this;
-        const formula = elements.formula(model.formulas.at(number), true);
+        const formula = elements.shortFormula(model.formulas.at(number), true, LONGEST_FORMULA);
         const title = element(
             "div",
             { class: "title" },
@@ -62,19 +62,20 @@ export class Statements {
     /** @param {number} number */
     hypotheses(number) {
         const { model, elements } = this;
-        const given = Array.from(model.hypotheses.of(number), (index) =>
+        const given = model.hypotheses.of(number);
+        if (given.length === 0) return [];
+        const make = (/** @type {number} */ index) =>
             element(
                 "li",
                 { class: "line" },
                 elements.label(model.hypothesisLabels.at(index)),
                 " ",
-                elements.formula(model.hypothesisFormulas.at(index), true),
-            ),
-        );
-        if (given.length === 0) return [];
+                elements.shortFormula(model.hypothesisFormulas.at(index), true, LONGEST_FORMULA),
+            );
         const name = given.length === 1 ? "Hypothesis" : "Hypotheses";
         const heading = element("h2", { class: "small" }, name);
-        return [element("div", { class: "hypotheses" }, heading, element("ol", { class: "lines" }, given))];
+        const list = elements.inSteps(element("ol", { class: "lines" }), given, make);
+        return [element("div", { class: "hypotheses" }, heading, list)];
     }
 
     /**
@@ -118,13 +119,13 @@ export class Statements {
      * @param {string[][]} groups
      */
     stars(groups) {
-        const items = groups.map(([dummy, ...others]) => {
+        const make = (/** @type {string[]} */ [dummy, ...others]) => {
             const item = element("li", {}, this.elements.variable(dummy));
             const text = others.length > 0 ? " — distinct from " : " — without conditions";
             put(item, [element("span", { class: "hint" }, text), ...this.elements.variables(others)]);
             return item;
-        });
-        return element("ul", { class: "stars", id: "stars" }, items);
+        };
+        return this.elements.inSteps(element("ul", { class: "stars", id: "stars" }), groups, make);
     }
 
     /**

@@ -28,6 +28,9 @@ const BEGINS_PREFIX = /^[\p{Sm}\p{So}]/u;
 const LETTERS = /^[\p{L}\p{N}]{2}/u;
 const LETTER = /^[\p{L}\p{N}]/u;
 const QUANTIFIER = /^[∀∃]/;
+/** What would become one sign with what stands before it, and hide what that is: a sign of its own comes between. */
+const JOINS_BEFORE = /^[\p{M}\p{Emoji_Modifier}\p{Regional_Indicator}\u1160-\u11ff\ud7b0-\ud7ff]/u;
+const HOLDER = "\u25cc";
 const BINDER = /^[∀∃∪∩∏∑σ℩]/; // of keys, so that Σ is σ
 
 export class Symbols {
@@ -40,7 +43,7 @@ export class Symbols {
         this.typecodeOf = typecodeOf;
         this.infix = infix;
         /** @type {Map<string, Piece[]>} */
-        this.definitions = new Map(facts.symbols);
+        this.definitions = new Map(facts.symbols.map(([symbol, pieces]) => [symbol, apart(pieces)]));
         this.alike = new Set(facts.alike);
         const codes = [...new Set(typecodeOf.values())];
         this.hueOf = new Map(codes.map((code, index) => [code, HUES[index % HUES.length]]));
@@ -157,6 +160,16 @@ export class Symbols {
         for (const symbol of formula.split(" ")) key += this.keyOf(symbol);
         return key;
     }
+}
+
+/**
+ * The pieces of a definition, which join nothing that stands before them.
+ * @param {Piece[]} pieces
+ * @returns {Piece[]}
+ */
+function apart(pieces) {
+    const isJoined = JOINS_BEFORE.test(pieces.map(([text]) => text).join(""));
+    return isJoined ? [[HOLDER, ""], ...pieces] : pieces;
 }
 
 /**

@@ -1,6 +1,6 @@
 // The view of one theorem: on what it rests and why, what it does without, what it cites, what cites it.
 
-import { counted, element, withCommas } from "./elements.js";
+import { MOST_AT_ONCE, counted, element, withCommas } from "./elements.js";
 import { GROUPS, Group } from "./model.js";
 import { ProofView } from "./proof.js";
 
@@ -98,7 +98,7 @@ export class TheoremView {
             const fold = this.elements.foldOf(
                 group.name,
                 part.length,
-                () => element("ul", { class: "lines" }, part.map((column) => this.axiomLine(number, column))),
+                () => this.elements.inSteps(element("ul", { class: "lines" }), part, (column) => this.axiomLine(number, column)),
                 index !== Group.syntax || part.length === columns.length || part.some((column) => isChainOpen(column)),
             );
             fold.classList.add("group", `of-${group.key}`);
@@ -141,7 +141,7 @@ export class TheoremView {
         const chain = this.model.chain(theorem, axiom);
         return [
             this.elements.hint(`A shortest chain, ${counted(chain.length - 1, "citation")}; each cites the next:`),
-            element("ol", { class: "lines chain" }, chain.map((number) => this.elements.line(number))),
+            this.elements.inSteps(element("ol", { class: "lines chain" }), chain, (number) => this.elements.line(number)),
         ];
     }
 
@@ -179,7 +179,7 @@ export class TheoremView {
         ];
         for (const [name, list] of parts) {
             if (list.length === 0) continue;
-            made.append(this.elements.foldOf(name, list.length, () => this.elements.lines(list, list.length), true));
+            made.append(this.elements.foldOf(name, list.length, () => this.elements.lines(list, MOST_AT_ONCE), true));
         }
         return made;
     }

@@ -18,7 +18,6 @@
 pub mod SymbolsLaw
 pub mod TypecodeLaw
 pub mod NamesLaw
-pub mod NameMapLaw
 pub mod DisjointIndexLaw
 pub mod StartsLaw
 pub mod RowSearchLaw

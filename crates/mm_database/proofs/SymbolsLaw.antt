@@ -1,12 +1,14 @@
 -- Symbols in the order of their first declarations.
 use Rattle.std.proofs.lemmas.Bool.{false_from_ne_true, or_parts}
 use Rattle.std.proofs.lemmas.Option.{same_Some, slice_get_past, none-some}
-use Rattle.std.proofs.Common.{rules, ◌≡◌, ℕ, zero, suc, Bool, true, false, ◌||◌, ◌&&◌, not, List}
+use Rattle.std.proofs.Common.{rules, ◌≡◌, ◌≤◌, ℕ, zero, suc, Bool, true, false, ◌||◌, ◌&&◌, not}
+use Rattle.std.proofs.Common.{List, nat_lt, None, cond, if◌then◌else◌, ◌+◌}
 use Rattle.std.proofs.Common.{[], ◌∷◌, ◌++◌, length, slice_get, Some, bytes_eq, refl, sym, ap, ap₂}
 use Rattle.std.proofs.Common.{◌∙◌, arith, true≢false, map}
 use Rattle.std.proofs.lemmas.Grind.{common_steps}
 use Rattle.std.proofs.lemmas.List.Folds.{list_any-append}
-use Rattle.std.specs.List.{list_any}
+use Rattle.std.specs.List.{list_any, position_or_len, position}
+use Rattle.std.proofs.lemmas.List.Recursion.{is_position_or_len}
 use Rattle.std.proofs.lemmas.Slice.Eq.{bytes_eq-Decides}
 use Rattle.std.proofs.Math.Bool.{or-true}
 use Rattle.mm_spec.specs.Text.{Bytes, is_in}
@@ -97,12 +99,51 @@ pub key_is_name : (w : Bytes) (ks : List (Name))
 key_is_name w [] = refl
 key_is_name w (k ∷ ks) = ap (λ b. bytes_eq w k.bytes.now || b) (key_is_name w ks)
 
+-- where the code finds a name
+pub position_is_index : (w : Bytes) (ks : List (Name))
+    → position_or_len (λ k. bytes_eq w k.bytes.now) ks ≡ index_of w (map (λ k. k.bytes.now) ks)
+position_is_index w ks =
+    sym (is_position_or_len (λ (xs : List (Name)). index_of w (map (λ k. k.bytes.now) xs))
+    (λ k. bytes_eq w k.bytes.now) refl
+    (λ x xs. elim_is_cond (bytes_eq w x.bytes.now) (index_of w (map (λ k. k.bytes.now) xs))) ks)
+  where
+    elim_is_cond : (b : Bool) (n : ℕ) → elim b [ true ↦ 0 | false ↦ suc n ] ≡ cond b 0 (1 + n)
+    elim_is_cond true n = refl
+    elim_is_cond false n = omega arith
+
+-- the index of a name that is found, and of one that is not
+pub position_is_index_of : (w : Bytes) (ks : List (Name)) (n : ℕ)
+    → position (λ k. bytes_eq w k.bytes.now) ks ≡ Some n
+    → n ≡ index_of w (map (λ k. k.bytes.now) ks)
+position_is_index_of w ks n position_is_n =
+    is_position (nat_lt (position_or_len (λ k. bytes_eq w k.bytes.now) ks) (length ks))
+    position_is_n
+    ∙ position_is_index w ks
+  where
+    is_position : (b : Bool) → cond b (Some (position_or_len (λ k. bytes_eq w k.bytes.now) ks)) None
+        ≡ Some n
+        → n ≡ position_or_len (λ k. bytes_eq w k.bytes.now) ks
+    is_position true found_is_n =
+        let some_is_n : Some (position_or_len (λ k. bytes_eq w k.bytes.now) ks)
+        ≡ Some n = found_is_n in cc
+    is_position false found_is_n = let some_is_n : None ≡ Some n = found_is_n in cc
+
 -- a word that is no name has the number after the last
 pub missing_index_is_length : (w : Bytes) (ns : List Bytes) → is_in w ns ≡ false
     → length ns ≡ index_of w ns
 missing_index_is_length w [] w_not_in_ns = refl
 missing_index_is_length w (n ∷ ns) w_not_in_ns =
     grind (arith, common_steps, bytes_eq, true≢false, (missing_index_is_length w ns))
+
+-- a word's index is at most the number of names
+pub index_of_le_length : (w : Bytes) (ns : List Bytes) → index_of w ns ≤ length ns
+index_of_le_length w [] = omega arith
+index_of_le_length w (n ∷ ns) = by_test (bytes_eq w n) (index_of_le_length w ns)
+  where
+    by_test : (b : Bool) → index_of w ns ≤ length ns
+        → elim b [ true ↦ 0 | false ↦ suc (index_of w ns) ] ≤ suc (length ns)
+    by_test true earlier = omega arith
+    by_test false earlier = omega arith
 
 -- ---- names of which none stands twice
 

@@ -2,8 +2,7 @@ pub use Rattle.mm_outline.specs.Blocks
 pub use Rattle.mm_outline.specs.Parts
 pub use Rattle.mm_outline.specs.Statements
 pub mod Names
-pub mod OrderedNames
-pub mod NameMap
+pub mod TextKeyed
 pub mod Labels
 pub mod Pairs
 pub mod Starts

@@ -9,7 +9,7 @@ ghost use Rattle.mm_spec.specs.Statement.{label_of, proof_of};
 ghost use Rattle.mm_spec.specs.Opened.{open_as_axioms, is_open_theorem};
 ghost use Rattle.mm_spec.specs.Scope.{active_at, statement_at};
 ghost use Rattle.mm_spec.specs.Derivation.{pair};
-ghost use Rattle.mm_spec.specs.Frame.{symbol_names, is_variable_number, formula_at};
+ghost use Rattle.mm_spec.specs.Frame.{symbol_names, index_of, is_variable_number, formula_at};
 ghost use Rattle.mm_spec.specs.Frame.{mandatory_hypotheses, mandatory_pairs, disjoint_at};
 ghost use Rattle.mm_spec.specs.NormalProof.{is_labelled};
 ghost use Rattle.mm_spec.specs.Citation.{is_assertion};
@@ -226,6 +226,14 @@ impl<'a, A: Allocator> Database<'a, A> {
         ensures { slice_get (symbol_names self.now.statements) symbol ≡ Some result.now }
     {
         self.reading.names.name(symbol.number() as usize)
+    }
+
+    /// Returns the number of the symbol with this name, or the count of symbols if none has it.
+    pub fn symbol(&self, name: &[u8]) -> Sym
+        ensures { result ≡ index_of name.now (symbol_names self.now.statements) }
+    {
+        let number = self.reading.names.number(name);
+        Sym::new(number.min(self.symbol_count() as usize) as u32)
     }
 
     /// Whether a symbol is a variable.

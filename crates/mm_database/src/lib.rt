@@ -13,11 +13,11 @@ pub mod name;
 pub mod name_map;
 pub mod names;
 mod near;
-mod ordered_names;
 pub mod reading;
 pub mod statement_lists;
 pub mod statements;
 pub mod tables;
+pub mod text_keyed;
 
 pub use chosen_typecode::has_chosen_typecode;
 pub use database::Database;

@@ -7,6 +7,7 @@ ghost use Rattle.mm_spec.specs.Frame.{index_of};
 ghost use Rattle.mm_database.specs.Names.{find, known_names, names_of, with_name, is_variable_in};
 
 use crate::name_map::NameMap;
+use crate::text_keyed::TextKeyed;
 use std::alloc::{AllocError, Allocator};
 use std::marker::Model;
 
@@ -46,17 +47,22 @@ impl<'a, A: Allocator> Model for NameTable<'a, A> {
     ghost view = { λ t. known_names t.symbols t.labels };
 }
 
-/// Returns a table without symbols and labels.
-pub fn no_names<'a, A: Allocator + Copy>(alloc: A) -> NameTable<'a, A>
+/// Returns a table without symbols and labels, whose maps hash with these keys.
+pub fn no_names<'a, A: Allocator + Copy>(alloc: A, keys: TextKeyed) -> NameTable<'a, A>
     ensures { result ≡ known_names [] [] }
 {
     NameTable {
-        symbols: NameMap::new(alloc),
-        labels: NameMap::new(alloc),
+        symbols: NameMap::new(alloc, keys),
+        labels: NameMap::new(alloc, keys),
     }
 }
 
 impl<'a, A: Allocator> NameTable<'a, A> {
+    /// Returns the keys of the maps' hash.
+    pub fn keys(&self) -> TextKeyed {
+        self.symbols.keys()
+    }
+
     /// Returns the name of the symbol with this number.
     #[inline(always)]
     pub(crate) fn name(&self, number: usize) -> &'a [u8]
@@ -67,6 +73,14 @@ impl<'a, A: Allocator> NameTable<'a, A> {
             Some((name, _)) => name.bytes,
             None => unreachable!("each symbol has a name"),
         }
+    }
+
+    /// Returns the number of the symbol with this name, or the count of symbols if none has it.
+    pub(crate) fn number(&self, name: &[u8]) -> usize
+        ensures { result ≡ index_of name.now (names_of self.now.symbols) }
+    {
+        let (number, _) = self.symbols.get_full(name);
+        number
     }
 
     /// Returns the statement of a label, or `None` if the word isn't a label.

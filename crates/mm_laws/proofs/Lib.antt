@@ -42,3 +42,4 @@ pub mod WellSpelledLaw
 pub mod MeaningLaw
 pub mod NumeralsLaw
 pub mod CitationLaw
+pub mod ComparisonLaw

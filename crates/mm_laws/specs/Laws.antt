@@ -17,3 +17,4 @@ pub mod Meaning
 pub mod Numerals
 pub mod LongTexts
 pub mod Told
+pub mod Comparisons

@@ -4,7 +4,7 @@
 //! statements of the laws. No other crate depends on this one, so nothing waits for the laws, and
 //! the program is built without them.
 //!
-//! An empty body can't be made wrong. So the edits of `must-fail` turn a clause into a statement
+//! An empty body can't be made wrong. So the wrong bodies here turn a clause into a statement
 //! that isn't true, and the prover refuses each, since the law's proof doesn't prove it: a premise
 //! says less, two arguments are exchanged, or a definition on which the law depends says something
 //! else. One, `open_theorems_left_out`, is true, but says less than the law. Each clause has one
@@ -19,6 +19,7 @@
 
 mod cells;
 mod citations;
+mod comparisons;
 mod derivations;
 mod frames;
 mod letters;
@@ -33,6 +34,11 @@ mod words;
 
 pub use cells::{cells_are_decided, theorems_have_one_wave};
 pub use citations::essential_citations_are_citations;
+pub use comparisons::{
+    assertions_are_there_or_listed, exchanged_texts_exchange_sections,
+    same_assertions_have_the_same_words, statements_are_there_in_themselves,
+    theorems_rest_on_nothing_that_is_not_gained,
+};
 pub use derivations::labels_determine_a_derivation;
 pub use frames::lawful_statements_have_complete_frames;
 pub use letters::{letters_spell_one_list, numbers_have_one_spelling};

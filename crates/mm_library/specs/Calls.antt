@@ -1,6 +1,6 @@
 -- What a call of the library requests by its arguments, and how it ends (this project's own).
 use Rattle.std.specs.Prelude.{◌≡◌, ◌≢◌, ℕ, Bool, ◌==◌, ◌||◌, ◌/◌, ◌%◌, nat_le, if◌then◌else◌, List}
-use Rattle.std.specs.Prelude.{◌≤◌, ◌<◌, ◌⊎◌, drop, length, Option, None, Some, ⊤}
+use Rattle.std.specs.Prelude.{◌≤◌, ◌<◌, ◌⊎◌, drop, length, take, Option, None, Some, ⊤}
 use Rattle.std.specs.Prelude.{MatchResult, Result, false}
 use Rattle.std.specs.Str.{IsUtf8}
 use Rattle.mm_spec.specs.Text.{Bytes}
@@ -8,6 +8,8 @@ use Rattle.mm_spec.specs.Request.{Request}
 use Rattle.mm_spec.specs.Statement.{Statement}
 use Rattle.mm_spec.specs.Lexed.{lexed_of}
 use Rattle.mm_spec.specs.Output.{IsOutput, FirstFault, HasNoFault}
+use Rattle.mm_spec.specs.Comparison.{IsComparison}
+use Rattle.mm_spec.specs.Ends.{reading_limit}
 use Rattle.mm_spec.specs.declared.Sections.{Sections}
 use Rattle.mm_spec.specs.declared.Form.{Form}
 use Rattle.mm_spec.specs.declared.Form.TheVariants.{One, Two}
@@ -89,41 +91,67 @@ Refuses _ call = ⊥
 abbrev pub IsAnswer : Call → Result Request Status → Type 0
 IsAnswer call answer = MatchResult answer (Asks call) (λ status. Refuses status call)
 
--- the verdict on a text
-abbrev pub HasVerdict : Status → List ℕ → Bool → Type 0
-HasVerdict Accepted text with_open =
-    (db : List Statement) × HasNoFault (length text) (lexed_of text) with_open db
-HasVerdict Refused text with_open =
-    (f : Fault) × FirstFault (length text) (lexed_of text) with_open f
-HasVerdict _ text with_open = ⊥
+-- what a call is about: a text, whose report is asked for, or two, OLD and NEW, which are compared
+pub data Asked : Type 0 where
+  report_of : List ℕ → Asked
+  comparison_of : (old new : List ℕ) → Asked
 
--- the output of a text for a request, of this length, stands at the front of `out`, and behind it
+-- the part of a text that is read
+abbrev pub part_of : List ℕ → List ℕ
+part_of text = take reading_limit text
+
+-- the bytes are what is to be written
+abbrev pub IsOutputOf : Asked → Request → List ℕ → Type 0
+IsOutputOf (report_of text) request bytes = IsOutput text request bytes
+IsOutputOf (comparison_of old new) request bytes = IsComparison old new request bytes
+
+-- the text has no fault
+abbrev pub IsSoundText : List ℕ → Bool → Type 0
+IsSoundText text with_open =
+    (db : List Statement) × HasNoFault (length text) (lexed_of text) with_open db
+
+-- the text has a fault
+abbrev pub IsFaultyText : List ℕ → Bool → Type 0
+IsFaultyText text with_open =
+    (f : Fault) × FirstFault (length text) (lexed_of text) with_open f
+
+-- the verdict: no text has a fault, or the first one that has a fault is refused
+abbrev pub HasVerdict : Status → Asked → Bool → Type 0
+HasVerdict Accepted (report_of text) with_open = IsSoundText text with_open
+HasVerdict Accepted (comparison_of old new) with_open =
+    IsSoundText old with_open × IsSoundText new with_open
+HasVerdict Refused (report_of text) with_open = IsFaultyText text with_open
+HasVerdict Refused (comparison_of old new) with_open =
+    IsFaultyText old with_open ⊎ (IsSoundText old with_open × IsFaultyText new with_open)
+HasVerdict _ asked with_open = ⊥
+
+-- what is to be written for a request, of this length, stands at the front of `out`, and behind it
 -- `out` is as it was before
-pub record HasOutput (text : List ℕ) (request : Request) (len : ℕ) (before out : List ℕ) : Type 0
+pub record HasOutput (asked : Asked) (request : Request) (len : ℕ) (before out : List ℕ) : Type 0
   where
     pub output : List ℕ
-    pub is_output : IsOutput text request output
+    pub is_output : IsOutputOf asked request output
     pub length_is : len ≡ length output
     pub is_at_front : IsAtFront output out
     pub rest_stays : drop len out ≡ drop len before
 
 -- how it ends to write the output to `out`, which held other bytes before
-abbrev pub WritingEnds : Status → Request → (text : List ℕ) (len : ℕ) (before out : List ℕ)
+abbrev pub WritingEnds : Status → Request → (asked : Asked) (len : ℕ) (before out : List ℕ)
     → Type 0
-WritingEnds TypecodeNotUtf8 request text len before out = ⊥
-WritingEnds NoSuchRequest request text len before out = ⊥
-WritingEnds RoomTooSmall request text len before out = len ≡ 0
-WritingEnds OutTooShort request text len before out =
-    HasOutput text request len before out × (length out < len)
-WritingEnds verdict request text len before out =
-    HasVerdict verdict text request.with_open × HasOutput text request len before out
+WritingEnds TypecodeNotUtf8 request asked len before out = ⊥
+WritingEnds NoSuchRequest request asked len before out = ⊥
+WritingEnds RoomTooSmall request asked len before out = len ≡ 0
+WritingEnds OutTooShort request asked len before out =
+    HasOutput asked request len before out × (length out < len)
+WritingEnds verdict request asked len before out =
+    HasVerdict verdict asked request.with_open × HasOutput asked request len before out
     × (len ≤ length out)
 
 -- how a call ends that writes the output for its request to `out`, which held other bytes before
-abbrev pub CallEnds : Status → Call → (text : List ℕ) (len : ℕ) (before out : List ℕ) → Type 0
-CallEnds TypecodeNotUtf8 call text len before out =
+abbrev pub CallEnds : Status → Call → (asked : Asked) (len : ℕ) (before out : List ℕ) → Type 0
+CallEnds TypecodeNotUtf8 call asked len before out =
     Refuses TypecodeNotUtf8 call × (len ≡ 0) × (out ≡ before)
-CallEnds NoSuchRequest call text len before out =
+CallEnds NoSuchRequest call asked len before out =
     Refuses NoSuchRequest call × (len ≡ 0) × (out ≡ before)
-CallEnds status call text len before out =
-    (request : Request) × Asks call request × WritingEnds status request text len before out
+CallEnds status call asked len before out =
+    (request : Request) × Asks call request × WritingEnds status request asked len before out

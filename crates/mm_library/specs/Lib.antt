@@ -1,2 +1,3 @@
 pub mod Calls
 pub mod Fronts
+pub mod Texts

@@ -4,14 +4,16 @@
 //! length is 0, it may be dangling.
 #![tactic(auto)]
 
-ghost use Rattle.std.specs.Prelude.{◌≡◌, ◌⊎◌, drop, length, take};
-ghost use Rattle.mm_spec.specs.Ends.{reading_limit};
-ghost use Rattle.mm_library.specs.Calls.{CallEnds, call_of, status_number};
+ghost use Rattle.std.specs.Prelude.{◌≡◌, ◌⊎◌, drop, length};
+ghost use Rattle.mm_library.specs.Calls.{CallEnds, call_of, comparison_of, part_of, report_of};
+ghost use Rattle.mm_library.specs.Calls.{status_number};
 ghost use Rattle.mm_library.specs.Fronts.{IsAtFront};
 ghost use Rattle.mm_library.specs.declared.status.Status.{Status};
 ghost use Rattle.mm_library.specs.declared.status.Status.TheVariants.{RoomTooSmall};
+ghost use Rattle.mm_library.specs.declared.TheConstants.{ANY_FORM, ANY_SECTIONS};
 ghost use Rattle.mm_version.specs.declared.TheConstants.{VERSION};
 
+mod comparison;
 mod front;
 mod ghost_bytes;
 mod in_room;
@@ -20,11 +22,13 @@ mod request;
 mod status;
 #[cfg(test)]
 mod tests;
+mod texts;
 
 use crate::front::copy_behind;
 use crate::in_room::output_if_asked;
 use crate::request::request;
 pub use crate::status::Status;
+use crate::texts::Texts;
 pub use mm_room::Room;
 use mm_version::VERSION;
 
@@ -69,12 +73,62 @@ pub extern "C" fn mmdepend_report(
         ⊎ ((result ≡ status_number RoomTooSmall) × (room.new.units ≡ 0)) }
     ensures call_ends { (status : Status) × (result ≡ status_number status)
         × CallEnds status (call_of has_only only.now sections form essential with_open)
-        (take reading_limit text.now) written.new out.old out.new }
+        (report_of (part_of text.now)) written.new out.old out.new }
 {
     let request = request(only, has_only, sections, form, essential, with_open);
-    let (status, len) = output_if_asked(room, text, request, out);
+    told(
+        output_if_asked(room, Texts::One(text), request, out),
+        written,
+    )
+}
+
+/// Tells the length of the output in bytes, and returns the number of the status.
+fn told(ended: (Status, usize), written: &mut usize) -> u32
+    ensures status_is { result ≡ status_number ended.0 }
+    ensures length_is { written.new ≡ ended.1 }
+{
+    let (status, len) = ended;
     *written = len;
     status.number()
+}
+
+/// The sections and the form of a request whose sections and form aren't used.
+const ANY_SECTIONS: u32 = 7;
+
+const ANY_FORM: u32 = 1;
+
+/// Verifies the proofs of two texts, the Metamath databases OLD and NEW, and writes what the one has
+/// and the other hasn't to the front of `out`; or if a text has a fault, the refusal of the first
+/// that has one, after the word `old` or `new`.
+///
+/// - `old_text`, `new_text`: the databases, each read as the text of `mmdepend_report` is.
+/// - `room`, `only`, `has_only`, `essential`, `with_open`, `out`, `written`: as there. `only` chooses
+///   the assertions and the axioms that are told, of both.
+///
+/// The result is a status, as there, but never 5.
+#[unsafe(no_mangle)]
+pub extern "C" fn mmdepend_against(
+    room: &mut Room,
+    old_text: &[u8],
+    new_text: &[u8],
+    only: &[u8],
+    has_only: bool,
+    essential: bool,
+    with_open: bool,
+    out: &mut [u8],
+    written: &mut usize,
+) -> u32
+    ensures room_comes_back { (room.new.units ≡ room.old.units)
+        ⊎ ((result ≡ status_number RoomTooSmall) × (room.new.units ≡ 0)) }
+    ensures call_ends { (status : Status) × (result ≡ status_number status)
+        × CallEnds status (call_of has_only only.now ANY_SECTIONS ANY_FORM essential with_open)
+        (comparison_of (part_of old_text.now) (part_of new_text.now)) written.new out.old out.new }
+{
+    let request = request(only, has_only, ANY_SECTIONS, ANY_FORM, essential, with_open);
+    told(
+        output_if_asked(room, Texts::Two(old_text, new_text), request, out),
+        written,
+    )
 }
 
 /// Puts the version's text, as the program prints it after its name, at the front of `out`, as much

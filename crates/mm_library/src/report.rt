@@ -4,7 +4,7 @@ ghost use Rattle.std.specs.Prelude.{◌≡◌, ◌≤◌, ℕ, List, ◌++◌, I
 ghost use Rattle.mm_spec.specs.Ends.{reading_limit};
 ghost use Rattle.mm_spec.specs.Output.{IsOutput};
 ghost use Rattle.mm_run.specs.Judging.{IsJudgedText};
-ghost use Rattle.mm_library.specs.Calls.{HasVerdict, WritingEnds};
+ghost use Rattle.mm_library.specs.Calls.{HasVerdict, WritingEnds, report_of};
 
 use crate::front::Front;
 use crate::status::Status;
@@ -14,7 +14,7 @@ use std::alloc::Allocator;
 
 /// An output wasn't written whole, because there was no memory to write it.
 #[derive(Drop)]
-struct NotWritten;
+pub(crate) struct NotWritten;
 
 /// Writes the output of a judged text behind what was written before. Returns the verdict.
 fn write_output<'a, A: Allocator + Copy>(
@@ -28,7 +28,7 @@ fn write_output<'a, A: Allocator + Copy>(
         judged.now }
     ensures name_stays { OnOk result (to.new.out.ghost_name ≡ to.old.out.ghost_name) }
     ensures before_stays { OnOk result (to.new.before.bytes ≡ to.old.before.bytes) }
-    ensures appends_output { IfOk result (λ status. HasVerdict status text.now request.now.with_open
+    ensures appends_output { IfOk result (λ status. HasVerdict status (report_of text.now) request.now.with_open
         × ((bytes : List ℕ) × IsOutput text.now request.now bytes
         × (to.new.written.bytes ≡ to.old.written.bytes ++ bytes))) }
 {
@@ -50,7 +50,7 @@ fn write_to_front<'a, A: Allocator + Copy>(
 ) -> (Status, usize)
     requires is_judged { IsJudgedText text.now request.now.essential request.now.with_open
         judged.now }
-    ensures { WritingEnds result.0 request.now text.now result.1 out.old out.new }
+    ensures { WritingEnds result.0 request.now (report_of text.now) result.1 out.old out.new }
 {
     let mut to = Front::new(out);
     match write_output(alloc, text, request, judged, &mut to) {
@@ -68,7 +68,7 @@ pub(crate) fn output<A: Allocator + Copy>(
     out: &mut [u8],
 ) -> (Status, usize)
     requires length_le_limit { length text.now ≤ reading_limit }
-    ensures { WritingEnds result.0 request.now text.now result.1 out.old out.new }
+    ensures { WritingEnds result.0 request.now (report_of text.now) result.1 out.old out.new }
 {
     match judge_alone(alloc, text, request.essential, request.with_open) {
         Ok(judged) => write_to_front(alloc, text, request, &judged, out),

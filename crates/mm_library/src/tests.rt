@@ -1,7 +1,7 @@
 //! Tests of the calls for C: each status, what the lengths are with it, what is in `out` and behind
 //! the output, and that the room comes back.
 
-use crate::{mmdepend_report, mmdepend_version};
+use crate::{mmdepend_against, mmdepend_report, mmdepend_version};
 use mm_room::Room;
 use mm_version::VERSION;
 use std::alloc::Global;
@@ -28,6 +28,17 @@ const SYNTAX_STATEMENTS: &[u8] =
 const FAULTY: &[u8] = b"$c wff \x80 $.\n";
 
 const REFUSAL: &[u8] = b"refused 1:8 E01\n";
+
+/// What is written of a database that is compared with itself; what of that database is gone in an
+/// empty one, of typecode `|-`; and what is written if OLD has the fault, or NEW.
+const NO_DIFFERENCES: &[u8] = b"mmdepend-differences 1\nnew\ngone\ngained\nlost\nend\n";
+
+const LOGICAL_AXIOM_GONE: &[u8] =
+    b"mmdepend-differences 1\nnew\ngone\nax-1:a:84:117: $f wp wff p $f wq wff q $a |- ( p -> ( q -> p ) )\ngained\nlost\nend\n";
+
+const OLD_REFUSAL: &[u8] = b"old refused 1:8 E01\n";
+
+const NEW_REFUSAL: &[u8] = b"new refused 1:8 E01\n";
 
 /// The sections as bits, the number of the form, and those of the statuses, as C has them.
 const DEFAULT: u32 = 7;
@@ -131,6 +142,62 @@ fn answers(
     output: &[u8],
 ) -> bool {
     called(memory, ROOM, text, only, sections).is_some_and(|ended| ended.is(status, output))
+}
+
+/// A call that compares two texts in a new room. Its typecode is `only`, if that has a byte.
+fn compared(memory: Global, units: usize, old: &[u8], new: &[u8], only: &[u8]) -> Option<Ended> {
+    let mut room = Room::leaked(&memory, units)?;
+    let mut out = [BEFORE; OUT];
+    let mut written = OUT;
+    let status = mmdepend_against(
+        &mut room,
+        old,
+        new,
+        only,
+        !only.is_empty(),
+        BY_ALL_NODES,
+        WITHOUT_OPEN,
+        &mut out,
+        &mut written,
+    );
+    Some(Ended {
+        status,
+        written,
+        out,
+        room_is_whole: room.units() == units,
+    })
+}
+
+/// Whether a comparison in a room of so many units ends so, with this output.
+fn compares(
+    memory: Global,
+    units: usize,
+    old: &[u8],
+    new: &[u8],
+    only: &[u8],
+    status: u32,
+    output: &[u8],
+) -> bool {
+    match compared(memory, units, old, new, only) {
+        Some(ended) => ended.is(status, output),
+        None => false,
+    }
+}
+
+#[test]
+fn two_texts_are_compared(rt: HostRuntime) {
+    let memory = rt.alloc();
+    let logical = b"|-".as_slice();
+    for (old, new, only, status, output) in [
+        (TEXT, TEXT, b"".as_slice(), ACCEPTED, NO_DIFFERENCES),
+        (TEXT, b"", logical, ACCEPTED, LOGICAL_AXIOM_GONE),
+        (FAULTY, FAULTY, b"", REFUSED, OLD_REFUSAL),
+        (TEXT, FAULTY, b"", REFUSED, NEW_REFUSAL),
+        (TEXT, TEXT, b"\xff", NOT_UTF8, b""),
+    ] {
+        assert!(&rt; compares(memory, ROOM, old, new, only, status, output));
+    }
+    assert!(&rt; compares(memory, 1, TEXT, TEXT, b"", ROOM_TOO_SMALL, b""));
 }
 
 #[test]

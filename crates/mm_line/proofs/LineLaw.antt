@@ -1,14 +1,15 @@
 -- What the words of a command line come to.
 use Rattle.std.proofs.Common.{◌≡◌, ◌∙◌, ◌⊎◌, ◌<◌, ◌≤◌, ◌+◌, ◌==◌, eqb-true, eq-eqb, option_map, inl}
 use Rattle.std.proofs.Common.{inr, ℕ, zero, suc, Bool, true, false, true≢false, ◌&&◌, ◌||◌, refl}
-use Rattle.std.proofs.Common.{sym, ap, subst, arith, codes, map, length, slice_index_or, List, []}
-use Rattle.std.proofs.Common.{◌∷◌, Some, None}
+use Rattle.std.proofs.Common.{sym, ap, ap₂, subst, arith, codes, map, length, slice_index_or, List, []}
+use Rattle.std.proofs.Common.{◌∷◌, ◌++◌, Some, None}
 use Rattle.std.proofs.lemmas.Bool.{and_parts, or_cases, or_left, or_right}
 use Rattle.std.proofs.lemmas.Grind.{common_steps}
 use Rattle.std.proofs.lemmas.List.{length-map}
 use Rattle.std.proofs.lemmas.Slice.Eq.{bytes_eq-Decides}
 use Rattle.std.specs.Prelude.{not, pos}
-use Rattle.std.specs.List.{list_all, list_any}
+use Rattle.std.specs.List.{list_all, list_any, filter, slice_split}
+use Rattle.std.specs.Prelude.{flat_map}
 use Rattle.std.specs.Borrow.{Bor}
 use Rattle.std.specs.Str.{bytes_eq}
 use Rattle.std.specs.Str.Parse.{digits_value, without_leading_plus}
@@ -42,9 +43,11 @@ use Rattle.mm_spec.specs.declared.Form.{Form}
 use Rattle.mm_spec.specs.declared.Form.TheVariants.{One, Two}
 use Rattle.mm_spec.specs.Derivation.{is_member}
 use Rattle.mm_line.specs.Lines.{IsCommand, IsFormRule, IsFlag, IsHelpOrVersion, IsLineRefusal}
-use Rattle.mm_line.specs.Lines.{has_known_names, sections_in, command_of, flag_rule, number_rule}
+use Rattle.mm_line.specs.Lines.{IsReportRule, has_known_names, known_parts, report_rule}
+use Rattle.mm_line.specs.Lines.{report_texts}
+use Rattle.mm_line.specs.Lines.{sections_in, command_of, flag_rule, number_rule}
 use Rattle.mm_line.specs.Lines.{text_rule, file_rule, form_rule, form_word, form_words, AreReadAs}
-use Rattle.mm_line.specs.Found.{Finds, HasForm, HasNumber, IsBadOrMemory, IsRefusalForKind}
+use Rattle.mm_line.specs.Found.{Finds, HasForm, HasNumber, HasSections, IsRefusalForKind}
 use Rattle.mm_line.proofs.EntryLaw.{Defaulted, default_is_read, empty_is_nil, rule_of_argument_is}
 use Rattle.mm_line.proofs.EntryLaw.{simple_leaves_out}
 use Rattle.mm_plan.specs.declared.Cutting.TheVariants.{Count}
@@ -87,25 +90,34 @@ app_with_added_rules (a ∷ args) (r ∷ rules) before after app are_added app_i
     first_and_later.0)
     later_rules_are first_and_later.1
 
-pub added_rules_are_command : (c : Command) (form_option : Rule) → IsFormRule form_option
-    → app_of c ≡ command_of form_option → IsCommand (app_of c)
-added_rules_are_command c form_option is_form_rule app_is =
+pub added_rules_are_command : (words : List Text) (c : Command) (report_option form_option : Rule)
+    → IsReportRule words report_option → IsFormRule form_option
+    → app_of c ≡ command_of report_option form_option → IsCommand words (app_of c)
+added_rules_are_command words c report_option form_option is_report_rule is_form_rule app_is =
     record {
+      report_option = report_option;
+      is_report = is_report_rule;
       form_option = form_option;
       is_form = is_form_rule;
       app_is_command = app_is;
     }
 
-command_is_simple_and_free : (form : Rule) → IsFormRule form
-    → is_simple_and_free (command_of form) ≡ true
+command_is_simple_and_free : (words : List Text) (report form : Rule)
+    → IsReportRule words report → IsFormRule form
+    → is_simple_and_free (command_of report form) ≡ true
 unfolding command_of
-command_is_simple_and_free form is_form_rule =
-    subst (λ (r : Rule). is_simple_and_free (command_of r) ≡ true) (sym is_form_rule.2) refl
+command_is_simple_and_free words report form is_report_rule is_form_rule =
+    subst (λ (r : Rule). is_simple_and_free (command_of r form) ≡ true) (sym is_report_rule.2)
+    (subst
+    (λ (r : Rule). is_simple_and_free (command_of (report_rule is_report_rule.0) r) ≡ true)
+    (sym is_form_rule.2) refl)
 
-pub command_app_is_simple_and_free : (app : App) → IsCommand app → is_simple_and_free app ≡ true
-command_app_is_simple_and_free app is_command_app =
+pub command_app_is_simple_and_free : (words : List Text) (app : App) → IsCommand words app
+    → is_simple_and_free app ≡ true
+command_app_is_simple_and_free words app is_command_app =
     subst (λ (a : App). is_simple_and_free a ≡ true) (sym is_command_app.app_is_command)
-    (command_is_simple_and_free is_command_app.form_option is_command_app.is_form)
+    (command_is_simple_and_free words is_command_app.report_option is_command_app.form_option
+    is_command_app.is_report is_command_app.is_form)
 
 help_is_not_memory : (kind : ErrorKind) → IsHelpOrVersion kind → kind ≡ OutOfMemory → ⊥
 help_is_not_memory kind (inl is_asking) is_memory =
@@ -114,7 +126,7 @@ help_is_not_memory kind (inr is_asking) is_memory =
     let kinds_equal : DisplayVersion ≡ OutOfMemory = sym is_asking ∙ is_memory in cc
 
 pub refusal_is_line_refusal : (app : App) (words : List Text) (e : Error) (r : LineRefused)
-    → IsCommand app
+    → IsCommand words app
     → (takes app words ≡ true → kind_of e ≡ OutOfMemory)
     → HasKind (fault_of app words) e → IsRefusalForKind (kind_of e) r → IsLineRefusal words r
 refusal_is_line_refusal app words e Memory app_is passes kind is_for = tt
@@ -129,7 +141,7 @@ refusal_is_line_refusal app words e (Help text) app_is passes kind is_for =
     among_faults (inl is_memory) = absurd (help_is_not_memory (kind_of e) is_for is_memory)
     among_faults (inr is_among) = is_among
 refusal_is_line_refusal app words e (Bad text) app_is passes kind is_for =
-    inl (app, app_is, not_taken (takes app words) refl, kind_of e, among_faults kind, is_for.0)
+    (app, app_is, not_taken (takes app words) refl, kind_of e, among_faults kind, is_for.0)
   where
     not_taken : (b : Bool) → takes app words ≡ b → b ≡ false
     not_taken true test_is = absurd (is_for.1 (passes test_is))
@@ -164,6 +176,45 @@ each_argument_is_simple (x ∷ xs) rules_are_simple (suc k) d k_lt_length =
 
 first_and_third : (a b c d : Bool) → (a && (b && (c && d))) ≡ true → (a ≡ true) × (not c ≡ false)
 first_and_third a b c d all_four = grind (arith, common_steps, and_parts)
+
+one_of_known_is_known : (t : Text) (ws : List Text) → list_all has_known_names ws ≡ true
+    → list_any (λ (w : Text). bytes_eq w t) ws ≡ true → has_known_names t ≡ true
+one_of_known_is_known t [] all_known is_one = absurd (true≢false (sym is_one))
+one_of_known_is_known t (w ∷ ws) all_known is_one =
+    let known = and_parts (has_known_names w) (list_all has_known_names ws) all_known in
+    elim (or_cases (bytes_eq w t) _ is_one) [
+      | inl equal ↦ subst (λ (x : Text). has_known_names x ≡ true) ((bytes_eq-Decides w t).0 equal)
+          known.0
+      | inr later ↦ one_of_known_is_known t ws known.1 later
+    ]
+
+filter_passes : (ws : List Text) → list_all has_known_names (filter has_known_names ws) ≡ true
+filter_passes [] = refl
+filter_passes (w ∷ ws) = by_test (has_known_names w) refl (filter_passes ws)
+  where
+    by_test : (b : Bool) → has_known_names w ≡ b
+        → list_all has_known_names (filter has_known_names ws) ≡ true
+        → list_all has_known_names (filter has_known_names (w ∷ ws)) ≡ true
+    by_test true known later = rw (known, known, later) refl
+    by_test false unknown later = rw unknown later
+
+all_of_both : (vs ws : List Text) → list_all has_known_names vs ≡ true
+    → list_all has_known_names ws ≡ true → list_all has_known_names (vs ++ ws) ≡ true
+all_of_both [] ws first second = second
+all_of_both (v ∷ vs) ws first second =
+    let known = and_parts (has_known_names v) (list_all has_known_names vs) first in
+    rw known.0 (all_of_both vs ws known.1 second)
+
+all_parts_are_known : (words : List Text)
+    → list_all has_known_names (flat_map known_parts words) ≡ true
+all_parts_are_known [] = refl
+all_parts_are_known (word ∷ words) =
+    all_of_both (known_parts word) (flat_map known_parts words)
+    (filter_passes (slice_split (λ b. b == 61) word)) (all_parts_are_known words)
+
+-- the texts that `--report` takes have names of sections alone
+report_texts_are_known : (words : List Text) → list_all has_known_names (report_texts words) ≡ true
+report_texts_are_known words = all_parts_are_known words
 
 known_word_is_form : (t : Text) → list_any (λ (w : Text). bytes_eq w t) form_words ≡ true
     → (form : Form) × (t ≡ form_word form)
@@ -227,14 +278,14 @@ listed_index_is_only rs d id k only_k_has_id j j_lt_length has_id =
     equal_if_listed (inl is_that_index) = eqb-true j k is_that_index
     equal_if_listed (inr is_that_index) = absurd (true≢false (sym is_that_index))
 
-module _ (forms : Bor (List (Bor Text))) where
+module _ (texts forms : Bor (List (Bor Text))) where
   abbrev pub the_rules : List Rule
   the_rules =
       number_rule (codes "workers") ∷ number_rule (codes "pieces") ∷ text_rule (codes "only")
-      ∷ text_rule (codes "report") ∷ form_rule forms ∷ flag_rule (codes "essential") ∷ flag_rule
-      (codes "open") ∷ file_rule ∷ []
+      ∷ report_rule texts ∷ form_rule forms ∷ flag_rule (codes "essential")
+      ∷ flag_rule (codes "open") ∷ text_rule (codes "against") ∷ file_rule ∷ []
 
-  module _ (c : Command) (app_is : app_of c ≡ command_of (form_rule forms)) where
+  module _ (c : Command) (app_is : app_of c ≡ command_of (report_rule texts) (form_rule forms)) where
     rules_are : map rule_of (args_of c) ≡ the_rules
     unfolding command_of
     rules_are = ap (λ (a : App). a.top.rules) app_is
@@ -384,14 +435,41 @@ module _ (forms : Bor (List (Bor Text))) where
           ∙ is_accepted)) in
           (word.0, default_read.text_is_first ∙ ap Some word.1)
 
+      report_read : list_all has_known_names (map (λ t. t.now) texts.now) ≡ true → HasSections m
+      report_read all_known =
+          let argument =
+          defaulted 3 (codes "report") (codes "all") (Names texts) (omega arith)
+          (λ _. refl) refl refl refl refl refl
+          (listed_index_is_only the_rules file_rule (codes "report") 3 refl)
+          (tested_different_differ _ _ refl)
+          (λ is_automatic_id. elim is_automatic_id [
+            | inl is_help ↦ tested_different_differ _ _ refl is_help
+            | inr is_version ↦ tested_different_differ _ _ refl is_version
+          ]) in
+          let default_read =
+          default_is_read c m p has_no_globals built_has_none 3 argument.0 (codes "report")
+          (Names texts)
+          argument.1 in
+          let is_accepted : list_any (λ t. bytes_eq t.now default_read.text) texts.now ≡ true =
+          rw argument.2 at default_read.text_is_accepted in (
+            default_read.text,
+            default_read.text_is_first,
+            one_of_known_is_known default_read.text (map (λ t. t.now) texts.now) all_known
+                (sym (list_any-map (λ (w : Text). bytes_eq w default_read.text) (λ t. t.now)
+                texts.now)
+                ∙ is_accepted),
+          )
+
 pub parsed_matches_are_found : (c : Command) (m : ArgMatches) (words : List Text)
-    → IsCommand (app_of c)
+    → IsCommand words (app_of c)
     → IsParsedFrom c m → fault_of (app_of c) words ≡ [] → HasMatchesOf (app_of c) words m
     → Finds words m
 parsed_matches_are_found c m words is_command_app p no_fault has_matches =
+    let texts = is_command_app.is_report.0 in
     let forms = is_command_app.is_form.0 in
-    let app_is : app_of c ≡ command_of (form_rule forms) =
-    is_command_app.app_is_command ∙ ap command_of is_command_app.is_form.2 in
+    let app_is : app_of c ≡ command_of (report_rule texts) (form_rule forms) =
+    is_command_app.app_is_command
+    ∙ ap₂ command_of is_command_app.is_report.2 is_command_app.is_form.2 in
     record {
       app = app_of c;
       command = is_command_app;
@@ -399,10 +477,13 @@ parsed_matches_are_found c m words is_command_app p no_fault has_matches =
       rows =
           (has_matches
           (and_parts (is_simple (app_of c)) (is_free_app (built (app_of c)))
-          (command_app_is_simple_and_free (app_of c) is_command_app)).0).0;
-      workers = workers_read forms c app_is m p;
-      pieces = pieces_read forms c app_is m p;
-      form = form_read forms c app_is m p is_command_app.is_form.1;
+          (command_app_is_simple_and_free words (app_of c) is_command_app)).0).0;
+      workers = workers_read texts forms c app_is m p;
+      pieces = pieces_read texts forms c app_is m p;
+      sections =
+          report_read texts forms c app_is m p
+          (ap (list_all has_known_names) is_command_app.is_report.1 ∙ report_texts_are_known words);
+      form = form_read texts forms c app_is m p is_command_app.is_form.1;
     }
 
 -- ---- what a line says
@@ -423,15 +504,15 @@ pub line_is_read : (words : List Text) (m : ArgMatches) → Finds words m → (l
     → option_map digits (one_text (found_of m) (codes "workers")) ≡ Some line.plan.workers
     → 1 ≤ line.plan.workers → line.plan.workers ≤ 64
     → only_of line.plan ≡ first_value (found_of m) (codes "only")
-    → has_known_names (first_value (found_of m) (codes "report")) ≡ true
     → line.plan.choice ≡ sections_in (first_value (found_of m) (codes "report"))
     → first_value (found_of m) (codes "form") ≡ Some (form_word line.plan.form)
     → IsFlag (one_text (found_of m) (codes "essential")) line.plan.essential
     → IsFlag (one_text (found_of m) (codes "open")) line.plan.with_open
+    → option_map string_bytes line.against ≡ first_value (found_of m) (codes "against")
     → option_map string_bytes line.file ≡ first_value (found_of m) (codes "FILE")
     → AreReadAs words line
 line_is_read words m f line n cuts_are pieces_are one_le_pieces pieces_le_64 workers_are
-    one_le_workers workers_le_64 only_is known_names choice_is form_is essential_is with_open_is
+    one_le_workers workers_le_64 only_is choice_is form_is essential_is with_open_is against_is
     file_is =
     let rows = matches_of f.app words in
     let first_values_are = first_value_of_rows_is (found_of m) rows f.rows in
@@ -448,9 +529,11 @@ line_is_read words m f line n cuts_are pieces_are one_le_pieces pieces_le_64 wor
         );
         workers = ap (option_map digits) (sym (one_texts_are (codes "workers"))) ∙ workers_are;
         only = sym (first_values_are (codes "only")) ∙ sym only_is;
-        known_names =
-            subst (λ entry. has_known_names entry ≡ true) (first_values_are (codes "report"))
-            known_names;
+        known_names = (
+          f.sections.0,
+          sym (first_values_are (codes "report")) ∙ f.sections.1,
+          f.sections.2,
+        );
         choice = choice_is ∙ ap sections_in (first_values_are (codes "report"));
         form = sym (first_values_are (codes "form")) ∙ form_is;
         essential =
@@ -459,6 +542,7 @@ line_is_read words m f line n cuts_are pieces_are one_le_pieces pieces_le_64 wor
         with_open =
             subst (λ entry. IsFlag entry line.plan.with_open) (one_texts_are (codes "open"))
             with_open_is;
+        against = sym (first_values_are (codes "against")) ∙ sym against_is;
         file = sym (first_values_are (codes "FILE")) ∙ sym file_is;
         lawful = (
           subst IsLawfulCutting (sym cuts_are) (one_le_pieces, pieces_le_64),
@@ -466,22 +550,4 @@ line_is_read words m f line n cuts_are pieces_are one_le_pieces pieces_le_64 wor
           workers_le_64,
         );
       },
-    )
-
--- what the sections that `--report` requests are refused with, is a refusal of the words
-pub sections_refused : (words : List Text) (m : ArgMatches) → Finds words m → (e : LineRefused)
-    → IsBadOrMemory e
-    → ((text : _) → e ≡ Bad text
-    → has_known_names (first_value (found_of m) (codes "report")) ≡ false)
-    → IsLineRefusal words e
-sections_refused words m f Memory is_bad has_unknown_name = tt
-sections_refused words m f (Help text) is_bad has_unknown_name = absurd is_bad
-sections_refused words m f (Bad text) is_bad has_unknown_name =
-    inr (
-      f.app,
-      f.command,
-      f.no_fault,
-      subst (λ entry. has_known_names entry ≡ false)
-          (first_value_of_rows_is (found_of m) (matches_of f.app words) f.rows (codes "report"))
-          (has_unknown_name text refl),
     )

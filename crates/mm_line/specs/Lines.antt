@@ -2,8 +2,8 @@
 -- states them: `matches_of` is what it finds in the words, and `fault_of` the kinds of error that
 -- the words may have.
 use Rattle.std.specs.Prelude.{◌≡◌, ◌==◌, ◌||◌, ℕ, Bool, true, false, ◌⊎◌, List, [], ◌∷◌, map}
-use Rattle.std.specs.Prelude.{Option, Some, None, codes, pos, ⊤}
-use Rattle.std.specs.List.{slice_split, list_all}
+use Rattle.std.specs.Prelude.{Option, Some, None, codes, flat_map, pos, ◌++◌, ⊤}
+use Rattle.std.specs.List.{slice_split, list_all, filter}
 use Rattle.std.specs.Option.{option_map}
 use Rattle.std.specs.String.{string_bytes}
 use Rattle.std.specs.Borrow.{Bor}
@@ -38,10 +38,20 @@ section_names =
     codes "all" ∷ codes "matrix" ∷ codes "counts" ∷ codes "usage" ∷ codes "citations"
     ∷ codes "statements" ∷ []
 
--- whether each name of the entry of `--report` is one of these, if there is an entry
-abbrev pub has_known_names : Option Text → Bool
-has_known_names None = true
-has_known_names (Some text) = list_all (λ name. is_in name section_names) (names_in text)
+-- whether each name of a text is one of these
+abbrev pub has_known_names : Text → Bool
+has_known_names text = list_all (λ name. is_in name section_names) (names_in text)
+
+-- the parts of a word between `=` (61) that have such names alone
+abbrev pub known_parts : Text → List Text
+known_parts word = filter has_known_names (slice_split (λ b. b == 61) word)
+
+-- the texts that `--report` takes of these words: the names that it takes, and what of the words
+-- has such names alone. So a list of names is taken wherever it stands, as the word after
+-- `--report` or behind `--report=`
+abbrev pub report_texts : List Text → List Text
+report_texts words =
+    section_names ++ flat_map known_parts words
 
 -- the sections with these names; `all` are those that a report has by default
 abbrev pub sections_named : List Text → Sections
@@ -78,10 +88,6 @@ number_rule id = record (new_rule id) {
   parser = Some (Signed (pos 1) (pos 64));
 }
 
--- an option with any text
-abbrev pub text_rule : Text → Rule
-text_rule id = record (new_rule id) { long = Some id; action = Some Set; value_names = 1 }
-
 -- an option with one of the given words; the second argument is its default
 abbrev pub word_rule : Text → Text → Bor (List (Bor Text)) → Rule
 word_rule id default names = record (new_rule id) {
@@ -91,6 +97,20 @@ word_rule id default names = record (new_rule id) {
   defaults = default ∷ [];
   parser = Some (Names names);
 }
+
+-- the option `--report` with the texts that it takes, `all` by default
+abbrev pub report_rule : Bor (List (Bor Text)) → Rule
+report_rule texts = word_rule (codes "report") (codes "all") texts
+
+-- the rule of `--report` for these words, wherever in memory its texts are
+abbrev pub IsReportRule : List Text → Rule → Type 0
+IsReportRule words rule =
+    (texts : Bor (List (Bor Text))) × (map (λ t. t.now) texts.now ≡ report_texts words)
+    × (rule ≡ report_rule texts)
+
+-- an option with any text
+abbrev pub text_rule : Text → Rule
+text_rule id = record (new_rule id) { long = Some id; action = Some Set; value_names = 1 }
 
 abbrev pub form_rule : Bor (List (Bor Text)) → Rule
 form_rule names = word_rule (codes "form") (codes "1") names
@@ -115,9 +135,9 @@ app_with_name =
     record app { top = record app.top { has_version = true } }
 
 -- mmdepend [--workers N] [--pieces N] [--only T] [--report PART] [--form N] [--essential] [--open]
--- [FILE]
-unfoldable pub command_of : Rule → App
-command_of form_option =
+-- [--against OLD] [FILE]
+unfoldable pub command_of : (report_option form_option : Rule) → App
+command_of report_option form_option =
     with_rule
     (with_rule
     (with_rule
@@ -125,15 +145,19 @@ command_of form_option =
     (with_rule
     (with_rule
     (with_rule
+    (with_rule
     (with_rule app_with_name (number_rule (codes "workers"))) (number_rule (codes "pieces")))
-    (text_rule (codes "only"))) (text_rule (codes "report"))) form_option) (flag_rule (codes "essential")))
-    (flag_rule (codes "open"))) file_rule
+    (text_rule (codes "only"))) report_option) form_option) (flag_rule (codes "essential")))
+    (flag_rule (codes "open"))) (text_rule (codes "against"))) file_rule
 
--- the command line's description, for some list of the words of `--form`
-pub record IsCommand (app : App) : Type 0 where
+-- the command line's description for these words, wherever in memory the texts of `--report` and
+-- the words of `--form` are
+pub record IsCommand (words : List Text) (app : App) : Type 0 where
+  pub report_option : Rule
+  pub is_report : IsReportRule words report_option
   pub form_option : Rule
   pub is_form : IsFormRule form_option
-  pub app_is_command : app ≡ command_of form_option
+  pub app_is_command : app ≡ command_of report_option form_option
 
 -- the number that an entry spells
 abbrev pub number_of : Text → List Row → Option ℕ
@@ -150,38 +174,34 @@ pub record IsLine (rows : List Row) (line : Line) : Type 0 where
   pub pieces : (n : ℕ) × (line.plan.cuts ≡ Count n) × (number_of (codes "pieces") rows ≡ Some n)
   pub workers : number_of (codes "workers") rows ≡ Some line.plan.workers
   pub only : first_of (codes "only") rows ≡ only_of line.plan
-  pub known_names : has_known_names (first_of (codes "report") rows) ≡ true
+  pub known_names : (text : Text) × (first_of (codes "report") rows ≡ Some text)
+      × (has_known_names text ≡ true)
   pub choice : line.plan.choice ≡ sections_in (first_of (codes "report") rows)
   pub form : first_of (codes "form") rows ≡ Some (form_word line.plan.form)
   pub essential : IsFlag (one_of (codes "essential") rows) line.plan.essential
   pub with_open : IsFlag (one_of (codes "open") rows) line.plan.with_open
+  pub against : first_of (codes "against") rows ≡ option_map string_bytes line.against
   pub file : first_of (codes "FILE") rows ≡ option_map string_bytes line.file
   pub lawful : IsLawfulPlan line.plan
 
 -- the command finds no fault in the words, and the line is what they say
 abbrev pub AreReadAs : List Text → Line → Type 0
 AreReadAs words line =
-    (app : App) × IsCommand app × (fault_of app words ≡ []) × IsLine (matches_of app words) line
+    (app : App) × IsCommand words app × (fault_of app words ≡ [])
+    × IsLine (matches_of app words) line
 
 -- the command doesn't accept the words, and the fault satisfies the predicate
 abbrev pub AreRefusedFor : List Text → (ErrorKind → Type 0) → Type 0
 AreRefusedFor words P =
-    (app : App) × IsCommand app × (takes app words ≡ false) × (kind : ErrorKind)
+    (app : App) × IsCommand words app × (takes app words ≡ false) × (kind : ErrorKind)
     × IsAmong kind (fault_of app words) × P kind
 
 -- help or the version is requested
 abbrev pub IsHelpOrVersion : ErrorKind → Type 0
 IsHelpOrVersion kind = (kind ≡ DisplayHelp) ⊎ (kind ≡ DisplayVersion)
 
--- the command accepts the words, but in the entry of `--report` there is another name
-abbrev pub HaveUnknownName : List Text → Type 0
-HaveUnknownName words =
-    (app : App) × IsCommand app × (fault_of app words ≡ [])
-    × (has_known_names (first_of (codes "report") (matches_of app words)) ≡ false)
-
 -- Help or the version is requested, or the words have another fault. Nothing is said of `Memory`.
 abbrev pub IsLineRefusal : List Text → LineRefused → Type 0
 IsLineRefusal words (Help text) = AreRefusedFor words IsHelpOrVersion
-IsLineRefusal words (Bad text) =
-    AreRefusedFor words (λ kind. ¬ IsHelpOrVersion kind) ⊎ HaveUnknownName words
+IsLineRefusal words (Bad text) = AreRefusedFor words (λ kind. ¬ IsHelpOrVersion kind)
 IsLineRefusal words Memory = ⊤

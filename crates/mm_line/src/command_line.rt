@@ -3,17 +3,23 @@
 use mm_plan::Plan;
 use std::alloc::{AllocError, Global};
 
-/// What the words of a command line say: what the run is requested to do, and the file that it
-/// reads (`None`: standard input).
+/// What the words of a command line say: what the run is requested to do, the file with which its
+/// file is compared, if it is (`-`: standard input), and the file that it reads (`None` or `-`:
+/// standard input).
 pub struct Line {
     pub plan: Plan<Global>,
+    pub against: Option<String>,
     pub file: Option<String>,
 }
 
 /// Dropped in one call: docs/PROOFS.md, "What a check costs".
 impl Drop for Line {
     fn drop(self) {
-        let Self { plan: _, file: _ } = self;
+        let Self {
+            plan: _,
+            against: _,
+            file: _,
+        } = self;
     }
 }
 

@@ -1,7 +1,7 @@
 //! The words of a command line. This crate knows clap's command and what the words say: a plan and
-//! the file to read. `line` promises that each field of the line is the value that clap finds in
+//! the files to read. `line` promises that each field of the line is the value that clap finds in
 //! the words for its argument, that the plan is lawful, and that words that the command accepts are
-//! refused only if `--report` has an unknown name, or if out of memory. It reads no database.
+//! refused only if out of memory. It reads no database.
 #![tactic(auto)]
 
 mod command_line;

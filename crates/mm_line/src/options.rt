@@ -1,19 +1,18 @@
 //! Reading the words of a command line.
 
-ghost use Rattle.std.specs.Prelude.{◌≡◌, ◌≤◌, IfOk, IfErr, Some, codes, map, option_map};
+ghost use Rattle.std.specs.Prelude.{◌≡◌, ◌≤◌, List, IfOk, IfErr, Some, codes, map, option_map};
+ghost use Rattle.clap.specs.Walk.{Text};
 ghost use Rattle.std.specs.Prelude.{true, false};
 ghost use Rattle.std.specs.String.{string_bytes};
 ghost use Rattle.std.specs.Str.Parse.{digits_value, without_leading_plus};
 ghost use Rattle.clap.specs.Words.{app_of, first_value, found_of, kind_of, one_text, rule_of};
-ghost use Rattle.mm_line.specs.Found.{Finds, HasForm, HasNumber, IsBadOrMemory, IsRefusalForKind};
-ghost use Rattle.mm_line.specs.Lines.{IsCommand, IsFormRule, IsLineRefusal};
-ghost use Rattle.mm_line.specs.Lines.{AreReadAs};
-ghost use Rattle.mm_line.specs.Lines.{file_rule, flag_rule, form_word, number_rule, text_rule};
-ghost use Rattle.mm_line.specs.Lines.{has_known_names, sections_in as spec_sections_in};
-ghost use Rattle.mm_line.specs.declared.command_line.LineRefused.TheVariants.{Bad};
+ghost use Rattle.mm_line.specs.Found.{Finds, HasForm, HasNumber, HasSections, IsRefusalForKind};
+ghost use Rattle.mm_line.specs.Lines.{AreReadAs, IsCommand, IsFormRule, IsLineRefusal};
+ghost use Rattle.mm_line.specs.Lines.{file_rule, flag_rule, form_word, number_rule, report_rule};
+ghost use Rattle.mm_line.specs.Lines.{report_texts, sections_in as spec_sections_in, text_rule};
 
 use crate::command_line::{Line, LineRefused};
-use crate::sections::{sections_named_in, unknown_name};
+use crate::sections::{report_texts, sections_named_in};
 use clap::error::ErrorKind;
 use clap::{Arg, ArgAction, ArgMatches, Command, Error};
 use mm_plan::{Cutting, Plan};
@@ -21,16 +20,6 @@ use mm_spec::{Form, Sections};
 use mm_version::VERSION;
 use std::alloc::{AllocError, Global};
 use std::convert::AsStr;
-
-/// The names that `--report` takes, for the message of clap: `section_names` of `Lines.antt`.
-static SECTION_NAMES: [&str; 6] = [
-    "all",
-    "matrix",
-    "counts",
-    "usage",
-    "citations",
-    "statements",
-];
 
 static FORMS: [&str; 2] = ["1", "2"];
 
@@ -66,17 +55,20 @@ fn only_option<'a>(alloc: Global) -> Arg<'a>
         .help("Report on the axioms of typecode T alone, such as '|-'")
 }
 
-/// The option that chooses the sections.
-fn report_option<'a>(alloc: Global) -> Arg<'a>
-    ensures { rule_of result ≡ text_rule (codes "report") }
+/// The option that chooses the sections, which takes one of these texts.
+fn report_option<'a>(alloc: Global, texts: &'a [&'a str]) -> Arg<'a>
+    ensures { rule_of result ≡ report_rule texts.entry }
 {
     Arg::new(alloc, "report")
         .long("report")
         .action(ArgAction::Set)
         .value_name("PART")
+        .value_parser(texts)
+        .hide_possible_values(true)
+        .default_value("all")
         .help(
             "Write these parts of the report, with commas between them: \
-               matrix, counts, usage, citations, statements, or all, which is the first three [default: all]",
+               matrix, counts, usage, citations, statements, or all, which is the first three",
         )
 }
 
@@ -113,6 +105,17 @@ fn open_flag<'a>(alloc: Global) -> Arg<'a>
         .help("Count a theorem whose proof is ? as an axiom")
 }
 
+/// The option that names the database with which the other one is compared.
+fn against_option<'a>(alloc: Global) -> Arg<'a>
+    ensures { rule_of result ≡ text_rule (codes "against") }
+{
+    Arg::new(alloc, "against")
+        .long("against")
+        .action(ArgAction::Set)
+        .value_name("OLD")
+        .help("Write what FILE has and OLD hasn't, and the other way round, in place of the report")
+}
+
 /// The argument that names the database.
 fn file_argument<'a>(alloc: Global) -> Arg<'a>
     ensures { rule_of result ≡ file_rule }
@@ -122,18 +125,20 @@ fn file_argument<'a>(alloc: Global) -> Arg<'a>
     )
 }
 
-/// The command, with one line of help for each argument.
-fn command<'a>(alloc: Global) -> Result<Command<'a>, AllocError>
-    ensures { IfOk result (λ c. IsCommand (app_of c)) }
+/// The command, with one line of help for each argument. `--report` takes one of these texts.
+fn command<'a>(alloc: Global, texts: &'a [&'a str]) -> Result<Command<'a>, AllocError>
+    ensures { (words : List Text) → map (λ t. t.now) texts.now ≡ report_texts words
+        → IfOk result (λ c. IsCommand words (app_of c)) }
 {
     let arguments = vec![in alloc;
         number_option(alloc, "workers", "Check the proofs by N threads, 1 to 64"),
         number_option(alloc, "pieces", "Read the text in N pieces, 1 to 64"),
         only_option(alloc),
-        report_option(alloc),
+        report_option(alloc, texts),
         form_option(alloc),
         essential_flag(alloc),
         open_flag(alloc),
+        against_option(alloc),
         file_argument(alloc),
     ]?;
     Command::new(alloc, "mmdepend")
@@ -155,12 +160,17 @@ fn refusal_of(alloc: Global, error: &Error) -> Result<LineRefused, AllocError>
     })
 }
 
-/// What clap finds in the words.
-fn find_matches<'a, S: AsStr>(alloc: Global, words: &'a [S]) -> Result<ArgMatches<'a>, LineRefused>
+/// What clap finds in the words, where `--report` takes one of these texts.
+fn find_matches<'a, S: AsStr>(
+    alloc: Global,
+    words: &'a [S],
+    texts: &'a [&'a str],
+) -> Result<ArgMatches<'a>, LineRefused>
+    requires { map (λ t. t.now) texts.now ≡ report_texts (map S.text words.now) }
     ensures are_found { IfOk result (λ m. Finds (map S.text words.entry.now) m) }
     ensures is_refused { IfErr result (λ e. IsLineRefusal (map S.text words.entry.now) e) }
 {
-    match command(alloc)?.try_get_matches_from(words) {
+    match command(alloc, texts)?.try_get_matches_from(words) {
         Ok(matches) => Ok(matches),
         Err(error) => Err(refusal_of(alloc, &error)?),
     }
@@ -181,53 +191,13 @@ fn number_in(matches: &ArgMatches<'_>, option: &str) -> u32
     }
 }
 
-/// The refusal that an error of clap leads to, which isn't help.
-fn bad_words(alloc: Global, error: &Error) -> Result<LineRefused, AllocError>
-    ensures { IfOk result IsBadOrMemory }
+/// The sections that `--report` requests.
+fn sections_in(matches: &ArgMatches<'_>) -> Sections
+    ensures { result ≡ spec_sections_in (first_value (found_of matches.now) (codes "report")) }
 {
-    if error.kind() == ErrorKind::OutOfMemory {
-        return Ok(LineRefused::Memory);
-    }
-    Ok(LineRefused::Bad(error.to_string(alloc)?))
-}
-
-/// The refusal of clap for words whose `--report` has a value that isn't among the names.
-fn refused_value(alloc: Global, words: &[&str]) -> Result<LineRefused, AllocError>
-    ensures { IfOk result IsBadOrMemory }
-{
-    let option = report_option(alloc).value_parser(SECTION_NAMES.as_slice());
-    match Command::new(alloc, "mmdepend")
-        .arg(option)?
-        .try_get_matches_from(words)
-    {
-        Ok(_) => Ok(LineRefused::Bad(String::new(alloc))),
-        Err(error) => bad_words(alloc, &error),
-    }
-}
-
-/// The refusal for a name that no section has: that of clap, which may have a tip.
-fn unknown_section(alloc: Global, name: &str) -> Result<LineRefused, AllocError>
-    ensures { IfOk result IsBadOrMemory }
-{
-    let word = format!(in alloc; "--report={name}")?;
-    refused_value(alloc, &["mmdepend", word.as_str()])
-}
-
-/// The sections that `--report` requests, or the refusal for a name that no section has.
-fn sections_in(alloc: Global, matches: &ArgMatches<'_>) -> Result<Sections, LineRefused>
-    ensures are_sections { IfOk result (λ sections.
-        (has_known_names (first_value (found_of matches.now) (codes "report")) ≡ true)
-        × (sections ≡ spec_sections_in (first_value (found_of matches.now) (codes "report")))) }
-    ensures is_refused { IfErr result IsBadOrMemory }
-    ensures has_unknown_name { IfErr result (λ refused. (text : _) → refused ≡ Bad text
-        → has_known_names (first_value (found_of matches.now) (codes "report")) ≡ false) }
-{
-    let Some(text) = matches.get_str("report") else {
-        return Ok(Sections::by_default());
-    };
-    match unknown_name(text) {
-        Some(name) => Err(unknown_section(alloc, name)?),
-        None => Ok(sections_named_in(text)),
+    match matches.get_str("report") {
+        Some(text) => sections_named_in(text),
+        None => Sections::by_default(),
     }
 }
 
@@ -264,16 +234,22 @@ pub fn line<S: AsStr>(alloc: Global, words: &[S]) -> Result<Line, LineRefused>
     ensures is_read { IfOk result (λ l. AreReadAs (map S.text words.now) l) }
     ensures is_refused { IfErr result (λ e. IsLineRefusal (map S.text words.now) e) }
 {
-    let matches = find_matches(alloc, words)?;
+    let texts = report_texts(alloc, words)?;
+    let matches = find_matches(alloc, words, &texts)?;
     let plan = Plan {
         cuts: Cutting::Count(number_in(&matches, "pieces")),
         workers: number_in(&matches, "workers"),
         only: text_in(alloc, &matches, "only")?,
-        choice: sections_in(alloc, &matches)?,
+        choice: sections_in(&matches),
         form: form_in(&matches),
         essential: matches.get_flag("essential"),
         with_open: matches.get_flag("open"),
     };
+    let against = text_in(alloc, &matches, "against")?;
     let file = text_in(alloc, &matches, "FILE")?;
-    Ok(Line { plan, file })
+    Ok(Line {
+        plan,
+        against,
+        file,
+    })
 }

@@ -1,10 +1,14 @@
 //! The sections that the text of `--report` names.
 
-ghost use Rattle.std.specs.Prelude.{◌≡◌, ◌==◌, find, not, option_map};
+ghost use Rattle.std.specs.Prelude.{◌≡◌, ◌==◌, IfOk, map};
+ghost use Rattle.std.specs.List.{slice_split, filter};
 ghost use Rattle.mm_spec.specs.Text.{is_in};
-ghost use Rattle.mm_line.specs.Lines.{names_in, section_names, sections_named};
+ghost use Rattle.mm_line.specs.Lines.{has_known_names, names_in, report_texts, section_names};
+ghost use Rattle.mm_line.specs.Lines.{sections_named};
 
 use mm_spec::Sections;
+use std::alloc::{AllocError, Global};
+use std::convert::AsStr;
 
 /// Whether a section, or `all`, has this name.
 fn is_known(name: &str) -> bool
@@ -18,12 +22,46 @@ fn is_known(name: &str) -> bool
         || name == "statements"
 }
 
-/// The first name of the text that no section has.
-pub(crate) fn unknown_name(text: &str) -> Option<&str>
-    ensures { option_map (λ s. s.now) result
-        ≡ find (λ name. not (is_in name section_names)) (names_in text.now) }
+/// Whether each name of the text is that of a section, or `all`.
+fn has_known_names(text: &str) -> bool
+    ensures { result ≡ has_known_names text.now }
 {
-    text.split(',').find(|name| !is_known(name))
+    text.split(',').all(|name| is_known(name))
+}
+
+/// The parts of a word between `=` that have known names alone.
+fn known_parts<'a>(alloc: Global, word: &'a str) -> Result<Vec<&'a str>, AllocError>
+    ensures { IfOk result
+        (λ v. map (λ t. t.now) v.items
+        ≡ filter has_known_names (slice_split (λ b. b == 61) word.entry.now)) }
+{
+    word.split('=')
+        .filter(|part| has_known_names(part))
+        .collect(alloc)
+}
+
+/// The texts that `--report` takes of these words: the names of sections, and what else of the
+/// words lists such names with commas between them.
+pub(crate) fn report_texts<'a, S: AsStr>(
+    alloc: Global,
+    words: &'a [S],
+) -> Result<Vec<&'a str>, AllocError>
+    ensures { IfOk result
+        (λ v. map (λ t. t.now) v.items ≡ report_texts (map S.text words.entry.now)) }
+{
+    let mut texts: Vec<&'a str> = vec![in alloc;
+        "all",
+        "matrix",
+        "counts",
+        "usage",
+        "citations",
+        "statements",
+    ]?;
+    for word in words {
+        let parts = known_parts(alloc, word.as_str())?;
+        texts.extend_from_slice(&parts)?;
+    }
+    Ok(texts)
 }
 
 /// Whether the text has this name.

@@ -76,7 +76,7 @@ fn send_cited<W: Write, D: Allocator>(
 }
 
 /// Sends a theorem's line.
-fn send_citation_line<W: Write, D: Allocator>(
+pub(crate) fn send_citation_line<W: Write, D: Allocator>(
     sink: &mut Sink,
     to: &mut W,
     database: &Database<'_, D>,

@@ -64,3 +64,26 @@ pub fn write_refusal<W: Write>(to: &mut W, text: &[u8], fault: &Fault) -> Result
     send_refusal(&mut sink, to, text, fault);
     sink.finish(to)
 }
+
+/// Writes the refusal of one of two texts for a fault, after a word and a space that say which text
+/// it is. Returns `WriteFailed` if a write failed or accepted no byte of a piece that wasn't empty;
+/// then a prefix of both has been written.
+pub fn write_refusal_after<W: Write>(
+    to: &mut W,
+    word: &[u8],
+    text: &[u8],
+    fault: &Fault,
+) -> Result<(), WriteFailed>
+    ensures refusal_is_written { OnOk result
+        (Appends (W.contents to.old) (W.contents to.new)
+        (word.now ++ refusal text.now fault.now)) }
+    ensures prefix_is_written { OnErr result
+        ((k : ℕ)
+        × Appends (W.contents to.old) (W.contents to.new)
+        (take k (word.now ++ refusal text.now fault.now))) }
+{
+    let mut sink = Sink::new();
+    sink.send(to, word);
+    send_refusal(&mut sink, to, text, fault);
+    sink.finish(to)
+}

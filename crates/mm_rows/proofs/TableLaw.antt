@@ -3,6 +3,7 @@ use Rattle.std.proofs.lemmas.Grind.{common_steps}
 use Rattle.std.proofs.lemmas.Bool.Decides.{nat_tests}
 use Rattle.std.proofs.Common.{◌≡◌, ℕ, Bool, true, false, List, ◌<◌, ◌≤◌, ◌*◌, length, subst, sym}
 use Rattle.std.proofs.Common.{ap₂, refl, arith, Option, count_by, ◌∙◌, ◌-◌, ◌^◌, min, rules}
+use Rattle.std.proofs.Common.{◌⊎◌, inl, inr, true≢false}
 use Rattle.std.proofs.lemmas.Bool.{cases_lt}
 use Rattle.std.proofs.lemmas.List.FromFn.{get_or-map-range_with_len}
 use Rattle.std.specs.List.{range_with_len}
@@ -85,6 +86,32 @@ module _ (m : Marks) (j : ℕ) (bits : List ℕ) (are_bits : AreBitsOfColumn m j
   pub no_bit_no_user : ((k : ℕ) → from ≤ k → is_bit bits k ≡ false)
       → (k : ℕ) → IsAbove after k → k < m.rows → mark m k j ≡ false
   no_bit_no_user none_is_set k is_above k_lt_rows = grind arith
+
+-- the marks of a row by its bits
+module _ (m : Marks) (row : ℕ) (bits : List ℕ) (has_bits : AreBitsOfRow m row bits) (from : ℕ) where
+  pub set_bit_is_next_marked : (j : ℕ) → from ≤ j → is_bit bits j ≡ true
+      → ((k : ℕ) → from ≤ k → k < j → is_bit bits k ≡ false)
+      → (j < m.columns) × (mark m row j ≡ true)
+      × ((k : ℕ) → from ≤ k → k < j → mark m row k ≡ false)
+  set_bit_is_next_marked j from_le_j bit_is_set none_between =
+      by_place (cases_lt j m.columns)
+    where
+      by_place : (j < m.columns) ⊎ (m.columns ≤ j)
+          → (j < m.columns) × (mark m row j ≡ true)
+          × ((k : ℕ) → from ≤ k → k < j → mark m row k ≡ false)
+      by_place (inl within) = (
+        within,
+        sym (has_bits.bits_are_marks j within) ∙ bit_is_set,
+        λ k from_le_k k_lt_j. sym (has_bits.bits_are_marks k (omega (arith, within, k_lt_j)))
+            ∙ none_between k from_le_k k_lt_j,
+      )
+      by_place (inr past) =
+          absurd (true≢false (sym bit_is_set ∙ has_bits.none_past_end j past))
+
+  pub no_bit_no_mark : ((k : ℕ) → from ≤ k → is_bit bits k ≡ false)
+      → (k : ℕ) → from ≤ k → k < m.columns → mark m row k ≡ false
+  no_bit_no_mark none_is_set k from_le_k k_lt_columns =
+      sym (has_bits.bits_are_marks k k_lt_columns) ∙ none_is_set k from_le_k
 
 -- the rows of all theorems are a table
 pub bit_rows_are_table : (c : Citing) (axioms bits : List ℕ) (rows columns : ℕ)

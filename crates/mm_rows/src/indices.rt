@@ -14,7 +14,7 @@ const NO_INDEX: u32 = 4_294_967_295;
 /// An ascending list of statements, and for each statement up to the last one in the list its index
 /// there, or `NO_INDEX`. So the index of a statement is found in one step.
 #[derive(Drop)]
-pub(crate) struct StatementIndices<'a, A: Allocator> {
+pub struct StatementIndices<'a, A: Allocator> {
     statements: &'a [u32],
     indices: Vec<u32, A>,
 }
@@ -58,10 +58,7 @@ fn set_indices(statements: &[u32], indices: &mut [u32])
 
 impl<'a, A: Allocator + Copy> StatementIndices<'a, A> {
     /// Returns the indices of the statements of an ascending list.
-    pub(crate) fn new(
-        alloc: A,
-        statements: &'a [u32],
-    ) -> Result<StatementIndices<'a, A>, AllocError>
+    pub fn new(alloc: A, statements: &'a [u32]) -> Result<StatementIndices<'a, A>, AllocError>
         requires { IsStatementList statements.now }
         ensures { IfOk result (λ p. p ≡ statements.now) }
     {
@@ -84,7 +81,7 @@ impl<'a, A: Allocator> StatementIndices<'a, A> {
     }
 
     /// Returns the index of a statement in the list, or `None` if it isn't there.
-    pub(crate) fn find(&self, statement: u32) -> Option<usize>
+    pub fn find(&self, statement: u32) -> Option<usize>
         ensures statements_rise { IsStatementList self.now }
         ensures is_index { IfSome result (λ i. (i < length self.now)
             × (slice_index self.now i ≡ statement)) }

@@ -15,10 +15,10 @@ ghost use Rattle.mm_plan.specs.Plans.{IsLawfulPlan, request_of};
 ghost use Rattle.mm_spec.specs.Ends.{Ends};
 
 pub use crate::alone::judge_alone;
-use crate::input::{ReadRefused, read_all};
+pub use crate::input::{ReadRefused, read_all};
 pub use crate::judged_text::JudgedText;
 use crate::output::answer;
-pub use crate::output::write_judged;
+pub use crate::output::{judge, write_judged};
 use mm_plan::Plan;
 pub use mm_spec::RunEnd;
 use std::alloc::Allocator;

@@ -283,6 +283,22 @@ fn check<'a, R: Threads + Wait + Sync, A: Allocator + Copy + Send + Sync>(
     }
 }
 
+/// Cuts a text as the plan says, reads it, and checks all its proofs. Fails only if out of memory.
+pub fn judge<'a, R: Threads + Wait + Sync, A: Allocator + Copy + Send + Sync>(
+    rt: &R,
+    alloc: A,
+    text: &'a [u8],
+    plan: &Plan<A>,
+) -> Result<JudgedText<'a, A>, AllocError>
+    requires length_le_limit { length text.now ≤ reading_limit }
+    requires is_lawful { IsLawfulPlan plan.now }
+    ensures { IfOk result (IsJudgedText text.now plan.now.essential plan.now.with_open) }
+{
+    let database = database_of(rt, alloc, text, plan)?;
+    let judged = check(rt, alloc, &database, plan)?;
+    Ok(judged_text(database, judged))
+}
+
 /// Writes the output of a text: the refusal for its first fault, or the report that the plan
 /// requests.
 pub fn answer<R: Threads + Wait + Sync, A: Allocator + Copy + Send + Sync, W: Write>(
@@ -297,12 +313,8 @@ pub fn answer<R: Threads + Wait + Sync, A: Allocator + Copy + Send + Sync, W: Wr
     ensures { Wrote result text.now (request_of plan.now) (W.contents to.old)
         (W.contents to.new) }
 {
-    let Ok(database) = database_of(rt, alloc, text, plan) else {
+    let Ok(judged) = judge(rt, alloc, text, plan) else {
         return RunEnd::NoMemory;
     };
-    let Ok(judged) = check(rt, alloc, &database, plan) else {
-        return RunEnd::NoMemory;
-    };
-    let judged = judged_text(database, judged);
     write_judged(alloc, text, &plan.request(), &judged, to)
 }

@@ -74,7 +74,7 @@ impl<'a, A: Allocator + Copy> Scope<'a, A> {
             (λ n. faults_at_each (listed_codes n kind) [] (between text.now tokens.now from to))) }
     {
         let is_short = to - from <= MAX_WORDS_COMPARED;
-        let mut seen = NameMap::new(alloc);
+        let mut seen = NameMap::new(alloc, self.names.keys());
         let mut least_found = None;
         for token_index in from..to {
             let repeated = is_repeated(&mut seen, is_short, text, tokens, from, token_index)?;

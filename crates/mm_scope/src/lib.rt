@@ -7,5 +7,6 @@
 
 pub mod formulas;
 pub mod judge;
+mod keys;
 pub mod reading;
 pub mod scope;

@@ -12,10 +12,12 @@ ghost use Rattle.mm_scope.specs.Scopes.{IsAmong, IsScopeAfter, names_in};
 ghost use Rattle.mm_scope.specs.ReadSoFar.{HasReadNext, IsReadSoFar, MayTake, formulas_of};
 ghost use Rattle.mm_scope.specs.ReadSoFar.{read_so_far, reading_of};
 
+use crate::keys::keys_of;
 use crate::scope::Scope;
 use mm_database::names::no_names;
 use mm_database::reading::Reading;
 use mm_database::statements::Statements;
+use mm_database::text_keyed::TextKeyed;
 use mm_lists::{Lists, end_list};
 use mm_outline::blocks::no_blocks;
 use mm_outline::parts::{Kind, NextStatement, Outline, Part, next_statement};
@@ -87,14 +89,14 @@ fn depth_after(kind: Kind, depth: u32) -> u32
 }
 
 /// Returns the names and blocks before the first statement: none.
-fn no_scope<'a, A: Allocator + Copy>(alloc: A) -> Result<Scope<'a, A>, AllocError>
+fn no_scope<'a, A: Allocator + Copy>(alloc: A, keys: TextKeyed) -> Result<Scope<'a, A>, AllocError>
     ensures is_scope_after_none { IfOk result
         (λ s. IsScopeAfter [] s) }
     ensures has_no_names { IfOk result (λ s. names_in s ≡ []) }
 {
     let blocks = no_blocks(alloc)?;
     Ok(Scope {
-        names: no_names(alloc),
+        names: no_names(alloc, keys),
         blocks,
     })
 }
@@ -126,11 +128,14 @@ fn end_fault(lexical: Option<Fault>, text: &[u8], part: Part, depth: u32) -> Opt
 }
 
 /// Returns what there is before the first statement is read.
-fn nothing_read<'a, A: Allocator + Copy>(alloc: A) -> Result<Outlined<'a, A>, AllocError>
+fn nothing_read<'a, A: Allocator + Copy>(
+    alloc: A,
+    keys: TextKeyed,
+) -> Result<Outlined<'a, A>, AllocError>
     ensures { IfOk result
         (λ r. (r.outlines.items ≡ []) × (r.fault ≡ None) × IsReadSoFar [] (read_so_far r)) }
 {
-    let scope = no_scope(alloc)?;
+    let scope = no_scope(alloc, keys)?;
     Ok(Outlined {
         outlines: Vec::new(alloc),
         scope,
@@ -197,7 +202,7 @@ pub fn outline_statements<'a, A: Allocator + Copy>(
         (λ d. IsRead (length text.now) (lexed text.now tokens.now lexical)
         (statements text.now tokens.now d.outlines.items) d.fault) }
 {
-    let mut read = nothing_read(alloc)?;
+    let mut read = nothing_read(alloc, keys_of(text, tokens))?;
     let mut depth = 0;
     let mut token_index = 0;
     'statements: loop {

@@ -19,7 +19,9 @@ use Rattle.mm_spec.specs.Derivation.{Pair, is_member}
 use Rattle.mm_spec.specs.Frame.{symbol_names, formula_at, is_floating, active_of}
 use Rattle.mm_spec.specs.Frame.{mandatory_hypotheses, mandatory_pairs, disjoint_at, pairs_below}
 
--- ---- dummy variables
+-- ---- dummy variables: those that aren't mandatory and whose `$f` the proof names. A compressed
+-- proof may name a `$f` in brackets for which no letter stands. Its variable is a dummy variable
+-- all the same.
 
 -- the labels that a proof names: all its words, or those in brackets if it is compressed
 abbrev pub proof_labels : List Token → List Bytes
@@ -79,7 +81,7 @@ is_with_dummy db k p =
     && ((is_member (dummies db k) p.low || is_member (dummies db k) p.high)
     && disjoint_at db k p.low p.high)
 
--- the same, and statement k uses both
+-- the same, and both are mandatory variables or dummy variables of statement k
 abbrev pub is_dummy_pair : List Statement → ℕ → Pair → Bool
 is_dummy_pair db k p = is_used db k p.low && (is_used db k p.high && is_with_dummy db k p)
 

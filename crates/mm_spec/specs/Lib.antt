@@ -26,4 +26,6 @@ pub mod Report
 pub mod Request
 pub mod Output
 pub mod Ends
+pub mod Comparison
+pub mod ComparisonEnds
 pub mod Laws

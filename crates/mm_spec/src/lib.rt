@@ -1,11 +1,12 @@
 //! What Metamath databases mean (Metamath book: "Specification of the Metamath Language", and the
 //! appendix "Compressed Proofs"). The folder `specs/` defines words, tokens, statements, proofs,
-//! faults, citations, reports and the end of a run; nearly every other crate depends on it. The
-//! types that go with the definitions are declared here. There is no code except the numbers of
-//! codes, the bytes of a word, some sets of sections and the request without options. What a reader
-//! has to believe of this crate are these types and the folder `specs/` without `specs/Laws`, which
-//! has definitions on which no output depends: laws, proofs and contracts of other crates use them.
-//! The laws that the definitions obey are in the crate `mm_laws`.
+//! faults, citations, reports, what two databases differ in, and the ends of runs and comparisons;
+//! nearly every other crate depends on it. The types that go with the definitions are declared here.
+//! There is no code except the numbers of codes, the bytes of a word, some sets of sections and the
+//! request without options. What a reader has to believe of this crate are these types and the
+//! folder `specs/` without `specs/Laws`, which has definitions on which no output depends: laws,
+//! proofs and contracts of other crates use them. The laws that the definitions obey are in the
+//! crate `mm_laws`.
 #![tactic(auto)]
 
 ghost use Rattle.std.specs.Prelude.{◌≡◌};
@@ -178,6 +179,23 @@ pub enum RunEnd {
     Accepted,
     /// The database has this first fault, and its refusal was written.
     Refused(Fault),
+    /// A read failed; nothing was written.
+    ReadFailed,
+    /// A write failed or accepted no byte; a prefix of the output was written.
+    WriteFailed,
+    /// Out of memory; nothing was written.
+    NoMemory,
+}
+
+/// How a comparison of two texts, OLD and NEW, ends.
+#[derive(Clone, Copy, PartialEq, Eq, Debug)]
+pub enum ComparisonEnd {
+    /// Neither text has a fault, and the differences were written.
+    Compared,
+    /// The text of OLD has this first fault, and its refusal was written.
+    OldRefused(Fault),
+    /// The text of OLD has no fault, that of NEW has this first one, and its refusal was written.
+    NewRefused(Fault),
     /// A read failed; nothing was written.
     ReadFailed,
     /// A write failed or accepted no byte; a prefix of the output was written.

@@ -1,8 +1,8 @@
 //! The program `mmdepend`: it reads a Metamath database, verifies every proof, and reports on which
-//! axioms each theorem rests, or refuses the database for its first fault. `status` is the whole
-//! program, given a reader and two writers: it reads the words of the command line (`line`), opens
-//! the file that they name, and calls `run`. It promises what is written, the message on standard
-//! error, and the status.
+//! axioms each theorem rests, or refuses the database for its first fault; or it says what one
+//! database has and another hasn't. `status` is the whole program, given a reader and two writers: it
+//! reads the words of the command line (`line`), opens the files that they name, and calls `run` or
+//! `run_against`. It promises what is written, the message on standard error, and the status.
 #![tactic(auto)]
 
 mod ending;
@@ -10,6 +10,7 @@ mod program;
 #[cfg(test)]
 mod tests;
 
+pub use mm_against::{ComparisonEnd, run_against};
 pub use mm_line::{Line, LineRefused, line};
 pub use mm_plan::{Cutting, Plan};
 pub use mm_run::{RunEnd, run};

@@ -1,10 +1,16 @@
 //! The program, given a reader and two writers.
 
-ghost use Rattle.std.specs.Prelude.{◌≡◌, IsTrue, map, option_map};
+ghost use Rattle.std.specs.Prelude.{◌≡◌, IsSome, IsTrue, List, None, map, option_map};
+ghost use Rattle.std.specs.String.{string_bytes};
 ghost use Rattle.std.specs.Io.KnownBytes.{Appends};
-ghost use Rattle.mmdepend.specs.Endings.{Ended, IsEndingOf, IsPrefixWritten, opened_file_of};
+ghost use Rattle.clap.specs.Walk.{Text};
+ghost use Rattle.mm_plan.specs.Plans.{IsLawfulPlan};
+ghost use Rattle.mm_line.specs.Lines.{AreReadAs};
+ghost use Rattle.mmdepend.specs.Endings.{Ended, IsEndingOf, IsPrefixWritten, opened_name};
+ghost use Rattle.mmdepend.specs.Endings.{opened_old_of};
 
 use crate::ending::Ending;
+use mm_against::run_against;
 use mm_line::{Line, LineRefused, line};
 use mm_report::write_whole;
 use mm_run::run;
@@ -29,11 +35,11 @@ fn write_text<W: Write>(to: &mut W, text: &[u8]) -> bool
     }
 }
 
-/// The file to open; `None` if standard input is read, which `-` names too.
-fn opened_file(line: &Line) -> Option<&str>
-    ensures { option_map (λ name. name.now) result ≡ opened_file_of line.now }
+/// The file to open of a name; `None` if it is missing or `-`, which names standard input.
+fn opened_name(name: &Option<String>) -> Option<&str>
+    ensures { option_map (λ n. n.now) result ≡ opened_name (option_map string_bytes name.now) }
 {
-    match &line.file {
+    match name {
         Some(name) => {
             if name.as_str() == "-" {
                 None
@@ -45,7 +51,107 @@ fn opened_file(line: &Line) -> Option<&str>
     }
 }
 
-/// Reads the words, opens the file that they name, and calls `run`; or writes help or the version.
+/// Opens the file that the line names, if it isn't standard input, and calls `run`.
+fn run_line<R: Threads + Wait + Files + Sync, I: Read, O: Write>(
+    rt: &R,
+    alloc: Global,
+    line: &Line,
+    input: &mut I,
+    output: &mut O,
+) -> Ending
+    requires is_lawful { IsLawfulPlan line.now.plan }
+    requires is_run { line.now.against ≡ None }
+    ensures { (words : List Text) → AreReadAs words line.now
+        → IsEndingOf R.File.remaining words result (I.remaining input.old)
+        (I.remaining input.new) (O.contents output.old) (O.contents output.new) }
+{
+    match opened_name(&line.file) {
+        None => Ending::Ran(run(rt, alloc, &line.plan, input, output)),
+        Some(name) => match fs::open(rt, name) {
+            Ok(mut file) => Ending::Ran(run(rt, alloc, &line.plan, &mut file, output)),
+            Err(_) => Ending::NotOpened,
+        },
+    }
+}
+
+/// Opens NEW, if it isn't standard input, and compares it with OLD, a file that was opened.
+fn compare_with_file<R: Threads + Wait + Files + Sync, I: Read, O: Write>(
+    rt: &R,
+    alloc: Global,
+    line: &Line,
+    old: &mut R::File,
+    input: &mut I,
+    output: &mut O,
+) -> Ending
+    requires is_lawful { IsLawfulPlan line.now.plan }
+    requires is_comparison { IsSome line.now.against }
+    requires old_is_opened { IsSome (opened_old_of line.now) }
+    ensures { (words : List Text) → AreReadAs words line.now
+        → IsEndingOf R.File.remaining words result (I.remaining input.old)
+        (I.remaining input.new) (O.contents output.old) (O.contents output.new) }
+{
+    match opened_name(&line.file) {
+        None => Ending::Compared(run_against(rt, alloc, &line.plan, old, input, output)),
+        Some(name) => match fs::open(rt, name) {
+            Ok(mut new) => {
+                Ending::Compared(run_against(rt, alloc, &line.plan, old, &mut new, output))
+            }
+            Err(_) => Ending::NotOpened,
+        },
+    }
+}
+
+/// Opens NEW and compares it with OLD, which is standard input.
+fn compare_with_input<R: Threads + Wait + Files + Sync, I: Read, O: Write>(
+    rt: &R,
+    alloc: Global,
+    line: &Line,
+    input: &mut I,
+    output: &mut O,
+) -> Ending
+    requires is_lawful { IsLawfulPlan line.now.plan }
+    requires is_comparison { IsSome line.now.against }
+    requires old_is_input { opened_old_of line.now ≡ None }
+    ensures { (words : List Text) → AreReadAs words line.now
+        → IsEndingOf R.File.remaining words result (I.remaining input.old)
+        (I.remaining input.new) (O.contents output.old) (O.contents output.new) }
+{
+    match opened_name(&line.file) {
+        None => Ending::BothInputs,
+        Some(name) => match fs::open(rt, name) {
+            Ok(mut new) => {
+                Ending::Compared(run_against(rt, alloc, &line.plan, input, &mut new, output))
+            }
+            Err(_) => Ending::NotOpened,
+        },
+    }
+}
+
+/// Opens the files that the line names, and compares them.
+fn compare_line<R: Threads + Wait + Files + Sync, I: Read, O: Write>(
+    rt: &R,
+    alloc: Global,
+    line: &Line,
+    input: &mut I,
+    output: &mut O,
+) -> Ending
+    requires is_lawful { IsLawfulPlan line.now.plan }
+    requires is_comparison { IsSome line.now.against }
+    ensures { (words : List Text) → AreReadAs words line.now
+        → IsEndingOf R.File.remaining words result (I.remaining input.old)
+        (I.remaining input.new) (O.contents output.old) (O.contents output.new) }
+{
+    match opened_name(&line.against) {
+        None => compare_with_input(rt, alloc, line, input, output),
+        Some(name) => match fs::open(rt, name) {
+            Ok(mut old) => compare_with_file(rt, alloc, line, &mut old, input, output),
+            Err(_) => Ending::NotOpened,
+        },
+    }
+}
+
+/// Reads the words, opens the files that they name, and calls `run` or `run_against`; or writes help
+/// or the version.
 fn run_words<S: AsStr, R: Threads + Wait + Files + Sync, I: Read, O: Write>(
     rt: &R,
     alloc: Global,
@@ -68,17 +174,14 @@ fn run_words<S: AsStr, R: Threads + Wait + Files + Sync, I: Read, O: Write>(
         Err(LineRefused::Bad(text)) => return Ending::Misread(text),
         Err(LineRefused::Memory) => return Ending::NoMemory,
     };
-    match opened_file(&line) {
-        None => Ending::Ran(run(rt, alloc, &line.plan, input, output)),
-        Some(name) => match fs::open(rt, name) {
-            Ok(mut file) => Ending::Ran(run(rt, alloc, &line.plan, &mut file, output)),
-            Err(_) => Ending::NotOpened,
-        },
+    match &line.against {
+        None => run_line(rt, alloc, &line, input, output),
+        Some(_) => compare_line(rt, alloc, &line, input, output),
     }
 }
 
 /// The whole program, given a reader and two writers; returns the status. It reads the words first,
-/// of which the first one is the program's name. If they name a file other than `-`, it opens that
+/// of which the first one is the program's name. A file that they name, other than `-`, it opens,
 /// and reads its bytes instead of those of `input`.
 pub fn status<S: AsStr, R: Threads + Wait + Files + Sync, I: Read, O: Write, E: Write>(
     rt: &R,

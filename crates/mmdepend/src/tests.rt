@@ -180,6 +180,57 @@ fn a_file_is_read_in_place_of_the_input(rt: HostRuntime) -> Result<(), Fail> {
     Ok(())
 }
 
+/// What is written of a database that is compared with itself.
+const NO_DIFFERENCES: &[u8] = b"mmdepend-differences 1\nnew\ngone\ngained\nlost\nend\n";
+
+// OLD is a file and NEW the input, or the other way round, or both are files; both can't be the input.
+#[test]
+fn two_databases_are_compared(rt: HostRuntime) -> Result<(), Fail> {
+    let mut path = env::temp_dir(&rt)?;
+    path.push("mmdepend-compared.mm")?;
+    let name = path.as_str();
+    fs::write(&rt, name, FIRST)?;
+    let with_input = is_run_of(
+        &rt,
+        &["mmdepend", "--against", name],
+        FIRST,
+        0,
+        NO_DIFFERENCES,
+        b"",
+    );
+    let words = ["mmdepend", "--against", "-", name];
+    let input_is_old = is_run_of(&rt, &words, FIRST, 0, NO_DIFFERENCES, b"");
+    let words = ["mmdepend", "--against", name, name];
+    let both_are_files = is_run_of(&rt, &words, FailingReader {}, 0, NO_DIFFERENCES, b"");
+    let refusal = b"new refused 1:3 E08\n".as_slice();
+    let unended = b"$c".as_slice();
+    let is_refused = is_run_of(
+        &rt,
+        &["mmdepend", "--against", name],
+        unended,
+        1,
+        refusal,
+        b"",
+    );
+    fs::remove_file(&rt, name)?;
+    assert!(&rt; with_input);
+    assert!(&rt; input_is_old);
+    assert!(&rt; both_are_files);
+    assert!(&rt; is_refused);
+    Ok(())
+}
+
+#[test]
+fn two_databases_that_cannot_be_compared(rt: HostRuntime) {
+    let both = b"mmdepend: only one of two databases can be the standard input\n".as_slice();
+    assert!(&rt; is_run_of(&rt, &["mmdepend", "--against", "-"], FIRST, 2, b"", both));
+    let unopened = b"mmdepend: cannot open the file\n".as_slice();
+    let words = ["mmdepend", "--against", "no/such/file.mm"];
+    assert!(&rt; is_run_of(&rt, &words, FIRST, READ_FAILED, b"", unopened));
+    let words = ["mmdepend", "--against", "-", "no/such/file.mm"];
+    assert!(&rt; is_run_of(&rt, &words, FIRST, READ_FAILED, b"", unopened));
+}
+
 /// Whether the program, on these words and the first text, says that writing failed, with an output
 /// that takes the given number of bytes.
 fn is_stopped_writing<R: Threads + Wait + Files + Sync + AllocGlobal>(

@@ -8,6 +8,8 @@ mod bytes;
 #[cfg(test)]
 mod citations;
 #[cfg(test)]
+mod comparisons;
+#[cfg(test)]
 mod databases;
 #[cfg(test)]
 mod examples;

@@ -3,12 +3,12 @@
 use crate::flags::{BY_ALL_NODES, BY_ESSENTIAL_NODES, WITH_OPEN, WITHOUT_OPEN};
 use mm_line::{Line, LineRefused, line};
 use mm_plan::Cutting;
-use mm_spec::{Form, Sections};
-use std::alloc::Global;
+use mm_spec::{Code, Form, Sections};
+use std::alloc::{AllocError, Global};
 
 /// What `--help` prints.
 const HELP: &str =
-    "Verifies a Metamath database and reports on which axioms each theorem rests\n\nUsage: mmdepend [OPTIONS] [FILE]\n\nArguments:\n  [FILE]  The database; without it, or where it is -, the standard input is read\n\nOptions:\n      --workers <N>    Check the proofs by N threads, 1 to 64 [default: 4]\n      --pieces <N>     Read the text in N pieces, 1 to 64 [default: 4]\n      --only <T>       Report on the axioms of typecode T alone, such as '|-'\n      --report <PART>  Write these parts of the report, with commas between them: matrix, counts, usage, citations, statements, or all, which is the first three [default: all]\n      --form <N>       Write the matrix as a digit for each column, or for each four [default: 1] [possible values: 1, 2]\n      --essential      Count what the logical part of a proof cites, and not what builds its formulas\n      --open           Count a theorem whose proof is ? as an axiom\n  -h, --help           Print help\n  -V, --version        Print version\n\nThe standard output gets the report, or one line with the first fault and its place.\nStatus: 0 accepted, 1 refused, 2 invalid command line, 3 reading or writing failed,\n4 out of memory. For 2 to 4 the standard error says why.\nThe codes of faults (E00 to E45) are explained in docs/FAULTS.md.\n";
+    "Verifies a Metamath database and reports on which axioms each theorem rests\n\nUsage: mmdepend [OPTIONS] [FILE]\n\nArguments:\n  [FILE]  The database; without it, or where it is -, the standard input is read\n\nOptions:\n      --workers <N>    Check the proofs by N threads, 1 to 64 [default: 4]\n      --pieces <N>     Read the text in N pieces, 1 to 64 [default: 4]\n      --only <T>       Report on the axioms of typecode T alone, such as '|-'\n      --report <PART>  Write these parts of the report, with commas between them: matrix, counts, usage, citations, statements, or all, which is the first three [default: all]\n      --form <N>       Write the matrix as a digit for each column, or for each four [default: 1] [possible values: 1, 2]\n      --essential      Count what the logical part of a proof cites, and not what builds its formulas\n      --open           Count a theorem whose proof is ? as an axiom\n      --against <OLD>  Write what FILE has and OLD hasn't, and the other way round, in place of the report\n  -h, --help           Print help\n  -V, --version        Print version\n\nThe standard output gets the report, or one line with the first fault and its place.\nStatus: 0 accepted, 1 refused, 2 invalid command line, 3 reading or writing failed,\n4 out of memory. For 2 to 4 the standard error says why.\nThe codes of faults (E00 to E45) are explained in docs/FAULTS.md.\n";
 
 /// The number of pieces and of workers of a line that names none.
 const DEFAULT: u32 = 4;
@@ -200,6 +200,44 @@ const REPORT_OPTIONS: [(&[&str], Form, bool, bool); 5] = [
     ),
 ];
 
+/// Whether the words are accepted, with this name of the file that is compared with.
+fn is_compared_with(
+    alloc: Global,
+    words: &[&str],
+    against: Option<&str>,
+    file: Option<&str>,
+) -> bool {
+    match line(alloc, words) {
+        Ok(line) => line.against.as_deref() == against && line.file.as_deref() == file,
+        Err(_) => false,
+    }
+}
+
+#[test]
+fn the_file_that_is_compared_with(rt: HostRuntime) {
+    let alloc = rt.alloc();
+    assert!(&rt; is_compared_with(alloc, &["mmdepend", "new.mm"], None, Some("new.mm")));
+    let both = ["mmdepend", "--against", "old.mm", "new.mm"];
+    assert!(&rt; is_compared_with(alloc, &both, Some("old.mm"), Some("new.mm")));
+    assert!(&rt; is_compared_with(alloc, &["mmdepend", "--against=-"], Some("-"), None));
+}
+
+/// The texts of some codes.
+const CODE_TEXTS: [(Code, &str); 3] = [
+    (Code::TextTooLong, "E00"),
+    (Code::UnopenedBlock, "E09"),
+    (Code::NumberTooLarge, "E45"),
+];
+
+#[test]
+fn a_code_has_two_digits(rt: HostRuntime) -> Result<(), AllocError> {
+    for (code, text) in CODE_TEXTS {
+        let printed = format!(in rt.alloc(); "{code}")?;
+        assert_eq!(&rt; printed.as_str(), text);
+    }
+    Ok(())
+}
+
 #[test]
 fn options_of_the_report(rt: HostRuntime) {
     let alloc = rt.alloc();
@@ -230,7 +268,7 @@ fn the_version_is_told(rt: HostRuntime) {
 }
 
 /// Words that are refused, and the texts that tell why.
-const FAULTS: [(&[&str], &str); 11] = [
+const FAULTS: [(&[&str], &str); 12] = [
     (
         &["mmdepend", "--workers", "0"],
         "error: invalid value '0' for '--workers <N>': 0 is not in 1..=64\n\nFor more information, try '--help'.\n",
@@ -253,11 +291,15 @@ const FAULTS: [(&[&str], &str); 11] = [
     ),
     (
         &["mmdepend", "--report", "matrix,none,usage"],
-        "error: invalid value 'none' for '--report <PART>'\n  [possible values: all, matrix, counts, usage, citations, statements]\n\nFor more information, try '--help'.\n",
+        "error: invalid value 'matrix,none,usage' for '--report <PART>'\n  [possible values: all, matrix, counts, usage, citations, statements]\n\n  tip: a similar value exists: 'matrix'\n\nFor more information, try '--help'.\n",
     ),
     (
         &["mmdepend", "--report", "matrix,"],
-        "error: a value is required for '--report <PART>' but none was supplied\n  [possible values: all, matrix, counts, usage, citations, statements]\n\nFor more information, try '--help'.\n",
+        "error: invalid value 'matrix,' for '--report <PART>'\n  [possible values: all, matrix, counts, usage, citations, statements]\n\n  tip: a similar value exists: 'matrix'\n\nFor more information, try '--help'.\n",
+    ),
+    (
+        &["mmdepend", "--report", "none", "--help"],
+        "error: invalid value 'none' for '--report <PART>'\n  [possible values: all, matrix, counts, usage, citations, statements]\n\nFor more information, try '--help'.\n",
     ),
     (
         &["mmdepend", "a.mm", "b.mm"],

@@ -97,7 +97,8 @@ class Browser(ABC):
 
     def is_at(self, heading: str) -> Any:
         """Whether the view with this heading comes."""
-        return self.wait("document.querySelector('#main h1').textContent === arguments[0]", heading)
+        shown = "document.querySelector('#main h1')?.textContent"
+        return self.wait(f"{shown} === arguments[0]", heading)
 
     def open(self, page: Path, address: str = "") -> None:
         """Opens a page anew, and waits until it shows something."""

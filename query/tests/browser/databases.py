@@ -129,6 +129,37 @@ CORNERS = {
     "labels": f"$c |- a $. $( {NAMED} $) ax-mp $a |- a $. b $p |- a $= ax-mp $.",
 }
 
+# Symbols whose definitions would turn a formula, be hidden in it, or make another one of it.
+MISLEADING = """$c |- wff ( ) -> = =/= ~ r hidden $. $v p q $. wp $f wff p $. wq $f wff q $.
+turned $a |- ( p -> q ) $.
+struck $a |- r = ~ r $.
+hiding $a |- hidden r $.
+$( $t
+althtmldef "p" as "&#1488;"; althtmldef "q" as "&#1489;"; althtmldef "->" as " &rarr; ";
+althtmldef "(" as "("; althtmldef ")" as ")"; althtmldef "r" as "r"; althtmldef "=" as " = ";
+althtmldef "=/=" as " &ne; "; althtmldef "~" as "&#824;"; althtmldef "hidden" as "&#119155;&#847;";
+$)
+"""
+
+
+def endless(many: int) -> str:
+    """Lists of any length, and a comment that is mathematics alone."""
+    given = "".join(f"e{number} $e |- p $. " for number in range(many))
+    chain = "".join(f"c{at + 1} $p |- p $= wp wp c{at} two $.\n" for at in range(many))
+    variables = " ".join(f"x{number}" for number in range(1000))
+    floating = "".join(f"f{name} $f wff {name} $.\n" for name in variables.split())
+    return f"""$c wff |- ( -> ) $. $v p q $. wp $f wff p $. wq $f wff q $.
+{"".join(f"a{number} $a |- p $.{chr(10)}" for number in range(many))}
+${{ {given} given $a |- p $. $}}
+$( ` {"( p -> q ) " * 20 * many} ` $) told $a |- p $.
+${{ two.1 $e |- p $. two $a |- p $. $}}
+c0 $p |- p $= wp a0 $.
+{chain}
+$v {variables} $. {floating}
+${{ $d {variables} $. apart $a |- ( {variables} ) $. $}}
+"""
+
+
 # A release and the next: `b` gains ax-2 and ax-5 and loses ax-1, `d` loses ax-1 for ax-3, `old`
 # becomes `renamed`, `gone` goes, `fresh`, ax-3, ax-4 and ax-5 are new.
 HEAD = """$c |- A B E $.

@@ -18,10 +18,12 @@ from query.tests.browser.databases import (
     EVIL,
     EVIL_TITLE,
     EVIL_TYPESETTING,
+    MISLEADING,
     NEWER,
     OLDER,
     OPEN,
     SHOWN_TITLE,
+    endless,
 )
 from query.tests.browser.interface import check_narrow
 from query.tests.browser.scripts import CONTRAST
@@ -183,6 +185,51 @@ def check_corners(browser: Browser, folder: Path) -> None:
         if name == "labels":
             check_narrow(browser, page, ["#axiom=ax-mp"], folder)
         same(browser.messages(), [], f"{browser.name} {name}: messages in the console")
+
+
+PLACES = """
+const places = [];
+const walker = document.createTreeWalker(document.querySelector("#statement .formula"), 4);
+while (walker.nextNode()) {
+    for (let at = 0; at < walker.currentNode.length; at++) {
+        const range = document.createRange();
+        range.setStart(walker.currentNode, at);
+        range.setEnd(walker.currentNode, at + 1);
+        places.push(range.getBoundingClientRect().left);
+    }
+}
+return [document.getElementById("statement").textContent, places];
+"""
+
+
+def check_misleading(browser: Browser, folder: Path) -> None:
+    """Formulas whose definitions would show them as others, and lists without end."""
+    made_pages = {}
+    for name, text in (("misleading", MISLEADING), ("endless", endless(20_000))):
+        (folder / f"{name}.mm").write_text(text)
+        made_pages[name] = folder / f"{name}.html"
+        make_page(folder / f"{name}.mm", made_pages[name])
+    for label, wanted in (
+        ("turned", "(\u05d0\u2192\u05d1)"),
+        ("struck", "r=\u25cc\u0338r"),
+        ("hiding", "\ufffd\ufffdr"),
+    ):
+        browser.open(made_pages["misleading"], f"#axiom={label}")
+        browser.is_at(label)
+        text, places = browser.run(PLACES)
+        same(text.replace(" ", "").removeprefix("|-"), wanted, f"{browser.name}: {label}")
+        if label == "turned":
+            same(places, sorted(places), f"{browser.name}: the order of signs")
+    for address, label in (
+        *(("axiom=given", "given"), ("axiom=told", "told"), ("axiom=apart", "apart")),
+        *(("theorem=c20000", "c20000"), ("axiom=a7", "a7")),
+    ):
+        browser.open(made_pages["endless"])
+        browser.run("window.location.hash = arguments[0]", f"#{address}")
+        check(browser.is_at(label), f"{browser.name}: the view of {label}")
+        size = browser.run("return document.querySelectorAll('*').length")
+        check(size < 60_000, f"{browser.name}: elements of the view of {label}", size)
+    same(browser.messages(), [], f"{browser.name}: messages in the console")
 
 
 def check_doubling(browser: Browser) -> None:

@@ -7,6 +7,7 @@
 //! A function whose name ends in `in_turn` is such a loop over the call that its name begins with.
 
 mod alone;
+mod comparisons;
 mod given;
 mod lists;
 mod names;

@@ -1,5 +1,5 @@
-//! Runs on texts whose names all have the same slots, so that most of them have to be found in an
-//! ordered map. What is written for such a text is what is written for one with other names.
+//! Runs on texts whose names all have the same guesses, so that most of them have to be found by
+//! their hashes. What is written for such a text is what is written for one with other names.
 
 use super::runs::assert_right_with_each_refusal;
 use crate::calls::{ended, plan_of};
@@ -12,13 +12,13 @@ use std::alloc::{AllocError, Global};
 use std::sync::Wait;
 use std::thread::Threads;
 
-/// How many names a text has. Eight of them at most get one of the slots.
+/// How many names a text has. Four of them at most are guessed.
 const NAMES: u32 = 300;
 
 /// What names have at both ends.
 #[derive(Clone, Copy)]
 enum Ends {
-    /// All names have the same four bytes there, and so the same slots.
+    /// All names have the same four bytes there, and so the same guesses.
     Same,
     /// The digits of their number.
     Digits,
@@ -93,52 +93,44 @@ fn with_symbols(alloc: Global, ends: Ends, step: u32) -> Result<Vec<u8>, AllocEr
     Ok(text)
 }
 
-/// How a run ends, what it writes, and how many growths of memory it has.
+/// How a run ends, and what it writes.
 #[derive(Drop)]
 struct Outcome {
     end: Option<RunEnd>,
     written: Vec<u8>,
-    growths: u64,
 }
 
 /// What a run on a text comes to, which writes only marks: no names of axioms.
 fn outcome_of<R: Threads + Wait + Sync>(rt: &R, alloc: Global, mut text: &[u8]) -> Outcome {
     let heap = Refusing::new(alloc);
     let plan = plan_of(Cutting::Count(1), 1, matrix_alone());
-    let before = heap.count();
     let mut written = Vec::new(alloc);
     let end = ended(rt, &heap, &plan, &mut text, &mut written);
-    Outcome {
-        end,
-        written,
-        growths: before.wrapping_sub(heap.count()),
-    }
+    Outcome { end, written }
 }
 
 #[test]
-fn labels_with_the_same_slots(rt: HostRuntime) -> Result<(), AllocError> {
+fn labels_with_the_same_guesses(rt: HostRuntime) -> Result<(), AllocError> {
     let alloc = rt.alloc();
     let text = with_labels(alloc, Ends::Same)?;
     let usual = outcome_of(&rt, alloc, &with_labels(alloc, Ends::Digits)?);
     assert!(&rt; usual.end == Some(RunEnd::Accepted));
-    assert!(&rt; outcome_of(&rt, alloc, &text).growths > usual.growths);
     assert_right_with_each_refusal(&rt, alloc, matrix_alone(), &text, &usual.written, 1);
     Ok(())
 }
 
 #[test]
-fn symbols_with_the_same_slots(rt: HostRuntime) -> Result<(), AllocError> {
+fn symbols_with_the_same_guesses(rt: HostRuntime) -> Result<(), AllocError> {
     let alloc = rt.alloc();
     let text = with_symbols(alloc, Ends::Same, 1)?;
     let usual = outcome_of(&rt, alloc, &with_symbols(alloc, Ends::Digits, 1)?);
     assert!(&rt; usual.end == Some(RunEnd::Accepted));
-    assert!(&rt; outcome_of(&rt, alloc, &text).growths > usual.growths);
     assert_right_with_each_refusal(&rt, alloc, matrix_alone(), &text, &usual.written, 1);
     Ok(())
 }
 
 #[test]
-fn symbols_with_the_same_slots_are_told_apart(rt: HostRuntime) -> Result<(), AllocError> {
+fn symbols_with_the_same_guesses_are_told_apart(rt: HostRuntime) -> Result<(), AllocError> {
     let alloc = rt.alloc();
     let found = outcome_of(&rt, alloc, &with_symbols(alloc, Ends::Same, 2)?);
     let usual = outcome_of(&rt, alloc, &with_symbols(alloc, Ends::Digits, 2)?);

@@ -4,14 +4,7 @@ use Rattle.mm_spec.specs.Request.{Request}
 use Rattle.mm_run.proofs.output.answer.Goals as goal
 
 pub write_judged-requires : goal.write_judged-requires
-write_judged-requires g c =
-    let plan = c.args.plan.now in
-    record {
-      is_judged =
-          rw c.request.ensures
-          (c.judged_text-judged.ensures c.args.text.now plan.essential plan.with_open
-          c.in-Ok.ensures c.in-Ok-check.ensures);
-    }
+write_judged-requires g c = record { is_judged = rw c.request.ensures c.in-Ok.ensures }
 
 pub returns : goal.returns
 returns g c =

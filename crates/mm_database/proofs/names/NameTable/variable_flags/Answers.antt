@@ -8,7 +8,6 @@ use Rattle.mm_database.proofs.names.NameTable.variable_flags.Goals as goal
 use Rattle.mm_database.proofs.names.NameTable.variable_flags.Goals.{in-Some, in-None}
 use Rattle.mm_database.proofs.NamesLaw.{entry_has_name, as_many_names_as_entries}
 use Rattle.mm_database.proofs.NamesLaw.{entry_is_not_missing}
-use Rattle.std.specs.Option.{option_map}
 
 pub loop-i-preserved : goal.loop-i-preserved
 loop-i-preserved g c =
@@ -20,12 +19,11 @@ loop-i-preserved g c =
     let last_flag_is : (w : List ℕ) → slice_get (names_of es) i ≡ Some w
     → v ≡ is_variable_in (find es w) = λ w name_is_w. elim c.match-get_index.branch [
       | in-Some b ↦
-          let entry = b.in-Some.field-0.now in
-          let key_is_w = entry_has_name es i entry.0 entry.1 w
-          (sym c.get_index.ensures.entry ∙ ap (option_map (λ e. e.now)) b.in-Some.is) name_is_w in
+          let key_is_w = entry_has_name es i b.in-Some.field-0-0.now b.in-Some.symbol.now w
+          (sym b.in-Some.ensures.entry) name_is_w in
           rw (b.is_variable-is, ← key_is_w, b.in-Some.ensures.is_found) refl
       | in-None b ↦ absurd (entry_is_not_missing es i (slice_get_within (names_of es) i w name_is_w)
-          (sym c.get_index.ensures.entry ∙ ap (option_map (λ e. e.now)) b.in-None.is))
+          (sym b.in-None.ensures.entry))
     ] in
     rw c.in_ok-push.ensures.items (record {
       count = rw length-append (ap (λ n. n + 1) invariant.count);

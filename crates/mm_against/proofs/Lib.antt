@@ -1,0 +1,3 @@
+pub mod FoundLaw
+pub mod ListsLaw
+pub mod WrittenLaw

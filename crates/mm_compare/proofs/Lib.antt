@@ -1,0 +1,3 @@
+pub mod BoundsLaw
+pub mod PairsLaw
+pub mod FindLaw

@@ -1,0 +1,26 @@
+use Rattle.std.proofs.Common.{◌≡◌, ap, ◌∙◌, sym, Some}
+use Rattle.std.proofs.lemmas.Slice.Eq.{bytes_eq-Decides}
+use Rattle.mm_spec.specs.Frame.{index_of}
+use Rattle.mm_database.specs.Names.{find, names_of}
+use Rattle.mm_database.proofs.SymbolsLaw.{index_of_distinct}
+use Rattle.mm_database.proofs.NamesLaw.{name_of_entry}
+use Rattle.mm_database.proofs.name_map.NameMap.guessed_at.Goals as goal
+
+pub returns-then-eq-clause-index_is : goal.returns-then-eq-clause-index_is
+returns-then-eq-clause-index_is g c =
+    let es = c.self.inside.entries.entries in
+    let name = c.in_ok-name.name.now in
+    let name_is_word : name.bytes.now ≡ c.args.word.now =
+    (bytes_eq-Decides name.bytes.now c.args.word.now).0 (sym c.eq.ensures ∙ c.if-eq.true) in
+    index_of_distinct (names_of es) c.self.invariant _ c.args.word.now
+    (name_of_entry es _ name c.in_ok-name.value.now (sym c.in_ok-name.ensures.entry)
+    ∙ ap Some name_is_word)
+    ∙ ap (λ es. index_of c.args.word.now (names_of es)) c.self.view_is
+
+pub returns-then-eq-clause-value_is : goal.returns-then-eq-clause-value_is
+returns-then-eq-clause-value_is g c =
+    let name = c.in_ok-name.name.now in
+    let name_is_word : name.bytes.now ≡ c.args.word.now =
+    (bytes_eq-Decides name.bytes.now c.args.word.now).0 (sym c.eq.ensures ∙ c.if-eq.true) in
+    sym c.in_ok-name.ensures.value ∙ ap (find c.self.inside.entries.entries) name_is_word
+    ∙ ap (λ es. find es c.args.word.now) c.self.view_is

@@ -1,0 +1,3 @@
+pub mod ElementsLaw
+pub mod ShiftedLaw
+pub mod MarkedLaw

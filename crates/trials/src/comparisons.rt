@@ -1,0 +1,115 @@
+//! Comparisons of two databases: what is written for any number of workers, and which text a refusal
+//! is of.
+
+use crate::texts::{FIRST_TEXT, joined};
+use mm_against::{ComparisonEnd, run_against};
+use mm_plan::{Cutting, Plan};
+use std::alloc::{AllocError, Global};
+use std::sync::Wait;
+use std::thread::Threads;
+
+/// An axiom, and a theorem that rests on it.
+const MORE: &[u8] = b"ax-u $a |- ( p -> p ) $.\nu2 $p |- ( q -> q ) $= wq ax-u $.\n";
+
+/// The same axiom with another formula, and the same theorem.
+const OTHER: &[u8] = b"ax-u $a |- ( q -> q ) $.\nu2 $p |- ( q -> q ) $= wq ax-u $.\n";
+
+/// Two texts, in two parts each, and what is written of them.
+struct Case {
+    old: &'static [u8],
+    new: &'static [u8],
+    output: &'static [u8],
+}
+
+const CASES: [Case; 6] = [
+    Case {
+        old: MORE,
+        new: MORE,
+        output: b"mmdepend-differences 1\nnew\ngone\ngained\nlost\nend\n",
+    },
+    Case {
+        old: b"",
+        new: MORE,
+        output: b"mmdepend-differences 1\nnew\nax-u:a:170:194: $f wp wff p $a |- ( p -> p )\nu2:p:195:228: $f wq wff q $p |- ( q -> q )\ngone\ngained\nu2:1:ax-u\nlost\nend\n",
+    },
+    Case {
+        old: MORE,
+        new: b"",
+        output: b"mmdepend-differences 1\nnew\ngone\nax-u:a:170:194: $f wp wff p $a |- ( p -> p )\nu2:p:195:228: $f wq wff q $p |- ( q -> q )\ngained\nlost\nu2:1:ax-u\nend\n",
+    },
+    Case {
+        old: MORE,
+        new: OTHER,
+        output: b"mmdepend-differences 1\nnew\nax-u:a:170:194: $f wq wff q $a |- ( q -> q )\ngone\nax-u:a:170:194: $f wp wff p $a |- ( p -> p )\ngained\nu2:1:ax-u\nlost\nu2:1:ax-u\nend\n",
+    },
+    Case {
+        old: b"$c wff $.\n",
+        new: b"\x80",
+        output: b"old refused 8:4 E13\n",
+    },
+    Case {
+        old: MORE,
+        new: b"\x80",
+        output: b"new refused 8:1 E01\n",
+    },
+];
+
+/// What a comparison with so many workers writes, and how it ends.
+fn compared<R: Threads + Wait + Sync>(
+    rt: &R,
+    alloc: Global,
+    workers: u32,
+    mut old: &[u8],
+    mut new: &[u8],
+) -> Option<(ComparisonEnd, Vec<u8>)> {
+    let plan = Plan::without_options(Cutting::Count(workers), workers);
+    if !plan.is_lawful() {
+        return None;
+    }
+    let mut written = Vec::new(alloc);
+    let end = run_against(rt, alloc, &plan, &mut old, &mut new, &mut written);
+    Some((end, written))
+}
+
+/// Whether the output of a case is written with so many workers.
+fn is_written<R: Threads + Wait + Sync>(
+    rt: &R,
+    alloc: Global,
+    workers: u32,
+    case: &Case,
+) -> Result<bool, AllocError> {
+    let old = joined(alloc, &[FIRST_TEXT, case.old])?;
+    let new = joined(alloc, &[FIRST_TEXT, case.new])?;
+    Ok(match compared(rt, alloc, workers, &old, &new) {
+        Some((_, written)) => written.as_slice() == case.output,
+        None => false,
+    })
+}
+
+#[test]
+fn what_one_database_has_and_another_has_not(rt: HostRuntime) -> Result<(), AllocError> {
+    for case in &CASES {
+        for workers in [1, 3, 64] {
+            assert!(&rt; is_written(&rt, rt.alloc(), workers, case)?);
+        }
+    }
+    Ok(())
+}
+
+#[test]
+fn each_end_is_told(rt: HostRuntime) -> Result<(), AllocError> {
+    let alloc = rt.alloc();
+    match compared(&rt, alloc, 1, FIRST_TEXT, FIRST_TEXT) {
+        Some((ComparisonEnd::Compared, _)) => {}
+        _ => assert!(&rt; false),
+    }
+    match compared(&rt, alloc, 1, b"\x80", b"$c") {
+        Some((ComparisonEnd::OldRefused(fault), _)) => assert_eq!(&rt; fault.at, 0),
+        _ => assert!(&rt; false),
+    }
+    match compared(&rt, alloc, 1, FIRST_TEXT, b"$c") {
+        Some((ComparisonEnd::NewRefused(fault), _)) => assert_eq!(&rt; fault.at, 2),
+        _ => assert!(&rt; false),
+    }
+    Ok(())
+}

@@ -1,0 +1,20 @@
+"""`rt ci` without the wrong bodies, which `python3 -m proving bodies` tries over what it proved."""
+
+from proving import toolchain
+
+
+def prove(names: list[str]) -> int:
+    """Does what `rt ci` does with these names, but tries no edit. Returns the status.
+
+    Each crate and its tests are proved, each test and each program is run, and what was proved is
+    kept. The last line is that of `rt ci`: 'N passed, M failed'.
+    """
+    rt = toolchain.rt()
+
+    def no_edits(_: object) -> tuple[list[str], list[str]]:
+        """The edits of a crate that are tried here, and the files that are none."""
+        return [], []
+
+    setattr(rt, "edits_of", no_edits)
+    print("rt: the wrong bodies are tried afterwards, all of a crate in one check", flush=True)
+    return int(rt.main(["ci", *names]))

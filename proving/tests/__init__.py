@@ -1,0 +1,1 @@
+"""Tests of what proves the crates and tries their wrong bodies."""

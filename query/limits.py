@@ -1,0 +1,55 @@
+"""What a text may cost: the seconds of the processor and the memory of the program that verifies
+it. A small text can be made to cost very much, so each is limited by its length."""
+
+from __future__ import annotations
+
+from dataclasses import dataclass
+
+MEGABYTE = 1_000_000
+FREE_SECONDS, SECONDS_FOR_MEGABYTE = 10, 5
+FREE_BYTES, BYTES_FOR_BYTE = 256 * MEGABYTE, 64
+MOST_GIVEN = 999_999
+"""The largest number that an option or a file may give."""
+
+
+@dataclass(frozen=True)
+class Limits:
+    """The limits that were given, in seconds and in megabytes; None where the length decides."""
+
+    seconds: int | None = None
+    megabytes: int | None = None
+
+    def seconds_for(self, size: int) -> int:
+        """Seconds of the processor for a text of so many bytes."""
+        if self.seconds is not None:
+            return self.seconds
+        return FREE_SECONDS + -(-SECONDS_FOR_MEGABYTE * size // MEGABYTE)
+
+    def bytes_for(self, size: int) -> int:
+        """Bytes of memory for a text of so many bytes."""
+        if self.megabytes is not None:
+            return self.megabytes * MEGABYTE
+        return FREE_BYTES + BYTES_FOR_BYTE * size
+
+    def or_else(self, other: Limits) -> Limits:
+        """These, and where nothing is given those."""
+        return Limits(
+            other.seconds if self.seconds is None else self.seconds,
+            other.megabytes if self.megabytes is None else self.megabytes,
+        )
+
+
+class Chosen:
+    """The limits that hold for this command."""
+
+    limits = Limits()
+
+
+def choose(limits: Limits) -> None:
+    """Lets these limits hold from now on."""
+    Chosen.limits = limits
+
+
+def chosen() -> Limits:
+    """The limits that hold."""
+    return Chosen.limits

@@ -1,0 +1,203 @@
+"""No text costs more than its length allows: at a limit there is no answer, and nothing is kept."""
+
+import os
+import re
+import time
+import unittest
+from pathlib import Path
+from unittest import mock
+
+from query import limits, program, system, unpacking
+from query.limits import MEGABYTE, Limits
+from query.source import Source
+from query.tests.repositories import ADDED, BASE, Repositories, changed
+from query.tests.world import PROGRAM_FOR_NODE, SMALL, TOP, World, built_program
+
+LARGE = SMALL + "$( " + "x " * 3_000_000 + "$)\n"
+BURNS = '#!/bin/sh\n[ "$1" != --version ] || exit 0\nwhile :; do :; done\n'
+
+
+class Lengths(unittest.TestCase):
+    """How much a text may cost."""
+
+    def test_they_grow_with_the_text(self) -> None:
+        for size, seconds, megabytes in ((0, 10, 256), (1, 11, 256), (40_000_000, 210, 2816)):
+            self.assertEqual(Limits().seconds_for(size), seconds)
+            self.assertEqual(Limits().bytes_for(size) // MEGABYTE, megabytes)
+
+    def test_those_of_javascript(self) -> None:
+        text = (TOP / "web" / "limits.js").read_text()
+        found = dict(re.findall(r"const ([A-Z_]+) = ([^;]+);", text))
+        numbers = {name: value_of(number) for name, number in found.items()}
+        wanted = {
+            "MOST_TIMES": unpacking.MOST_TIMES,
+            "FREE_TEXT": unpacking.FREE_BYTES,
+            "MEMORY_TIMES": limits.BYTES_FOR_BYTE,
+            "FREE_MEMORY": limits.FREE_BYTES,
+            "MEGABYTE": limits.MEGABYTE,
+            "SECONDS_FOR_MEGABYTE": limits.SECONDS_FOR_MEGABYTE,
+            "FREE_SECONDS": limits.FREE_SECONDS,
+        }
+        self.assertEqual(numbers, wanted)
+
+    def test_what_is_given_goes_before(self) -> None:
+        given = Limits(3, None).or_else(Limits(4, 5))
+        self.assertEqual((given.seconds_for(9**9), given.bytes_for(9**9)), (3, 5 * MEGABYTE))
+
+
+class Runs(World):
+    """Runs of the program."""
+
+    def setUp(self) -> None:
+        super().setUp()
+        self.write("db.mm", SMALL)
+        self.write("large.mm", LARGE)
+        self.write("burns", BURNS)
+        os.chmod(self.folder / "burns", 0o755)
+        self.burns = str(self.folder / "burns")
+
+    def nothing_is_kept(self) -> None:
+        """The folder of kept results has none."""
+        kept = self.cache / "mmquery"
+        self.assertEqual([*kept.iterdir()] if kept.exists() else [], [])
+
+    def test_seconds(self) -> None:
+        why = "db.mm: not judged: the text needs more than 1 seconds of the processor"
+        for words in (("rests", "db.mm", "a2"), ("verify", "db.mm"), ("compare", "db.mm", "db.mm")):
+            begun = time.monotonic()
+            self.refuses(*words, "--limit-time", "1", why=why, MMDEPEND=self.burns)
+            self.assertLess(time.monotonic() - begun, 20)
+            self.assertEqual(self.query(*words, "--limit-time", "9", "--no-cache").status, 0)
+        self.nothing_is_kept()
+
+    def test_memory(self) -> None:
+        why = "large.mm: not judged: the text needs more than 8 MB of memory"
+        self.refuses("rests", "large.mm", "a2", "--limit-memory", "8", why=why)
+        self.nothing_is_kept()
+        self.assertEqual(self.query("rests", "large.mm", "a2", "--limit-memory", "99").status, 0)
+
+    def test_what_the_program_says(self) -> None:
+        script = '#!/bin/sh\n[ "$1" != --version ] || exit 0\nexec yes\n'
+        self.write("says", script)
+        os.chmod(self.folder / "says", 0o755)
+        why = "needs more than 20 MB for what the program says of it"
+        words = ("rests", "db.mm", "a2", "--limit-memory", "20")
+        self.refuses(*words, why=why, MMDEPEND=str(self.folder / "says"))
+        self.nothing_is_kept()
+
+    def test_a_file_that_is_changed_meanwhile(self) -> None:
+        """What is judged is what was read."""
+        script = '#!/bin/sh\n[ "$1" = --version ] || echo changed >db.mm\n'
+        self.write("changes", script + f'exec {built_program()} "$@"\n')
+        os.chmod(self.folder / "changes", 0o755)
+        done = self.query("verify", "db.mm", MMDEPEND=str(self.folder / "changes"))
+        self.assertEqual((done.status, done.err), (0, ""))
+        self.assertEqual((self.folder / "db.mm").read_text(), "changed\n")
+        self.assertEqual(self.query("verify", "db.mm").status, 1)
+
+    def test_numbers_that_are_none(self) -> None:
+        for word in ("0", "-1", "1.5", "x", "1000000", ""):
+            self.refuses(
+                "verify", "db.mm", f"--limit-time={word}", why="no number from 1 to 999999"
+            )
+
+    def test_systems_without_limits(self) -> None:
+        """There the clock ends the program."""
+        source = Source("db.mm", SMALL.encode())
+        with mock.patch.object(system, "limiting", lambda *_: None):
+            running = program.Program(self.burns).running([], source.opened(), True, 0)
+            self.assertEqual(running.exceeded(0, 0), "")
+            assert running.clock is not None
+            running.clock.timer.cancel()
+            running.clock.ring()
+            _, _, status = running.ended()
+        self.assertIn("10 seconds of the processor", running.exceeded(status, 0))
+
+    @unittest.skipUnless(PROGRAM_FOR_NODE.exists(), "web/build wasn't run")
+    def test_pages(self) -> None:
+        """Node limits the program, and the memory of its own module."""
+        why = "db.mm: not judged: the text needs more than 1 seconds of the processor"
+        self.refuses("page", "db.mm", "--limit-time", "1", why=why, MMDEPEND=self.burns)
+        why = "large.mm: not judged: the text needs more than 8 MB of memory"
+        self.refuses("page", "large.mm", "--limit-memory", "8", why=why)
+        words = ("node", str(PROGRAM_FOR_NODE), "page", "large.mm")
+        done = self.ran(*words, "--limit-memory=5")
+        self.assertEqual((done.status, done.out, done.err), (4, "", "mmdepend: out of memory\n"))
+        self.assertEqual(self.ran(*words).status, 0)
+        self.assertEqual(self.ran(*words, "--limit-memory=0").status, 2)
+
+    def test_a_lower_limit_stays(self) -> None:
+        line = f'ulimit -t 2; MMDEPEND={self.burns} exec "$@"'
+        done = self.query_by_shell(line, "verify", "db.mm", "--limit-time", "60")
+        self.assertEqual((done.status, done.out), (2, ""))
+        self.assertIn("db.mm: the program was ended by signal ", done.err)
+
+
+class InGit(Repositories):
+    """The limits that the base's file gives, and those of calls of git."""
+
+    def test_the_file_of_the_base(self) -> None:
+        self.ask("limit-time = 1\n")
+        self.write("burns", BURNS)
+        os.chmod(self.folder / "burns", 0o755)
+        self.branch()
+        self.write("mmdepend.toml", "limit-time = 99\n")
+        self.commit(BASE + ADDED)
+        why = "not judged: the text needs more than 1 seconds of the processor"
+        words = ("gate", "--base", "main", "db.mm")
+        burns = str(self.folder / "burns")
+        self.refuses(*words, why=why, MMDEPEND=burns)
+        self.refuses(*words, "--limit-time=2", why="more than 2 seconds", MMDEPEND=burns)
+        told = "mmdepend.toml:1: `limit-time` was 1, and is 99 [config]"
+        self.assertEqual(self.gate(status=1), [told])
+
+    def test_two_files(self) -> None:
+        self.write("burns", BURNS)
+        os.chmod(self.folder / "burns", 0o755)
+        self.write("mmdepend.toml", "limit-time = 1\n")
+        self.write("new.mm", BASE + ADDED)
+        burns = str(self.folder / "burns")
+        self.refuses("gate", "db.mm", "new.mm", why="more than 1 seconds", MMDEPEND=burns)
+
+    def test_a_call_of_git_that_takes_long(self) -> None:
+        self.branch()
+        self.commit(BASE + ADDED)
+        self.git("checkout", "--quiet", "main")
+        self.commit(changed(BASE, ("wp ax-ac2 $.", "wp wp ax-1 $.")))
+        self.git("checkout", "--quiet", "work")
+        slow = self.folder.parent / "bin"
+        slow.mkdir()
+        script = '#!/bin/sh\ncase " $* " in *" merge-tree "*) exec sleep 99;; esac\n'
+        (slow / "git").write_text(script + f'exec {git_path()} "$@"\n')
+        (slow / "git").chmod(0o755)
+        words = ["gate", "--base", "main", "db.mm"]
+        top = str(Path(__file__).resolve().parents[2])
+        line = f"import sys; sys.path.insert(0, {top!r}); from query import cli, git; "
+        line += f"git.MOST_SECONDS = 1; cli.main({words!r})"
+        path = f"{slow}:{self.surroundings()['PATH']}"
+        done = self.ran("python3", "-c", line, PATH=path)
+        self.assertEqual((done.status, done.out), (2, ""), done)
+        self.assertIn("not judged: git merge-tree needs more than 1 seconds", done.err)
+
+    def test_a_database_that_is_much_longer(self) -> None:
+        self.branch()
+        self.commit(BASE + "\n" * (70 << 20))
+        words = ("gate", "--base", "main", "HEAD:db.mm")
+        self.refuses(*words, why="not judged: db.mm has 73400914 bytes, and 67110052 are taken")
+
+
+def value_of(number: str) -> int:
+    """A number as JavaScript writes it, perhaps as a power of two."""
+    base, shift, power = number.partition(" << ")
+    return int(base) << int(power) if shift else int(base)
+
+
+def git_path() -> str:
+    """Where git is."""
+    found = program.located("git")
+    assert found is not None
+    return found
+
+
+if __name__ == "__main__":
+    unittest.main()
