@@ -67,7 +67,8 @@ wrote_comparison WriteFailed request old new old_citing new_citing before after 
     wrote = (
       wrote.0,
       wrote.1,
-      differences_are_comparison request old new old_citing new_citing wrote.0 old_is new_is wrote.2,
+      differences_are_comparison request old new old_citing new_citing wrote.0 old_is new_is
+          wrote.2,
       wrote.3,
     )
 wrote_comparison NoMemory request old new old_citing new_citing before after old_is new_is wrote =

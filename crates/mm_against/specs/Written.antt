@@ -6,8 +6,8 @@ use Rattle.mm_spec.specs.Comparison.{Side, AreDifferences}
 use Rattle.mm_spec.specs.declared.ComparisonEnd.{ComparisonEnd}
 use Rattle.mm_spec.specs.declared.ComparisonEnd.TheVariants.{Compared, WriteFailed, NoMemory}
 
--- `Compared`: the differences were written. `WriteFailed`: a prefix of them was. `NoMemory`: nothing
--- was. It doesn't end otherwise.
+-- `Compared`: the differences were written. `WriteFailed`: a prefix of them was. `NoMemory`:
+-- nothing was. It doesn't end otherwise.
 abbrev pub WroteDifferences : ComparisonEnd → Request → (old new : Side)
     → (written_before written_after : Option (List ℕ)) → Type 0
 WroteDifferences Compared request old new written_before written_after =

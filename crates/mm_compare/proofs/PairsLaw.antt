@@ -65,7 +65,8 @@ number_of_name db x x_lt_count =
     slice_get-get_or names x [] x_lt_count
     ∙ ap (λ w. Some w) (sym (unwrap_or-slice_get names x [])) in
     sym (index_of_distinct names
-    (first_occurrences_are_distinct (flat_map (λ s. constants_of s ++ variables_of s) db) []) x (name_at db x) is_name)
+    (first_occurrences_are_distinct (flat_map (λ s. constants_of s ++ variables_of s) db) [])
+    x (name_at db x) is_name)
 
 -- ---- pairs
 
@@ -135,4 +136,5 @@ each_pair_is_below db k q passes =
     each_selected _ q (AreBelow (length (symbol_names db)))
     (λ p p_below selected. passes p p_below
     (last_holds (nat_lt p.low p.high) (is_member (mandatory_variables db k) p.low)
-    (is_member (mandatory_variables db k) p.high) (disjoint_at db k p.low p.high) selected)) (pairs_below (length (symbol_names db))) (pairs_are_below _)
+    (is_member (mandatory_variables db k) p.high) (disjoint_at db k p.low p.high) selected))
+    (pairs_below (length (symbol_names db))) (pairs_are_below _)

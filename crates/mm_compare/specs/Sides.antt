@@ -1,4 +1,5 @@
--- A database of `mm_database` as it is compared, and which assertion of another one is one of its own.
+-- A database of `mm_database` as it is compared, and which assertion of another one is one of its
+-- own.
 use Rattle.std.specs.Prelude.{◌≡◌, ℕ, true, false, IsTrue, Option, Some, None}
 use Rattle.mm_spec.specs.Output.{is_open_at}
 use Rattle.mm_database.specs.Database.{Contents}

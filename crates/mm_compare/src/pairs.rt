@@ -38,7 +38,8 @@ fn are_pairs_distinct_there<D: Allocator, E: Allocator>(
     other: &Database<'_, E>,
     at: u32,
 ) -> bool
-    requires are_pairs { AreSymbolPairs database.now.statements (map (λ p. pair p.0 p.1) pairs.now) }
+    requires are_pairs { AreSymbolPairs database.now.statements
+        (map (λ p. pair p.0 p.1) pairs.now) }
     requires at_le_length { at ≤ length other.now.statements }
     ensures { result
         ≡ list_all (is_distinct_there database.now.statements other.now.statements at)

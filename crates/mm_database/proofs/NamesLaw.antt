@@ -1,7 +1,7 @@
 -- What a list of names says of them.
 use Rattle.std.proofs.Common.{refl, Result, Ok, Err, OnOk, is_some, ◌≡◌, ℕ, suc, ◌≤◌, ◌<◌, true}
-use Rattle.std.proofs.Common.{Bool, ◌||◌, false, List, [], ◌∷◌, ◌++◌, length, map, slice_get, Option, None}
-use Rattle.std.proofs.Common.{Some, bytes_eq, if◌then◌else◌, sym, ap, ◌∙◌, arith}
+use Rattle.std.proofs.Common.{Bool, ◌||◌, false, List, [], ◌∷◌, ◌++◌, length, map, slice_get}
+use Rattle.std.proofs.Common.{Option, None, Some, bytes_eq, if◌then◌else◌, sym, ap, ◌∙◌, arith}
 use Rattle.std.proofs.lemmas.Option.{slice_get-get_or, none-some, slice_get-map, same_Some}
 use Rattle.std.proofs.lemmas.List.{length-map}
 use Rattle.std.proofs.lemmas.Map.Made.{is_some-lookup}

@@ -194,7 +194,8 @@ same_names db other xs ys same =
 same_words : (db other : List Statement) (i j : ℕ) → is_same_hypothesis db other i j ≡ true
     → hypothesis_words db i ≡ hypothesis_words other j
 same_words db other i j same =
-    let both = and_parts _ (are_same_symbols db other (formula_at db i) (formula_at other j)) same in
+    let both = and_parts _ (are_same_symbols db other (formula_at db i) (formula_at other j))
+    same in
     ap₂ (λ (f : Bool) (ws : List Bytes). record { is_float = f; words = ws })
     ((booleans_Decides _ _).0 both.0)
     (same_names db other (formula_at db i) (formula_at other j) both.1)
@@ -211,7 +212,8 @@ say_the_same_in_words db k other j same =
           (hypothesis_words other) (same_words db other) (mandatory_hypotheses db k)
           (mandatory_hypotheses other j) formulas.0;
       formula = same_names db other (formula_at db k) (formula_at other j) formulas.1;
-      distinct = AllPass-from_list_all (is_distinct_there db other j) (mandatory_pairs db k) pairs.0;
+      distinct =
+          AllPass-from_list_all (is_distinct_there db other j) (mandatory_pairs db k) pairs.0;
       distinct_back =
           AllPass-from_list_all (is_distinct_there other db k) (mandatory_pairs other j) pairs.1;
     }

@@ -1,7 +1,8 @@
 //! What the definitions mean, stated as laws: each function has an empty body, and its contract is
 //! the law.
 
-ghost use Rattle.mm_laws.specs.Laws.Comparisons.{HasAllOfItself, RestsOnNothingMore, SayTheSameInWords};
+ghost use Rattle.mm_laws.specs.Laws.Comparisons.{HasAllOfItself, RestsOnNothingMore};
+ghost use Rattle.mm_laws.specs.Laws.Comparisons.{SayTheSameInWords};
 ghost use Rattle.mm_laws.specs.Laws.Comparisons.{ExchangedTextsExchangeSections, IsThereOrListed};
 ghost use Rattle.mm_laws.specs.Laws.Comparisons.{RestsOnNothingThatIsNotGained};
 
@@ -21,7 +22,8 @@ pub fn same_assertions_have_the_same_words()
     ensures { SayTheSameInWords }
 {}
 
-/// With the two texts exchanged, the sections are exchanged: `new` with `gone`, `gained` with `lost`.
+/// With the two texts exchanged, the sections are exchanged: `new` with `gone`, `gained` with
+/// `lost`.
 pub fn exchanged_texts_exchange_sections()
     ensures { ExchangedTextsExchangeSections }
 {}

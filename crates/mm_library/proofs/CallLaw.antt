@@ -14,8 +14,8 @@ use Rattle.mm_library.specs.declared.status.Status.TheVariants.{NoSuchRequest}
 pub writing_ends : (verdict : Status) (request : Request) (asked : Asked) (len : ℕ)
     (before out : List ℕ) → HasVerdict verdict asked request.with_open
     → HasOutput asked request len before out
-    → WritingEnds (if nat_lt (length out) len then OutTooShort else verdict) request asked len before
-    out
+    → WritingEnds (if nat_lt (length out) len then OutTooShort else verdict) request asked len
+    before out
 writing_ends verdict request asked len before out has_verdict has_output =
     status_ends (nat_lt (length out) len) refl
   where

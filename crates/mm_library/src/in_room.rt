@@ -27,8 +27,8 @@ fn output_in_arena<A: Allocator + Copy>(
     }
 }
 
-/// The call `output_of` in a room. If a block of the room was leaked, the room is lost, and the room
-/// counts as too small.
+/// The call `output_of` in a room. If a block of the room was leaked, the room is lost, and the
+/// room counts as too small.
 fn output_in_room(
     room: &mut Room,
     texts: Texts<'_>,

@@ -97,13 +97,13 @@ const ANY_SECTIONS: u32 = 7;
 
 const ANY_FORM: u32 = 1;
 
-/// Verifies the proofs of two texts, the Metamath databases OLD and NEW, and writes what the one has
-/// and the other hasn't to the front of `out`; or if a text has a fault, the refusal of the first
-/// that has one, after the word `old` or `new`.
+/// Verifies the proofs of two texts, the Metamath databases OLD and NEW, and writes what the one
+/// has and the other hasn't to the front of `out`; or if a text has a fault, the refusal of the
+/// first that has one, after the word `old` or `new`.
 ///
 /// - `old_text`, `new_text`: the databases, each read as the text of `mmdepend_report` is.
-/// - `room`, `only`, `has_only`, `essential`, `with_open`, `out`, `written`: as there. `only` chooses
-///   the assertions and the axioms that are told, of both.
+/// - `room`, `only`, `has_only`, `essential`, `with_open`, `out`, `written`: as there. `only`
+///   chooses the assertions and the axioms that are told, of both.
 ///
 /// The result is a status, as there, but never 5.
 #[unsafe(no_mangle)]

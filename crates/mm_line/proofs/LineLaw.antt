@@ -1,8 +1,8 @@
 -- What the words of a command line come to.
 use Rattle.std.proofs.Common.{◌≡◌, ◌∙◌, ◌⊎◌, ◌<◌, ◌≤◌, ◌+◌, ◌==◌, eqb-true, eq-eqb, option_map, inl}
 use Rattle.std.proofs.Common.{inr, ℕ, zero, suc, Bool, true, false, true≢false, ◌&&◌, ◌||◌, refl}
-use Rattle.std.proofs.Common.{sym, ap, ap₂, subst, arith, codes, map, length, slice_index_or, List, []}
-use Rattle.std.proofs.Common.{◌∷◌, ◌++◌, Some, None}
+use Rattle.std.proofs.Common.{sym, ap, ap₂, subst, arith, codes, map, length, slice_index_or}
+use Rattle.std.proofs.Common.{List, [], ◌∷◌, ◌++◌, Some, None}
 use Rattle.std.proofs.lemmas.Bool.{and_parts, or_cases, or_left, or_right}
 use Rattle.std.proofs.lemmas.Grind.{common_steps}
 use Rattle.std.proofs.lemmas.List.{length-map}
@@ -285,7 +285,8 @@ module _ (texts forms : Bor (List (Bor Text))) where
       ∷ report_rule texts ∷ form_rule forms ∷ flag_rule (codes "essential")
       ∷ flag_rule (codes "open") ∷ text_rule (codes "against") ∷ file_rule ∷ []
 
-  module _ (c : Command) (app_is : app_of c ≡ command_of (report_rule texts) (form_rule forms)) where
+  module _ (c : Command)
+      (app_is : app_of c ≡ command_of (report_rule texts) (form_rule forms)) where
     rules_are : map rule_of (args_of c) ≡ the_rules
     unfolding command_of
     rules_are = ap (λ (a : App). a.top.rules) app_is

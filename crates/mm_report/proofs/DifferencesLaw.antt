@@ -35,4 +35,5 @@ pub some_shift_line : (db : List Statement) (label : Bytes) (axioms : List ℕ)
     ≡ shift_line (record { label = label; cited = map (label_at db) axioms })
 some_shift_line db label [] are_assertions not_empty = absurd (true≢false not_empty)
 some_shift_line db label (a ∷ rest) are_assertions not_empty =
-    ap (λ (l : List ℕ). list_line label (map (label_at db) l)) (all_listed db (a ∷ rest) are_assertions)
+    ap (λ (l : List ℕ). list_line label (map (label_at db) l))
+    (all_listed db (a ∷ rest) are_assertions)

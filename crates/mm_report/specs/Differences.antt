@@ -1,5 +1,6 @@
 -- What is written of two databases that were compared.
-use Rattle.std.specs.Prelude.{◌≡◌, ℕ, ◌<◌, ◌^◌, List, [], ◌++◌, map, length, flat_map, slice_index_or}
+use Rattle.std.specs.Prelude.{◌≡◌, ℕ, ◌<◌, ◌^◌, List, [], ◌++◌, map, length, flat_map}
+use Rattle.std.specs.Prelude.{slice_index_or}
 use Rattle.std.specs.List.{range_with_len}
 use Rattle.mm_spec.specs.Text.{Bytes}
 use Rattle.mm_spec.specs.Statement.{Statement}

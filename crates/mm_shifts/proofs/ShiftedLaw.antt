@@ -1,7 +1,7 @@
 -- The list of the axioms that are shifted, as it grows by one axiom after the other.
 use Rattle.std.proofs.Common.{◌≡◌, ◌∙◌, ℕ, ◌+◌, ◌<◌, ◌≤◌, Bool, true, false, List, []}
-use Rattle.std.proofs.Common.{◌∷◌, ◌++◌, length, length-append, get_or, sym, refl, ap, subst, arith, None}
-use Rattle.std.proofs.Common.{Option, not}
+use Rattle.std.proofs.Common.{◌∷◌, ◌++◌, length, length-append, get_or, sym, refl, ap, subst}
+use Rattle.std.proofs.Common.{arith, None, Option, not}
 use Rattle.std.proofs.lemmas.List.{get_or_append_left, get_or-append-add}
 use Rattle.std.proofs.Common.{true≢false, eqb-true, eq-eqb, nat_eq, inl, inr}
 use Rattle.std.proofs.lemmas.Bool.{or_cases, or_left, or_right, cases_lt}

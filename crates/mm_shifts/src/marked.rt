@@ -32,8 +32,8 @@ impl<'m, 'a, A: Allocator, D: Allocator> Model for Marked<'m, 'a, A, D> {
 
     ghost view = { λ m. resting m.database.now m.citations.now };
 
-    ghost invariant = { λ m. IsIndexed m.database.now m.citations.now m.axioms.now m.marks.now m.rows
-        m.columns };
+    ghost invariant = { λ m. IsIndexed m.database.now m.citations.now m.axioms.now m.marks.now
+        m.rows m.columns };
 }
 
 impl<'m, 'a, A: Allocator + Copy, D: Allocator> Marked<'m, 'a, A, D> {

@@ -22,7 +22,8 @@ use Rattle.mm_spec.specs.Assertion.{name_at, label_at, has_label, is_axiom_at, i
 use Rattle.mm_spec.specs.Assertion.{assertion_line}
 use Rattle.mm_spec.specs.Report.{CitingRow, line, head_line, section, citation_line, refusal}
 use Rattle.mm_spec.specs.Request.{Request}
-use Rattle.mm_spec.specs.Output.{FirstFault, HasNoFault, is_theorem_at, is_open_at, theorems, columns}
+use Rattle.mm_spec.specs.Output.{FirstFault, HasNoFault, is_theorem_at, is_open_at, theorems}
+use Rattle.mm_spec.specs.Output.{columns}
 
 -- ---- what assertions say
 

@@ -39,8 +39,9 @@ const WRITING_FAILED: &[u8] = b"mmdepend: writing failed\n";
 const OUT_OF_MEMORY: &[u8] = b"mmdepend: out of memory\n";
 
 impl Ending {
-    /// The status: 0 for a report, differences, help or the version, 1 for a refusal, 2 for an invalid
-    /// command line, 3 if a file couldn't be opened or reading or writing failed, 4 if out of memory.
+    /// The status: 0 for a report, differences, help or the version, 1 for a refusal, 2 for an
+    /// invalid command line, 3 if a file couldn't be opened or reading or writing failed, 4 if out
+    /// of memory.
     pub fn status(&self) -> u8
         ensures { result ≡ status_of self.now }
     {

@@ -1,8 +1,8 @@
 //! The program `mmdepend`: it reads a Metamath database, verifies every proof, and reports on which
 //! axioms each theorem rests, or refuses the database for its first fault; or it says what one
-//! database has and another hasn't. `status` is the whole program, given a reader and two writers: it
-//! reads the words of the command line (`line`), opens the files that they name, and calls `run` or
-//! `run_against`. It promises what is written, the message on standard error, and the status.
+//! database has and another hasn't. `status` is the whole program, given a reader and two writers:
+//! it reads the words of the command line (`line`), opens the files that they name, and calls `run`
+//! or `run_against`. It promises what is written, the message on standard error, and the status.
 #![tactic(auto)]
 
 mod ending;

@@ -150,8 +150,8 @@ fn compare_line<R: Threads + Wait + Files + Sync, I: Read, O: Write>(
     }
 }
 
-/// Reads the words, opens the files that they name, and calls `run` or `run_against`; or writes help
-/// or the version.
+/// Reads the words, opens the files that they name, and calls `run` or `run_against`; or writes
+/// help or the version.
 fn run_words<S: AsStr, R: Threads + Wait + Files + Sync, I: Read, O: Write>(
     rt: &R,
     alloc: Global,

@@ -183,7 +183,8 @@ fn a_file_is_read_in_place_of_the_input(rt: HostRuntime) -> Result<(), Fail> {
 /// What is written of a database that is compared with itself.
 const NO_DIFFERENCES: &[u8] = b"mmdepend-differences 1\nnew\ngone\ngained\nlost\nend\n";
 
-// OLD is a file and NEW the input, or the other way round, or both are files; both can't be the input.
+// OLD is a file and NEW the input, or the other way round, or both are files; both can't be the
+// input.
 #[test]
 fn two_databases_are_compared(rt: HostRuntime) -> Result<(), Fail> {
     let mut path = env::temp_dir(&rt)?;

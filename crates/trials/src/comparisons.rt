@@ -1,5 +1,5 @@
-//! Comparisons of two databases: what is written for any number of workers, and which text a refusal
-//! is of.
+//! Comparisons of two databases: what is written for any number of workers, and which text a
+//! refusal is of.
 
 use crate::texts::{FIRST_TEXT, joined};
 use mm_against::{ComparisonEnd, run_against};

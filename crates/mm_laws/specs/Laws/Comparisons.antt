@@ -1,5 +1,6 @@
 -- What the definitions of a comparison mean. (This project's own.)
-use Rattle.std.specs.Prelude.{◌≡◌, ℕ, ◌<◌, Bool, true, false, not, List, [], map, length, Option, All}
+use Rattle.std.specs.Prelude.{◌≡◌, ℕ, ◌<◌, Bool, true, false, not, List, [], map, length, Option}
+use Rattle.std.specs.Prelude.{All}
 use Rattle.std.specs.List.{list_any}
 use Rattle.mm_spec.specs.Text.{Bytes}
 use Rattle.mm_spec.specs.Statement.{Statement}
@@ -74,8 +75,8 @@ ExchangedTextsExchangeSections =
     × (bytes ≡ differences own gone gained lost)
     × AreDifferences request new old (differences gone own lost gained)
 
--- if an axiom isn't among those that a theorem gained, and in the other database no theorem with the
--- theorem's label rests on that axiom, then the theorem doesn't rest on it
+-- if an axiom isn't among those that a theorem gained, and in the other database no theorem with
+-- the theorem's label rests on that axiom, then the theorem doesn't rest on it
 abbrev pub RestsOnNothingThatIsNotGained : Type 0
 RestsOnNothingThatIsNotGained =
     (request : Request) (old new : Side) (n a : ℕ) (gained : List ℕ)

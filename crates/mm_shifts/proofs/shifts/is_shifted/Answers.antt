@@ -28,7 +28,8 @@ returns-then-has_chosen_typecode g c =
           (option_copied c.args.only) n a c.rests_there.result (c.cell.ensures.0 w.if-cell.true)
           (rw (w.database.ensures, c.axioms.ensures.axioms_are)
           at (sym w.has_chosen_typecode.ensures ∙ sym w.value-is ∙ c.if-has_chosen_typecode.true))
-          (rw (c.theorems.ensures.theorems_are, c.axioms.ensures.axioms_are) at c.rests_there.ensures)
+          (rw (c.theorems.ensures.theorems_are, c.axioms.ensures.axioms_are)
+          at c.rests_there.ensures)
       | else-cell w ↦ absurd (true≢false (sym c.if-has_chosen_typecode.true ∙ w.value-is
           ∙ w.if-cell.false))
     ]
