@@ -125,8 +125,8 @@ def hold_descriptors() -> None:
 
 def main(words: list[str]) -> NoReturn:
     """Runs `mmquery` and ends the process."""
-    signals.listen()
     hold_descriptors()
+    signals.listen()
     gc.disable()  # a command ends before anything would have to be collected
     try:
         status = run(words)

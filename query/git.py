@@ -13,9 +13,12 @@ import os
 import re
 import subprocess
 from collections.abc import Mapping
+from contextlib import suppress
 from dataclasses import dataclass
+from functools import partial
 from pathlib import Path
 
+from query import signals
 from query.errors import NoAnswer, shown
 from query.program import wanted
 
@@ -198,21 +201,49 @@ def call(
         if not name.startswith("GIT_") and name != "LANGUAGE"
     }
     settings = [word for each in SETTINGS for word in ("-c", each)]
-    try:
-        return subprocess.run(
-            [wanted("git", "git isn't installed"), *settings, *words],
-            cwd=folder,
-            input=given,
-            capture_output=True,
-            env={**surroundings, **SURROUNDINGS, **(more or {})},
-            check=False,
-            timeout=MOST_SECONDS,
-        )
-    except OSError as error:
-        raise NoAnswer(f"git can't be run: {error.strerror}") from None
-    except subprocess.TimeoutExpired:
-        asked = next((word for word in words if not word.startswith("-")), "")
-        raise NoAnswer(f"not judged: git {asked} needs more than {MOST_SECONDS} seconds") from None
+    line = [wanted("git", "git isn't installed"), *settings, *words]
+    with signals.held():
+        try:
+            process = subprocess.Popen(
+                line,
+                cwd=folder,
+                stdin=subprocess.PIPE,
+                stdout=subprocess.PIPE,
+                stderr=subprocess.PIPE,
+                env={**surroundings, **SURROUNDINGS, **(more or {})},
+            )
+        except OSError as error:
+            raise NoAnswer(f"git can't be run: {error.strerror}") from None
+        number = signals.at_stop(partial(end, process))
+    with process:
+        try:
+            return ended(process, given)
+        except subprocess.TimeoutExpired:
+            end(process)
+            asked = next((word for word in words if not word.startswith("-")), "")
+            why = f"not judged: git {asked} needs more than {MOST_SECONDS} seconds"
+            raise NoAnswer(why) from None
+        finally:
+            signals.forget(number)
+
+
+def ended(process: subprocess.Popen[bytes], given: bytes) -> subprocess.CompletedProcess[bytes]:
+    """A process that is given these bytes, once it has ended. TimeoutExpired where that takes too
+    long. Python looks once a second whether a signal came in the instant before it began to wait.
+    """
+    for second in range(MOST_SECONDS):
+        with suppress(subprocess.TimeoutExpired):
+            out, errors = process.communicate(b"" if second else given, timeout=1)
+            return subprocess.CompletedProcess(process.args, process.returncode, out, errors)
+    raise subprocess.TimeoutExpired(process.args, MOST_SECONDS)
+
+
+def end(process: subprocess.Popen[bytes]) -> None:
+    """Ends a process. It writes nothing any more then, so a folder in which it wrote can be
+    removed."""
+    process.kill()
+    with suppress(ChildProcessError):
+        os.waitpid(process.pid, 0)
 
 
 def are_one(one: Path, other: Path) -> bool:

@@ -77,11 +77,13 @@ class Copy:
 
     def result(self) -> bytes:
         """Waits for what the work returns. NoAnswer where it raised that, or ended otherwise."""
-        with open(self.reading, "rb", buffering=0) as file:
-            data = file.readall()
+        data = bytearray()
+        while piece := signals.read(self.reading, PIPE):
+            data += piece
+        os.close(self.reading)
         status = self.end()
         if data[:1] == DONE and status == 0:
-            return data[1:]
+            return bytes(memoryview(data)[1:])
         if data[:1] == WITHOUT_ANSWER:
             raise NoAnswer(data[1:].decode("utf-8", "surrogateescape"))
         raise NoAnswer("out of memory" if status else "a process that helps ended too early")

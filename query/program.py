@@ -81,7 +81,7 @@ class Running:
         ended. It is ended where it writes too much."""
         assert self.process.stdout is not None
         out = bytearray()
-        while chunk := os.read(self.process.stdout.fileno(), PIPE):
+        while chunk := signals.read(self.process.stdout.fileno(), PIPE):
             out += chunk
             if len(out) > self.most_output:
                 self.process.kill()

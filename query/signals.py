@@ -15,15 +15,20 @@ from query import system
 from query.errors import tell
 from query.system import STOPPING
 
+MOST_AT_ONCE = 1 << 16
+"""Bytes that signals have written, as many as are read at once."""
+
 _to_do: dict[int, Callable[[], None]] = {}
 _numbers = count(1)
 
 
 class Waiting:
-    """Whether signals are held back, and the one that came meanwhile."""
+    """Whether signals are held back, and the one that came meanwhile. `waking` is the end of a pipe
+    to which each signal writes; None where there is none."""
 
     is_held = False
     came: int | None = None
+    waking: int | None = None
 
 
 _waiting = Waiting()
@@ -44,6 +49,9 @@ def forget(number: int) -> None:
 def forget_all() -> None:
     """Takes back all that was registered: in a copy of the process, what the first one does."""
     _to_do.clear()
+    if _waiting.waking is not None:
+        # What signals wrote to the pipe of the first one isn't for this one.
+        _waiting.waking = system.waking()
     _release()
 
 
@@ -69,7 +77,7 @@ def _stop(number: int, _: FrameType | None) -> None:
         return
     for other in STOPPING:
         signal.signal(other, signal.SIG_IGN)
-    for action in list(_to_do.values()):
+    for action in reversed([*_to_do.values()]):
         with suppress(OSError):
             action()
     if number == signal.SIGINT:
@@ -82,4 +90,16 @@ def listen() -> None:
     for number in STOPPING:
         if signal.getsignal(number) is not signal.SIG_IGN:
             signal.signal(number, _stop)
+    _waiting.waking = system.waking()
     system.let_in(STOPPING)
+
+
+def read(pipe: int, size: int) -> bytes:
+    """The next bytes of a pipe, at most so many; b"" at its end.
+
+    Python looks whether a signal has come, and then begins to wait. One that comes between the two
+    is answered at once all the same, since it has written to the other pipe.
+    """
+    while _waiting.waking is not None and pipe not in system.first_of(pipe, _waiting.waking):
+        os.read(_waiting.waking, MOST_AT_ONCE)
+    return os.read(pipe, size)

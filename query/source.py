@@ -134,13 +134,13 @@ def read_all(descriptor: int, name: str) -> bytes:
     """All that can be read, up to some more than a database may have."""
     state = os.fstat(descriptor)
     try:
-        with open(descriptor, "rb", buffering=0, closefd=False) as file:
-            if stat.S_ISREG(state.st_mode) and state.st_size <= MOST_DATABASE_BYTES:
+        if stat.S_ISREG(state.st_mode) and state.st_size <= MOST_DATABASE_BYTES:
+            with open(descriptor, "rb", buffering=0, closefd=False) as file:
                 return file.readall()
-            data = bytearray()
-            while len(data) <= MOST_DATABASE_BYTES and (piece := file.read(PIECE)):
-                data += piece
-            return bytes(data)
+        data = bytearray()
+        while len(data) <= MOST_DATABASE_BYTES and (piece := signals.read(descriptor, PIECE)):
+            data += piece
+        return bytes(data)
     except OSError as error:
         raise NoAnswer(f"{name}: {reason(error)}") from None
 

@@ -156,6 +156,29 @@ def widen(pipe: int, size: int) -> None:
         fcntl.fcntl(pipe, fcntl.F_SETPIPE_SZ, size)
 
 
+def waking() -> int | None:
+    """Makes a pipe to which each signal that Python answers writes a byte, and returns the end that
+    is read; None where the system can't wait for several pipes at once, as Windows."""
+    import select
+
+    if not hasattr(select, "poll"):
+        return None
+    reading, writing = os.pipe()
+    os.set_blocking(writing, False)
+    signal.set_wakeup_fd(writing, warn_on_full_buffer=False)
+    return reading
+
+
+def first_of(*pipes: int) -> list[int]:
+    """Waits until one of some pipes has something to read, or has ended. Returns which do."""
+    import select
+
+    poll = select.poll()
+    for pipe in pipes:
+        poll.register(pipe, select.POLLIN)
+    return [pipe for pipe, _ in poll.poll()]
+
+
 def let_in(signals: Sequence[int]) -> None:
     """Lets signals in that were held back when this process began."""
     if hasattr(signal, "pthread_sigmask"):

@@ -31,6 +31,7 @@ NAMES = {
         *("SIG_UNBLOCK", "SIG_SETMASK", "sigwait", "sigpending", "siginterrupt"),
     ),
     "fcntl": ("F_SETPIPE_SZ",),
+    "select": ("poll", "epoll", "kqueue", "devpoll"),
 }
 """What Python has on Linux alone, on some systems, or not on Windows. What the standard library
 itself calls on Linux to start a program is left."""

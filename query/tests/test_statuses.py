@@ -257,7 +257,6 @@ class Interrupts(World):
                 stderr=subprocess.PIPE,
             )
             wait_for(lambda: pids.exists() and pids.read_text().count("\n") == 1)
-            wait_for(partial(is_waiting, process.pid))
             process.send_signal(number)
             out, errors = process.communicate(timeout=20)
             self.assertEqual((process.returncode, out), (128 + number, b""))
@@ -285,7 +284,8 @@ class Interrupts(World):
 
 def is_waiting(pid: int) -> bool:
     """Whether a process waits for something. Python looks whether a signal has come before it
-    begins to wait. One that comes right after that look is answered when the wait ends."""
+    begins to wait. Where it can't wait for two pipes at once, one that comes right after that look
+    is answered when the wait ends."""
     return Path(f"/proc/{pid}/stat").read_text().rpartition(")")[2].split()[0] == "S"
 
 

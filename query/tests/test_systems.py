@@ -32,7 +32,7 @@ SOME = (
     *("os.fork", "os.memfd_create", "os.geteuid", "os.O_CLOEXEC", "os.O_NOFOLLOW"),
     *("os.O_NONBLOCK", "os.sched_getaffinity", "os.link", "os.supports_fd", "/dev/fd", "fcntl"),
     *("signal.setitimer", "signal.SIGHUP", "signal.pthread_sigmask", "fcntl.F_SETPIPE_SZ"),
-    "resource",
+    *("resource", "select.poll"),
 )
 """What mmquery uses where it is there, each of which is taken away by itself too."""
 
