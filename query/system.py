@@ -8,6 +8,7 @@ from __future__ import annotations
 
 import errno
 import os
+import select
 import signal
 import stat
 from collections.abc import Callable, Sequence
@@ -159,8 +160,6 @@ def widen(pipe: int, size: int) -> None:
 def waking() -> int | None:
     """Makes a pipe to which each signal that Python answers writes a byte, and returns the end that
     is read; None where the system can't wait for several pipes at once, as Windows."""
-    import select
-
     if not hasattr(select, "poll"):
         return None
     reading, writing = os.pipe()
@@ -171,8 +170,6 @@ def waking() -> int | None:
 
 def first_of(*pipes: int) -> list[int]:
     """Waits until one of some pipes has something to read, or has ended. Returns which do."""
-    import select
-
     poll = select.poll()
     for pipe in pipes:
         poll.register(pipe, select.POLLIN)

@@ -44,8 +44,9 @@ class Shape:
 
 @dataclass(frozen=True)
 class Took:
-    """What a command took: seconds of the processor and bytes of memory at its peak, those of the
-    program included; how it ended, and what it wrote to standard error."""
+    """What a command took: seconds of the processor, without what the system took for it, and bytes
+    of memory at its peak, those of the program included; how it ended, and what it wrote to
+    standard error."""
 
     seconds: float
     memory: int
@@ -68,8 +69,8 @@ def ran(words: list[str], folder: Path, limit: int, surroundings: Mapping[str, s
         os.execve(MMQUERY, ["mmquery", name, "--no-cache", *others], dict(surroundings))
     _, status, usage = os.wait4(child, 0)
     said = (folder / "errors").read_text("latin-1")
-    seconds, memory = usage.ru_utime + usage.ru_stime, usage.ru_maxrss * 1024
-    return Took(seconds, memory, os.waitstatus_to_exitcode(status), said)
+    memory = usage.ru_maxrss * 1024
+    return Took(usage.ru_utime, memory, os.waitstatus_to_exitcode(status), said)
 
 
 def one(text: str) -> Files:
