@@ -95,6 +95,8 @@ def end_with(room: str) -> None:
 
 def tried(tree: Tree, choice: Choice, tell: Teller) -> int:
     """Tries the edits of the crates of a tree."""
+    if choice.keep:
+        choice.keep.mkdir(parents=True, exist_ok=True)
     trials, wrong = [], []
     for crate in tree.named(choice.crates()):
         edits, faults = edits_of(crate)
