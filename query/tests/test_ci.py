@@ -1,5 +1,6 @@
 """The CI job of docs/ci, the action that it calls, and the script that this runs."""
 
+import csv
 import hashlib
 import re
 import shutil
@@ -17,6 +18,7 @@ ENDS_IN_A_CHEAT = ("$= df-4 $.", "$= ax-cheat $.")
 
 
 ACTION = TOP / "action.yml"
+GATE = (TOP / "docs" / "GATE.md").read_text()
 BLOCKS = re.compile(r"^( +)run: \|\n((?:\1  .*\n)+)", re.MULTILINE)
 
 
@@ -55,6 +57,24 @@ class Lines(unittest.TestCase):
         self.assertEqual(len(used), 2)
         for each in used:
             self.assertRegex(each, r"\A(\./mmdepend|[\w./-]+@[0-9a-f]{40})\Z")
+
+    def test_what_each_line_stands_against(self) -> None:
+        """The table of GATE: what it names stands in the files that it names, word by word and in
+        this order, or where it says `no` doesn't."""
+        files = {"job": JOB, "action": ACTION, "script": SCRIPT}
+        rows = re.findall(r"^\| (.*) \| ((?:job|action|script)[^|]*) \| .* \|$", GATE, re.MULTILINE)
+        self.assertGreater(len(rows), 20)
+        for line, where in rows:
+            texts = [files[name].read_text() for name in where.split(", ")]
+            for no, named in re.findall(r"(\bno )?`([^`]+)`", line):
+                words = (
+                    r"\S+" if word in ("NAME@COMMIT", "..") else re.escape(word)
+                    for word in named.replace("+COMMIT", "COMMIT").split()
+                )
+                pattern = r"[^\n]*\n?[^\n]*".join(words)
+                found = [bool(re.search(pattern, text)) for text in texts]
+                wanted = not no
+                self.assertEqual(any(found), wanted, f"{line}: {named}")
 
     def test_limits(self) -> None:
         self.assertIn("\n    timeout-minutes: 30\n", JOB.read_text())
@@ -135,7 +155,7 @@ class Script(Repositories):
         done = self.check()
         self.assertEqual((done.status, done.err), (0, ""), done)
         self.assertRegex(done.out, r"\Apassed: [0-9a-f]{40}:db\.mm compared with main, ")
-        self.assertIn("new\ttheorem\tnew\t", (self.kept / "changes.tsv").read_text())
+        self.assertIn("new,theorem,new,", (self.kept / "changes.csv").read_text())
         self.assertIn("</html>", (self.kept / "page.html").read_text())
         self.assertIn("passed", (self.kept / "summary.md").read_text())
         self.assertEqual(self.check().status, 3)
@@ -148,7 +168,7 @@ class Script(Repositories):
         done = self.check()
         self.assertEqual((done.status, done.err), (1, ""))
         self.assertIn("ax-cheat: a new axiom", done.out)
-        self.assertIn("new\taxiom\tax-cheat", (self.kept / "changes.tsv").read_text())
+        self.assertIn("new,axiom,ax-cheat", (self.kept / "changes.csv").read_text())
 
     def test_a_database_that_is_refused(self) -> None:
         self.branch()
@@ -180,7 +200,7 @@ class Script(Repositories):
         (self.folder / "kept" / "mmdepend" / "query").mkdir(parents=True)
         for name in ("kept/mmdepend/argparse.py", "argparse.py", "query.py"):
             self.write(name, "import os; os._exit(0)\n")
-        (self.folder / "kept" / "changes.tsv").symlink_to("mmdepend/mmquery")
+        (self.folder / "kept" / "changes.csv").symlink_to("mmdepend/mmquery")
         self.write("mmdepend-0.1.0-x86_64-linux.tar.gz", b"")
         self.write("tmp", "")
         self.commit(changed(BASE, ("2p2e4 $p", cheat), ENDS_IN_A_CHEAT))
@@ -193,6 +213,33 @@ class Script(Repositories):
         for folder in (str(self.folder / "tmp"), "tmp"):
             self.assertEqual(self.check(TMPDIR=folder).status, 3)
             self.assertEqual(list((self.folder / "tmp").iterdir()), [])
+
+    def test_commands_of_a_pull_request(self) -> None:
+        """A folder of PATH that is relative would be one of the working tree."""
+        marker = self.folder.parent / "marker"
+        for name in ("git", "mktemp", "rm", "sha256sum", "python3", "curl"):
+            self.write(name, f"#!/bin/sh\ntouch {marker}\nexit 0\n")
+            (self.folder / name).chmod(0o755)
+        path = self.surroundings()["PATH"]
+        self.assertEqual(self.check(KEPT="").status, 0)
+        for more in (f".:{path}", f":{path}", f"{path}:", f"/nowhere::{path}", "."):
+            done = self.check(PATH=more, KEPT="")
+            self.assertEqual((done.status, done.out), (3, ""), more)
+            self.assertEqual(done.err, "PATH has a folder that is relative\n")
+        self.assertFalse(marker.exists())
+
+    def test_what_a_spreadsheet_would_run(self) -> None:
+        """It gets a file that a person opens."""
+        self.branch()
+        run = "=HYPERLINK(A1)"
+        self.commit(changed(BASE, ("$c wff", f"$c {run} wff")) + f"-x $a {run} p $.\n")
+        self.assertEqual(self.check().status, 1)
+        with open(self.kept / "changes.csv", newline="") as file:
+            rows = list(csv.reader(file))
+        self.assertEqual(rows[1][:3], ["new", "axiom", "'-x"])
+        for field in [each for row in rows for each in row]:
+            self.assertNotRegex(field, r"\A[=+@-]")
+        self.assertIn(f"'{run} p", rows[1])
 
     def test_what_is_unpacked_already(self) -> None:
         self.branch()
@@ -221,7 +268,7 @@ class Script(Repositories):
         runner, done = self.act(self.git("rev-parse", "HEAD").strip())
         self.assertEqual([each.returncode for each in done], [0, 1], done)
         self.assertIn(b"ax-cheat: a new axiom", done[1].stdout)
-        self.assertIn("ax-cheat", (runner / "kept" / "changes.tsv").read_text())
+        self.assertIn("ax-cheat", (runner / "kept" / "changes.csv").read_text())
         self.assertIn("ax-cheat", (runner / "summary.md").read_text())
 
     def test_objects_that_git_does_not_write(self) -> None:
