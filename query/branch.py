@@ -82,7 +82,8 @@ def branch_of(word: str) -> Branch:
     if repository.is_bare:
         raise NoAnswer(f"{shown(word)}: the repository has no working tree; name REV:PATH")
     repository.see_plain(repository.top / FILE_NAME, FILE_NAME)
-    files = {name: read_plainly(repository.top / name) for name in (path, FILE_NAME)}
+    most = {path: MOST_DATABASE_BYTES, FILE_NAME: MOST_READ}
+    files = {name: read_plainly(repository.top / name, size) for name, size in most.items()}
     if files[path] is None:
         raise NoAnswer(f"{shown(word)}: there is no such file")
     return Branch(repository, repository.commit("HEAD"), path, files)

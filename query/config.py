@@ -173,13 +173,17 @@ class Misread(NoAnswer):
 
 def load_config(path: Path | None) -> Config:
     """Reads the file; the defaults where there is none. NoAnswer where it isn't right."""
-    if path is None:
-        return Config()
+    return Config() if path is None else read_config(content_of(path), str(path))
+
+
+def content_of(path: Path) -> bytes:
+    """The bytes of the file; where it is too long, some more than it may have. NoAnswer where it
+    can't be read."""
     try:
-        data = path.read_bytes()
+        with path.open("rb") as file:
+            return file.read(MOST_CONFIG_BYTES + 1)
     except OSError as error:
         raise NoAnswer(f"{path}: {error.strerror}") from None
-    return read_config(data, str(path))
 
 
 def read_config(data: bytes, name: str) -> Config:

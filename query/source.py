@@ -112,9 +112,9 @@ def of_bytes(name: str, data: bytes) -> Source:
     return Source(name, unpacked(name, data, MOST_DATABASE_BYTES))
 
 
-def read_plainly(path: "Path") -> bytes | None:
+def read_plainly(path: "Path", most: int) -> bytes | None:
     """The bytes of a file that is no link; None where there is none. NoAnswer where it is a folder,
-    or can't be read."""
+    can't be read, or has more than `most`."""
     name = shown(str(path))
     try:
         descriptor = system.opened(path)
@@ -123,8 +123,11 @@ def read_plainly(path: "Path") -> bytes | None:
     except OSError as error:
         raise NoAnswer(f"{name}: {reason(error)}") from None
     try:
-        if not stat.S_ISREG(os.fstat(descriptor).st_mode):
+        state = os.fstat(descriptor)
+        if not stat.S_ISREG(state.st_mode):
             raise NoAnswer(f"{name}: is no plain file")
+        if state.st_size > most:
+            raise NoAnswer(f"not judged: {name} has {state.st_size} bytes, and {most} are taken")
         return read_all(descriptor, name)
     finally:
         os.close(descriptor)

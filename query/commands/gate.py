@@ -10,7 +10,7 @@ from query import limits
 from query.branch import Asked, Wish, branch_of, brought, compared, config_of
 from query.changes import Comparison, sides
 from query.commands import Command
-from query.config import FILE_NAME, RULES, find_config, load_config
+from query.config import FILE_NAME, RULES, content_of, find_config, load_config
 from query.context import Context
 from query.database import Database
 from query.errors import NoAnswer, shown
@@ -121,7 +121,7 @@ def asked_of_files(old: str, new: str, wish: Wish) -> Asked:
     if wish.config is not None:
         return Asked(load_config(Path(wish.config)))
     before, after = (find_config(Path(each).parent) for each in (old, new))
-    of_old, of_new = (None if each is None else each.read_bytes() for each in (before, after))
+    of_old, of_new = (None if each is None else content_of(each) for each in (before, after))
     name = FILE_NAME if after is None else os.path.relpath(after)
     if wish.is_config_of_new:
         return Asked(config_of(of_new, name))

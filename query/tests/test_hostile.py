@@ -641,6 +641,36 @@ class OfGit(Hostile):
             self.write(name, text)
         self.assertEqual(self.findings(status=0), [])
 
+    def test_a_temporary_folder_of_others(self) -> None:
+        """Who may rename the folder that is made there could put another repository in its place."""
+        self.cheats()
+        self.temporary.chmod(0o777)
+        self.is_refused(why=f"{self.temporary}, the folder for temporary files (TMPDIR), is one in")
+        self.temporary.chmod(0o1777)
+        self.assertEqual(self.findings(), [CHEAT_FOUND])
+        if os.geteuid() == 0:
+            os.chown(self.temporary, 12345, 12345)
+            self.is_refused(why="the folder for temporary files (TMPDIR), belongs to somebody else")
+            os.chown(self.temporary, 0, 0)
+            self.assertEqual(self.findings(), [CHEAT_FOUND])
+
+    def test_files_of_two_gigabytes(self) -> None:
+        """They take no room where they lie, and would take it where they are read."""
+        self.branch()
+        with open(self.folder / "mmdepend.toml", "ab") as file:
+            file.truncate(2_000_000_000)
+        self.is_refused(why="mmdepend.toml has 2000000000 bytes, and 16777216 are taken")
+        (self.folder / "two").mkdir()
+        os.replace(self.folder / "mmdepend.toml", self.folder / "two/mmdepend.toml")
+        self.write("two/db.mm", BASE)
+        line = 'ulimit -v 1000000; exec "$@"'
+        for words in (
+            ("gate", "db.mm", "two/db.mm"),
+            ("gate", "--config", "two/mmdepend.toml", "db.mm", "two/db.mm"),
+        ):
+            done = self.query_by_shell(line, *words)
+            self.assertIn("mmdepend.toml: longer than 1048576 bytes", done.out + done.err)
+
     def test_a_branch_that_hides_the_database(self) -> None:
         self.branch()
         self.git("rm", "--quiet", "db.mm")
