@@ -173,9 +173,16 @@ class Objects:
         return made.decode("ascii").strip()
 
     def read(self, kind: str, name: str, most: int, path: str) -> bytes:
-        """The bytes of an object, which is at this path. NoAnswer where there are more than `most`:
-        an object of a few bytes can be made to unpack to gigabytes."""
-        size = int(self.must("cat-file", "-s", name))
+        """The bytes of an object, which is at this path. NoAnswer where it is of another kind, as a
+        tag may be that names what is wanted, and where there are more than `most`: an object of a
+        few bytes can be made to unpack to gigabytes."""
+        told = self.must("cat-file", "--batch-check", given=name.encode() + b"\n")
+        found, what, *sizes = told.decode("ascii", "replace").split()
+        if found != name or not sizes:
+            raise NoAnswer(f"git: {shown(path)}: this clone lacks the object {short(name)}")
+        if what != kind:
+            raise NoAnswer(f"not judged: {shown(path)}: {short(name)} is a {what}, and no {kind}")
+        size = int(sizes[0])
         if size > most:
             raise NoAnswer(f"not judged: {shown(path)} has {size} bytes, and {most} are taken")
         return self.must("cat-file", kind, name)

@@ -316,6 +316,34 @@ class Trees(Built):
         words = self.judge(self.made("tree", data + b"100644 x\0" + b"\1" * 9))
         self.is_refused(*words, why="")
 
+    def test_objects_of_another_kind(self) -> None:
+        """A tag that stands where a file is read as the file that it names, which no checkout would
+        have; its own size isn't that of the file."""
+        last = ("100644", b"mmdepend.toml", self.asked)
+        good = self.tree(("100644", b"db.mm", self.good), last)
+        self.assertEqual(self.findings(*self.judge(good), status=0), [])
+        tag = self.tag("blob", self.good)
+        words = self.judge(self.tree(("100644", b"db.mm", tag), last))
+        self.is_refused(*words, why=f"not judged: db.mm: {tag[:12]} is a tag, and no blob")
+        words = self.judge(self.tree(("100644", b"db.mm", good), last))
+        self.is_refused(*words, why=f"not judged: db.mm: {good[:12]} is a tree, and no blob")
+        inner = self.tree(("100644", b"db.mm", self.good))
+        base = self.git("commit-tree", self.tree(("40000", b"db", inner), last), "-m", "base")
+        for kind, name in (("tree", inner), ("commit", base), ("blob", self.good)):
+            entry = inner if kind == "tree" else self.tag(kind, name) if kind == "blob" else name
+            tree = self.tree(("40000", b"db", entry), last)
+            new = self.git("commit-tree", tree, "-p", base, "-m", "new")
+            words = ("--base", base, f"{new}:db/db.mm")
+            if kind == "tree":
+                self.assertEqual(self.findings(*words, status=0), [])
+            else:
+                self.is_refused(*words, why="not judged: db/db.mm: ")
+
+    def tag(self, kind: str, name: str) -> str:
+        """A tag that names an object. Returns its id."""
+        text = f"object {name}\ntype {kind}\ntag x\ntagger a <a@b> 1 +0000\n\nx\n"
+        return self.made("tag", text.encode())
+
     def test_names_that_some_systems_take_for_one(self) -> None:
         self.cheats()
         self.assertEqual(self.findings(), [CHEAT_FOUND])
