@@ -19,3 +19,12 @@ def blocks_in(page: str) -> Blocks:
 def lines_in(blocks: Blocks, name: str) -> list[str]:
     """The lines of a block that is a text."""
     return blocks[name].decode().split("\n")
+
+
+def with_block(page: str, name: str, packed: bytes) -> str:
+    """A page with other bytes in place of those of a block, which are deflated as it stands."""
+    start, found, end = page.partition(f'id="data-{name}"')
+    head, _, rest = end.partition(">")
+    _, close, rest = rest.partition("<")
+    assert found and close
+    return f"{start}{found}{head}>{base64.b64encode(packed).decode()}{close}{rest}"

@@ -78,6 +78,7 @@ def try_hostile(browser: Browser, folder: Path) -> None:
     whole.check_policy(browser, page)
     whole.check_corners(browser, folder)
     whole.check_misleading(browser, folder)
+    whole.check_failing(browser, folder)
     whole.check_against(browser, folder)
 
 

@@ -160,6 +160,18 @@ ${{ $d {variables} $. apart $a |- ( {variables} ) $. $}}
 """
 
 
+# A chapter and an assertion with a comment, and one without.
+COMMENTED = """$c |- a $.
+$(
+####
+  A part
+####
+  Its text.
+$)
+$( A comment. $) told $a |- a $.
+untold $p |- a $= told $.
+"""
+
 # A release and the next: `b` gains ax-2 and ax-5 and loses ax-1, `d` loses ax-1 for ax-3, `old`
 # becomes `renamed`, `gone` goes, `fresh`, ax-3, ax-4 and ax-5 are new.
 HEAD = """$c |- A B E $.

@@ -12,8 +12,10 @@ import time
 from pathlib import Path
 from typing import Any
 
+from query.tests.blocks import with_block
 from query.tests.browser.browsers import Browser, Keys
 from query.tests.browser.databases import (
+    COMMENTED,
     CORNERS,
     EVIL,
     EVIL_TITLE,
@@ -37,6 +39,9 @@ MOST_SECONDS = 12
 MOST_UNTIL_SHOWN = 1000  # milliseconds
 MOST_FOR_A_KEY = 50
 MOST_STALL = 100
+FAILED = "This can't be shown"
+"""The heading of a view that could not be made."""
+HEADING = "return document.querySelector('#main h1')?.textContent"
 COMMAND = [str(HERE / "mmquery")]  # itself: its first line keeps back signals at first
 ENVIRONMENT = {**os.environ, "MMDEPEND": PROGRAM}
 
@@ -230,6 +235,63 @@ def check_misleading(browser: Browser, folder: Path) -> None:
         size = browser.run("return document.querySelectorAll('*').length")
         check(size < 60_000, f"{browser.name}: elements of the view of {label}", size)
     same(browser.messages(), [], f"{browser.name}: messages in the console")
+
+
+THROWS_ONCE = """
+document.createElement = () => {
+    delete document.createElement;
+    throw new RangeError("no room");
+};
+"""
+
+
+def check_failing(browser: Browser, folder: Path) -> None:
+    """A view that can't be made says so: nothing of another one stands under its address."""
+    (folder / "commented.mm").write_text(COMMENTED)
+    page, damaged = folder / "commented.html", folder / "damaged.html"
+    make_page(folder / "commented.mm", page)
+    text = page.read_text("utf-8")
+    for name in ("comments-0", "chapter-texts"):
+        text = with_block(text, name, b"not deflated")
+    damaged.write_text(text, "utf-8")
+    for address, heading in (("#axiom=told", "told"), ("#chapter=1", "A part")):
+        browser.open(damaged, "#theorem=untold")
+        fails(browser, address, "untold")
+        browser.open(page, "#theorem=untold")
+        shows(browser, address, heading)
+    for address, heading in (
+        *(("#axiom=told", "told"), ("#chapter=1", "A part"), ("#search=a", "Search")),
+        *(("#theorem=untold", "untold"), ("#", "commented.mm")),
+    ):
+        before, there = (
+            ("#", "commented.mm") if "untold" in address else ("#theorem=untold", "untold")
+        )
+        browser.open(page, before)
+        browser.run(THROWS_ONCE)
+        fails(browser, address, there)
+        shows(browser, before, there)
+        shows(browser, address, heading)
+    browser.messages()
+
+
+def fails(browser: Browser, address: str, before: str) -> None:
+    """A view that can't be made is told in place of the one before."""
+    when = f"{browser.name}: after {before}, {address}"
+    check(before in str(browser.run(HEADING)), f"{when}: the view before")
+    browser.run("window.location.hash = arguments[0]", address)
+    check(browser.is_at(FAILED), f"{when}: {FAILED}", browser.run(HEADING))
+    left = browser.run("return document.querySelectorAll('#main > *').length")
+    same(left, 4, f"{when}: parts of the view")
+    title = browser.run("return document.title")
+    same(title, "Not shown \u2014 commented.mm", f"{when}: the title")
+
+
+def shows(browser: Browser, address: str, heading: str) -> None:
+    """The control: this view can be made."""
+    browser.run("window.location.hash = arguments[0]", address)
+    shown = "document.querySelector('#main h1')?.textContent.startsWith(arguments[0])"
+    told = f"{browser.name}: {address} shows {heading}"
+    check(browser.wait(shown, heading), told, browser.run(HEADING))
 
 
 def check_doubling(browser: Browser) -> None:
