@@ -85,11 +85,13 @@ def check_formula_found(
 
 
 def check_comments_found(browser: Browser, name: str, truth: Truth, rng: random.Random) -> None:
-    """Three words of a comment are found in any order."""
+    """Three words of a comment are found in any order. They are typed without quotes around them:
+    what stands between two quotes is a phrase."""
     labels = truth.formulas
     commented = [label for label in labels if len(truth.comments.get(label, "").split()) > 3]
     for label in rng.sample(commented, min(MOST_COMMENTS, len(commented))):
-        words = [word.lower() for word in truth.comments[label].split() if "<" not in word]
+        written = (word for word in truth.comments[label].split() if "<" not in word)
+        words = [word for word in (each.lower().strip('"') for each in written) if word]
         some = list(dict.fromkeys(rng.sample(words, min(3, len(words)))))
         _, told = browser.run(FIND, " ".join(some))
         least = len(with_all_words(truth, some))

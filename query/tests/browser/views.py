@@ -184,7 +184,8 @@ class Shown:
         if "<" in raw or "``" in raw:
             return
         plain = CREDIT.sub("", SENTENCE.sub("", re.sub(r"`[^`]*`", "", raw)))
-        plain = re.sub(r"~~|~", "", plain).replace("[[", "[")
+        # `~~` stands for `~`, and a single one is before a label or an address.
+        plain = re.sub(r"~(~?)", r"\1", plain).replace("[[", "[")
         found, wanted = (re.sub(r"[\s_]", "", text) for text in (shown["comment"], plain))
         if not shown["credits"] or len(DATE.findall(plain)) == 0:
             same(found, wanted, f"{name}: the words of the comment")
