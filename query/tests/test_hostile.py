@@ -5,6 +5,7 @@ others have more."""
 import json
 import os
 import re
+import shutil
 import subprocess
 import tempfile
 import unittest
@@ -14,7 +15,7 @@ from pathlib import Path
 from query.findings import in_markdown
 from query.tests.repositories import ADDED, BASE, WATCH, Repositories, changed
 from query.tests.shapes import proof
-from query.tests.world import DATABASES, TOP
+from query.tests.world import DATABASES, TOP, Done
 
 CHEAT = (
     "2p2e4 $p |- ( 2 + 2 ) = 4 $= df-4",
@@ -677,6 +678,77 @@ class OfGit(Hostile):
         self.git("commit", "--quiet", "--message", "gone")
         self.is_refused("--base", "main", "HEAD:db.mm", why="db.mm: ")
         self.is_refused(why="db.mm: there is no such file")
+
+
+MOVES = """#!/bin/sh
+echo >>"{counts}"
+[ "$(wc -l <"{counts}")" -ne {at} ] || "{git}" --git-dir="{folder}" update-ref {name} {commit}
+exec "{git}" "$@"
+"""
+"""A git that moves a branch before one of its calls."""
+
+
+class Moving(Hostile):
+    """Branches that move while the gate runs: it reads each once, and what it says is so of the
+    commits that it names."""
+
+    def setUp(self) -> None:
+        super().setUp()
+        self.counts = self.folder.parent / "counts"
+        self.bin = self.folder.parent / "bin"
+        self.bin.mkdir()
+
+    def judged(self, at: int, name: str, commit: str, words: tuple[str, ...]) -> Done:
+        """What the gate says where a branch becomes another commit before one call of git."""
+        git = shutil.which("git")
+        folder = self.folder / ".git"
+        given = {"git": git, "folder": folder, "name": name, "commit": commit, "at": at}
+        self.counts.write_text("")
+        (self.bin / "git").write_text(MOVES.format(counts=self.counts, **given))
+        (self.bin / "git").chmod(0o755)
+        return self.query("gate", *words, PATH=f"{self.bin}:{self.surroundings()['PATH']}")
+
+    def moves(self, name: str, first: str, second: str, *words: str) -> None:
+        """At whichever call of git a branch moves, the answer is that of one of both commits; and
+        it is the first one's at the end, and the second one's at the beginning."""
+        wanted = []
+        for commit in (first, second):
+            self.git("update-ref", name, commit)
+            wanted.append(self.query("gate", *words))
+        self.assertNotEqual(*wanted)
+        calls = 1
+        found = []
+        while True:
+            self.git("update-ref", name, first)
+            found.append(self.judged(calls, name, second, words))
+            self.assertIn(found[-1], wanted, calls)
+            if self.counts.read_text().count("\n") < calls:
+                break
+            calls += 1
+        self.assertEqual([found[0], found[-1]], wanted[::-1])
+        changes = [one != other for one, other in zip(found, found[1:])]
+        self.assertEqual(changes.count(True), 1)
+        self.git("update-ref", name, first)
+
+    def test_the_base(self) -> None:
+        """The second base has what the branch brings, and asks nothing."""
+        first = self.git("rev-parse", "HEAD")
+        self.cheats()
+        self.git("checkout", "--quiet", "main")
+        self.write("mmdepend.toml", "[rules]\naxioms = false\n")
+        second = self.commit(changed(BASE, CHEAT))
+        self.git("checkout", "--quiet", "work")
+        self.moves("refs/heads/main", first, second, "--base", "main", "work:db.mm")
+        self.moves("refs/heads/main", second, first, "--base", "main", "work:db.mm")
+
+    def test_the_branch(self) -> None:
+        self.branch()
+        first = self.commit(BASE + ADDED)
+        second = self.commit(changed(BASE, CHEAT) + ADDED)
+        self.git("checkout", "--quiet", "main")
+        self.commit(changed(BASE, ("4 $.\nax-1", "4 $.\n\nax-1")))
+        self.moves("refs/heads/work", first, second, "--base", "main", "work:db.mm")
+        self.moves("refs/heads/work", second, first, "--base", "main", "work:db.mm")
 
 
 class OfTexts(Hostile):
