@@ -643,7 +643,7 @@ class OfGit(Hostile):
         self.assertEqual(self.findings(status=0), [])
 
     def test_a_temporary_folder_of_others(self) -> None:
-        """Who may rename the folder that is made there could put another repository in its place."""
+        """Who may rename what is made there could put another repository in its place."""
         self.cheats()
         self.temporary.chmod(0o777)
         self.is_refused(why=f"{self.temporary}, the folder for temporary files (TMPDIR), is one in")
