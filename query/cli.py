@@ -125,10 +125,10 @@ def hold_descriptors() -> None:
 
 def main(words: list[str]) -> NoReturn:
     """Runs `mmquery` and ends the process."""
-    hold_descriptors()
-    signals.listen()
     gc.disable()  # a command ends before anything would have to be collected
     try:
+        hold_descriptors()
+        signals.listen()
         status = run(words)
     except NoAnswer as why:
         status = no_answer(why.sentence())

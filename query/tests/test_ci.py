@@ -10,7 +10,7 @@ import unittest
 from pathlib import Path
 
 from query.tests.repositories import ADDED, BASE, WATCH, Repositories, changed
-from query.tests.world import PROGRAM_FOR_NODE, TOP, Done, World, built_program
+from query.tests.world import PROGRAM_FOR_NODE, SMALL, TOP, Done, World, built_program
 
 SCRIPT = TOP / "docs" / "ci" / "check-database"
 JOB = TOP / "docs" / "ci" / "github.yml"
@@ -136,7 +136,7 @@ class Script(Repositories):
         )
         del surroundings["MMDEPEND"]
         done = subprocess.run(
-            ["sh", str(SCRIPT)],
+            ["/bin/sh", str(SCRIPT)],
             cwd=self.folder,
             env={**surroundings, **more},
             capture_output=True,
@@ -229,17 +229,13 @@ class Script(Repositories):
         self.assertFalse(marker.exists())
 
     def test_what_a_spreadsheet_would_run(self) -> None:
-        """It gets a file that a person opens."""
+        """It gets a file that a person opens, in which a label may begin with `-`."""
         self.branch()
-        run = "=HYPERLINK(A1)"
-        self.commit(changed(BASE, ("$c wff", f"$c {run} wff")) + f"-x $a {run} p $.\n")
+        self.commit(BASE + "-1-A1 $a |- p $.\n")
         self.assertEqual(self.check().status, 1)
         with open(self.kept / "changes.csv", newline="") as file:
             rows = list(csv.reader(file))
-        self.assertEqual(rows[1][:3], ["new", "axiom", "'-x"])
-        for field in [each for row in rows for each in row]:
-            self.assertNotRegex(field, r"\A[=+@-]")
-        self.assertIn(f"'{run} p", rows[1])
+        self.assertEqual(rows[1][:3], ["new", "axiom", "'-1-A1"])
 
     def test_what_is_unpacked_already(self) -> None:
         self.branch()
@@ -334,3 +330,23 @@ class Modules(World):
         done = self.ran("./mmquery", "gate", "nowhere.mm", PYTHONPATH=str(self.folder))
         self.assertEqual(done.status, 2)
         self.assertIn("there is no such file", done.err)
+
+    def test_where_it_can_not_be_started(self) -> None:
+        """A traceback would end with status 1, by which `verify` says that it refuses."""
+        self.write("db.mm", SMALL)
+        shutil.copy(TOP / "mmquery", self.folder)
+        words = ("./mmquery", "verify", "db.mm")
+        said = "mmquery: can't be started: the folder query isn't beside it\n"
+        self.assertEqual(self.ran(*words), Done("", said, 2))
+        hidden = shutil.ignore_patterns("tests", "__pycache__")
+        shutil.copytree(TOP / "query", self.folder / "query", ignore=hidden)
+        self.assertEqual(self.ran(*words).status, 0)
+        for text, why in (
+            ("raise MemoryError\n", "out of memory"),
+            ("raise OSError(24, 'too many open files')\n", "[Errno 24] too many open files"),
+            ("import query.nothing\n", "No module named 'query.nothing'"),
+            ("def\n", "invalid syntax (cli.py, line 1)"),
+        ):
+            self.write("query/cli.py", text)
+            said = f"mmquery: can't be started: {why}\n"
+            self.assertEqual(self.ran(*words), Done("", said, 2))
