@@ -4,7 +4,7 @@ Everything here is about chains of citations that end at one node, `end`, an axi
 Theorems may be `kept`: they rest on it whatever is done, so a chain may end at one of them as well.
 """
 
-from collections.abc import Iterator
+from collections.abc import Callable, Iterator, Set
 from dataclasses import dataclass, field
 
 from query.graph import Graph
@@ -146,31 +146,85 @@ def way_out(graph: Graph, start: int, end: int, kept: frozenset[int] = NOTHING) 
     return WayOut(applies, flow.cut(set(flow.levels())), flow.cut(set(ahead) - flow.reaching()))
 
 
-class Bottlenecks:
-    """For each node that rests on `end`, what is on all its chains to it.
+class Meetings:
+    """Parts one behind the other in a tree, whose root is `end`: for two of them, what is behind
+    both is found.
 
-    `over[x]` is the last common part of the chains of what `x` cites, nearer to the end; `deep[x]`
-    is how many such parts follow. A part is a node, or with `citations` also a citation. `far[x]`
-    is a part farther on, so placed that each part is found in about as many steps as the number of
-    parts has digits.
+    `over[x]` is the part behind `x`; `deep[x]` is how many such parts follow. `far[x]` is a part
+    farther on, so placed that each part is found in about as many steps as the number of parts has
+    digits.
     """
 
-    def __init__(
-        self, graph: Graph, end: int, citations: bool = False, kept: frozenset[int] = NOTHING
-    ) -> None:
+    def __init__(self, end: int) -> None:
         self.end = end
-        self.kept = kept & graph.above([end])
         self.deep: dict[int | Citation, int] = {end: 0}
         self.over: dict[int | Citation, int | Citation] = {}
         self.far: dict[int | Citation, int | Citation] = {end: end}
+
+    def put(self, part: int | Citation, over: int | Citation) -> None:
+        """Puts a part in front of another one."""
+        deep, far = self.deep, self.far
+        self.over[part] = over
+        deep[part] = deep[over] + 1
+        middle = far[over]
+        is_even = deep[over] - deep[middle] == deep[middle] - deep[far[middle]]
+        far[part] = far[middle] if is_even else over
+
+    def common(self, nodes: list[int]) -> int | Citation:
+        """The first part that is behind all of these, or is one of them."""
+        last: int | Citation = nodes[0]
+        for node in nodes:
+            if last == self.end:
+                break
+            if node != last:
+                last = self.meeting(last, node)
+        return last
+
+    def meeting(self, one: int | Citation, other: int | Citation) -> int | Citation:
+        """The first part that is behind both, or is one of them."""
+        deep, over, far = self.deep, self.over, self.far
+        if deep[one] < deep[other]:
+            one, other = other, one
+        wanted = deep[other]
+        while deep[one] > wanted:
+            one = far[one] if deep[far[one]] >= wanted else over[one]
+        while one != other:
+            if far[one] != far[other]:
+                one, other = far[one], far[other]
+            else:
+                one, other = over[one], over[other]
+        return one
+
+
+class Bottlenecks(Meetings):
+    """For each node that rests on `end`, what is on all its chains to it. Theorems of `again` are
+    proved anew without it, so that no chain leads through them.
+
+    `over[x]` is the last common part of the chains of what `x` cites, nearer to the end. A part is
+    a node, or with `citations` also a citation.
+    """
+
+    def __init__(
+        self,
+        graph: Graph,
+        end: int,
+        citations: bool = False,
+        kept: frozenset[int] = NOTHING,
+        again: Set[int] = NOTHING,
+    ) -> None:
+        super().__init__(end)
+        above = graph.above([end])
+        self.kept = kept & above
         self.theorems: list[int] = []
         # For each theorem the first and the last citation on all its chains; None where there is
         # none.
         self.ends: dict[int, tuple[Citation, Citation] | None] = {end: None}
-        for node in sorted(graph.above([end]) - self.kept - {end}):
+        for node in sorted(above - self.kept - again - {end}):
             cited = [
                 other for other in graph.cites[node] if other in self.deep or other in self.kept
             ]
+            if not cited:  # what it cites is free by those that are proved anew
+                continue
             self.theorems.append(node)
             if citations and len(cited) == 1:
                 self.add_citation(node, cited[0])
@@ -195,45 +249,14 @@ class Bottlenecks:
         before = self.ends[self.merged(cited)]
         self.ends[node] = edge, before[1] if before else edge
 
-    def put(self, part: int | Citation, over: int | Citation) -> None:
-        """Puts a part in front of another one."""
-        deep, far = self.deep, self.far
-        self.over[part] = over
-        deep[part] = deep[over] + 1
-        middle = far[over]
-        is_even = deep[over] - deep[middle] == deep[middle] - deep[far[middle]]
-        far[part] = far[middle] if is_even else over
 
-    def common(self, nodes: list[int]) -> int | Citation:
-        """The last part that is on all chains from all of these."""
-        last: int | Citation = nodes[0]
-        for node in nodes:
-            if last == self.end:
-                break
-            if node != last:
-                last = self.meeting(last, node)
-        return last
-
-    def meeting(self, one: int | Citation, other: int | Citation) -> int | Citation:
-        """The last part that is on all chains from both."""
-        deep, over, far = self.deep, self.over, self.far
-        if deep[one] < deep[other]:
-            one, other = other, one
-        wanted = deep[other]
-        while deep[one] > wanted:
-            one = far[one] if deep[far[one]] >= wanted else over[one]
-        while one != other:
-            if far[one] != far[other]:
-                one, other = far[one], far[other]
-            else:
-                one, other = over[one], over[other]
-        return one
-
-
-def freeing(graph: Graph, end: int, kept: frozenset[int] = NOTHING) -> list[tuple[int, int]]:
+def freeing(
+    graph: Graph, end: int, kept: frozenset[int] = NOTHING, again: Set[int] = NOTHING
+) -> list[tuple[int, int]]:
     """For each theorem that rests on `end` and isn't kept, in file order: how many theorems no
-    longer do if it is proved without, itself included, and the theorem."""
-    found = Bottlenecks(graph, end, kept=kept)
+    longer do if it is proved without, itself included, and the theorem. Where those of `again` are
+    proved without already, this is about the others that rest on `end` still."""
+    found = Bottlenecks(graph, end, kept=kept, again=again)
     freed = dict.fromkeys(found.theorems, 0)
     freed[end] = 0
     for node in reversed(found.theorems):
@@ -256,3 +279,35 @@ def freed(graph: Graph, end: int, again: set[int], kept: frozenset[int] = NOTHIN
         else:
             found.append(node)
     return found
+
+
+@dataclass(frozen=True)
+class Advance:
+    """A step of a plan: a theorem to prove without `end`, how many theorems it frees beside those
+    that the steps before it have freed, itself included, and how many are free then."""
+
+    theorem: int
+    freed: int
+    total: int
+
+
+def plan(
+    graph: Graph,
+    end: int,
+    kept: frozenset[int],
+    again: Set[int],
+    may: Callable[[int], bool],
+) -> Iterator[Advance]:
+    """The theorems that free most, one after the other: each is the one that frees most beside what
+    `again` and those before it free, and of several the first in the file. Only those that `may`
+    be proved anew are taken. It ends where nothing is left."""
+    done = set(again)
+    total = len(freed(graph, end, done, kept))
+    while True:
+        left = [pair for pair in freeing(graph, end, kept, done) if may(pair[1])]
+        if not left:
+            return
+        more, theorem = max(left, key=lambda pair: pair[0])
+        total += more
+        done.add(theorem)
+        yield Advance(theorem, more, total)

@@ -1,8 +1,10 @@
 """`why`, `way-out` and `frees`: chains of citations, and what would cut them."""
 
 import argparse
+from dataclasses import dataclass
+from itertools import islice
 
-from query import cuts
+from query import cuts, progress
 from query.commands import Command
 from query.context import Context
 from query.database import Database
@@ -62,6 +64,16 @@ theorem  the label of the theorem
 
 Without a THEOREM, the theorems that free most so, each by itself.
 
+With --plan N, the N theorems to prove one after the other, so that each frees most beside what
+those before it have freed:
+
+freed    how many theorems it frees besides, itself included
+total    how many are free by then
+theorem  the label of the theorem
+
+With --given T, theorems that have such a proof already: this is about the others, and `total`
+counts what is free by T too. The filters choose which theorems a plan may take.
+
 With --keep LABEL, theorems that need ON anyway: they get no other proof, and what cites them rests
 on ON. With --keep-wrappers these are the theorems that only say ON in another form: those whose
 proof applies ON and nothing else that rests on ON, and those that state what ON states but for the
@@ -71,6 +83,8 @@ variables. Standard error says which they are.
   $ mmquery frees set.mm ax-ac2 --keep axac3
   $ mmquery frees set.mm ax-ac2 --most 4
   $ mmquery frees set.mm ax-13 --keep-wrappers
+  $ mmquery frees set.mm ax-13 --keep-wrappers --plan 5
+  $ mmquery frees set.mm ax-13 --keep-wrappers --given hbsb2,ax6e
 """
 
 
@@ -131,7 +145,7 @@ def kept_in(
 ) -> frozenset[int]:
     """The theorems that are kept. NoAnswer where one isn't a theorem, or doesn't rest on ON."""
     graph = database.graph()
-    named = named_in(graph, end, arguments.keep)
+    named = named_in(graph, end, "--keep", arguments.keep)
     if not arguments.keep_wrappers:
         return named
     found = wrappers(graph, database.text, end)
@@ -142,15 +156,16 @@ def kept_in(
     return named | frozenset(found)
 
 
-def named_in(graph: Graph, end: int, words: list[str]) -> frozenset[int]:
-    """The theorems that `--keep` names."""
+def named_in(graph: Graph, end: int, option: str, words: list[str]) -> frozenset[int]:
+    """The theorems that an option names. NoAnswer where one isn't a theorem, or doesn't rest on
+    ON."""
     nodes = [graph.theorem(label) for word in words for label in word.split(",") if label]
     above = graph.above([end]) if nodes else set()
     for node in nodes:
         if node not in above or node == end:
             raise NoAnswer(
                 f"{graph.name}: {graph.labels[node]} doesn't rest on {graph.labels[end]},"
-                " so --keep has nothing to keep"
+                f" so {option} can't name it"
             )
     return frozenset(nodes)
 
@@ -202,8 +217,15 @@ def configure_frees(parser: Parser) -> None:
     add_database(parser)
     parser.add_argument("on", metavar="ON")
     parser.add_argument("theorems", metavar="THEOREM", nargs="*")
+    parser.exclude("--most", "--plan")
     parser.value(
         "--most", "N", "without THEOREM: how many are listed (else: 10)", type=positive, default=10
+    )
+    parser.value("--plan", "N", "the best N one after the other", type=positive)
+    parser.values(
+        "--given",
+        "T",
+        "a theorem that has such a proof already; several: by commas, or more options",
     )
     add_keep(parser)
     add_choice_of_citations(parser)
@@ -211,28 +233,85 @@ def configure_frees(parser: Parser) -> None:
 
 def run_frees(context: Context, arguments: argparse.Namespace) -> int:
     """Answers `frees`."""
+    if arguments.plan is not None and arguments.theorems:
+        raise NoAnswer("--plan chooses the theorems itself, so frees takes no THEOREM with it")
     database = context.database(arguments.database, options_of(arguments))
     graph = database.graph()
     end = graph.node(arguments.on)
     kept = kept_in(context, arguments, database, end)
-    freeing = cuts.freeing(graph, end, kept)
+    given = named_in(graph, end, "--given", arguments.given)
+    for node in given & kept:
+        raise NoAnswer(f"{graph.name}: {graph.labels[node]} is kept, so --given can't name it")
+    asked = Asked(graph, end, kept, given)
     if arguments.theorems:
-        again = {graph.theorem(label) for label in arguments.theorems}
-        counts = {node: freed for freed, node in freeing}
-        rows: list[list[Value]] = []
-        for node in cuts.freed(graph, end, again, kept):
-            rows.append([counts[node], graph.labels[node]])
-        why = nothing_rests(graph, end, "of these ")
-        context.table(FREED, rows, why, "theorem", ["freed"])
-        return 0
-    freeing.sort(key=lambda pair: -pair[0])
-    if not freeing and kept:
-        context.tell(f"{graph.name}: all that rests on {graph.labels[end]} is kept")
-    elif not freeing:
-        context.tell(nothing_rests(graph, end))
-    found: list[list[Value]] = [[freed, graph.labels[node]] for freed, node in freeing]
-    context.out.table(FREED, context.passing(found, 1)[: arguments.most])
+        put_freed(context, asked, {graph.theorem(label) for label in arguments.theorems})
+    elif arguments.plan is not None:
+        put_plan(context, asked, arguments.plan)
+    else:
+        put_most(context, asked, arguments.most)
     return 0
+
+
+@dataclass(frozen=True)
+class Asked:
+    """What `frees` is asked: of what to free, what is kept, and what is proved anew already."""
+
+    graph: Graph
+    end: int
+    kept: frozenset[int]
+    given: frozenset[int]
+
+
+def put_freed(context: Context, asked: Asked, again: set[int]) -> None:
+    """Lists what is freed by theorems."""
+    graph, end, kept, given = asked.graph, asked.end, asked.kept, asked.given
+    counts = {node: freed for freed, node in cuts.freeing(graph, end, kept, given)}
+    found = cuts.freed(graph, end, again | given, kept)
+    rows: list[list[Value]] = [
+        [counts[node], graph.labels[node]] for node in found if node in counts
+    ]
+    context.table(FREED, rows, nothing_rests(graph, end, "of these "), "theorem", ["freed"])
+
+
+def put_plan(context: Context, asked: Asked, steps: int) -> None:
+    """Lists the theorems of a plan."""
+    graph, end, kept = asked.graph, asked.end, asked.kept
+    passes = context.test()
+    advances = cuts.plan(graph, end, kept, asked.given, lambda node: passes(graph.labels[node]))
+    rows: list[list[Value]] = []
+    for each in islice(advances, steps):
+        rows.append([each.freed, each.total, graph.labels[each.theorem]])
+        progress.now(f"{len(rows)} of {steps} theorems chosen")
+    context.out.table(["freed", "total", "theorem"], rows)
+    resting = len(graph.above([end]) - kept - {end})
+    if rows:
+        context.tell(
+            f"{graph.name}: free are then {rows[-1][1]} of {resting} that rest on"
+            f" {graph.labels[end]}"
+        )
+    elif cuts.freeing(graph, end, kept, asked.given):
+        context.tell(f"{graph.name}: none that rests on {graph.labels[end]} passes the filters")
+    else:
+        context.tell(nothing_left(asked))
+
+
+def put_most(context: Context, asked: Asked, most: int) -> None:
+    """Lists the theorems that free most, each by itself."""
+    freeing = cuts.freeing(asked.graph, asked.end, asked.kept, asked.given)
+    freeing.sort(key=lambda pair: -pair[0])
+    if not freeing:
+        context.tell(nothing_left(asked))
+    found: list[list[Value]] = [[freed, asked.graph.labels[node]] for freed, node in freeing]
+    context.out.table(FREED, context.passing(found, 1)[:most])
+
+
+def nothing_left(asked: Asked) -> str:
+    """Says why there is no theorem to prove anew."""
+    graph, end = asked.graph, asked.end
+    if asked.kept or asked.given:
+        or_free = ", or free by --given" if asked.given else ""
+        return f"{graph.name}: all that rests on {graph.labels[end]} is kept{or_free}"
+    return nothing_rests(graph, end)
 
 
 def nothing_rests(graph: Graph, end: int, which: str = "") -> str:

@@ -4,6 +4,7 @@ import itertools
 import os
 import random
 import unittest
+from collections.abc import Iterator
 from unittest import mock
 
 from query.tests.world import HOSTILE, Invented, World, asked, built_program, invented
@@ -203,6 +204,100 @@ class Questions(World):
             )
         self.assertGreater(tried, 5)
 
+    def rested_on(
+        self, count: int
+    ) -> Iterator[tuple[Invented, str, random.Random, str, list[str]]]:
+        """Databases, each with each label on which at least three theorems rest, and these."""
+        for database, path, chance in self.databases(count):
+            for on in database.labels():
+                users = database.users(on)
+                if len(users) > 2:
+                    yield database, path, chance, on, users
+
+    def test_frees_given(self) -> None:
+        """What some theorems free beside those that have proofs already, by trying each."""
+        tried = 0
+        for database, path, chance, on, users in self.rested_on(20):
+            given = set(chance.sample(users, 2))
+            already = set(freed(database, on, given))
+            words = ("frees", path, f"--given={','.join(given)}")
+            wanted = {}
+            for label in users:
+                more = set(freed(database, on, {label} | given)) - already
+                self.assertEqual({*second(asked(*words, "--", on, label))}, more)
+                if more:
+                    wanted[label] = len(more)
+            most = asked(*words, "--most", "99", "--", on)
+            self.assertEqual({label: int(count) for count, label in most}, wanted)
+            tried += len(already) > 2 and len(wanted) > 1
+        self.assertGreater(tried, 5)
+
+    def test_plan(self) -> None:
+        """Each step is the best of all that could be taken next, and the first of these in the
+        file; the plan ends where nothing is left."""
+        tried = 0
+        for database, path, chance, on, users in self.rested_on(9):
+            given = set(chance.sample(users, len(users) // 4))
+            words = ["frees", path, *(f"--given={label}" for label in given), "--plan=99", "--", on]
+            already = set(freed(database, on, given))
+            rows = asked(*words)
+            for more, total, label in rows:
+                gains = {
+                    each: len(set(freed(database, on, {each} | given)) - already)
+                    for each in users
+                    if each not in already
+                }
+                best = max(gains.values())
+                self.assertEqual(label, next(each for each in users if gains.get(each) == best))
+                given.add(label)
+                already = set(freed(database, on, given))
+                self.assertEqual((int(more), int(total)), (best, len(already)))
+            self.assertEqual(len(already), len(users))
+            tried += len(rows) > 2
+        self.assertGreater(tried, 9)
+
+    def test_plan_by_dropping(self) -> None:
+        """What a plan says is free doesn't rest on it any more in the database in which the
+        theorems of the plan are left open, and nothing else is free there."""
+        tried = 0
+        for number, (database, path, _, on, users) in enumerate(self.rested_on(6)):
+            rows = asked("frees", path, "--plan=2", "--", on)
+            labels = second([row[1:] for row in rows])
+            changed = database.text
+            for label in labels:
+                changed = without_proof(changed, label)
+            other = str(self.folder / self.write(f"open{number}.mm", changed))
+            left = first(asked("falls", "--open", other, "--", on))
+            wanted = [label for label in users if label not in left]
+            self.assertEqual(second(asked("frees", path, "--", on, *labels)), wanted)
+            self.assertEqual(int(rows[-1][1]), len(wanted))
+            tried += len(wanted) > 2
+        self.assertGreater(tried, 9)
+
+    def test_plan_by_filters(self) -> None:
+        """A plan takes only theorems that pass the filters."""
+        for database, path, chance, on, users in self.rested_on(2):
+            label = chance.choice(users)
+            self.write("names", f"{label}\n")
+            words = ("frees", path, "--plan=9", "--among=names", "--format=tsv", "--", on)
+            wanted = len(freed(database, on, {label}))
+            self.assertEqual(self.answers(*words)[1:], [f"{wanted}\t{wanted}\t{label}"])
+        self.write("names", "none\n")
+        done = self.query("frees", path, "--plan=9", "--among=names", "--", on)
+        self.assertEqual((done.out, done.status), ("", 0))
+        self.assertIn(f"none that rests on {on} passes the filters", done.err)
+
+    def test_what_frees_refuses(self) -> None:
+        database, path, _, on, users = next(self.rested_on(1))
+        for words, why in (
+            (("--plan=2", on, users[0]), "--plan chooses the theorems itself"),
+            (("--plan=2", "--most=2", on), "not allowed with argument"),
+            ((f"--given={users[0]}", f"--keep={users[0]}", on), "is kept, so --given can't"),
+            ((f"--given={on}", on), "--given can't name it" if on in database.cites else "axiom"),
+            (("--given=none", on), "neither a theorem nor an axiom 'none'"),
+        ):
+            self.refuses("frees", path, *words, why=why)
+
     def test_keep(self) -> None:
         """What is kept is as an axiom that is given up together with the one that is asked for."""
         tried = 0
@@ -332,6 +427,15 @@ def smallest_cut(database: Invented, label: str, on: str) -> int:
             if all(not set(some).isdisjoint(chain) for chain in chains):
                 return size
     return 0
+
+
+def without_proof(text: str, label: str) -> str:
+    """A database in which a theorem is left open."""
+    lines = text.splitlines(keepends=True)
+    number = next(place for place, line in enumerate(lines) if f" {label} $p " in line)
+    before, sign, _ = lines[number].partition("$= ")
+    lines[number] = f"{before}{sign}? $. $}}\n"
+    return "".join(lines)
 
 
 def freed(database: Invented, on: str, again: set[str]) -> list[str]:
