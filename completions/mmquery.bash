@@ -5,10 +5,10 @@ _mmquery() {
     if [ "$word" = = ]; then word=; elif [ "$before" = = ]; then
         before=${COMP_WORDS[COMP_CWORD - 2]}; fi
     if [ "$COMP_CWORD" -eq 1 ]; then
-        words='verify rests falls cites cited-by uncited why way-out frees spare repeats top within same compare review history gate chapters order unfinished discouraged mathboxes definitions move graph picture page set-proof export cache --help --version'
+        words='verify rests falls cites cited-by uncited why way-out frees spare repeats top within same compare review history gate chapters order unfinished discouraged mathboxes definitions equivalents needs move graph picture page set-proof export cache --help --version'
     else
         case ${COMP_WORDS[1]}:$before in
-            verify:--format | rests:--format | falls:--format | cites:--format | cited-by:--format | uncited:--format | why:--format | way-out:--format | frees:--format | spare:--format | repeats:--format | top:--format | within:--format | same:--format | compare:--format | history:--format | chapters:--format | order:--format | unfinished:--format | discouraged:--format | mathboxes:--format | move:--format | export:--format | cache:--format) words='text tsv csv json' ;;
+            verify:--format | rests:--format | falls:--format | cites:--format | cited-by:--format | uncited:--format | why:--format | way-out:--format | frees:--format | spare:--format | repeats:--format | top:--format | within:--format | same:--format | compare:--format | history:--format | chapters:--format | order:--format | unfinished:--format | discouraged:--format | mathboxes:--format | equivalents:--format | needs:--format | move:--format | export:--format | cache:--format) words='text tsv csv json' ;;
             review:--format) words='text tsv csv json markdown' ;;
             gate:--format) words='text log json github markdown' ;;
             definitions:--format) words='text tsv csv json github' ;;
@@ -24,7 +24,7 @@ _mmquery() {
                     uncited:-*) words='--essential --open --format --before --main --mathbox --under --like --not --among --no-cache --limit-time --limit-memory -h --help' ;;
                     why:-*) words='--all --essential --open --format --no-cache --limit-time --limit-memory -h --help' ;;
                     way-out:-*) words='--keep --keep-wrappers --essential --open --format --before --main --mathbox --under --like --not --among --no-cache --limit-time --limit-memory -h --help' ;;
-                    frees:-*) words='--most --keep --keep-wrappers --essential --open --format --before --main --mathbox --under --like --not --among --no-cache --limit-time --limit-memory -h --help' ;;
+                    frees:-*) words='--most --plan --given --keep --keep-wrappers --essential --open --format --before --main --mathbox --under --like --not --among --no-cache --limit-time --limit-memory -h --help' ;;
                     spare:-*) words='--all --shorter --new-steps --theorem --write --proof --only --open --jobs --cite-discouraged --cite-old --cite-mathboxes --change-discouraged --format --no-cache --limit-time --limit-memory -h --help' ;;
                     repeats:-*) words='--only --open --kept --format --before --main --mathbox --under --like --not --among --no-cache --limit-time --limit-memory -h --help' ;;
                     top:-*) words='--theorems --below --against --only --all --axioms --ignore-definitions --essential --open --format --before --main --mathbox --under --like --not --among --no-cache --limit-time --limit-memory -h --help' ;;
@@ -40,9 +40,11 @@ _mmquery() {
                     discouraged:-*) words='--essential --open --format --before --main --mathbox --under --like --not --among --no-cache --limit-time --limit-memory -h --help' ;;
                     mathboxes:-*) words='--essential --open --format --before --main --mathbox --under --like --not --among --no-cache --limit-time --limit-memory -h --help' ;;
                     definitions:-*) words='--trust --equality --basis --expand --without --essential --open --format --before --main --mathbox --under --like --not --among --no-cache --limit-time --limit-memory -h --help' ;;
+                    equivalents:-*) words='--only --all --axioms --ignore-definitions --essential --open --format --no-cache --limit-time --limit-memory -h --help' ;;
+                    needs:-*) words='--tree --format --before --main --mathbox --under --like --not --among --no-cache --limit-time --limit-memory -h --help' ;;
                     move:-*) words='--to --format --no-cache --limit-time --limit-memory -h --help' ;;
-                    graph:-*) words='--as --essential --open --no-cache --limit-time --limit-memory -h --help' ;;
-                    picture:-*) words='--png --across --down --only --all --axioms --ignore-definitions --essential --open --no-cache --limit-time --limit-memory -h --help' ;;
+                    graph:-*) words='--as --depth --through --landmarks --essential --open --no-cache --limit-time --limit-memory -h --help' ;;
+                    picture:-*) words='--png --svg --across --down --only --all --axioms --ignore-definitions --essential --open --no-cache --limit-time --limit-memory -h --help' ;;
                     page:-*) words='--only --title --against --watch --essential --open --no-cache --limit-time --limit-memory -h --help' ;;
                     set-proof:-*) words='--no-cache --limit-time --limit-memory -h --help' ;;
                     export:-*) words='--sqlite --only --all --axioms --ignore-definitions --essential --open --format --no-cache --limit-time --limit-memory -h --help' ;;

@@ -1,8 +1,11 @@
-"""The marks as a picture: a PBM file of dots alone, or a PNG file with axes and a legend."""
+"""The marks as a picture: a PBM file of dots alone, or a PNG or SVG file with axes and a legend."""
 
+import re
 import struct
 import zlib
+from collections.abc import Iterator
 from dataclasses import dataclass, field
+from xml.sax.saxutils import escape
 
 from query.database import Dependence
 
@@ -30,6 +33,7 @@ STEP, LINE, MARGIN = COLUMNS + 1, 12, 12
 LEGEND = 2 * MARGIN  # where the texts of the legend begin, behind a box for the shade
 APART, LARGEST_DOT = 10, 16  # dots from a name to the next, at least; a side of a dot, at most
 MOST_LABEL, MOST_AXIOM = 44, 24  # characters of a name beside the picture, and above it
+RUN = re.compile("1+")
 
 
 class Dots:
@@ -148,27 +152,65 @@ def legend(dots: Dots) -> list[str]:
     ]
 
 
-def drawing(dots: Dots, names: list[tuple[int, str]], across: int, down: int) -> bytes:
-    """The picture with its axes and its legend, as a PNG file. `names` are rows of theorems with
-    what is said of them, the most important first. The dots take at most `across` times `down`
-    points.
-    """
+@dataclass
+class Layout:
+    """Where the parts of a picture with axes are: the dots, of `size` points each, begin at `left`
+    and `top`, and take `wide` times `high` points; `texts` are the lines of the legend below."""
+
+    dots: Dots
+    axes: Axes
+    texts: list[str]
+
+    @property
+    def wide(self) -> int:
+        """How wide the dots are."""
+        return self.dots.width * self.axes.size
+
+    @property
+    def high(self) -> int:
+        """How high the dots are."""
+        return self.dots.height * self.axes.size
+
+    @property
+    def width(self) -> int:
+        """How wide the picture is."""
+        return max(self.axes.left + self.wide + MARGIN, max(map(len, self.texts)) * STEP + 32)
+
+    @property
+    def height(self) -> int:
+        """How high the picture is."""
+        return self.axes.top + self.high + 16 + LINE * len(self.texts)
+
+    @property
+    def middle(self) -> int:
+        """From the beginning of a dot to where the name beside it stands."""
+        return min(self.axes.size, APART) // 2 - STEP // 2
+
+    def lines(self) -> Iterator[tuple[int, str]]:
+        """The lines of the legend, each with its top."""
+        for number, text in enumerate(self.texts):
+            yield self.axes.top + self.high + MARGIN + LINE * number, text
+
+
+def layout(dots: Dots, names: list[tuple[int, str]], across: int, down: int) -> Layout:
+    """The layout of a picture with axes. `names` are rows of theorems with what is said of them,
+    the most important first. The dots take at most `across` times `down` points."""
     size = max(1, min(across // dots.width, down // dots.height, LARGEST_DOT))
-    axes = axes_of(dots, names, size)
-    texts = legend(dots)
-    wide, high = dots.width * size, dots.height * size
-    left, top = axes.left, axes.top
-    width = max(left + wide + MARGIN, max(map(len, texts)) * STEP + 32)
-    canvas = Canvas(width, top + high + 16 + LINE * len(texts))
-    canvas.box(left - 1, top - 1, wide + 2, high + 2, GREY)
-    canvas.box(left, top, wide, high, WHITE)
-    for y, line in enumerate(dots.lines):
+    return Layout(dots, axes_of(dots, names, size), legend(dots))
+
+
+def drawing(it: Layout) -> bytes:
+    """The picture with its axes and its legend, as a PNG file."""
+    size, left, top = it.axes.size, it.axes.left, it.axes.top
+    canvas = Canvas(it.width, it.height)
+    canvas.box(left - 1, top - 1, it.wide + 2, it.high + 2, GREY)
+    canvas.box(left, top, it.wide, it.high, WHITE)
+    for y, line in enumerate(it.dots.lines):
         for x, dot in enumerate(line):
             if dot == "1":
                 canvas.box(left + x * size, top + y * size, size, size, BLACK)
-    put_names(canvas, axes)
-    for number, text in enumerate(texts):
-        y = top + high + MARGIN + LINE * number
+    put_names(canvas, it)
+    for number, (y, text) in enumerate(it.lines()):
         canvas.write(LEGEND, y, text)
         if number:
             canvas.box(11, y - 1, 9, 9, BLACK)
@@ -176,12 +218,58 @@ def drawing(dots: Dots, names: list[tuple[int, str]], across: int, down: int) ->
     return canvas.png()
 
 
-def put_names(canvas: Canvas, axes: Axes) -> None:
+def put_names(canvas: Canvas, it: Layout) -> None:
     """Writes the names along the picture."""
-    middle = min(axes.size, APART) // 2 - STEP // 2
+    axes = it.axes
     for y, name in axes.down:
-        canvas.write(axes.left - STEP * (1 + len(name)), axes.top + y + middle, name)
+        canvas.write(axes.left - STEP * (1 + len(name)), axes.top + y + it.middle, name)
         canvas.box(axes.left - 5, axes.top + y, 4, 1, BLACK)
     for x, name in axes.across:
-        canvas.write(axes.left + x + middle, axes.top - 8, name, upwards=True)
+        canvas.write(axes.left + x + it.middle, axes.top - 8, name, upwards=True)
         canvas.box(axes.left + x, axes.top - 5, 1, 4, BLACK)
+
+
+def svg(it: Layout) -> bytes:
+    """The same as an SVG file of lines and letters, which can be made larger."""
+    return "".join(line + "\n" for line in svg_lines(it)).encode()
+
+
+def svg_lines(it: Layout) -> Iterator[str]:
+    """The lines of the SVG file."""
+    size, left, top = it.axes.size, it.axes.left, it.axes.top
+    font = f'font-family="monospace" font-size="{LINE - 2}"'
+    yield (
+        f'<svg xmlns="http://www.w3.org/2000/svg" width="{it.width}" height="{it.height}"'
+        f' viewBox="0 0 {it.width} {it.height}" {font}>'
+    )
+    yield f'<rect width="{it.width}" height="{it.height}" fill="white"/>'
+    yield (
+        f'<rect x="{left - 0.5}" y="{top - 0.5}" width="{it.wide + 1}" height="{it.high + 1}"'
+        ' fill="white" stroke="#a0a0a0"/>'
+    )
+    yield f'<path transform="translate({left} {top}) scale({size})" d="{runs(it.dots)}"/>'
+    for y, name in it.axes.down:
+        high = top + y + it.middle + COLUMNS + 2
+        yield f'<text x="{left - STEP}" y="{high}" text-anchor="end">{escape(name)}</text>'
+        yield f'<path d="M{left - 5} {top + y}.5h4" stroke="black"/>'
+    for x, name in it.axes.across:
+        wide = left + x + it.middle + COLUMNS + 2
+        turned = f'transform="translate({wide} {top - 8}) rotate(-90)"'
+        yield f"<text {turned}>{escape(name)}</text>"
+        yield f'<path d="M{left + x}.5 {top - 5}v4" stroke="black"/>'
+    for number, (y, text) in enumerate(it.lines()):
+        yield f'<text x="{LEGEND}" y="{y + COLUMNS + 2}">{escape(text)}</text>'
+        if number:
+            shade = f'fill="{"black" if number == 1 else "white"}" stroke="black"'
+            yield f'<rect x="11.5" y="{y - 0.5}" width="8" height="8" {shade}/>'
+    yield "</svg>"
+
+
+def runs(dots: Dots) -> str:
+    """The black dots as the path of an SVG file: a box for each run of them in a line."""
+    found = []
+    for y, line in enumerate(dots.lines):
+        for match in RUN.finditer(line):
+            wide = match.end() - match.start()
+            found.append(f"M{match.start()} {y}h{wide}v1h-{wide}z")
+    return "".join(found)

@@ -62,6 +62,8 @@ INDEX: dict[str, tuple[str, str]] = {
     "discouraged": ("structure", "which theorems use one whose new usage is discouraged"),
     "mathboxes": ("structure", "citations of a mathbox from outside it"),
     "definitions": ("definitions", "whether definitions add nothing but names, and if not, why"),
+    "equivalents": ("equivalents", "which statements give AX back, with the theorems that say so"),
+    "needs": ("definitions", "the definitions under the symbols of a statement"),
     "move": ("moving", "what has to go along where THEOREM is moved"),
     "graph": ("graphs", "the citations as DOT, GraphML or a list of edges"),
     "picture": ("graphs", "a picture of which theorem rests on which axiom"),

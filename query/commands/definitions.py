@@ -1,8 +1,10 @@
-"""`definitions`: whether definitions are definitions."""
+"""`definitions` and `needs`: whether definitions are definitions, and which ones a statement
+needs."""
 
 import argparse
 from collections.abc import Iterator
 
+from query.assertions import Assertion
 from query.commands import TABLE_FORMATS, Command
 from query.context import Context
 from query.database import Database
@@ -21,6 +23,7 @@ from query.definitions import (
 from query.errors import NoAnswer, shown
 from query.findings import escaped
 from query.grounds import BEGINNING
+from query.needs import Needs
 from query.options import Parser, add_choice_of_citations, add_database, options_of
 from query.output import Value
 from query.unfolding import statement, without
@@ -58,6 +61,28 @@ answer where the definition has a dummy, or its right side lacks a variable of t
   $ mmquery definitions set.mm --basis
 """
 )
+NEEDS_PAGE = """
+Lists in file order of what LABEL's statement and its $e speak: the forms in it, those in the
+definitions of these, and so on down to forms without a definition. Proofs don't matter here. A form
+is a syntax axiom; its definition is an axiom of typecode |- whose label begins with df-.
+
+form        the label of the syntax axiom
+definition  that of its definition; nothing where it is primitive
+sound       what `definitions` says of that: yes, no, not judged, on trust
+depth       how many definitions are between the statement and the form, at least
+says        the form, with typecodes in place of variables
+
+With --tree, the statement's forms in their order, and under each one those of its definition:
+
+depth       how far below the statement it stands; in the form text it is set to the right by that
+form        the label of the syntax axiom
+definition  that of its definition
+above       whether what comes under it stands further up already, and isn't repeated
+says        the form, with typecodes in place of variables
+
+  $ mmquery needs set.mm 2p2e4
+  $ mmquery needs set.mm df-ss --tree
+"""
 COLUMNS = ("definition", "sound", "why_not", "condition")
 LEVELS = {NO: "error", UNKNOWN: "warning"}
 
@@ -157,4 +182,48 @@ def annotations(database: Database, verdicts: list[Verdict]) -> Iterator[str]:
             yield f"::{LEVELS[each.sound]} file={name},{place},title={title}::{why}\n"
 
 
-COMMANDS = [Command("definitions", PAGE, configure, run, (*TABLE_FORMATS, "github"), lists=True)]
+def configure_needs(parser: Parser) -> None:
+    """The words and options of `needs`."""
+    add_database(parser)
+    parser.add_argument("label", metavar="LABEL")
+    parser.flag("--tree", "as a tree")
+
+
+def run_needs(context: Context, arguments: argparse.Namespace) -> int:
+    """Answers `needs`."""
+    database = context.database(arguments.database, options_of(arguments))
+    one = database.assertion(arguments.label)
+    needs = Needs(judged(database, [], []))
+    empty = f"{database.name}: the statement of {shown(one.label)} has variables alone"
+    if arguments.tree:
+        put_branches(context, needs, one, empty)
+        return 0
+    text = database.text
+    rows: list[list[Value]] = []
+    for each in needs.all(needs.forms_of(one)).values():
+        sound = needs.judged.verdicts[each.definition].sound if each.definition else None
+        rows.append([each.form, each.definition, sound, each.depth, needs.says(each.form)])
+    rows.sort(key=lambda row: text.by_label[str(row[0])].number)
+    context.table(("form", "definition", "sound", "depth", "says"), rows, empty, "form")
+    return 0
+
+
+def put_branches(context: Context, needs: Needs, one: Assertion, empty: str) -> None:
+    """Answers `needs --tree`."""
+    rows: list[list[Value]] = []
+    for each in needs.tree(needs.forms_of(one)):
+        need = each.need
+        rows.append([each.depth, need.form, need.definition, each.is_above, needs.says(need.form)])
+    if not rows:
+        context.tell(empty)
+    passing = [list(row) for row in context.passing(rows, 1)]
+    if context.out.format == "text":
+        for row in passing:
+            row[1] = f"{'  ' * int(str(row[0]))}{row[1]}"
+    context.out.table(("depth", "form", "definition", "above", "says"), passing, ["depth"])
+
+
+COMMANDS = [
+    Command("definitions", PAGE, configure, run, (*TABLE_FORMATS, "github"), lists=True),
+    Command("needs", NEEDS_PAGE, configure_needs, run_needs, lists=True),
+]

@@ -2,12 +2,14 @@
 
 import argparse
 import os
-from collections.abc import Iterable
+from collections.abc import Iterable, Mapping, Sequence
+from dataclasses import dataclass, field
 
+from query import parts
 from query.commands import Command
 from query.context import Context
 from query.database import Database
-from query.errors import NoAnswer
+from query.errors import NoAnswer, shown
 from query.graph import Graph
 from query.options import (
     Parser,
@@ -17,6 +19,15 @@ from query.options import (
     positive,
     options_of,
 )
+from query.parts import Part
+
+MOST_LANDMARKS = 1000
+FIGURE = (
+    "  graph [rankdir=TB, ranksep=0.5, nodesep=0.25, splines=true, concentrate=true];",
+    '  node [shape=plain, fontname="Helvetica", fontsize=11];',
+    '  edge [color="#555555", arrowsize=0.6];',
+)
+"""The look of landmarks."""
 
 GRAPH_PAGE = """
 Writes the graph of citations: an arrow leads from each theorem to what its proof applies. With
@@ -27,7 +38,14 @@ nothing cites aren't in it.
 --as graphml  for NetworkX and Gephi; the data `kind` of a node is `axiom` or `theorem`
 --as edges    a line for each citation: the theorem, a space, and what it cites
 
+Of THEOREM's graph, --depth N has what at most N citations lead to, and --through LABEL only the
+chains that lead through LABEL. --landmarks N has only THEOREM, ON and the N theorems in which most
+of it comes together: those to whose proofs alone most is due, counted where chains part. An arrow
+then stands for chains through none of the others, and there is none beside a longer way. As DOT it
+is dashed where it is no citation, and each node says in which chapter it stands.
+
   $ mmquery graph set.mm zorn ax-ac2 --as dot
+  $ mmquery graph set.mm stirling --landmarks 25 | dot -Tsvg > stirling.svg
 """
 
 PICTURE_PAGE = """
@@ -35,9 +53,11 @@ Draws the marks: theorems down and axioms across, both in file order. Each dot i
 theorems and axioms as the others; it is black where one of these theorems rests on one of these
 axioms. The picture is a PBM file (P4), or with --png a PNG file with axes and a legend: the headers
 of the database beside it (labels of theorems where it has none, and of a report), and labels of
-axioms above it.
+axioms above it. With --svg it is the same as an SVG file, whose lines and letters can be made
+larger.
 
   $ mmquery picture set.mm --png > set.png
+  $ mmquery picture set.mm --svg > set.svg
 """
 
 
@@ -53,81 +73,143 @@ def configure_graph(parser: Parser) -> None:
         default="dot",
         help="the form of the file (else: dot)",
     )
+    parser.value("--depth", "N", "what at most N citations lead to", type=positive)
+    parser.value("--through", "LABEL", "only chains that lead through LABEL")
+    parser.value("--landmarks", "N", "the N theorems in which most comes together", type=positive)
     add_choice_of_citations(parser)
 
 
 def run_graph(context: Context, arguments: argparse.Namespace) -> int:
     """Answers `graph`."""
-    graph = context.database(arguments.database, options_of(arguments)).graph()
-    nodes = chosen_nodes(graph, arguments.theorem, arguments.on)
+    database = context.database(arguments.database, options_of(arguments))
+    graph = database.graph()
+    part = chosen_part(graph, arguments)
+    if part.is_empty():
+        context.tell(nothing(graph, arguments))
+    is_of_one = arguments.theorem is not None
     if arguments.form == "edges":
-        lines = edges(graph, nodes)
+        lines = edges(part)
     elif arguments.form == "dot":
         name = arguments.theorem or os.path.basename(arguments.database)
-        lines = dot(graph, nodes, name, arguments.theorem is not None)
+        lines = dot(part, name, is_of_one, look(database, part, arguments.landmarks is not None))
     else:
-        lines = graphml(graph, nodes, arguments.theorem is not None)
+        lines = graphml(part, is_of_one)
     context.out.text("".join(line + "\n" for line in lines))
     return 0
 
 
-def chosen_nodes(graph: Graph, label: str | None, on: str | None) -> set[int]:
-    """The nodes of the part that is asked for."""
-    if label is None:
-        return set(range(graph.theorems)) | set(graph.cites.targets)
-    start = graph.theorem(label)
+def chosen_part(graph: Graph, arguments: argparse.Namespace) -> Part:
+    """The part that is asked for."""
+    if arguments.theorem is None:
+        for option in ("depth", "through", "landmarks"):
+            if getattr(arguments, option) is not None:
+                raise NoAnswer(f"--{option} is about the graph of a THEOREM, so it wants one")
+        return parts.whole(graph)
+    start = graph.theorem(arguments.theorem)
+    end = None if arguments.on is None else graph.node(arguments.on)
     nodes = graph.below([start])
-    if on is not None:
-        nodes &= graph.above([graph.node(on)])
-    return nodes | {start}
+    if end is not None:
+        nodes &= graph.above([end])
+    if arguments.depth is not None:
+        nodes &= parts.within(graph, start, arguments.depth)
+    nodes.add(start)
+    if arguments.through is None:
+        part = parts.part_of(graph, nodes)
+    else:
+        part = parts.through(graph, nodes, start, graph.node(arguments.through))
+    if arguments.landmarks is not None:
+        if arguments.landmarks > MOST_LANDMARKS:
+            raise NoAnswer(f"--landmarks takes at most {MOST_LANDMARKS}")
+        part = parts.landmarks(part, start, end, arguments.landmarks)
+    return part
 
 
-def in_order(graph: Graph, nodes: set[int], downwards: bool) -> list[int]:
-    """The theorems among these, in file order or from the last one on."""
-    return sorted((node for node in nodes if graph.is_theorem(node)), reverse=downwards)
+def nothing(graph: Graph, arguments: argparse.Namespace) -> str:
+    """Says why a part has no arrow."""
+    if arguments.theorem is None:
+        return f"{graph.name}: no theorem cites anything"
+    theorem = shown(arguments.theorem)
+    if arguments.on is not None and not is_above(graph, arguments.theorem, arguments.on):
+        return f"{graph.name}: {theorem} doesn't rest on {shown(arguments.on)}"
+    if arguments.through is not None:
+        to = "" if arguments.on is None else f" to {shown(arguments.on)}"
+        through = shown(arguments.through)
+        return f"{graph.name}: no chain from {theorem}{to} leads through {through}"
+    if arguments.on is not None:
+        return f"{graph.name}: no chain from {theorem} to {shown(arguments.on)} is that short"
+    return f"{graph.name}: {theorem} cites nothing"
 
 
-def edges(graph: Graph, nodes: set[int]) -> Iterable[str]:
+def is_above(graph: Graph, theorem: str, on: str) -> bool:
+    """Whether a theorem rests on an assertion."""
+    return theorem != on and bool(graph.chain(graph.node(theorem), graph.node(on)))
+
+
+def edges(part: Part) -> Iterable[str]:
     """The lines of the form `edges`."""
-    for node in in_order(graph, nodes, False):
-        for cited in graph.cites[node]:
-            if cited in nodes:
-                yield f"{graph.labels[node]} {graph.labels[cited]}"
+    labels = part.graph.labels
+    for node in part.theorems(False):
+        for cited in part.arrows[node]:
+            yield f"{labels[node]} {labels[cited]}"
 
 
-def dot(graph: Graph, nodes: set[int], name: str, downwards: bool) -> Iterable[str]:
+@dataclass(frozen=True)
+class Look:
+    """How a figure looks: `head` are lines at its beginning, and `chapters` has a line under the
+    label of each node."""
+
+    head: Sequence[str] = ()
+    chapters: Mapping[int, str] = field(default_factory=dict)
+
+
+def look(database: Database, part: Part, is_figure: bool) -> Look:
+    """The look of a figure; of other graphs just nodes and arrows are shown."""
+    if not is_figure:
+        return Look()
+    chapters: dict[int, str] = {}
+    if not database.is_report:
+        text = database.text
+        for node in (*part.arrows, *(each for cited in part.arrows.values() for each in cited)):
+            number = text.chapter_number(text.by_label[part.graph.labels[node]])
+            if number is not None:
+                chapters[node] = number
+    return Look(FIGURE, chapters)
+
+
+def dot(part: Part, name: str, downwards: bool, looks: Look) -> Iterable[str]:
     """The lines of the form `dot`. A theorem without an arrow has a line of its own."""
-    labels = graph.labels
+    graph, labels = part.graph, part.graph.labels
     yield 'digraph "%s" {' % "".join("_" if sign in '"\\\n\r' else sign for sign in name)
-    shown: set[int] = set()
-    cited_at_all = {cited for node in nodes for cited in graph.cites[node] if cited in nodes}
-    for node in in_order(graph, nodes, downwards):
-        cites = [cited for cited in graph.cites[node] if cited in nodes]
-        for cited in cites:
-            if not graph.is_theorem(cited) and cited not in shown:
-                shown.add(cited)
+    yield from looks.head
+    for node, chapter in looks.chapters.items():
+        yield f'  "{labels[node]}" [label="{labels[node]}\\n{chapter}"];'
+    shown_axioms: set[int] = set()
+    cited_at_all = {cited for arrows in part.arrows.values() for cited in arrows}
+    for node in part.theorems(downwards):
+        for cited in part.arrows[node]:
+            if not graph.is_theorem(cited) and cited not in shown_axioms:
+                shown_axioms.add(cited)
                 yield f'  "{labels[cited]}" [shape=box];'
-            yield f'  "{labels[node]}" -> "{labels[cited]}";'
-        if not cites and node not in cited_at_all:
+            dashed = " [style=dashed]" if (node, cited) in part.chains else ""
+            yield f'  "{labels[node]}" -> "{labels[cited]}"{dashed};'
+        if not part.arrows[node] and node not in cited_at_all:
             yield f'  "{labels[node]}";'
     yield "}"
 
 
-def graphml(graph: Graph, nodes: set[int], downwards: bool) -> Iterable[str]:
+def graphml(part: Part, downwards: bool) -> Iterable[str]:
     """The lines of the form `graphml`. Labels have no sign that means something in XML."""
-    labels = graph.labels
+    graph, labels = part.graph, part.graph.labels
     yield '<?xml version="1.0" encoding="UTF-8"?>'
     yield '<graphml xmlns="http://graphml.graphdrawing.org/xmlns">'
     yield '<key id="kind" for="node" attr.name="kind" attr.type="string"/>'
     yield '<graph edgedefault="directed">'
-    shown: set[int] = set()
-    for node in in_order(graph, nodes, downwards):
+    shown_axioms: set[int] = set()
+    for node in part.theorems(downwards):
         yield f'<node id="{labels[node]}"><data key="kind">theorem</data></node>'
-        for cited in graph.cites[node]:
-            if cited not in nodes:
-                continue
-            if not graph.is_theorem(cited) and cited not in shown:
-                shown.add(cited)
+        for cited in part.arrows[node]:
+            if not graph.is_theorem(cited) and cited not in shown_axioms:
+                shown_axioms.add(cited)
                 yield f'<node id="{labels[cited]}"><data key="kind">axiom</data></node>'
             yield f'<edge source="{labels[node]}" target="{labels[cited]}"/>'
     yield "</graph>"
@@ -138,6 +220,8 @@ def configure_picture(parser: Parser) -> None:
     """The words and options of `picture`."""
     add_database(parser)
     parser.flag("--png", "a PNG file with axes and a legend")
+    parser.flag("--svg", "an SVG file with axes and a legend")
+    parser.exclude("--png", "--svg")
     parser.value("--across", "N", "at most N dots across (else: 500)", type=positive, default=500)
     parser.value("--down", "N", "at most N dots down (else: 700)", type=positive, default=700)
     add_choice_of_axioms(parser)
@@ -146,16 +230,17 @@ def configure_picture(parser: Parser) -> None:
 def run_picture(context: Context, arguments: argparse.Namespace) -> int:
     """Answers `picture`."""
     # It takes 7 milliseconds; the other commands of this module draw nothing.
-    from query.picture import Dots, drawing
+    from query.picture import Dots, drawing, layout, svg
 
     database = context.database(arguments.database, options_of(arguments))
     dependence = database.dependence()
     if not dependence.theorems:
         raise NoAnswer(f"{database.name}: has no theorem")
     dots = Dots(dependence, arguments.across, arguments.down)
-    if arguments.png:
+    if arguments.png or arguments.svg:
         names = names_down(database, dependence.theorems)
-        context.out.write(drawing(dots, names, arguments.across, arguments.down))
+        placed = layout(dots, names, arguments.across, arguments.down)
+        context.out.write(svg(placed) if arguments.svg else drawing(placed))
     else:
         context.out.write(dots.pbm())
     return 0

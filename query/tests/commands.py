@@ -46,6 +46,8 @@ WORDS: dict[str, tuple[str, ...]] = {
     "discouraged": ("DB",),
     "mathboxes": ("DB",),
     "definitions": ("DB",),
+    "equivalents": ("DB", "ax-1"),
+    "needs": ("DB", "a2"),
     "move": ("DB", "a2", "--to", "a1i"),
     "graph": ("DB", "a2"),
     "picture": ("DB",),

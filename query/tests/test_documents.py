@@ -95,12 +95,14 @@ THEOREMS = {
     "ax13v": "ax-13",
     "axc9lem1": "ax-13",
     "hbsb2": "ax13v",
+    "ax6e": "ax13v",
     "axac3": "ax-ac2",
     "cardeqv": "axac3",
     "numth3": "cardeqv",
     "numth2": "numth3",
     "zorn": "numth3",
     "zorn2g": "zorn",
+    "stirling": "zorn",
     "fodom": "axac3",
     "axreg2": "ax-reg",
     "r1pw": "axreg2",
@@ -115,7 +117,7 @@ def header(level: int, title: str) -> str:
     return f"$(\n{line}\n  {title}\n{line}\n$)\n"
 
 
-AXIOMS = "ax-1 ax-2 ax-3 ax-10 ax-13 ax-ext ax-reg ax-inf2 ax-ac2 df-4"
+AXIOMS = "ax-1 ax-2 ax-3 ax-10 ax-13 ax-ext ax-pr ax-reg ax-inf2 ax-ac2 df-4 df-ss"
 START = """$c wff |- ( -> ) $.
 $v p q $.
 wp $f wff p $.
@@ -166,7 +168,7 @@ class Commands(World):
 
     def test_the_stand_in(self) -> None:
         """It is a database of which the page's first example is true."""
-        self.assertIn("set.mm: valid, 13 axioms", self.query("verify", "set.mm").out)
+        self.assertIn("set.mm: valid, 15 axioms", self.query("verify", "set.mm").out)
         chain = "zorn numth3 cardeqv axac3 ax-ac2".split()
         self.assertEqual(self.answers("why", "set.mm", "zorn", "ax-ac2"), chain)
 

@@ -1,0 +1,84 @@
+"""`equivalents`: which statements give an axiom back."""
+
+import argparse
+
+from query.commands import Command
+from query.context import Context
+from query.database import Database
+from query.equivalents import Found, Links, Search
+from query.options import Parser, add_choice_of_axioms, add_database, options_of
+from query.output import Value
+
+PAGE = """
+Lists which statements, added to the database without AX, give AX back: those from which links lead
+to AX, the fewest first. A link is an assertion that doesn't rest on AX: of the form ( S -> F ),
+( S <-> F ) or, with a $e, F from S. Statements are the same that differ in the names of variables
+alone, or in quantifiers before all. AX may be a theorem too.
+
+how        equivalent: AX gives it
+           stronger: it isn't known that AX gives it
+           proved: it is stated by an assertion that doesn't rest on AX, so the others give AX
+label      an assertion that states it; nothing where there is none
+by         the links from the statement to AX; nothing where it says what AX says
+from       how AX gives it: what states it, or the links from AX to it
+rests      the axioms on which all these rest, besides AX; in the form text only with an option that
+           chooses axioms
+statement  what it says
+
+Of distinct variables a link may ask no more than AX does. What isn't said by such links isn't
+found.
+
+  $ mmquery equivalents set.mm ax-ac2
+  $ mmquery equivalents set.mm ax-ac2 --axioms ax-
+"""
+COLUMNS = ("how", "label", "by", "from", "rests", "statement")
+
+
+def configure(parser: Parser) -> None:
+    """Adds the words and options."""
+    add_database(parser)
+    parser.add_argument("axiom", metavar="AX")
+    add_choice_of_axioms(parser)
+
+
+def run(context: Context, arguments: argparse.Namespace) -> int:
+    """Answers."""
+    database = context.database(arguments.database, options_of(arguments))
+    graph = database.graph()
+    above = graph.above([graph.node(arguments.axiom)])
+    bound = {graph.labels[node] for node in above}
+    assertions = database.text.assertions
+    links = Links(assertions, [one.label not in bound for one in assertions])
+    search = Search(links, database.assertion(arguments.axiom))
+    rows = [row_of(database, search, each) for each in search.found()]
+    is_chosen = arguments.only or arguments.all or arguments.axioms or arguments.ignore_definitions
+    why = f"{database.name}: no statement is found that gives {arguments.axiom} back"
+    context.table(COLUMNS, rows, why, aside=[] if is_chosen else ["rests"])
+    return 0
+
+
+def row_of(database: Database, search: Search, found: Found) -> list[Value]:
+    """A row of the answer."""
+    way, label = found.way, None
+    how = "stronger" if way is None else "equivalent"
+    if way is not None and way.stated is not None:
+        label = way.stated.label
+        how = "proved" if search.links.free[way.stated.number] else how
+    given = list(way.labels) if way is not None else []
+    rests = rests_of(database, {*found.by, *found.rules, *given}, search.axiom.label)
+    return [how, label, list(found.by), given, rests, found.formula]
+
+
+def rests_of(database: Database, labels: set[str], axiom: str) -> list[str]:
+    """The axioms on which assertions rest, but for one of them."""
+    dependence = database.dependence()
+    columns: set[int] = set()
+    for label in labels:
+        if label in dependence.rows:
+            columns.update(dependence.rests(dependence.rows[label]))
+        elif label in dependence.columns:
+            columns.add(dependence.columns[label])
+    return [name for each in sorted(columns) if (name := dependence.axioms[each]) != axiom]
+
+
+COMMANDS = [Command("equivalents", PAGE, configure, run)]

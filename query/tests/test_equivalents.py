@@ -1,0 +1,426 @@
+"""`equivalents`, against all chains of links that there are; and each answer as a proof, which the
+program verifies."""
+
+from __future__ import annotations
+
+import itertools
+import random
+import unittest
+from collections.abc import Iterator, Sequence
+from dataclasses import dataclass, field
+
+from query.tests.world import DATABASES, World
+
+NAMES = "x y z u v w t s r q p o n m l k".split()
+BASE = f"""$c wff setvar |- ( ) -> <-> A. R Q Foo Bar $.
+$v ph ps {' '.join(NAMES)} $.
+wph $f wff ph $. wps $f wff ps $.
+{' '.join(f'f{name} $f setvar {name} $.' for name in NAMES)}
+wi $a wff ( ph -> ps ) $.
+wb $a wff ( ph <-> ps ) $.
+wal $a wff A. x ph $.
+wr $a wff R x y $.
+wq $a wff Q x $.
+wfoo $a wff Foo $.
+wbar $a wff Bar $.
+${{ min $e |- ph $. maj $e |- ( ph -> ps ) $. ax-mp $a |- ps $. $}}
+${{ mpbi.1 $e |- ph $. mpbi.2 $e |- ( ph <-> ps ) $. mpbi $a |- ps $. $}}
+${{ mpbir.1 $e |- ps $. mpbir.2 $e |- ( ph <-> ps ) $. mpbir $a |- ph $. $}}
+${{ gen.1 $e |- ph $. gen $a |- A. x ph $. $}}
+${{ spi.1 $e |- A. x ph $. spi $a |- ph $. $}}
+"""
+POOL = ["R x y", "A. x R x y", "R x x", "Q x", "Foo", "( Q x -> R x y )", "Bar", "( Q x -> Q y )"]
+DETACHED = {"->": "ax-mp", "<->": "mpbi", "<-": "mpbir"}
+
+Words = tuple[str, ...]
+Pair = frozenset[str]
+
+
+def variables(words: Sequence[str]) -> list[str]:
+    """The variables of a formula, as they come."""
+    return list(dict.fromkeys(word for word in words if word in NAMES))
+
+
+def stripped(words: Sequence[str]) -> Words:
+    """A formula without what is quantified before all of it."""
+    while words[0] == "A.":
+        words = words[2:]
+    return tuple(words)
+
+
+def key(words: Sequence[str]) -> Words:
+    """What is the same of formulas that are the same statement."""
+    names = {name: f"#{number}" for number, name in enumerate(variables(stripped(words)))}
+    return tuple(names.get(word, word) for word in stripped(words))
+
+
+def built(words: Sequence[str]) -> list[str]:
+    """The steps that build a formula."""
+    steps, end = built_from(words, 0)
+    assert end == len(words)
+    return steps
+
+
+def built_from(words: Sequence[str], place: int) -> tuple[list[str], int]:
+    """The steps that build the formula at a place, and the place behind it."""
+    word = words[place]
+    if word == "A.":
+        steps, end = built_from(words, place + 2)
+        return [*steps, f"f{words[place + 1]}", "wal"], end
+    if word == "(":
+        one, middle = built_from(words, place + 1)
+        other, end = built_from(words, middle + 1)
+        return [*one, *other, {"->": "wi", "<->": "wb"}[words[middle]]], end + 1
+    count = {"R": 2, "Q": 1}.get(word, 0)
+    names = [f"f{name}" for name in words[place + 1 : place + 1 + count]]
+    return [*names, f"w{word.lower()}"], place + 1 + count
+
+
+@dataclass(frozen=True)
+class Said:
+    """An assertion: its formula, its `$e` if it has one, and its pairs of distinct variables."""
+
+    label: str
+    formula: Words
+    given: Words | None = None
+    pairs: frozenset[Pair] = frozenset()
+
+    def text(self, proof: str | None = None) -> str:
+        """Its block."""
+        said = " ".join(self.formula)
+        parts = [f"$d {' '.join(sorted(pair))} $." for pair in sorted(self.pairs, key=sorted)]
+        if self.given is not None:
+            parts.append(f"{self.label}.h $e |- {' '.join(self.given)} $.")
+        kind = "$a" if proof is None else "$p"
+        parts.append(f"{self.label} {kind} |- {said}{'' if proof is None else f' $= {proof}'} $.")
+        return f"${{ {' '.join(parts)} $}}\n"
+
+    def floating(self) -> list[str]:
+        """Its variables, in the order in which a proof fills them."""
+        used = {*self.formula, *(self.given or ())}
+        return [name for name in NAMES if name in used]
+
+
+@dataclass(frozen=True)
+class Step:
+    """A way to get from one formula to another by an assertion; `how` is `$e` where that has a
+    hypothesis, and otherwise what detaches."""
+
+    said: Said
+    how: str
+    start: Words
+    end: Words
+
+
+def steps_of(said: Said) -> Iterator[Step]:
+    """The links that an assertion is."""
+    if said.given is not None:
+        yield Step(said, "$e", said.given, said.formula)
+        return
+    for place in range(2, len(said.formula) - 1):
+        one, other = said.formula[1:place], said.formula[place + 1 : -1]
+        if said.formula[0] == "(" and said.formula[place] in ("->", "<->") and is_whole(one):
+            yield Step(said, said.formula[place], one, other)
+            if said.formula[place] == "<->":
+                yield Step(said, "<-", other, one)
+
+
+def is_whole(words: Sequence[str]) -> bool:
+    """Whether these are a formula."""
+    try:
+        return built_from(words, 0)[1] == len(words)
+    except (IndexError, KeyError):
+        return False
+
+
+@dataclass
+class Proof:
+    """A proof by steps, one after the other: its labels, the pairs that must be distinct for it,
+    and names for what is in no goal."""
+
+    spare: list[str] = field(default_factory=lambda: list(NAMES))
+    needed: set[Pair] = field(default_factory=set)
+    dummies: set[str] = field(default_factory=set)
+
+    def filled(self, said: Said, names: dict[str, str]) -> list[str]:
+        """What fills the variables of an assertion; those without a name get one."""
+        for name in said.floating():
+            if name not in names:
+                names[name] = self.spare.pop()
+                self.dummies.add(names[name])
+        self.needed |= {frozenset(names[name] for name in pair) for pair in said.pairs}
+        return [f"f{names[name]}" for name in said.floating()]
+
+    def of(self, goal: Words, chain: Sequence[Step], first: Said) -> list[str]:
+        """The labels that prove a formula by a chain of steps from an assertion."""
+        end = chain[-1].end if chain else first.formula
+        names = dict(zip(variables(stripped(end)), variables(stripped(goal))))
+        if not chain:
+            steps = [*self.filled(first, names), first.label]
+        else:
+            steps = self.by_step(chain, names, first)
+        said = tuple(names.get(word, word) for word in end)
+        while said[0] == "A.":
+            steps = [*built(said[2:]), f"f{said[1]}", *steps, "spi"]
+            said = said[2:]
+        count = len(goal) - len(stripped(goal))
+        for place in range(count - 2, -2, -2):
+            steps = [*built(goal[place + 2 :]), f"f{goal[place + 1]}", *steps, "gen"]
+        return steps
+
+    def by_step(self, chain: Sequence[Step], names: dict[str, str], first: Said) -> list[str]:
+        """The labels that prove the end of the last step."""
+        step = chain[-1]
+        floating = self.filled(step.said, names)
+        start, end = (
+            tuple(names.get(word, word) for word in words) for words in (step.start, step.end)
+        )
+        premise = self.of(start, chain[:-1], first)
+        if step.how == "$e":
+            return [*floating, *premise, step.said.label]
+        sides = [*built(end), *built(start)] if step.how == "<-" else [*built(start), *built(end)]
+        return [*sides, *premise, *floating, step.said.label, DETACHED[step.how]]
+
+
+class Chosen:
+    """A database made by chance, with the axiom `ax`."""
+
+    def __init__(self, seed: int) -> None:
+        self.chance = random.Random(seed)
+        self.axiom = self.said("ax", self.statement(POOL[:2]), self.chance.choice([0, 0.5]))
+        self.free = [self.said(f"l{number}", *self.link()) for number in range(9)]
+        self.stated: list[Said] = []
+        self.lines = [BASE, self.axiom.text()]
+        for number, each in enumerate(self.free):
+            self.lines.append(each.text())
+            if each.given is not None and key(each.given) == key(self.axiom.formula):
+                self.add_theorem(f"t{number}", each)
+
+    def statement(self, pool: Sequence[str] = POOL) -> Words:
+        """A statement with names by chance."""
+        words = self.chance.choice(pool).split()
+        names = dict(zip(variables(words), self.chance.sample(NAMES[:4], 4)))
+        quantified = [f"A. {self.chance.choice(NAMES[:4])}"] * (self.chance.random() < 0.3)
+        return tuple(" ".join([*quantified, *(names.get(word, word) for word in words)]).split())
+
+    def link(self) -> tuple[Words, float, Words | None]:
+        """The formula of a link, how likely pairs are distinct, and its `$e`."""
+        one, other = self.statement(), self.statement()
+        how = self.chance.choice(["->", "<->", "$e"])
+        if how == "$e":
+            return other, 0.5, one
+        return ("(", *one, how, *other, ")"), 0.5, None
+
+    def said(self, label: str, formula: Words, likely: float, given: Words | None = None) -> Said:
+        """An assertion, some of its variables distinct."""
+        used = variables([*formula, *(given or ())])
+        pairs = (frozenset(pair) for pair in itertools.combinations(used, 2))
+        return Said(
+            label,
+            formula,
+            given,
+            frozenset(pair for pair in pairs if self.chance.random() < likely),
+        )
+
+    def add_theorem(self, label: str, link: Said) -> None:
+        """Adds a theorem that a link proves of the axiom."""
+        (step,) = steps_of(link)
+        proof = Proof()
+        labels = proof.of(link.formula, [step], self.axiom)
+        pairs = proof.needed | all_pairs(proof.dummies, {*variables(link.formula)})
+        theorem = Said(label, link.formula, None, frozenset(pairs))
+        self.lines.append(theorem.text(" ".join(labels)))
+        self.stated.append(replace_pairs(theorem))
+
+    def steps(self) -> list[Step]:
+        """All links."""
+        return [step for said in self.free for step in steps_of(said)]
+
+
+def replace_pairs(said: Said) -> Said:
+    """An assertion with those pairs alone that are of its own variables."""
+    own = {*variables(said.formula)}
+    pairs = frozenset(pair for pair in said.pairs if pair <= own)
+    return Said(said.label, said.formula, said.given, pairs)
+
+
+def all_pairs(dummies: set[str], others: set[str]) -> set[Pair]:
+    """All pairs with a dummy."""
+    names = dummies | others
+    return {frozenset((one, other)) for one in dummies for other in names if one != other}
+
+
+def chains(steps: Sequence[Step], start: Words, end: Words, most: int) -> Iterator[list[Step]]:
+    """The chains of steps from one statement to another, at most so long."""
+    if start == end:
+        yield []
+    if most:
+        for step in steps:
+            if key(step.start) == start:
+                for rest in chains(steps, key(step.end), end, most - 1):
+                    yield [step, *rest]
+
+
+def labels_in(field: object) -> list[str]:
+    """The labels of a field of JSON."""
+    assert isinstance(field, list)
+    return [*map(str, field)]
+
+
+class Equivalents(World):
+    """What gives an axiom back."""
+
+    def rows(self, text: str) -> list[dict[str, object]]:
+        """The answer about the axiom `ax`."""
+        self.write("db.mm", text)
+        return self.query("equivalents", "db.mm", "ax", "--format=json").rows()
+
+    def test_each_answer_is_a_proof(self) -> None:
+        """A database in which the statement is an axiom proves the axiom without it."""
+        tried = dict.fromkeys(("equivalent", "stronger", "stated"), 0)
+        for seed in range(60):
+            chosen = Chosen(seed)
+            for row in self.rows("".join(chosen.lines)):
+                self.see_proof(chosen, row)
+                tried[str(row["how"])] += 1
+                tried["stated"] += row["label"] is not None
+        self.assertGreater(min(tried.values()), 15, tried)
+
+    def see_proof(self, chosen: Chosen, row: dict[str, object]) -> None:
+        """The proofs of what a row says are verified."""
+        formula = tuple(str(row["statement"]).split())
+        labels = labels_in(row["by"])
+        lines = list(chosen.lines)
+        stated = next((each for each in chosen.stated if each.label == row["label"]), None)
+        pairs: frozenset[Pair] = frozenset()
+        if stated is not None:
+            self.assertEqual(stated.formula, formula)
+            pairs = stated.pairs
+        elif row["how"] == "equivalent":
+            new, pairs = self.forward(chosen, row, formula)
+            lines.append(new)
+        statement = Said("new", formula, None, pairs)
+        proofs = []
+        for chain in self.named_chains(chosen, labels, formula, chosen.axiom.formula):
+            proof = Proof()
+            steps = proof.of(chosen.axiom.formula, chain, statement)
+            dummies = all_pairs(proof.dummies, {*variables(chosen.axiom.formula)})
+            again = Said("again", chosen.axiom.formula, None, chosen.axiom.pairs | dummies)
+            proofs.append(again.text(" ".join(steps)))
+        self.assertTrue(
+            any(map(lambda proof: self.holds([*lines, statement.text(), proof]), proofs))
+        )
+
+    def named_chains(
+        self, chosen: Chosen, labels: Sequence[str], start: Words, end: Words
+    ) -> Iterator[list[Step]]:
+        """The chains by links of these labels from one statement to another."""
+        steps = chosen.steps()
+        ways = ([step for step in steps if step.said.label == label] for label in labels)
+        for chain in itertools.product(*ways):
+            ends = [start, *(word for step in chain for word in (step.start, step.end)), end]
+            pairs = zip(ends[::2], ends[1::2])
+            if all(key(one) == key(other) for one, other in pairs):
+                yield list(chain)
+
+    def forward(
+        self, chosen: Chosen, row: dict[str, object], formula: Words
+    ) -> tuple[str, frozenset[Pair]]:
+        """A theorem by which the axiom gives a statement, and what has to be distinct for it."""
+        labels = labels_in(row["from"])
+        first, names = chosen.axiom, labels
+        for each in chosen.stated:
+            if labels and each.label == labels[0]:
+                first, names = each, labels[1:]
+        found = []
+        for chain in self.named_chains(chosen, names, first.formula, formula):
+            proof = Proof()
+            steps = proof.of(formula, chain, first)
+            own = {*variables(formula)}
+            pairs = frozenset(pair for pair in proof.needed if pair <= own)
+            theorem = Said("from", formula, None, pairs | all_pairs(proof.dummies, own))
+            found.append((theorem.text(" ".join(steps)), pairs))
+        return found[0]
+
+    def holds(self, lines: Sequence[str]) -> bool:
+        """Whether a database is verified, and its theorem `again` doesn't rest on the axiom."""
+        self.write("again.mm", "".join(lines))
+        if self.query("verify", "again.mm").status != 0:
+            return False
+        return "ax" not in self.query("rests", "again.mm", "again").lines()
+
+    def test_all_that_links_say_is_found(self) -> None:
+        """Of what follows from the axiom just that is listed from which links lead back, if what
+        they ask of distinct variables is no more than what the axiom asks; by all chains of at most
+        four links."""
+        tried = {True: 0, False: 0}
+        for seed in range(60):
+            chosen = Chosen(seed)
+            told = {
+                key(str(row["statement"]).split()): len(str(row["by"]).split(","))
+                for row in self.rows("".join(chosen.lines))
+            }
+            steps, axiom = chosen.steps(), key(chosen.axiom.formula)
+            for start in {key(step.start) for step in steps} - {axiom}:
+                ways = list(chains(steps, start, axiom, 4))
+                if not ways or not any(chains(steps, axiom, start, 4)):
+                    continue
+                works = any(self.gives(chosen, chain) for chain in ways)
+                if works or told.get(start, 0) < 5:
+                    self.assertEqual(start in told, works, (seed, start))
+                    tried[works] += 1
+        self.assertGreater(min(tried.values()), 5, tried)
+
+    def gives(self, chosen: Chosen, chain: Sequence[Step]) -> bool:
+        """Whether a chain gives the axiom, with what it says of distinct variables."""
+        proof = Proof()
+        proof.of(chosen.axiom.formula, chain, Said("new", chain[0].start))
+        own = {*variables(chosen.axiom.formula)}
+        return {pair for pair in proof.needed if pair <= own} <= chosen.axiom.pairs
+
+    def test_by_hand(self) -> None:
+        text = (
+            BASE + "ax $a |- Q x $. la $a |- ( Foo <-> A. y Q y ) $. ma $a |- ( Bar -> Foo ) $.\n"
+        )
+        text += "na $a |- ( R x x -> Bar ) $. ta $p |- Q y $= fy ax $.\n"
+        self.write("db.mm", text)
+        lines = self.answers("equivalents", "db.mm", "ax", "--format=tsv", "--axioms=la,ma")
+        self.assertEqual(lines[1:], [
+            "equivalent\tta\t\tta\t\tQ y",
+            "equivalent\t\tla\tla\tla\tFoo",
+            "stronger\t\tma la\t\tla ma\tBar",
+        ])  # fmt: skip
+        done = self.query("equivalents", "db.mm", "wal")
+        self.assertEqual((done.status, done.out), (2, ""))
+        self.refuses("equivalents", "db.mm", "none", why="neither a theorem nor an axiom 'none'")
+        self.refuses("equivalents", "db.mm", "ax-mp", why="ax-mp has a $e")
+        done = self.query("equivalents", "db.mm", "na")
+        self.assertEqual(done.out, "")
+        self.assertIn("no statement is found that gives na back", done.err)
+
+    def test_what_others_give(self) -> None:
+        """A statement that doesn't rest on the axiom, and gives it back."""
+        text = BASE + "ax $a |- Foo $. be $a |- Bar $. la $a |- ( Bar -> Foo ) $.\n"
+        self.write("db.mm", text)
+        lines = self.answers("equivalents", "db.mm", "ax", "--format=tsv")
+        self.assertEqual(lines[1:], ["proved\tbe\tla\tbe\tax-mp gen spi be la\tBar"])
+
+    @unittest.skipUnless((DATABASES / "set.mm").exists(), "there is no set.mm")
+    def test_choice(self) -> None:
+        """What set.mm proves to be the axiom of choice: the table of its theorem `dfac`-s."""
+        path = str(DATABASES / "set.mm")
+        rows = self.query("equivalents", path, "ax-ac2", "--format=json").rows()
+        first = {
+            labels_in(row["by"])[0] for row in rows if row["how"] == "equivalent" and row["by"]
+        }
+        self.assertLessEqual(
+            {"dfackm", "df-ac", "dfac3", "dfac4", "dfac5", "dfac8", "dfac9", "dfac10", "dfac12",
+             "dfac13", "dfac14", "dfac21", "dfacbasgrp", "dfacfin7", "ttac"},
+            first,
+        )  # fmt: skip
+        stronger = {str(row["statement"]) for row in rows if row["how"] == "stronger"}
+        self.assertIn("GCH = _V", stronger)
+
+
+if __name__ == "__main__":
+    unittest.main()
