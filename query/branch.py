@@ -16,7 +16,7 @@ from query import attributes
 from query.config import FILE_NAME, MOST_CONFIG_BYTES, Config, Misread, load_config, read_config
 from query.errors import NoAnswer, shown
 from query.git import NoRepository, Repository, repository_of, short
-from query.objects import Objects, id_of
+from query.objects import Objects, id_of, see_length
 from query.rules import Finding
 from query.source import (
     MOST_DATABASE_BYTES,
@@ -164,11 +164,23 @@ def texts_of(objects: Objects, places: Places, path: str) -> tuple[bytes, bytes]
             f"{shown(path)}: not in {places.said}; `mmquery verify` checks a new database"
         )
     see_plain(f"{shown(path)} in {places.said}", old)
-    most = min(MOST_DATABASE_BYTES, 2 * len(old) + FREE_GROWTH)
-    new = objects.content(places.new, path, most)
+    new = objects.content(places.new, path, most_after(len(old)))
     if new is None:
         raise NoAnswer(f"{shown(path)}: {short(places.head)} has no such file")
     return old, new
+
+
+def most_after(size: int) -> int:
+    """How many bytes a database may have that had so many in OLD."""
+    return min(MOST_DATABASE_BYTES, 2 * size + FREE_GROWTH)
+
+
+def see_growth(branch: Branch, objects: Objects, old: str) -> None:
+    """NoAnswer where the file of the working tree is too long, before git looks at it."""
+    data, entry = branch.files.get(branch.path), objects.entry(old, branch.path)
+    if data is not None and entry is not None:
+        most = most_after(objects.size("blob", entry.name, branch.path))
+        see_length(branch.path, len(data), most)
 
 
 def of_attributes(
@@ -200,6 +212,7 @@ def places_of(branch: Branch, objects: Objects, base: str, wish: Wish) -> tuple[
     """From where files are taken, and notes on that."""
     tip = branch.repository.commit(base)
     common = objects.merge_base(tip, branch.commit)
+    see_growth(branch, objects, common if wish.is_merge_base else tip)
     head = branch.head(objects)
     notes = []
     if common == branch.commit:

@@ -172,19 +172,21 @@ class Objects:
         made = self.must("commit-tree", tree, "-p", commit, "-m", "the working tree")
         return made.decode("ascii").strip()
 
-    def read(self, kind: str, name: str, most: int, path: str) -> bytes:
-        """The bytes of an object, which is at this path. NoAnswer where it is of another kind, as a
-        tag may be that names what is wanted, and where there are more than `most`: an object of a
-        few bytes can be made to unpack to gigabytes."""
+    def size(self, kind: str, name: str, path: str) -> int:
+        """How many bytes an object has, which is at this path. NoAnswer where it is of another
+        kind, as a tag may be that names what is wanted."""
         told = self.must("cat-file", "--batch-check", given=name.encode() + b"\n")
         found, what, *sizes = told.decode("ascii", "replace").split()
         if found != name or not sizes:
             raise NoAnswer(f"git: {shown(path)}: this clone lacks the object {short(name)}")
         if what != kind:
             raise NoAnswer(f"not judged: {shown(path)}: {short(name)} is a {what}, and no {kind}")
-        size = int(sizes[0])
-        if size > most:
-            raise NoAnswer(f"not judged: {shown(path)} has {size} bytes, and {most} are taken")
+        return int(sizes[0])
+
+    def read(self, kind: str, name: str, most: int, path: str) -> bytes:
+        """Its bytes. NoAnswer where there are more than `most`: an object of a few bytes can be
+        made to unpack to gigabytes."""
+        see_length(path, self.size(kind, name, path), most)
         return self.must("cat-file", kind, name)
 
     def listing(self, tree: str, path: str) -> dict[bytes, Entry]:
@@ -254,6 +256,12 @@ class Objects:
         if data.startswith(POINTER):
             raise NoAnswer(f"{shown(path)}: a pointer of Git LFS, and not what it stands for")
         return data
+
+
+def see_length(path: str, size: int, most: int) -> None:
+    """NoAnswer where a file has more bytes than are taken."""
+    if size > most:
+        raise NoAnswer(f"not judged: {shown(path)} has {size} bytes, and {most} are taken")
 
 
 def git_path(path: bytes) -> bytes:

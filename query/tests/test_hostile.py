@@ -8,6 +8,7 @@ import re
 import shutil
 import subprocess
 import tempfile
+import time
 import unittest
 from collections.abc import Mapping
 from pathlib import Path
@@ -661,6 +662,17 @@ class OfGit(Hostile):
         with open(self.folder / "mmdepend.toml", "ab") as file:
             file.truncate(2_000_000_000)
         self.is_refused(why="mmdepend.toml has 2000000000 bytes, and 16777216 are taken")
+        self.git("checkout", "--quiet", "mmdepend.toml")
+        for size, most in ((3_000_000_000, 2147483647), (200_000_000, 67110052)):
+            with open(self.folder / "db.mm", "ab") as file:
+                file.truncate(size)
+            begun = time.monotonic()
+            self.is_refused(why=f"db.mm has {size} bytes, and {most} are taken")
+            self.assertLess(time.monotonic() - begun, 20)
+        self.git("checkout", "--quiet", "db.mm")
+        self.assertEqual(self.findings(status=0), [])
+        with open(self.folder / "mmdepend.toml", "ab") as file:
+            file.truncate(2_000_000_000)
         (self.folder / "two").mkdir()
         os.replace(self.folder / "mmdepend.toml", self.folder / "two/mmdepend.toml")
         self.write("two/db.mm", BASE)
