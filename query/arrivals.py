@@ -8,10 +8,10 @@ judged, however many theorems and axioms these are.
 
 from __future__ import annotations
 
-from collections.abc import Iterable, Iterator, Mapping
+from collections.abc import Iterable, Iterator
 from dataclasses import dataclass, field
 
-from query.changes import Comparison, Moves
+from query.changes import Comparison
 from query.config import Config, is_meant
 
 
@@ -41,10 +41,9 @@ class Effect:
 
 @dataclass
 class Arrivals:
-    """Those of a comparison. `was` says for a theorem of NEW what it was in OLD, "" for nothing."""
+    """Those of a comparison."""
 
     comparison: Comparison
-    was: Mapping[str, str]
     axioms: list[str]
     config: Config
     causes: dict[tuple[int, int], tuple[str, str]] = field(default_factory=dict)
@@ -53,7 +52,6 @@ class Arrivals:
     def __post_init__(self) -> None:
         self.new = self.comparison.new.dependence
         self.watched = self.bits(self.axioms)
-        self.moves = Moves(self.comparison.old.dependence, self.new, self.comparison.to_old)
         self.allowed = {
             rule: [
                 (theorems, self.bits(label for label in self.axioms if is_meant(word, label)))
@@ -69,10 +67,16 @@ class Arrivals:
     def came(self, row: int) -> int:
         """The bits of the watched axioms on which a theorem came to rest."""
         theorem = self.new.theorems[row]
-        old = self.comparison.old.dependence
-        before = old.rows.get(self.was.get(theorem, ""))
         bits = self.new.bits(row) & self.watched
-        return bits if not bits or before is None else bits & ~self.moves.moved(old.bits(before))
+        if not bits or not self.is_told(theorem):
+            return 0
+        return bits & ~self.comparison.row_before(self.comparison.was(theorem))
+
+    def is_told(self, theorem: str) -> bool:
+        """Whether the program tells of a theorem that it is new or rests on more. What it tells of
+        none of these didn't come to rest on anything."""
+        differences = self.comparison.differences
+        return theorem in differences.gained or theorem in differences.new
 
     def all(self, rule: str) -> Iterator[Arrival]:
         """Those of the rule `newly`, which OLD has too, or of the rule `new`, which it hasn't,
@@ -131,13 +135,8 @@ class Arrivals:
             if cited != axiom and (below is None or not self.new.is_marked(below, column)):
                 continue
             came = below is not None and bool(self.came(below) & bit)
-            if not came and self.is_new(theorem, cited):
+            if not came and not self.comparison.was_cited(theorem, cited):
                 return cited, None
             if first is None or (came and first[1] is None):
                 first = (cited, below if came else None)
         return first or (axiom, None)
-
-    def is_new(self, citing: str, cited: str) -> bool:
-        """Whether OLD lacks a citation."""
-        used = self.comparison.to_old.get(cited, "")
-        return used not in self.comparison.old.cites(self.was.get(citing, ""))

@@ -1,36 +1,50 @@
 """What became of the theorems and axioms of one database in another, and why.
 
-`Comparison` puts two databases side by side: which assertion of NEW is which of OLD, which
-theorems came to rest on an axiom and which no longer do, and for each the citation that is the
-reason.
+`Comparison` puts two databases side by side. What the program says of both is proved. Three things
+are added to it: which labels were renamed, that an axiom which was changed or renamed is the same
+one to what rests on it, and the citation that is the reason why a theorem came to rest on an axiom.
 """
 
 from __future__ import annotations
 
-from collections.abc import Iterator
-from dataclasses import dataclass
-from functools import cached_property, partial
+from collections.abc import Iterable, Iterator
+from dataclasses import dataclass, replace
+from functools import cached_property
 
-from query import cache, progress, secret
-from query.database import Database, Dependence, from_parts, to_parts
+from query import progress
+from query.assertions import Assertion, Damaged
+from query.database import Database, Dependence
+from query.differences import Differences, coming
 from query.errors import NoAnswer
 from query.faults import Refused
 from query.graph import Graph
-from query.parallel import begun
-from query.source import NO_TEXT
-from query.statements import Pairer, Pairing
+from query.marks import columns_of, mask
+from query.sparing import read_sparingly
+from query.standing import OldText
+from query.statements import Cites, Pairing, Statement, pairing_of, statement_of
 from query.text import Text
+
+MOST_ROWS = 10_000
+"""So many rows of OLD are remembered at the most."""
 
 
 class Side:
-    """One of the two databases. `text` is None where it is a report, which has no statements."""
+    """One of the two databases. Its report is read where it is asked for."""
 
-    def __init__(self, dependence: Dependence, text: Text | None) -> None:
-        self.name = dependence.name
-        self.dependence = dependence
-        self.graph: Graph = dependence.graph
-        self.text = text
+    def __init__(self, database: Database) -> None:
+        self.name = database.name
+        self.database = database
         self.cited: dict[str, frozenset[str]] = {}  # of theorems that were asked for
+
+    @cached_property
+    def dependence(self) -> Dependence:
+        """On which axioms its theorems rest."""
+        return self.database.dependence()
+
+    @property
+    def graph(self) -> Graph:
+        """Its citations."""
+        return self.dependence.graph
 
     def cites(self, label: str) -> frozenset[str]:
         """The labels that a theorem cites; none where this database has no such theorem."""
@@ -42,65 +56,36 @@ class Side:
             known = self.cited[label] = frozenset(labels[each] for each in cited)
         return known
 
-    def users(self, axiom: str) -> list[str]:
-        """The theorems that rest on an axiom, in file order; none where it isn't one here."""
-        column = self.dependence.columns.get(axiom)
-        theorems = self.dependence.theorems
-        return [] if column is None else [theorems[row] for row in self.dependence.users(column)]
 
-
-def text_of_side(side: Side) -> Text:
-    """The text of a side. NoAnswer where it is a report."""
-    if side.text is None:
-        raise NoAnswer(f"{side.name}: {NO_TEXT}")
-    return side.text
-
-
-def prepare(database: Database) -> bytes:
-    """What the program says of a database, as bytes for `take`; a refusal too."""
-    try:
-        return b"+" + cache.packed(to_parts(database.prepared))
-    except Refused as refused:
-        return f"{refused.line} {refused.column} {refused.code}".encode()
-
-
-def take(database: Database, prepared: bytes) -> None:
-    """Gives a database what `prepare` found. Refused where it was refused."""
-    if prepared[:1] != b"+":
-        line, column, code = prepared.decode().split(" ")
-        raise Refused(database.source, int(line), int(column), code)
-    database.known = from_parts(cache.unpacked(prepared, 1))
-
-
-def sides(old: Database, new: Database) -> tuple[Side, Side]:
-    """Both databases, verified at the same time. Refused where one of them is refused: if both are,
-    OLD."""
-    progress.now(f"verifying {old.name} and {new.name}")
-    if any(each.uses_cache and not each.is_report for each in (old, new)):
-        secret.read_or_make()  # here, since a process of its own may be ended while it makes one
-    task = None if old.is_report else begun(partial(prepare, old))
-    try:
-        text, failed = read_statements(new)
-        if task is not None:
-            take(old, task.result())
-    finally:
-        if task is not None:
-            task.stop()
+def side_by_side(old: Database, new: Database) -> Comparison:
+    """Both databases, compared by one run of the program, while another one reports on NEW. Refused
+    where one of them is refused: if both are, OLD."""
+    for each in (old, new):
+        each.see_text()
+    with coming(old, new) as result:
+        failed = failure_of(new)
+        progress.now(f"comparing {old.name} and {new.name}")
+        try:
+            differences = result()
+        except NoAnswer as why:
+            raise why if failed is None or isinstance(why, Refused) else failed
     if failed is not None:
         raise failed
-    progress.now(f"comparing {old.name} and {new.name}")
-    first = Side(old.dependence(), None if old.is_report else old.text)
-    return first, Side(new.dependence(), text)
+    comparison = Comparison(Side(old), Side(new), differences)
+    comparison.see_one_answer()
+    comparison.see_old_axioms()
+    return comparison
 
 
-def read_statements(database: Database) -> tuple[Text | None, NoAnswer | None]:
-    """What stands in a database; of a report nothing. And why it can't be read, if that is so."""
-    if database.is_report:
-        return None, None
+def failure_of(database: Database) -> NoAnswer | None:
+    """Why nothing is known of a database; None where its report is read."""
     try:
-        return database.text, None
+        if database.known is None and not database.uses_cache:
+            read_sparingly(database)
+        _ = database.text
     except NoAnswer as why:
-        return None, why
+        return why
+    return None
 
 
 @dataclass(frozen=True)
@@ -120,28 +105,72 @@ class Shift:
 class Comparison:
     """Two databases side by side."""
 
-    def __init__(self, old: Side, new: Side) -> None:
+    def __init__(self, old: Side, new: Side, differences: Differences) -> None:
         self.old = old
         self.new = new
-        if old.text is None or new.text is None:
-            self.axioms = by_labels(old.dependence.axioms, new.dependence.axioms)
-            self.theorems = by_labels(old.dependence.theorems, new.dependence.theorems)
-        else:
-            pairer = Pairer(old.text, new.text)
-            self.axioms = pairer.pair("a", old.cites, new.cites)
-            self.theorems = pairer.pair("p", old.cites, new.cites)
+        self.differences = differences
+        self.proved_alike: dict[str, bool] = {}  # of assertions that were asked for
+        self.rows_before: dict[str, int] = {}  # of theorems that were asked for, not too many
+
+    def see_one_answer(self) -> None:
+        """Damaged where the program says something else of an assertion of NEW in each run."""
+        for label, one in self.differences.new.items():
+            same = self.text.find(label)
+            if same is None or replace(same, number=one.number) != one:
+                raise Damaged
+
+    @staticmethod
+    def within(side: Side) -> Comparison:
+        """A database beside itself."""
+        return Comparison(side, side, Differences())
+
+    @property
+    def text(self) -> Text:
+        """The text of NEW."""
+        return self.new.database.text
+
+    @cached_property
+    def old_text(self) -> OldText:
+        """The text of OLD."""
+        return OldText(self.old.database.data(), self.text, self.differences)
+
+    @cached_property
+    def touched(self) -> list[Assertion]:
+        """The assertions of NEW that may be others than in OLD, have another proof or another
+        comment: those that don't stand where the texts are alike, and those of which the program
+        tells."""
+        return told_and(self.text, self.old_text.touched[1], self.differences.new)
+
+    @cached_property
+    def touched_before(self) -> list[Assertion]:
+        """The same of OLD."""
+        return told_and(self.old_text, self.old_text.touched[0], self.differences.gone)
+
+    @cached_property
+    def axioms(self) -> Pairing:
+        """What became of the axioms, which cite nothing."""
+        return self._paired("a", lambda _: frozenset(), lambda _: frozenset())
+
+    @cached_property
+    def theorems(self) -> Pairing:
+        """What became of the theorems."""
+        return self._paired("p", self.old.cites, self.new.cites)
+
+    def _paired(self, kind: str, old_cites: Cites, new_cites: Cites) -> Pairing:
+        gone, new = (
+            [one for one in some.values() if one.kind == kind]
+            for some in (self.differences.gone, self.differences.new)
+        )
+        return pairing_of(gone, new, old_cites, new_cites)
 
     @cached_property
     def to_old(self) -> dict[str, str]:
         """For labels of NEW, that of the same assertion in OLD. A label that stands for an axiom in
         one and a theorem in the other is its own."""
-        taken = {*self.axioms.renamed.values(), *self.theorems.renamed.values()}
-        same = {
-            label: label
-            for label in self.new.graph.labels
-            if label in self.old.graph.index and label not in taken
-        }
-        return same | self.axioms.origin | self.theorems.origin
+        renamed = self.axioms.renamed | self.theorems.renamed
+        lacking = (self.differences.new.keys() - self.differences.gone.keys()) | {*renamed.values()}
+        labels = (one.label for one in self.text.assertions)
+        return {label: label for label in labels if label not in lacking} | renamed
 
     @cached_property
     def to_new(self) -> dict[str, str]:
@@ -149,27 +178,96 @@ class Comparison:
         return {old: new for new, old in self.to_old.items()}
 
     @cached_property
+    def old_axioms(self) -> dict[str, None]:
+        """The axioms of OLD that the options choose: those that NEW has too, in its order, and then
+        the others."""
+        options, differences = self.new.database.options, self.differences
+        same = [each for each in self.new.dependence.axioms if each not in differences.new]
+        gone = [
+            one.label
+            for one in differences.gone.values()
+            if one.letter != "p" and options.only in (None, one.typecode)
+        ]
+        return dict.fromkeys(same + [label for label in gone if options.has_axiom(label)])
+
+    def see_old_axioms(self) -> None:
+        """NoAnswer where the options choose no axiom of OLD, which its report says as that of NEW
+        does."""
+        known, words = self.old_axioms, self.new.database.options.axioms
+        if not known or not all(any(each.startswith(word) for each in known) for word in words):
+            _ = self.old.dependence
+
+    @cached_property
+    def _numbers(self) -> dict[str, int]:
+        """The number of each axiom of NEW."""
+        columns = self.new.database.prepared.columns
+        return {label: number for number, label in enumerate(columns)}
+
+    def _bits(self, axioms: Iterable[str]) -> int:
+        """The bits of axioms of NEW in a row."""
+        try:
+            return mask(len(self._numbers), [self._numbers[axiom] for axiom in axioms])
+        except KeyError:
+            raise Damaged from None
+
+    def row(self, theorem: str) -> int:
+        """The axioms on which a theorem of NEW rests, as bits; 0 where NEW has no such theorem."""
+        row = self.new.dependence.rows.get(theorem)
+        return 0 if row is None else self.new.dependence.marks.row(row)
+
+    def row_before(self, theorem: str) -> int:
+        """The axioms on which a theorem of OLD rests, as the bits of those that NEW has of them; 0
+        where OLD has no such theorem. Those that were changed or renamed are the same ones."""
+        if theorem not in self.rows_before:
+            if len(self.rows_before) > MOST_ROWS:
+                self.rows_before.clear()
+            self.rows_before[theorem] = self._row_before(theorem)
+        return self.rows_before[theorem]
+
+    def _row_before(self, theorem: str) -> int:
+        now = self.row(theorem)
+        gained = self._bits(self.differences.gained.get(theorem, "").split())
+        if gained & ~now:
+            raise Damaged
+        lost = [self.to_new.get(axiom, "") for axiom in self._lost(theorem)]
+        return now & ~gained | self._bits(axiom for axiom in lost if axiom in self._numbers)
+
+    def _lost(self, theorem: str) -> list[str]:
+        """The axioms of OLD, of those chosen, on which a theorem of this label rests there alone,
+        as the program says."""
+        lost = self.differences.lost.get(theorem, "").split()
+        return [axiom for axiom in lost if axiom in self.old_axioms]
+
+    @cached_property
     def _shifted(self) -> tuple[dict[str, list[str]], dict[str, list[str]]]:
         """For each axiom the theorems of both that came to rest on it, by labels of NEW, and those
         that no longer do, by labels of OLD."""
         gained: dict[str, list[str]] = {}
         lost: dict[str, list[str]] = {}
-        old, new = self.old.dependence, self.new.dependence
-        moves = Moves(old, new, self.to_old)
-        for row, label in enumerate(new.theorems):
-            was = self.to_old.get(label)
-            before = None if was is None else old.rows.get(was)
-            if was is None or before is None:
-                continue
-            came, went = moves.difference(old.bits(before), new.bits(row))
-            for axiom in came:
-                gained.setdefault(axiom, []).append(label)
-            for axiom in went:
+        dependence = self.new.dependence
+        for theorem, was in self._shifting():
+            now, before = self.row(theorem), self.row_before(was)
+            for column in dependence.columns_of(now & ~before):
+                gained.setdefault(dependence.axioms[column], []).append(theorem)
+            left = columns_of(before & ~now, len(self._numbers))
+            went = [self.to_old[self.new.database.prepared.columns[number]] for number in left]
+            went += [each for each in self._lost(was) if self.to_new.get(each) not in self._numbers]
+            for axiom in self.old_axioms.keys() & went:
                 lost.setdefault(axiom, []).append(was)
-        order = old.rows
+        order = self.old_text.by_label
         for theorems in lost.values():
-            theorems.sort(key=order.__getitem__)
+            theorems.sort(key=lambda label: order[label].number)
         return gained, lost
+
+    def _shifting(self) -> Iterator[tuple[str, str]]:
+        """The theorems of both of which the program tells more or less axioms, or that were renamed
+        or changed; each by its labels in NEW and in OLD."""
+        told = self.differences
+        for theorem in self.new.dependence.theorems:
+            was = self.to_old.get(theorem)
+            if was != theorem or theorem in told.gained or theorem in told.lost:
+                if was is not None and self.old_text.by_label[was].letter == "p":
+                    yield theorem, was
 
     def gained(self, axiom: str) -> list[str]:
         """The theorems of both that rest on an axiom of NEW and in OLD didn't."""
@@ -178,6 +276,64 @@ class Comparison:
     def lost(self, axiom: str) -> list[str]:
         """The theorems of both that rested on an axiom of OLD and in NEW don't."""
         return self._shifted[1].get(axiom, [])
+
+    def is_proved_alike(self, label: str) -> bool:
+        """Whether an assertion is the same in both, with the same words of its proof."""
+        if label not in self.proved_alike:
+            self.proved_alike[label] = self._is_proved_alike(label)
+        return self.proved_alike[label]
+
+    def _is_proved_alike(self, label: str) -> bool:
+        one, before = self.text.find(label), self.old_text.find(label)
+        if one is None or before is None or label in self.differences.new:
+            return False
+        statement = self.text.data[one.place : one.end]
+        if statement == self.old_text.data[before.place : before.end]:
+            return True
+        return self.text.proof(one) == self.old_text.proof(before)
+
+    def was(self, label: str) -> str:
+        """What a label of NEW was in OLD: that of the same assertion, or of the theorem whose old
+        proof it has; "" if there was none."""
+        return self.to_old[label] if label in self.to_old else self.moved.get(label, "")
+
+    def was_cited(self, citing: str, cited: str) -> bool:
+        """Whether OLD has a citation of NEW. OLD's report is asked only where the proof is another:
+        the same proof of the same assertion cites the same."""
+        user, used = self.was(citing), self.was(cited)
+        if not user or not used:
+            return False
+        if user == citing and used == cited and self.is_proved_alike(citing):
+            return True
+        return used in self.old.cites(user)
+
+    @cached_property
+    def moved(self) -> dict[str, str]:
+        """New theorems that say and cite what a theorem of OLD did, which is there and says the
+        same but got another proof: they have its old proof. For each the label of that theorem."""
+        wanted: dict[Statement, list[str]] = {}
+        for label in self.theorems.new:
+            wanted.setdefault(statement_of(self.text.by_label[label]), []).append(label)
+        formulas = {statement.formula for statement in wanted}
+        found: dict[str, str] = {}
+        for one in self.text.assertions if wanted else ():
+            if one.formula not in formulas or not self._has_stayed(one):
+                continue
+            labels = wanted.get(statement_of(one), [])
+            if not labels or self.is_proved_alike(one.label):
+                continue
+            cites = self.old.cites(one.label)
+            same = [label for label in labels if self.new.cites(label) == cites]
+            if cites != self.new.cites(one.label):
+                found.update(dict.fromkeys(same, one.label))
+                labels[:] = [label for label in labels if label not in found]
+        return found
+
+    def _has_stayed(self, one: Assertion) -> bool:
+        """Whether a theorem of NEW is in OLD under its label, and says the same."""
+        is_there = self.to_old.get(one.label) == one.label
+        is_theorem = one.kind == "p" and is_there and self.old_text.by_label[one.label].kind == "p"
+        return is_theorem and one.label not in self.theorems.changed
 
     def why_gained(self, axiom: str) -> Reasons:
         """For theorems of NEW that rest on an axiom, because of which new citation."""
@@ -197,75 +353,10 @@ class Comparison:
             yield Shift(theorem, axiom, *reasons.why(theorem))
 
 
-MOST_RUNS = 256
-"""Up to so many runs of columns are moved one by one."""
-
-
-class Moves:
-    """Compares rows of marks of two databases, whose axioms have other columns.
-
-    A row is a number with a bit for each column. Columns that follow one another in both are moved
-    from one to the other at once; where these runs are many, column by column.
-    """
-
-    def __init__(self, old: Dependence, new: Dependence, to_old: dict[str, str]) -> None:
-        self.old, self.new = old, new
-        self.to_old = to_old
-        self.before = [old.columns.get(to_old.get(label, "")) for label in new.axioms]
-        """For each column of NEW that of OLD, or None."""
-        common = [column for column in self.before if column is not None]
-        self.common = old.mask_of(common)
-        self.after = {before: column for column, before in enumerate(self.before)}
-        runs = list(self.found_runs())
-        self.runs = [(old.mask_of(run), by) for run, by in runs] if len(runs) <= MOST_RUNS else []
-
-    def found_runs(self) -> Iterator[tuple[list[int], int]]:
-        """The columns of a run in OLD, and how far left they stand in NEW."""
-        shift = 0
-        run: list[int] = []
-        for column, before in enumerate(self.before):
-            if before is None:
-                continue
-            here = self.new.place_of(column) - self.old.place_of(before)
-            if run and here != shift:
-                yield run, shift
-                run = []
-            shift = here
-            run.append(before)
-        if run:
-            yield run, shift
-
-    def moved(self, old: int) -> int:
-        """A row of OLD as it stands in NEW, without the axioms that only OLD has."""
-        if not self.runs:
-            columns = self.old.columns_of(old & self.common)
-            return self.new.mask_of([self.after[column] for column in columns])
-        moved = 0
-        for bits, shift in self.runs:
-            moved |= (old & bits) << shift if shift >= 0 else (old & bits) >> -shift
-        return moved
-
-    def difference(self, old: int, new: int) -> tuple[list[str], list[str]]:
-        """The axioms of a row of NEW that one of OLD lacks, and those of it that NEW lacks."""
-        gone = old & ~self.common
-        moved = self.moved(old)
-        if moved == new and not gone:
-            return [], []
-        came = [self.new.axioms[column] for column in self.new.columns_of(new & ~moved)]
-        went = [
-            self.to_old[self.new.axioms[column]] for column in self.new.columns_of(moved & ~new)
-        ]
-        return came, went + [self.old.axioms[column] for column in self.old.columns_of(gone)]
-
-
-def by_labels(old: list[str], new: list[str]) -> Pairing:
-    """The pairing of two reports, which have labels alone."""
-    known, found = set(old), set(new)
-    return Pairing(
-        origin={label: label for label in new if label in known},
-        new=[label for label in new if label not in known],
-        gone=[label for label in old if label not in found],
-    )
+def told_and(text: Text, some: list[Assertion], told: Iterable[str]) -> list[Assertion]:
+    """Some assertions of a text and those of which the program tells, in file order."""
+    numbers = {one.number for one in some} | {text.by_label[label].number for label in told}
+    return [text.assertions[number] for number in sorted(numbers)]
 
 
 class Reasons:

@@ -5,7 +5,7 @@ row; then the axioms. A theorem cites only theorems before it.
 """
 
 from array import array
-from collections.abc import Iterable, Iterator, Mapping, Set
+from collections.abc import Iterable, Iterator, Set
 from functools import cached_property
 
 from query.errors import NEAR_LABEL, NoAnswer, nearest, shown
@@ -67,19 +67,6 @@ class Graph:
             cited = targets[places[theorem] : places[theorem + 1]]
             if not nodes.isdisjoint(cited):
                 yield theorem, cited
-
-    def entering(self, part_of: Mapping[int, int]) -> list[tuple[int, int]]:
-        """The citations that lead into a part from outside it, as what cites and what is cited.
-        `part_of` has the parts of nodes, as numbers; other nodes are in none. What is cited comes
-        in the order of `part_of`, and what cites it in file order."""
-        found = []
-        inside = set(part_of)
-        for theorem, cited in self.citing_any(inside):
-            own = part_of.get(theorem)
-            into = (node for node in inside.intersection(cited) if part_of[node] != own)
-            found += [(theorem, node) for node in into]
-        order = {node: number for number, node in enumerate(part_of)}
-        return sorted(found, key=lambda each: (order[each[1]], each[0]))
 
     def is_theorem(self, node: int) -> bool:
         """Whether the node is a theorem."""

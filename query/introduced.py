@@ -11,7 +11,7 @@ from collections.abc import Iterator
 from functools import cached_property, lru_cache
 
 from query.assertions import Assertion
-from query.changes import Comparison, Side, text_of_side
+from query.changes import Comparison, Side
 from query.config import Config, Labels
 from query.definitions import NO, TRUST, UNKNOWN, YES, Definitions, Verdict, rests_by
 from query.grounds import BEGINNING
@@ -24,10 +24,8 @@ class Introduced:
 
     def __init__(self, comparison: Comparison) -> None:
         self.comparison = comparison
-        pairing = comparison.axioms
-        labels = {*pairing.new, *pairing.renamed, *pairing.changed}
-        assertions = text_of_side(comparison.new).assertions
-        self.axioms = [one for one in assertions if one.letter == "a" and one.label in labels]
+        told = comparison.differences.new.values()
+        self.axioms = [one for one in told if one.letter == "a"]
         """Those that are new or changed, or have a new label."""
 
     @cached_property
@@ -105,7 +103,7 @@ class Introduced:
 
 def judged_side(side: Side) -> Definitions:
     """The verdicts on a database."""
-    return Definitions(text_of_side(side).assertions, rests_by(side.graph))
+    return Definitions(side.database.text.assertions, rests_by(side.graph))
 
 
 def is_called(one: Assertion) -> bool:

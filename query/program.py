@@ -141,10 +141,11 @@ class Allowed:
         return system.limiting(self.seconds, None if self.is_node else self.memory)
 
 
-def allowed_for(size: int, is_node: bool) -> Allowed:
-    """What a run over so many bytes may take."""
+def allowed_for(is_node: bool, *sizes: int) -> Allowed:
+    """What a run over texts of so many bytes may take: what each of them may."""
     chosen = limits.chosen()
-    return Allowed(chosen.seconds_for(size), chosen.bytes_for(size), is_node)
+    seconds, memory = sum(map(chosen.seconds_for, sizes)), sum(map(chosen.bytes_for, sizes))
+    return Allowed(seconds, memory, is_node)
 
 
 @dataclass(frozen=True)
@@ -160,15 +161,21 @@ class Program:
             return file.read()
 
     def running(
-        self, words: list[str], given: int | None, is_kept: bool, size: int | None = None
+        self,
+        words: list[str],
+        given: int | None,
+        is_kept: bool,
+        *sizes: int,
+        passed: Sequence[int] = (),
     ) -> Running:
         """The program while it runs with these words, and an open file as standard input; None for
-        an empty one. Where that has so many bytes, by these it is limited."""
-        allowed = None if size is None else allowed_for(size, self.node is not None)
+        an empty one. It gets the open files `passed` besides. Where it reads texts of so many
+        bytes, by these it is limited."""
+        allowed = allowed_for(self.node is not None, *sizes) if sizes else None
         if self.node is None:
-            return Running(self.path, words, given, is_kept, allowed=allowed)
+            return Running(self.path, words, given, is_kept, passed, None, allowed)
         line = [self.path, *words]
-        return Running(self.node, line, given, is_kept, (), without_node(), allowed)
+        return Running(self.node, line, given, is_kept, passed, without_node(), allowed)
 
     def prepare(self) -> None:
         """Has the program built where it is a script that does so, as in a clone. What that says
@@ -267,16 +274,28 @@ def over(program: Program, source: Source, words: list[str]) -> Running:
 
 def judged_report(source: Source, running: Running) -> bytes:
     """The report of a running program."""
+    return judged(running, source.name, {b"": source})
+
+
+def judged_differences(old: Source, new: Source, running: Running) -> bytes:
+    """What a running program says of two sources. Refused where it refuses one of them."""
+    return judged(running, f"{old.name} and {new.name}", {b"old ": old, b"new ": new})
+
+
+def judged(running: Running, name: str, sources: Mapping[bytes, Source]) -> bytes:
+    """What a running program writes where it accepts the sources. `sources` has each by the word
+    that stands before its refusal."""
     out, errors, status = running.ended()
     exceeded = running.exceeded(status, len(out))
     if exceeded:
-        raise NoAnswer(f"{source.name}: not judged: the text needs more than {exceeded}")
+        raise NoAnswer(f"{name}: not judged: the text needs more than {exceeded}")
     if status == 0:
         return out
-    refusal = REFUSAL.fullmatch(out)
-    if status == 1 and refusal:
-        raise Refused(source, int(refusal[1]), int(refusal[2]), refusal[3].decode())
-    raise NoAnswer(f"{source.name}: {why_ended(errors, status)}")
+    for word, source in sources.items():
+        refusal = REFUSAL.fullmatch(out, len(word)) if out.startswith(word) else None
+        if status == 1 and refusal:
+            raise Refused(source, int(refusal[1]), int(refusal[2]), refusal[3].decode())
+    raise NoAnswer(f"{name}: {why_ended(errors, status)}")
 
 
 def why_ended(errors: bytes, status: int) -> str:

@@ -6,26 +6,24 @@ gives a `Finding` for each thing that breaks it, in file order.
 
 from __future__ import annotations
 
-import json
 import os
 import re
 from bisect import bisect_right
 from collections.abc import Callable, Iterable, Iterator
-from dataclasses import astuple, dataclass
-from functools import cached_property, partial
+from dataclasses import dataclass
+from functools import cached_property
 
 from query.arrivals import Arrivals
 from query.assertions import Assertion
 from query.boxes import exposed
-from query.changes import Comparison, Side, text_of_side
+from query.changes import Comparison, Side
 from query.config import RULES, Claim, Config, Labels, is_meant
 from query.graph import Graph
-from query.includes import new_includes
+from query.includes import OPENING, new_includes
 from query.introduced import introduced
-from query.parallel import begun
 from query.remarks import tokens
-from query.statements import difference, statement_of
-from query.text import Text
+from query.standing import OldText
+from query.text import HEADING_START, Text
 
 DISCOURAGED = re.compile(r"\(New\s+usage\s+is\s+discouraged\.\)")
 DISCOURAGED_PROOF = re.compile(r"\(Proof\s+modification\s+is\s+discouraged\.\)")
@@ -70,35 +68,25 @@ class Case:
     each proof that is the cause."""
 
     @property
-    def old(self) -> Side:
-        """The database that is compared with."""
-        return self.comparison.old
-
-    @property
     def new(self) -> Side:
         """The database that is judged."""
         return self.comparison.new
 
-    @cached_property
-    def old_text(self) -> Text:
+    @property
+    def old_text(self) -> OldText:
         """The text of OLD."""
-        return text_of_side(self.old)
+        return self.comparison.old_text
 
-    @cached_property
+    @property
     def text(self) -> Text:
         """The text of NEW."""
-        return text_of_side(self.new)
+        return self.comparison.text
 
     def finding(self, rule: str, label: str, reason: str, axiom: str = "") -> Finding:
         """A finding at an assertion of NEW; without a line where NEW has none of this label."""
         assertion = self.text.find(label)
         line = self.text.line(assertion.place) if assertion else 0
         return Finding(rule, self.new.name, line, label, axiom, reason)
-
-    def was(self, label: str) -> str:
-        """What a label of NEW was in OLD: the same assertion's label, or "" if there was none."""
-        moved = self.comparison.theorems.moved
-        return self.comparison.to_old.get(label, moved.get(label, ""))
 
     def judges_axioms_of(self, typecode: str) -> bool:
         """Whether the rule `axioms` judges the axioms of a typecode."""
@@ -107,8 +95,7 @@ class Case:
     @cached_property
     def arrivals(self) -> Arrivals:
         """What came to rest on watched axioms."""
-        was = self.comparison.theorems.moved | self.comparison.to_old
-        return Arrivals(self.comparison, was, watched_axioms(self), self.config)
+        return Arrivals(self.comparison, watched_axioms(self), self.config)
 
     @cached_property
     def open(self) -> frozenset[str]:
@@ -156,23 +143,21 @@ def definitions(case: Case) -> Iterator[Finding]:
 
 def axioms_now(case: Case) -> Iterator[tuple[str, str]]:
     """The axioms of NEW that OLD hasn't, or has otherwise, with the reason."""
-    pairing = case.comparison.axioms
-    new = {*pairing.new, *pairing.renamed}
-    changed = set(pairing.changed)
-    for one in case.text.assertions:
-        if one.label in new and case.judges_axioms_of(one.typecode):
+    for one in case.comparison.differences.new.values():
+        if one.kind == "a" and one.label in case.comparison.axioms.changed:
+            before = case.comparison.differences.gone[one.label]
+            if any(map(case.judges_axioms_of, (one.typecode, before.typecode))):
+                yield one.label, reason_of_changed(case, before, one)
+        elif one.kind == "a" and case.judges_axioms_of(one.typecode):
             yield one.label, reason_of_new(case, one)
-        elif one.label in changed and (reason := reason_of_changed(case, one)):
-            yield one.label, reason
 
 
 def axioms_gone(case: Case) -> Iterator[tuple[str, str]]:
     """The axioms of OLD that aren't in NEW under their label, whatever has it now, with the
     reason."""
-    pairing = case.comparison.axioms
-    kept = set(pairing.origin) - set(pairing.renamed)
-    for one in case.old_text.assertions:
-        if one.kind == "a" and one.label not in kept and case.judges_axioms_of(one.typecode):
+    for one in case.comparison.differences.gone.values():
+        is_judged = one.kind == "a" and case.judges_axioms_of(one.typecode)
+        if is_judged and one.label not in case.comparison.axioms.changed:
             yield one.label, reason_of_gone(case, one.label)
 
 
@@ -181,28 +166,27 @@ def reason_of_new(case: Case, axiom: Assertion) -> str:
     formula = shown_formula(axiom)
     was = case.comparison.axioms.renamed.get(axiom.label)
     if was:
-        return f"a new label of the axiom {was}: {formula}"
-    if was_theorem(case, axiom.label):
+        return f"a new label of the axiom {was}: {formula}{resting(case, axiom.label)}"
+    before = case.comparison.differences.gone.get(axiom.label)
+    if before is not None and before.kind == "p":
         return f"an axiom now, and a theorem before: {formula}"
     return f"a new axiom: {formula}"
 
 
-def was_theorem(case: Case, label: str) -> bool:
-    """Whether OLD has a theorem of this label."""
-    before = case.old_text.find(label)
-    return before is not None and before.kind == "p"
+def resting(case: Case, axiom: str) -> str:
+    """How many theorems rest on an axiom of NEW, as the end of a sentence. For the program it is
+    another axiom than in OLD, so it tells of each of them."""
+    count = len(case.new.dependence.users(case.new.dependence.columns[axiom]))
+    rest = "theorems rest" if count > 1 else "theorem rests"
+    return f"; {count} {rest} on it" if count else ""
 
 
-def reason_of_changed(case: Case, axiom: Assertion) -> str:
-    """How an axiom was changed; "" where it isn't of the typecode, in neither database."""
-    before = case.old_text.by_label[axiom.label]
-    if not any(map(case.judges_axioms_of, (axiom.typecode, before.typecode))):
-        return ""
-    parts = difference(statement_of(before), statement_of(axiom))
-    if "formula" not in parts:
-        return f"a changed axiom: {parts} changed"
+def reason_of_changed(case: Case, before: Assertion, axiom: Assertion) -> str:
+    """How an axiom was changed."""
+    differ = case.comparison.axioms.changed[axiom.label]
     was, now = shown_change(before.formula, axiom.formula)
-    return f"a changed axiom: {parts} changed, from {was} to {now}"
+    shift = f", from {was} to {now}" if was != now else ""
+    return f"a changed axiom: {differ}{shift}{resting(case, axiom.label)}"
 
 
 def reason_of_gone(case: Case, label: str) -> str:
@@ -225,9 +209,9 @@ def watched(case: Case) -> Iterator[Finding]:
         if reason := reason_of_watched(case, word):
             yield Finding("watched", case.config.name, line, word, word, reason)
     watch = Labels(case.config.watch)
-    for label in case.old.dependence.axioms:
+    for label, one in case.comparison.differences.gone.items():
         now = case.comparison.to_new.get(label, label)
-        if now != label and label in watch and now not in watch:
+        if one.letter != "p" and now != label and label in watch and now not in watch:
             if label not in case.config.watch:
                 reason = f"a watched axiom whose statement has the label {now}, which isn't watched"
                 yield Finding("watched", case.config.name, line, label, label, reason)
@@ -235,7 +219,6 @@ def watched(case: Case) -> Iterator[Finding]:
 
 def reason_of_watched(case: Case, word: str) -> str:
     """What became of the axiom that a word of `watch` names; "" where it is there."""
-    pairing = case.comparison.axioms
     after = case.text.find(word)
     if word.endswith("*"):
         is_there = any(
@@ -245,10 +228,10 @@ def reason_of_watched(case: Case, word: str) -> str:
     reason = "a watched axiom that is missing"
     if after is not None and after.kind == "a":
         before = case.old_text.find(word)
-        if before is None or before.kind != "a" or pairing.origin.get(word) == word:
+        if before is None or before.kind != "a" or case.comparison.to_old.get(word) == word:
             return ""
         reason = "a watched axiom whose label another one has"
-    now = pairing.now.get(word)
+    now = case.comparison.axioms.now.get(word)
     if now:
         return f"{reason}; its statement has the label {now}"
     return "a watched axiom that is a theorem now" if after and after.kind == "p" else reason
@@ -353,15 +336,16 @@ def promises(text: Text) -> list[tuple[str, str]]:
 def promises_gone(case: Case) -> Iterator[tuple[str, str]]:
     """The theorems and axioms of NEW of which a comment of OLD rightly said that the one avoids the
     other, and none of NEW does."""
-    to_new, old = case.comparison.to_new, case.old.dependence
+    same, old, columns = case.comparison, case.old_text, case.new.dependence.columns
     before = dict.fromkeys(promises(case.old_text))
     kept = set(promises(case.text)) if before else set()
-    for theorem, axiom in before:
-        now = (to_new.get(theorem, ""), to_new.get(axiom, ""))
-        row, column = old.rows.get(theorem), old.columns.get(axiom)
-        if row is None or column is None or old.is_marked(row, column):
+    for labels in before:
+        now = (same.to_new.get(labels[0], ""), same.to_new.get(labels[1], ""))
+        if now in kept or not now[0] or now[1] not in columns:
             continue
-        if now not in kept and now[0] and now[1] in case.new.dependence.columns:
+        theorem, axiom = (old.by_label[label] for label in labels)
+        bit = case.new.dependence.mask_of([columns[now[1]]])
+        if theorem.letter == "p" and axiom.letter != "p" and not same.row_before(labels[0]) & bit:
             yield now
 
 
@@ -409,12 +393,24 @@ class Judge:
 
     def __init__(self, case: Case) -> None:
         self.case = case
-        self.rows = case.new.dependence.rows
-        self.columns = case.new.dependence.columns
         self.because: dict[int, dict[int, str]] = {}
         """For rows of theorems and for each column what is the first that they cite and is the
         axiom or rests on it."""
-        self.unknown = case.new.dependence.mask_of([self.columns[label] for label in case.open])
+
+    @property
+    def rows(self) -> dict[str, int]:
+        """The row of each theorem."""
+        return self.case.new.dependence.rows
+
+    @property
+    def columns(self) -> dict[str, int]:
+        """The column of each axiom."""
+        return self.case.new.dependence.columns
+
+    @cached_property
+    def unknown(self) -> int:
+        """The bits of the theorems that are left open."""
+        return self.case.new.dependence.mask_of([self.columns[label] for label in self.case.open])
 
     def rests(self, row: int, column: int) -> bool:
         """Whether a theorem rests on an axiom."""
@@ -499,14 +495,22 @@ def citations(graph: Graph, labels: Iterable[str]) -> Iterator[tuple[str, str]]:
 
 def across_mathboxes(graph: Graph, text: Text) -> Iterator[tuple[str, str, str | None, str]]:
     """Each citation of an assertion in a mathbox from outside it: what cites, what it cites, and
-    the mathboxes of both."""
+    the mathboxes of both. Those of one that is cited come together."""
     boxes, names = {}, {}
     for one, number, name in text.boxed():
         node = graph.index.get(one.label)
         if node is not None:
             boxes[node], names[node] = number, name
-    for user, cited in graph.entering(boxes):
-        yield graph.labels[user], graph.labels[cited], names.get(user), names[cited]
+    inside = boxes.keys()
+    found = []
+    for user in range(min(inside, default=graph.theorems), graph.theorems):
+        cited = graph.cites[user]
+        if not inside.isdisjoint(cited):
+            own = boxes.get(user)
+            found += [(each, user) for each in inside & cited if boxes[each] != own]
+    order = {node: number for number, node in enumerate(boxes)}
+    for each, user in sorted(found, key=lambda pair: (order[pair[0]], pair[1])):
+        yield graph.labels[user], graph.labels[each], names.get(user), names[each]
 
 
 def mathboxes(case: Case) -> Iterator[Finding]:
@@ -517,6 +521,9 @@ def mathboxes(case: Case) -> Iterator[Finding]:
             where = f"in the mathbox for {box}, " if box else ""
             reason = f"{where}cites {cited} of the mathbox for {other}"
             yield case.finding("mathboxes", user, reason)
+    renamed = same.axioms.renamed or same.theorems.renamed
+    if not renamed and not any(map(HEADING_START.search, case.old_text.between)):
+        return
     for each in exposed(case.old_text, case.text, same.to_old, same.to_new):
         labels = [label for label in each.labels if not case.config.allows("mathboxes", label)]
         if labels:
@@ -555,39 +562,60 @@ def is_proof_discouraged(text: Text, assertion: Assertion) -> bool:
 def discouraged(case: Case) -> Iterator[Finding]:
     """A theorem newly cites one whose new usage is discouraged, and that isn't allowed; or a mark
     is gone, or newly hidden."""
-    marked = dict.fromkeys(discouraged_labels(case.text))
-    for user, cited in citations(case.new.graph, marked):
-        was, used = case.was(user), case.was(cited)
-        if used in case.old.cites(was) or case.config.allows("discouraged", user):
+    text, old, same = case.text, case.old_text, case.comparison
+    for user, cited in citations_of_discouraged(case):
+        if not case.config.allows("discouraged", user) and not same.was_cited(user, cited):
+            reason = f"cites {cited}, whose new usage is discouraged"
+            yield case.finding("discouraged", user, reason)
+    for one in same.touched_before:
+        now = text.find(same.to_new.get(one.label, ""))
+        if now is None or not is_discouraged(old, one) or is_discouraged(text, now):
             continue
-        yield case.finding("discouraged", user, f"cites {cited}, whose new usage is discouraged")
-    for label in discouraged_labels(case.old_text):
-        now = case.comparison.to_new.get(label)
-        if now and now not in marked and not case.config.allows("discouraged", now):
+        if not case.config.allows("discouraged", now.label):
             reason = "its comment no longer says `(New usage is discouraged.)`"
-            yield case.finding("discouraged", now, reason)
-    before = hidden_marks(case.old_text)
-    for label, mark in hidden_marks(case.text):
-        if (case.was(label), mark) not in before and not case.config.allows("discouraged", label):
+            yield case.finding("discouraged", now.label, reason)
+    for one in same.touched:
+        before = old.find(same.was(one.label))
+        known = hidden_marks(old, before) if before else []
+        fresh = [mark for mark in hidden_marks(text, one) if mark not in known]
+        for mark in () if case.config.allows("discouraged", one.label) else fresh:
             reason = f"another comment stands behind that with `{mark}`, so metamath.exe misses it"
-            yield case.finding("discouraged", label, reason)
+            yield case.finding("discouraged", one.label, reason)
 
 
-def hidden_marks(text: Text) -> dict[tuple[str, str], None]:
-    """The labels with the marks that stand in the comment of an assertion, and not in the one right
-    before it, which alone metamath.exe reads."""
-    return {
-        (label, " ".join(found[0].split())): None
-        for mark in (DISCOURAGED, DISCOURAGED_PROOF)
-        for label in labels_marked(text, mark)
-        if (found := mark.search(text.comment(text.by_label[label])))
-        and not mark.search(text.nearest_comment(text.by_label[label]))
+def citations_of_discouraged(case: Case) -> list[tuple[str, str]]:
+    """The citations of what is discouraged that OLD may lack, as what cites and what it cites:
+    those by and of what the change is about."""
+    text, same = case.text, case.comparison
+    users = [one.label for one in same.touched if one.letter == "p"]
+    cited = {user: case.new.cites(user) for user in users}
+    marked = {
+        label
+        for label in frozenset().union(same.differences.new, *cited.values())
+        if is_discouraged(text, text.by_label[label])
     }
+    found = {(user, label) for user in users for label in cited[user] & marked}
+    fresh = marked & same.differences.new.keys()
+    if fresh:
+        found.update(citations(case.new.graph, fresh))
+    numbers = {label: one.number for label, one in text.by_label.items()} if found else {}
+    return sorted(found, key=lambda pair: (numbers[pair[1]], numbers[pair[0]]))
+
+
+def hidden_marks(text: Text, one: Assertion) -> list[str]:
+    """The marks that stand in the comment of an assertion, and not in the one right before it,
+    which alone metamath.exe reads."""
+    nearest = text.nearest_comment(one)
+    marks = (mark for mark in (DISCOURAGED, DISCOURAGED_PROOF) if not mark.search(nearest))
+    found = (mark.search(text.comment(one)) for mark in marks)
+    return [" ".join(match[0].split()) for match in found if match]
 
 
 def plain(case: Case) -> Iterator[Finding]:
     """Another program would take something else for the database than what is judged."""
     yield from (each for each in case.brought if each.rule == "plain")
+    if not any(OPENING.search(text) for text in case.old_text.between):
+        return
     for include in new_includes(case.old_text.data, case.text.data):
         shown = include.words[:SHOWN_INCLUDE] + " .." * (len(include.words) > SHOWN_INCLUDE)
         reason = f"a comment that metamath.exe reads as an include: $( {shown} $)"
@@ -616,30 +644,8 @@ JUDGES: dict[str, Callable[[Case], Iterator[Finding]]] = {
 assert tuple(JUDGES) == RULES
 
 
-APART = ("mathboxes", "discouraged")
-"""The rules that look at all citations. Each is judged by a process of its own."""
-
-
 def judge(case: Case) -> Iterator[Finding]:
     """What breaks the rules that the file doesn't switch off, rule by rule."""
-    rules = [rule for rule in RULES if rule in case.config.rules]
-    # The processes are copies of this one: what all of them ask for is found before they begin.
-    _ = case.comparison.to_new
-    size = len(case.text.data)
-    tasks = {rule: begun(partial(in_bytes, case, rule), size) for rule in rules if rule in APART}
-    try:
-        for rule in rules:
-            yield from of_bytes(tasks[rule].result()) if rule in tasks else JUDGES[rule](case)
-    finally:
-        for task in tasks.values():
-            task.stop()
-
-
-def in_bytes(case: Case, rule: str) -> bytes:
-    """What breaks a rule, as bytes for `of_bytes`."""
-    return json.dumps([astuple(one) for one in JUDGES[rule](case)]).encode()
-
-
-def of_bytes(found: bytes) -> list[Finding]:
-    """The findings that `in_bytes` made bytes of."""
-    return [Finding(*fields) for fields in json.loads(found)]
+    for rule, found in JUDGES.items():
+        if rule in case.config.rules:
+            yield from found(case)

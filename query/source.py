@@ -112,6 +112,12 @@ def of_bytes(name: str, data: bytes) -> Source:
     return Source(name, unpacked(name, data, MOST_DATABASE_BYTES))
 
 
+def is_same_file(word: str, other: str) -> bool:
+    """Whether two words DATABASE are the same one, or name the same file."""
+    is_there = os.path.exists(word) and os.path.exists(other)
+    return word == other or (is_there and os.path.samefile(word, other))
+
+
 def read_plainly(path: "Path", most: int) -> bytes | None:
     """The bytes of a file that is no link; None where there is none. NoAnswer where it is a folder,
     can't be read, or has more than `most`."""

@@ -55,7 +55,7 @@ def mended(config: Config, brought: Config, side: Side) -> Config:
     """A file without what its own database breaks and another file no longer asks: who takes it
     back mends what nobody could keep. `side` is the database. What a rule that is off would say
     breaks nothing."""
-    case = Case(Comparison(side, side), config)
+    case = Case(Comparison.within(side), config)
     judge = Judge(case)
     kept = {claim.theorem: claim.axioms for claim in brought.claims}
     claims = []

@@ -3,13 +3,14 @@
 import argparse
 from collections.abc import Iterator
 
-from query.changes import Comparison, Side, sides
+from query.changes import Comparison, side_by_side
 from query.commands import Command
 from query.context import Context
 from query.errors import NoAnswer, shown
 from query.options import Parser, add_choice_of_axioms, add_database, options_of
 from query.output import Value
-from query.statements import Pairing
+from query.source import is_same_file
+from query.statements import ANOTHER_ORDER, Pairing
 
 Row = tuple[Value, ...]
 COLUMNS = ("change", "kind", "label", "was", "axiom", "citing", "cited")
@@ -21,7 +22,7 @@ others; with AXIOM.., all lines are about these.
   change   new      only NEW has it
            gone     only OLD has it
            renamed  the same statement, under another label: its formula, its hypotheses in order,
-                    the pairs of its variables that must be distinct, and their typecodes
+                    and the pairs of its variables that must be distinct. This is a guess
            changed  the same label, another statement
            gained   a theorem of both that came to rest on an axiom
            lost     a theorem of both that no longer rests on one
@@ -33,8 +34,10 @@ others; with AXIOM.., all lines are about these.
            why it was gained or lost: the first citation on a shortest chain from theorem to axiom
            that the other database lacks, as what cites and what it cites
 
-First come the theorems, in file order, then each axiom with what was gained and lost of it. Between
-reports `renamed` and `changed` can't be told: they have no statements.
+First come the theorems, in file order, then each axiom with what was gained and lost of it. What
+only one of both has, and what rests on more or on less, is what `mmdepend --against OLD NEW` says.
+Its answer is proved. So OLD and NEW are databases, and not reports. That two labels are those of
+one statement is a guess: an axiom or theorem that was renamed is the same one to what is gained.
 
   $ mmquery compare v1:set.mm set.mm ax-ac2 ax-reg
 """
@@ -72,9 +75,9 @@ def shifts_of(comparison: Comparison, old: str | None, new: str | None) -> Itera
 def axioms_of(comparison: Comparison) -> list[tuple[str | None, str | None]]:
     """The axioms of both that are chosen, each by its labels in OLD and NEW: those of NEW in file
     order, and then those that only OLD has."""
-    old, new = comparison.old.dependence.columns, comparison.new.dependence.columns
+    old = comparison.old_axioms
     found: list[tuple[str | None, str | None]] = []
-    for label in new:
+    for label in comparison.new.dependence.axioms:
         was = comparison.to_old.get(label)
         found.append((was if was in old else None, label))
     known = {was for was, _ in found}
@@ -83,10 +86,10 @@ def axioms_of(comparison: Comparison) -> list[tuple[str | None, str | None]]:
 
 def see_axioms(comparison: Comparison, labels: list[str]) -> None:
     """Raises NoAnswer where a label is no axiom of either database."""
-    sides_of: tuple[Side, Side] = (comparison.old, comparison.new)
+    new = comparison.new.dependence.columns
     for label in labels:
-        if not any(label in side.dependence.columns for side in sides_of):
-            names = " nor ".join(shown(side.name) for side in sides_of)
+        if label not in new and label not in comparison.old_axioms:
+            names = " nor ".join(shown(side.name) for side in (comparison.old, comparison.new))
             raise NoAnswer(f"neither {names} has an axiom '{shown(label)}' among those chosen")
 
 
@@ -104,17 +107,43 @@ def about_axioms(comparison: Comparison, named: list[str]) -> Iterator[Row]:
         yield from shifts_of(comparison, old, new)
 
 
+def compared(context: Context, arguments: argparse.Namespace) -> Comparison:
+    """OLD and NEW side by side."""
+    words, options = (arguments.old, arguments.new), options_of(arguments)
+    if words == ("-", "-"):
+        raise NoAnswer("only one of two databases can be the standard input")
+    return side_by_side(*(context.database(word, options) for word in words))
+
+
+def why_empty(arguments: argparse.Namespace, comparison: Comparison, otherwise: str) -> str:
+    """Why nothing is told of two databases: they are the same file, or otherwise."""
+    names = f"{comparison.old.name} and {comparison.new.name}"
+    is_one = is_same_file(arguments.old, arguments.new)
+    return f"{names} {'are the same file' if is_one else otherwise}"
+
+
+def reordered(*pairings: Pairing) -> dict[str, list[str]]:
+    """A remark on what counts as changed only because its `$f` are in another order."""
+    labels = [
+        label
+        for pairing in pairings
+        for label, differ in pairing.changed.items()
+        if differ == ANOTHER_ORDER
+    ]
+    return {f"of {{}} changed {ANOTHER_ORDER}, such as {{}}": labels}
+
+
 def run(context: Context, arguments: argparse.Namespace) -> int:
     """Answers."""
-    options = options_of(arguments)
-    old, new = (context.database(word, options) for word in (arguments.old, arguments.new))
-    comparison = Comparison(*sides(old, new))
+    comparison = compared(context, arguments)
     see_axioms(comparison, arguments.axiom)
     rows: list[Row] = []
     if not arguments.axiom:
         rows += change_rows(comparison.theorems, "theorem")
     rows += about_axioms(comparison, arguments.axiom)
-    context.table(COLUMNS, rows, f"{old.name} and {new.name} don't differ in this")
+    empty = why_empty(arguments, comparison, "don't differ in this")
+    remarks = reordered(comparison.theorems, comparison.axioms)
+    context.table(COLUMNS, rows, empty, remarks=remarks)
     return 0
 
 

@@ -8,7 +8,7 @@ from pathlib import Path
 
 from query import limits
 from query.branch import Asked, Wish, branch_of, brought, compared, config_of
-from query.changes import Comparison, sides
+from query.changes import Comparison, side_by_side
 from query.commands import Command
 from query.config import FILE_NAME, RULES, content_of, find_config, load_config
 from query.context import Context
@@ -20,7 +20,7 @@ from query.git import short
 from query.options import Options, Parser, add_database
 from query.output import reason
 from query.rules import Case, Finding, judge
-from query.source import Source
+from query.source import Source, is_same_file
 from query.unpacking import packer_of
 from query.weakened import losses, mended
 
@@ -39,7 +39,7 @@ off. The status is 1 where
                that are sound, and their syntax axioms, are let in then
   watched      a watched axiom is missing, or its label is another one's
   newly        a theorem that was there before newly rests on a watched axiom; one that was renamed
-               (the same statement under another label) was there
+               (a guess: the same statement under another label) was there
   new          a new theorem rests on a watched axiom
   claims       a theorem rests on an axiom that mmdepend.toml claims it avoids
   avoids       the same of a comment $( $j usage 'T' avoids 'A'; $), or that comment is gone
@@ -53,7 +53,8 @@ off. The status is 1 where
   config       the mmdepend.toml that is brought asks less than the base's
   valid        the database is refused, or compressed
 
-unless mmdepend.toml allows it. An mmdepend.toml that is brought judges as well. Each line has file,
+unless mmdepend.toml allows it. Which statements came in and went, and which theorems rest on more,
+is what `mmdepend --against` says, whose answer is proved. An mmdepend.toml that is brought judges as well. Each line has file,
 line, label, reason and rule; the last line says what was compared. What one changed proof does to
 many theorems is one finding, and at most 1000 are told; --all tells each theorem, and all of them.
 --format github writes annotations, and --format log what no server takes for a command.
@@ -110,7 +111,7 @@ def between_files(context: Context, old: str, new: str, wish: Wish) -> Request:
         option = "--base" if wish.base is not None else "--merge-base"
         raise NoAnswer(f"gate: {option} goes with one database, not with two")
     before, after = (database_of(context.database(word).source, context) for word in (old, new))
-    if old != new and os.path.exists(old) and os.path.exists(new) and os.path.samefile(old, new):
+    if old != new and is_same_file(old, new):
         raise NoAnswer(f"{before.name} and {after.name} are the same file")
     return Request(before, after, before.name, asked_of_files(old, new, wish))
 
@@ -149,7 +150,7 @@ def found_in(request: Request, tells_all: bool) -> Iterator[Finding]:
         yield Finding("valid", request.new.name, 0, "", "", reason)
         return
     try:
-        comparison = Comparison(*sides(request.old, request.new))
+        comparison = side_by_side(request.old, request.new)
     except Refused as refused:
         if refused.source is not request.new.source:
             raise

@@ -3,14 +3,13 @@ program for Node makes it."""
 
 import argparse
 import os
-from collections.abc import Iterator
-from contextlib import ExitStack, contextmanager
 
-from query import progress, system, temporary
+from query import progress
 from query.commands import Command
 from query.context import Context
 from query.database import Database
 from query.errors import NoAnswer
+from query.handing import handed
 from query.options import Options, Parser, add_choice_of_citations, add_database
 from query.program import (
     HOME,
@@ -22,7 +21,6 @@ from query.program import (
     why_ended,
     without_node,
 )
-from query.source import Source
 
 PAGE = """
 Writes one HTML file to standard output. It loads nothing else and needs no server; a browser of
@@ -82,26 +80,6 @@ def packer() -> str:
     raise NoAnswer(f"there is no {SCRIPT}, which makes pages; web/build makes it")
 
 
-@contextmanager
-def handed(sources: list[Source]) -> Iterator[tuple[list[str], list[int]]]:
-    """Names by which Node opens the sources, and the open files that it has to get for that. Where
-    open files have no names, these are names of copies in a folder of ours."""
-    with ExitStack() as opened:
-        descriptors = []
-        for source in sources:
-            descriptors.append(source.opened())
-            opened.callback(os.close, descriptors[-1])
-        names = [name for each in descriptors if (name := system.descriptor_path(each))]
-        if len(names) == len(sources):
-            yield names, descriptors
-            return
-        folder = opened.enter_context(temporary.folder())
-        copies = [folder / f"{number}.mm" for number in range(len(sources))]
-        for source, copy in zip(sources, copies):
-            copy.write_bytes(source.data)
-        yield [str(copy) for copy in copies], []
-
-
 def made_page(databases: list[Database], words: list[str]) -> bytes:
     """The page that the program makes of the database, beside an older one where there are two.
     NoAnswer where it makes none."""
@@ -110,7 +88,7 @@ def made_page(databases: list[Database], words: list[str]) -> bytes:
         line = [packer(), "page", *words, *(f"--against={path}" for path in others), first]
         node = wanted("node", "pages are made by Node 18 or later, and there is no command node")
         size = sum(len(database.source.data) for database in databases)
-        allowed = allowed_for(size, True)
+        allowed = allowed_for(True, size)
         running = Running(node, line, None, True, passed, without_node(), allowed)
         out, errors, status = running.ended()
     exceeded = running.exceeded(status, len(out))

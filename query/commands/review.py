@@ -5,12 +5,13 @@ import re
 from collections.abc import Callable, Iterable, Sequence
 from dataclasses import dataclass, field
 
-from query.changes import Comparison, sides, text_of_side
+from query.changes import Comparison
 from query.commands import TABLE_FORMATS, Command
+from query.commands.compare import compared, reordered, why_empty
 from query.context import Context
 from query.introduced import introduced
 from query.order import longest_rising
-from query.options import Parser, add_choice_of_axioms, add_database, options_of
+from query.options import Parser, add_choice_of_axioms, add_database
 from query.output import Value
 from query.text import Text
 
@@ -85,10 +86,11 @@ def configure(parser: Parser) -> None:
 
 def run(context: Context, arguments: argparse.Namespace) -> int:
     """Answers."""
-    options = options_of(arguments)
-    old, new = (context.database(word, options) for word in (arguments.old, arguments.new))
-    comparison = Comparison(*sides(old, new))
+    comparison = compared(context, arguments)
     changes = changes_of(comparison)
+    empty = why_empty(
+        arguments, comparison, "have the same theorems, with the same proofs, in one order"
+    )
     if context.out.format == "markdown":
         context.out.text(comment(comparison, changes))
         return 0
@@ -97,9 +99,9 @@ def run(context: Context, arguments: argparse.Namespace) -> int:
     counts += "".join(f"; {each}" for each in definitions_in_words(comparison, cut))
     if counts and changes:
         context.tell(f"axioms: {counts}")
-    empty = f"{old.name} and {new.name} have the same theorems, with the same proofs, in one order"
     told = f"; axioms: {counts}" if counts else ""
-    context.table(COLUMNS, [each.row() for each in changes], empty + told)
+    remarks = reordered(comparison.theorems, comparison.axioms)
+    context.table(COLUMNS, [each.row() for each in changes], empty + told, remarks=remarks)
     return 0
 
 
@@ -109,7 +111,7 @@ def changed_axioms(comparison: Comparison) -> dict[str, list[str]]:
     pairing = comparison.axioms
     return {
         "new": pairing.new,
-        "changed": pairing.changed,
+        "changed": list(pairing.changed),
         "renamed": list(pairing.renamed),
         "gone": pairing.gone,
     }
@@ -117,13 +119,16 @@ def changed_axioms(comparison: Comparison) -> dict[str, list[str]]:
 
 def changes_of(comparison: Comparison) -> list[Outcome]:
     """What became of each theorem that the change is about."""
-    old, new = text_of_side(comparison.old), text_of_side(comparison.new)
+    old, new = comparison.old_text, comparison.text
     pairing = comparison.theorems
-    changed, fresh = set(pairing.changed), set(pairing.new)
-    stands = [(one.label, pairing.origin.get(one.label)) for one in new.assertions]
-    moved = out_of_order(
-        (label, old.by_label[was].number) for label, was in stands if was is not None
-    )
+    fresh = set(pairing.new)
+    origin = {
+        one.label: before
+        for one in new.assertions
+        if one.kind == "p" and (before := old.find(comparison.to_old.get(one.label, "")))
+        if before.kind == "p"
+    }
+    moved = out_of_order((label, before.number) for label, before in origin.items())
     found: dict[str, Outcome] = {}
     for one in new.assertions:
         if one.kind != "p":
@@ -134,14 +139,14 @@ def changes_of(comparison: Comparison) -> list[Outcome]:
             row = comparison.new.dependence.rows.get(one.label)
             bits = None if row is None else comparison.new.dependence.bits(row)
             change.axioms = None if bits is None else bits.bit_count()
-        elif one.label in pairing.origin:
-            before = old.by_label[pairing.origin[one.label]]
+        elif one.label in origin:
+            before = origin[one.label]
             change.bytes -= before.end - before.place
             if one.label in pairing.renamed:
                 change.was = before.label
             for word, is_so in (
                 ("renamed", change.was is not None),
-                ("changed", one.label in changed),
+                ("changed", one.label in pairing.changed),
                 ("moved", one.label in moved),
                 ("proof", old.proof(before) != new.proof(one)),
             ):
@@ -169,11 +174,17 @@ def add_shifts(comparison: Comparison, found: dict[str, Outcome]) -> None:
                 change.gained.append(axiom)
                 is_own = shift.citing == shift.theorem
                 change.via.append(shift.cited if is_own else shift.citing)
-    for axiom in comparison.old.dependence.axioms:
+    for axiom in old_axioms(comparison):
         for theorem in comparison.lost(axiom):
             change = found.get(comparison.to_new.get(theorem, ""))
             if change is not None:
                 change.lost.append(axiom)
+
+
+def old_axioms(comparison: Comparison) -> list[str]:
+    """The axioms of OLD that are chosen, in its order."""
+    told = comparison.old_text.assertions
+    return [one.label for one in told if one.label in comparison.old_axioms]
 
 
 def out_of_order(numbered: Iterable[tuple[str, int]]) -> set[str]:
@@ -194,7 +205,7 @@ def comment(comparison: Comparison, changes: Sequence[Outcome]) -> str:
         lines += ["**Definitions**:", "", *(f"- {each}" for each in definitions), ""]
     lines += [f"**Theorems**: {', '.join(parts) if parts else 'no change'}."]
     gained = {axiom: len(comparison.gained(axiom)) for axiom in comparison.new.dependence.axioms}
-    lost = {axiom: len(comparison.lost(axiom)) for axiom in comparison.old.dependence.axioms}
+    lost = {axiom: len(comparison.lost(axiom)) for axiom in old_axioms(comparison)}
     for words, counts in (("came to rest on", gained), ("no longer rest on", lost)):
         named = [f"{code(axiom)} ({count})" for axiom, count in counts.items() if count]
         if named:

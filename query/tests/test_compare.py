@@ -116,24 +116,28 @@ class Comparisons(World):
                 ]
                 self.assertEqual(self.rows(*files, axiom.label), about)
 
-    def test_a_report_has_labels_alone(self) -> None:
-        for number, (old, new) in enumerate(self.pairs(6)):
-            for name, side in (("old", old), ("new", new)):
-                text = self.report(f"{name}.{number}.mm", "--only", "|-", "--report", "usage")
-                text += self.report(f"{name}.{number}.mm", "--report", "citations")
-                self.write(f"{name}.{number}.report", text)
-                del side
-            rows = asked(
-                "compare",
-                *(str(self.folder / f"{name}.{number}.report") for name in ("old", "new")),
-            )
-            labels = {part.label for part in old.parts}
-            new_ones = {part.label for part in new.parts} - labels
-            self.assertEqual({row[2] for row in rows if row[0] == "new"}, new_ones)
-            self.assertFalse({row[0] for row in rows} & {"renamed", "changed"})
+    def test_reports_have_no_texts(self) -> None:
+        self.write("a.mm", SMALL)
+        report = self.report("a.mm") + self.report("a.mm", "--report=citations,statements")
+        self.write("a.report", report)
+        for words in (("a.report", "a.report"), ("a.mm", "a.report"), ("a.report", "a.mm")):
+            for command in ("compare", "review"):
+                why = "a.report: a report, where the database is wanted"
+                self.refuses(command, *words, why=why)
 
     def test_nothing(self) -> None:
         self.write("a.mm", SMALL)
+        self.write("b.mm", SMALL)
+        (self.folder / "c.mm").symlink_to("a.mm")
+        for command, same in (("compare", "don't differ in this"), ("review", "have the same")):
+            for other, why in (("a.mm", "are the same file"), ("c.mm", "are the same file")):
+                done = self.query(command, "a.mm", other)
+                self.assertEqual((done.status, done.out), (0, ""))
+                self.assertEqual(done.err, f"mmquery: a.mm and {other} {why}\n")
+            done = self.query(command, "a.mm", "b.mm")
+            self.assertIn(f"mmquery: a.mm and b.mm {same}", done.err)
+            why = "only one of two databases can be the standard input"
+            self.refuses(command, "-", "-", why=why)
         self.assertEqual(self.answers("compare", "a.mm", "a.mm"), [])
         self.refuses("compare", "a.mm", "a.mm", "a2", why="has an axiom 'a2'")
         self.refuses("compare", "a.mm", why="compare")

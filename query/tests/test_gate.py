@@ -4,16 +4,9 @@ import json
 import os
 import re
 import unittest
-from unittest import mock
 
-from query import parallel
-from query.changes import Comparison, sides
-from query.commands.gate import ASKED
-from query.config import Config
-from query.database import Database
-from query.rules import Case, judge
 from query.tests.repositories import ADDED, BASE, FREED, WATCH, Repositories, changed
-from query.tests.world import DATABASES, TOP, built_program
+from query.tests.world import DATABASES, TOP
 
 CHEAT = (
     "2p2e4 $p |- ( 2 + 2 ) = 4 $= df-4",
@@ -45,8 +38,8 @@ class TheTwoFailures(Repositories):
         self.assertEqual(
             lines,
             [
-                "db.mm:9: ax-ac2x: a new label of the axiom ax-ac2: |- ( p -> ( p -> p ) )"
-                " [axioms]",
+                "db.mm:9: ax-ac2x: a new label of the axiom ax-ac2: |- ( p -> ( p -> p ) );"
+                " 2 theorems rest on it [axioms]",
                 "db.mm: ax-ac2: an axiom that is gone; its statement has the label ax-ac2x"
                 " [axioms]",
                 "mmdepend.toml:1: ax-ac2: a watched axiom that is missing; its statement has the"
@@ -540,24 +533,120 @@ class Rules(Repositories):
         renamed = (text + user).replace("user", "usher").replace("axac3", "axac4")
         self.assertEqual(self.gate_of(renamed, status=0), [])
 
-    def test_what_other_processes_judge(self) -> None:
-        self.write("new.mm", BOXES.replace("Ann1 $p", "$( (New usage is discouraged.) $)\nAnn1 $p"))
-        surroundings = {"MMDEPEND": built_program()}
-        with mock.patch.dict("os.environ", surroundings), mock.patch.object(parallel, "LARGE", 0):
-            old, new = (
-                Database.opened(str(self.folder / name), ASKED, False)
-                for name in ("db.mm", "new.mm")
-            )
-            case = Case(Comparison(*sides(old, new)), Config())
-            apart = list(judge(case))
-        self.assertEqual(list(judge(case)), apart)
-        self.assertEqual({one.rule for one in apart}, {"mathboxes", "discouraged"})
-
     def test_a_database_that_is_refused(self) -> None:
         lines = self.gate_of(changed(BASE, ("wp ax-ac2 $.", "wp $.")), status=1)
         self.assertEqual(len(lines), 1)
         self.assertRegex(lines[0], r"\Adb\.mm:12:\d+: .*E38.* \[valid\]\Z")
         self.assertEqual(len(self.gate_of("$c", status=1)), 1)
+
+
+DISTINCT = """$c wff |- ( -> ) $.
+$v p q $.
+wp $f wff p $.
+wq $f wff q $.
+wi $a wff ( p -> q ) $.
+${ $d p q $. ax-d $a |- ( p -> q ) $. $}
+""" + "".join(
+    f"${{ $d p q $. t{number} $p |- ( p -> q ) $= wp wq ax-d $. $}}\n" for number in range(20)
+)
+
+
+class Folded(Repositories):
+    """What the program tells of each theorem, because it compares labels, is one thing or none."""
+
+    def found(self, old: str, new: str, config: str) -> list[str]:
+        """The findings between two texts, which `--all` doesn't make more."""
+        self.write("old.mm", old)
+        self.write("new.mm", new)
+        self.write("mmdepend.toml", config)
+        lines = [
+            self.query("gate", "old.mm", "new.mm", *more).lines()[:-1] for more in ((), ("--all",))
+        ]
+        self.assertEqual(lines[0], lines[1])
+        return [line.partition(": ")[2] if line.startswith("new.mm") else line for line in lines[0]]
+
+    def test_an_axiom_that_is_changed(self) -> None:
+        new = DISTINCT.replace(
+            "${ $d p q $. ax-d $a |- ( p -> q ) $. $}", "ax-d $a |- ( p -> q ) $."
+        )
+        told = "ax-d: a changed axiom: the $d conditions changed; 20 theorems rest on it [axioms]"
+        for config in ("", 'watch = ["ax-d"]\n', 'watch = ["*"]\n'):
+            self.assertEqual(self.found(DISTINCT, new, config), [told])
+        allowed = 'watch = ["ax-d"]\n[allow]\naxioms = ["ax-d"]\n'
+        self.assertEqual(self.found(DISTINCT, new, allowed), [])
+        more = new + "t $p |- ( q -> p ) $= wq wp ax-d $.\n"
+        told = "t: a new theorem that rests on ax-d: it cites ax-d [new]"
+        self.assertEqual(self.found(DISTINCT, more, allowed), [told])
+
+    def test_a_theorem_that_came_to_rest_on_it_besides(self) -> None:
+        """A changed axiom hides nothing."""
+        own = "ax-o $a |- ( p -> q ) $.\n"
+        old = changed(DISTINCT, ("wi $a wff ( p -> q ) $.\n", "wi $a wff ( p -> q ) $.\n" + own))
+        old = old.replace("t7 $p |- ( p -> q ) $= wp wq ax-d", "t7 $p |- ( p -> q ) $= wp wq ax-o")
+        new = old.replace("$d p q $. ax-d", "ax-d").replace("wp wq ax-o $.", "wp wq ax-d $.")
+        allowed = 'watch = ["ax-d"]\n[allow]\naxioms = ["ax-d"]\n'
+        told = "t7: newly rests on ax-d: it cites ax-d [newly]"
+        self.assertEqual(self.found(old, new, allowed), [told])
+
+    def test_an_axiom_that_is_renamed(self) -> None:
+        new = DISTINCT.replace("ax-d", "ax-e")
+        config = 'watch = ["ax-*"]\n[allow]\naxioms = ["ax-*"]\n'
+        self.assertEqual(self.found(DISTINCT, new, config), [])
+        t7 = "t7 $p |- ( p -> q ) $= wp wq ax-e"
+        more = new.replace(
+            "wi $a wff ( p -> q ) $.\n", "wi $a wff ( p -> q ) $.\nax-o $a |- p $.\n"
+        )
+        more = more.replace(t7, "t7 $p |- ( p -> q ) $= wp wq wi ax-o")
+        told = "t7: newly rests on ax-o: it cites ax-o [newly]"
+        self.assertEqual(self.found(DISTINCT, more, config), [told])
+
+    def test_only_the_order_of_floating_hypotheses(self) -> None:
+        """It is another frame, so it is told; in words."""
+        old = DISTINCT.partition("${")[0] + "ax-o $a |- ( p -> q ) $.\n"
+        new = changed(old, ("wp $f wff p $.\nwq $f wff q $.", "wq $f wff q $.\nwp $f wff p $."))
+        why = "a changed axiom: only the order of `$f` is other"
+        told = [f"{label}: {why} [axioms]" for label in ("wi", "ax-o")]
+        self.assertEqual(self.found(old, new, ""), told)
+        mixed = "${{ {}wb $f wff q $. {}ax-m $a |- ( p -> q ) $. $}}\n"
+        head, hypothesis = (
+            old.replace("wq $f wff q $.\n", "").partition("wi $a")[0],
+            "m $e |- p $. ",
+        )
+        found = self.found(
+            head + mixed.format(hypothesis, ""), head + mixed.format("", hypothesis), ""
+        )
+        self.assertEqual(found, [f"ax-m: {why} [axioms]"])
+        done = self.query("compare", "old.mm", "new.mm")
+        self.assertEqual(done.lines()[1].split()[:3], ["changed", "axiom", "ax-m"])
+        self.assertIn("of 1 changed only the order of `$f` is other, such as ax-m", done.err)
+
+    def test_a_theorem_that_is_renamed_and_rests_on_more(self) -> None:
+        free = "free $p |- ( p -> ( p -> p ) ) $= wp wp ax-1 $."
+        self.assertEqual(self.found(BASE, BASE.replace("free", "free1"), WATCH), [])
+        new = changed(BASE, (free, "free1 $p |- ( p -> ( p -> p ) ) $= wp axac3 $."))
+        told = "free1: newly rests on ax-ac2: it cites axac3 [newly]"
+        self.assertEqual(self.found(BASE, new, WATCH), [told])
+        off = WATCH + "[rules]\nnewly = false\n"
+        self.assertEqual(self.found(BASE, new, off), [])
+
+    def test_labels_that_are_swapped(self) -> None:
+        swapped = {"ax1": "axac3", "axac3": "ax1"}
+        new = re.sub(r"\S+", lambda word: swapped.get(word[0], word[0]), BASE)
+        self.assertEqual(self.found(BASE, new, WATCH + "[rules]\naxioms = false\n"), [])
+        swapped = {"ax-1": "ax-ac2", "ax-ac2": "ax-1"}
+        new = re.sub(r"\S+", lambda word: swapped.get(word[0], word[0]), BASE)
+        rules = [line.rpartition(" ")[2] for line in self.found(BASE, new, WATCH)]
+        self.assertEqual(rules, ["[axioms]"] * 2 + ["[watched]"])
+
+    def test_a_theorem_that_became_an_axiom(self) -> None:
+        old = "axac3 $p |- ( p -> ( p -> p ) ) $= wp ax-ac2 $."
+        new = changed(BASE, (old, "axac3 $a |- ( p -> ( p -> p ) ) $."))
+        told = [
+            "axac3: an axiom now, and a theorem before: |- ( p -> ( p -> p ) ) [axioms]",
+            "zorn: newly rests on axac3: it cites axac3 [newly]",
+        ]
+        self.assertEqual(self.found(BASE, new, 'watch = ["ax-ac2", "axac*"]\n'), told)
+        self.assertEqual(self.found(BASE, new, WATCH), told[:1])
 
 
 class Outputs(Repositories):

@@ -1,0 +1,174 @@
+"""What the program says of two databases, as `Comparison` reads it, beside what was computed of two
+reports before.
+
+`python3 -m query.tests.test_changes --pairs 2000` compares so many pairs that are made by chance.
+"""
+
+from __future__ import annotations
+
+import argparse
+import os
+import random
+import re
+import sys
+import tempfile
+from collections import Counter
+from collections.abc import Callable, Iterator, Sequence
+from dataclasses import replace
+from importlib.machinery import SourceFileLoader
+from importlib.util import module_from_spec, spec_from_loader
+from pathlib import Path
+from unittest import mock
+
+from query.changes import Comparison, side_by_side
+from query.database import Database
+from query.faults import Refused
+from query.options import Options
+from query.tests import old_changes
+from query.tests.samples import LARGER, SMALLER
+from query.tests.world import DATABASES, TOP, World, built_program
+
+ALL = Options(only=None)
+PAIRS = 40
+"""How many are compared, where nothing else is said."""
+OPTIONS = (ALL, Options(), replace(ALL, open=True), replace(ALL, essential=True))
+
+Ways = Sequence[Callable[[Database, Database], Comparison | old_changes.Comparison]]
+WAYS: Ways = (side_by_side, old_changes.side_by_side)
+
+
+def pairs_by_chance(chance: random.Random, count: int) -> list[tuple[str, str]]:
+    """The texts of pairs of databases, made as `tests/compared` makes them."""
+    loader = SourceFileLoader("compared", str(TOP / "tests" / "compared"))
+    spec = spec_from_loader("compared", loader)
+    assert spec is not None
+    compared = module_from_spec(spec)
+    with mock.patch.object(sys, "path", [*sys.path]):
+        loader.exec_module(compared)
+    return [compared.pair(chance) for _ in range(count)]
+
+
+Known = dict[str, object]
+
+
+def told(comparison: Comparison | old_changes.Comparison) -> Known:
+    """What is known of two databases."""
+    axioms, theorems = comparison.axioms, comparison.theorems
+    chosen, chosen_before = (side.dependence.axioms for side in (comparison.new, comparison.old))
+    return {
+        "to_old": comparison.to_old,
+        "renamed": axioms.renamed | theorems.renamed,
+        "changed": [*axioms.changed, *theorems.changed],
+        "new": [*axioms.new, *theorems.new],
+        "gone": [*axioms.gone, *theorems.gone],
+        "gained": {each: found for each in chosen if (found := comparison.gained(each))},
+        "lost": {each: found for each in chosen_before if (found := comparison.lost(each))},
+        "moved": comparison.moved,
+    }
+
+
+def both(folder: Path, old: str, new: str, options: Options) -> tuple[Known, Known]:
+    """What is known of two texts: by the program's answer, and as it was computed before."""
+    paths = [folder / "old.mm", folder / "new.mm"]
+    for path, text in zip(paths, (old, new)):
+        path.write_text(text, "latin-1")
+    found: list[Known] = []
+    for make in WAYS:
+        first, second = (Database.opened(str(path), options, False) for path in paths)
+        try:
+            found.append(told(make(first, second)))
+        except Refused as why:
+            found.append({"refused": str(why)})
+    return found[0], found[1]
+
+
+def further(chance: random.Random, text: str) -> str:
+    """A database in which perhaps two labels are swapped, or a theorem is an axiom now."""
+    labels = re.findall(r"(?<!\S)(\S+) \$[ap]", text)
+    if chance.random() < 0.3:
+        one, other = chance.sample(labels, 2)
+        swapped = {one: other, other: one}
+        text = re.sub(r"\S+", lambda word: swapped.get(word[0], word[0]), text)
+    proved = re.findall(r"\S+ \$p [^$]*\$= [^$]*\$\.", text)
+    if proved and chance.random() < 0.3:
+        theorem = chance.choice(proved)
+        axiom = theorem.replace("$p", "$a").partition("$=")[0] + "$."
+        text = text.replace(theorem, axiom)
+    return text
+
+
+def by_chance(folder: Path, seed: int, count: int) -> Iterator[tuple[str, Known, Known]]:
+    """For so many pairs what they are, and what both know of them."""
+    chance = random.Random(seed)
+    for number, (old, new) in enumerate(pairs_by_chance(chance, count)):
+        new = further(chance, new)
+        options = chance.choice(OPTIONS)
+        if "= ? $." in old + new:
+            options = replace(options, open=True)
+        yield f"pair {number} of seed {seed}, {options}", *both(folder, old, new, options)
+
+
+class Agreement(World):
+    """The same is known in both ways."""
+
+    def setUp(self) -> None:
+        super().setUp()
+        patch = mock.patch.dict(os.environ, {"MMDEPEND": built_program()})
+        patch.start()
+        self.addCleanup(patch.stop)
+
+    def test_pairs_made_by_chance(self) -> None:
+        seen: Counter[str] = Counter()
+        for pair, now, before in by_chance(self.folder, 7, PAIRS):
+            self.assertEqual(now, before, pair)
+            seen.update(name for name, found in now.items() if found)
+        names = {"renamed", "changed", "new", "gone", "gained", "lost", "to_old", "refused"}
+        self.assertLessEqual(names, set(seen))
+
+    def check_versions(self, name: str) -> None:
+        """Compares a database of Debian's with one in which it is changed in several ways."""
+        path = DATABASES / f"{name}.mm"
+        if not path.exists():
+            self.skipTest(f"there is no {path}")
+        text = path.read_text("latin-1")
+        theorems = re.findall(r"(?<!\S)(\S+)\s+\$p(?=\s)", text)
+        chance = random.Random(3)
+        renamed = {each: f"{each}-x" for each in chance.sample(theorems, min(9, len(theorems)))}
+        swapped = dict(zip(theorems[:2], theorems[1::-1]))
+        words = renamed | swapped
+        new = re.sub(r"(?<!\S)\S+", lambda word: words.get(word[0], word[0]), text)
+        for label in chance.sample(theorems, min(9, len(theorems))):
+            statement = rf"(?<!\S)({re.escape(label)}\s+)\$p(\s[^$]*)\$=[^$]*\$\."
+            new = re.sub(statement, r"\1$a\2$.", new)
+        for first, second in ((text, new), (new, text), (text, text)):
+            now, before = both(self.folder, first, second, ALL)
+            self.assertEqual(now, before, name)
+
+    def test_versions_of_smaller_databases(self) -> None:
+        for name in SMALLER:
+            self.check_versions(name)
+
+    def test_versions_of_larger_databases(self) -> None:
+        for name in LARGER:
+            if name != "set":
+                self.check_versions(name)
+
+
+def main() -> int:
+    """Compares as many pairs as are wanted."""
+    parser = argparse.ArgumentParser(description=__doc__)
+    parser.add_argument("--pairs", type=int, default=PAIRS)
+    parser.add_argument("--seed", type=int, default=20261129)
+    words = parser.parse_args()
+    wrong = 0
+    with tempfile.TemporaryDirectory(prefix="mmquery-") as folder:
+        for pair, now, before in by_chance(Path(folder), words.seed, words.pairs):
+            if now != before:
+                wrong += 1
+                print(f"{pair}: {now} was {before}")
+    print(f"{words.pairs - wrong} passed, {wrong} failed")
+    return 1 if wrong else 0
+
+
+if __name__ == "__main__":
+    sys.exit(main())
