@@ -1,12 +1,14 @@
 """`needs`: the definitions under a statement, against what its symbols tell, and against the
 statement with all definitions unfolded."""
 
+import os
 import random
 import unittest
+from unittest import mock
 
 from query.tests.test_definitions import LOGIC
 from query.tests.unsound import BASE
-from query.tests.world import DATABASES, World
+from query.tests.world import DATABASES, World, asked_rows, built_program
 
 PRIMITIVE = {"->": "wi", "F.": "wfal"}
 """Forms of the language of `chained` that have no definition, by the constant that tells them."""
@@ -59,9 +61,15 @@ def by_symbols(right: dict[str, str], said: str) -> dict[str, int]:
 class Needed(World):
     """What statements need."""
 
+    def setUp(self) -> None:
+        super().setUp()
+        patch = mock.patch.dict(os.environ, {"MMDEPEND": built_program()})
+        patch.start()
+        self.addCleanup(patch.stop)
+
     def needs(self, *words: str) -> list[dict[str, object]]:
         """The rows of an answer."""
-        return self.query("needs", "db.mm", *words, "--format=json").rows()
+        return asked_rows("needs", str(self.folder / "db.mm"), *words)
 
     def test_by_chance(self) -> None:
         deepest = 0

@@ -249,12 +249,24 @@ def proved(database: Invented, label: str, cited: list[str], builds: bool) -> st
     return f"${{ h.{label} $e |- {formula} $. {label} $p |- {formula} $= {steps}$. $}}"
 
 
-def asked(*words: str) -> list[list[str]]:
-    """The fields of the lines that a command answers, run in this process, as TSV without names."""
+def answered(form: str, *words: str) -> bytes:
+    """What a command answers in a form, run in this process."""
     chosen = command(words[0])
-    form = [] if "tsv" not in chosen.formats else ["--format", "tsv"]
-    arguments = parser_of(chosen).read([*form, *words[1:]])
+    is_taken = form in chosen.formats
+    arguments = parser_of(chosen).read([*(["--format", form] if is_taken else []), *words[1:]])
     out = Output(getattr(arguments, "format", "text"))
     chosen.run(Context(out, False), arguments)
-    lines = b"".join(out.taken()).decode().splitlines()
-    return [line.split("\t") for line in (lines[1:] if form else lines)]
+    return b"".join(out.taken())
+
+
+def asked(*words: str) -> list[list[str]]:
+    """The fields of the lines that a command answers, run in this process, as TSV without names."""
+    lines = answered("tsv", *words).decode().splitlines()
+    has_names = "tsv" in command(words[0]).formats
+    return [line.split("\t") for line in (lines[1:] if has_names else lines)]
+
+
+def asked_rows(*words: str) -> list[dict[str, object]]:
+    """The objects of what a command answers in JSON, run in this process."""
+    found: list[dict[str, object]] = json.loads(answered("json", *words))
+    return found
