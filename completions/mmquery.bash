@@ -5,13 +5,14 @@ _mmquery() {
     if [ "$word" = = ]; then word=; elif [ "$before" = = ]; then
         before=${COMP_WORDS[COMP_CWORD - 2]}; fi
     if [ "$COMP_CWORD" -eq 1 ]; then
-        words='verify rests falls cites cited-by uncited why way-out frees spare repeats top within same compare review history gate chapters order unfinished discouraged mathboxes definitions equivalents needs move graph picture page set-proof export cache --help --version'
+        words='verify rests falls cites cited-by uncited why way-out frees spare repeats top sets within same compare review history gate chapters proofs order unfinished discouraged mathboxes definitions equivalents needs move graph picture page set-proof export cache --help --version'
     else
         case ${COMP_WORDS[1]}:$before in
-            verify:--format | rests:--format | falls:--format | cites:--format | cited-by:--format | uncited:--format | why:--format | way-out:--format | frees:--format | spare:--format | repeats:--format | top:--format | within:--format | same:--format | compare:--format | history:--format | chapters:--format | order:--format | unfinished:--format | discouraged:--format | mathboxes:--format | equivalents:--format | needs:--format | move:--format | export:--format | cache:--format) words='text tsv csv json' ;;
+            verify:--format | rests:--format | falls:--format | cites:--format | cited-by:--format | uncited:--format | why:--format | way-out:--format | frees:--format | spare:--format | repeats:--format | top:--format | sets:--format | within:--format | same:--format | compare:--format | history:--format | chapters:--format | proofs:--format | order:--format | unfinished:--format | discouraged:--format | mathboxes:--format | equivalents:--format | needs:--format | move:--format | export:--format | cache:--format) words='text tsv csv json' ;;
             review:--format) words='text tsv csv json markdown' ;;
             gate:--format) words='text log json github markdown' ;;
             definitions:--format) words='text tsv csv json github' ;;
+            proofs:--by) words='steps depth bytes' ;;
             graph:--as) words='dot graphml edges' ;;
             cache:cache) words='show clear' ;;
             *)
@@ -21,13 +22,14 @@ _mmquery() {
                     falls:-*) words='--any-of --all-of --without --only --all --axioms --ignore-definitions --essential --open --format --before --main --mathbox --under --like --not --among --no-cache --limit-time --limit-memory -h --help' ;;
                     cites:-*) words='--on --essential --open --format --before --main --mathbox --under --like --not --among --no-cache --limit-time --limit-memory -h --help' ;;
                     cited-by:-*) words='--essential --open --format --before --main --mathbox --under --like --not --among --no-cache --limit-time --limit-memory -h --help' ;;
-                    uncited:-*) words='--essential --open --format --before --main --mathbox --under --like --not --among --no-cache --limit-time --limit-memory -h --help' ;;
+                    uncited:-*) words='--not-discouraged --essential --open --format --before --main --mathbox --under --like --not --among --no-cache --limit-time --limit-memory -h --help' ;;
                     why:-*) words='--all --essential --open --format --no-cache --limit-time --limit-memory -h --help' ;;
                     way-out:-*) words='--keep --keep-wrappers --essential --open --format --before --main --mathbox --under --like --not --among --no-cache --limit-time --limit-memory -h --help' ;;
                     frees:-*) words='--most --plan --given --keep --keep-wrappers --essential --open --format --before --main --mathbox --under --like --not --among --no-cache --limit-time --limit-memory -h --help' ;;
                     spare:-*) words='--all --shorter --new-steps --theorem --write --proof --only --open --jobs --cite-discouraged --cite-old --cite-mathboxes --change-discouraged --format --no-cache --limit-time --limit-memory -h --help' ;;
                     repeats:-*) words='--only --open --kept --format --before --main --mathbox --under --like --not --among --no-cache --limit-time --limit-memory -h --help' ;;
                     top:-*) words='--theorems --below --against --only --all --axioms --ignore-definitions --essential --open --format --before --main --mathbox --under --like --not --among --no-cache --limit-time --limit-memory -h --help' ;;
+                    sets:-*) words='--only --all --axioms --ignore-definitions --essential --open --format --before --main --mathbox --under --like --not --among --no-cache --limit-time --limit-memory -h --help' ;;
                     within:-*) words='--list --only --all --axioms --ignore-definitions --essential --open --format --before --main --mathbox --under --like --not --among --no-cache --limit-time --limit-memory -h --help' ;;
                     same:-*) words='--only --all --axioms --ignore-definitions --essential --open --format --before --main --mathbox --under --like --not --among --no-cache --limit-time --limit-memory -h --help' ;;
                     compare:-*) words='--only --all --axioms --ignore-definitions --essential --open --format --no-cache --limit-time --limit-memory -h --help' ;;
@@ -35,6 +37,7 @@ _mmquery() {
                     history:-*) words='--of --essential --open --format --no-cache --limit-time --limit-memory -h --help' ;;
                     gate:-*) words='--base --merge-base --config --config-of-new --summary --all --format --no-cache --limit-time --limit-memory -h --help' ;;
                     chapters:-*) words='--only --all --axioms --ignore-definitions --essential --open --format --no-cache --limit-time --limit-memory -h --help' ;;
+                    proofs:-*) words='--by --most --essential --open --format --before --main --mathbox --under --like --not --among --no-cache --limit-time --limit-memory -h --help' ;;
                     order:-*) words='--only --all --axioms --ignore-definitions --essential --open --format --before --main --mathbox --under --like --not --among --no-cache --limit-time --limit-memory -h --help' ;;
                     unfinished:-*) words='--essential --open --format --before --main --mathbox --under --like --not --among --no-cache --limit-time --limit-memory -h --help' ;;
                     discouraged:-*) words='--essential --open --format --before --main --mathbox --under --like --not --among --no-cache --limit-time --limit-memory -h --help' ;;

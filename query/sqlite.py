@@ -10,9 +10,11 @@ from dataclasses import dataclass
 from itertools import chain, islice
 
 from query import system
+from query.contributed import contributed
 from query.database import Dependence
 from query.errors import NoAnswer, shown
 from query.files import replacing
+from query.lengths import lengths
 from query.output import reason
 from query.rules import is_discouraged, is_proof_discouraged
 from query.text import Text
@@ -44,7 +46,9 @@ CREATE TABLE statement (
     mathbox TEXT,
     usage_discouraged INTEGER NOT NULL,
     proof_discouraged INTEGER NOT NULL,
-    comment TEXT NOT NULL
+    comment TEXT NOT NULL,
+    contributor TEXT,
+    contributed TEXT
 );
 CREATE TABLE hypothesis (
     statement INTEGER NOT NULL REFERENCES statement,
@@ -59,6 +63,12 @@ CREATE TABLE disjoint (
     second TEXT NOT NULL,
     PRIMARY KEY (statement, first, second)
 ) WITHOUT ROWID;
+CREATE TABLE proof (
+    theorem INTEGER PRIMARY KEY REFERENCES statement,
+    steps INTEGER NOT NULL,
+    depth INTEGER NOT NULL,
+    bytes INTEGER NOT NULL
+);
 CREATE TABLE citation (
     citing INTEGER NOT NULL REFERENCES statement,
     cited INTEGER NOT NULL REFERENCES statement,
@@ -119,6 +129,8 @@ class Content:
         for one in text.assertions:
             kind = "open" if one.is_open else "axiom" if one.kind == "a" else "theorem"
             header = text.header(one)
+            comment = " ".join(text.comment(one).split())
+            by = contributed(comment)
             yield (
                 one.number + 1,
                 one.label,
@@ -130,7 +142,9 @@ class Content:
                 text.mathbox(one),
                 is_discouraged(text, one),
                 is_proof_discouraged(text, one),
-                " ".join(text.comment(one).split()),
+                comment,
+                by.name,
+                by.day,
             )
 
     def hypotheses(self) -> Iterator[Row]:
@@ -145,6 +159,11 @@ class Content:
         for one in self.text.assertions:
             for first, second in one.frame().pairs():
                 yield one.number + 1, first, second
+
+    def proofs(self) -> Iterator[Row]:
+        """The rows of `proof`."""
+        for label, each in lengths(self.text, self.dependence.graph).items():
+            yield self.number(label), each.steps, each.depth, each.size
 
     def citations(self) -> Iterator[Row]:
         """The rows of `citation`."""
@@ -169,6 +188,7 @@ class Content:
         yield "statement", self.statements()
         yield "hypothesis", self.hypotheses()
         yield "disjoint", self.disjoint()
+        yield "proof", self.proofs()
         yield "citation", self.citations()
         yield "mark", self.marks()
 

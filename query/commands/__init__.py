@@ -47,6 +47,7 @@ INDEX: dict[str, tuple[str, str]] = {
     "spare": ("spare", "theorems that can do without AXIOMs, with new proofs of them"),
     "repeats": ("repeats", "theorems that say what an earlier statement says"),
     "top": ("ranking", "which axioms are used most, or least"),
+    "sets": ("ranking", "how many theorems rest on each set of axioms"),
     "within": ("ranking", "which theorems rest on no more than the LABELs"),
     "same": ("ranking", "which theorems rest on the same axioms"),
     "compare": (
@@ -57,6 +58,7 @@ INDEX: dict[str, tuple[str, str]] = {
     "history": ("history", "how much rested on AXIOMs in each revision, or since when T does"),
     "gate": ("gate", "whether a pull request keeps the rules that the base's mmdepend.toml sets"),
     "chapters": ("structure", "headers, with how many theorems below each rest on axioms"),
+    "proofs": ("lengths", "how long proofs are, and how deep theorems stand"),
     "order": ("structure", "axioms and theorems in one list, in file order"),
     "unfinished": ("structure", "theorems that are left open, and what rests on them"),
     "discouraged": ("structure", "which theorems use one whose new usage is discouraged"),

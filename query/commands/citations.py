@@ -6,6 +6,7 @@ from query.commands import Command
 from query.context import Context
 from query.errors import shown
 from query.options import Parser, add_choice_of_citations, add_database, options_of
+from query.rules import is_discouraged
 
 CITES_PAGE = """
 Lists in file order what the proof of LABEL itself applies, axioms and theorems of every typecode.
@@ -29,11 +30,13 @@ cited    what is cited, one of the LABELs
 """
 
 UNCITED_PAGE = """
-Lists in file order the theorems that no other one cites.
+Lists in file order the theorems that no other one cites. With --not-discouraged, only those that
+may be cited: whose comment doesn't say (New usage is discouraged.).
 
 theorem  the label of the theorem
 
   $ mmquery uncited set.mm
+  $ mmquery uncited set.mm --main --not-discouraged
 """
 
 
@@ -92,15 +95,23 @@ def run_cited_by(context: Context, arguments: argparse.Namespace) -> int:
 def configure_uncited(parser: Parser) -> None:
     """The words and options of `uncited`."""
     add_database(parser)
+    parser.flag("--not-discouraged", "only those whose new usage isn't discouraged")
     add_choice_of_citations(parser)
 
 
 def run_uncited(context: Context, arguments: argparse.Namespace) -> int:
     """Answers `uncited`."""
-    graph = context.database(arguments.database, options_of(arguments)).graph()
+    database = context.database(arguments.database, options_of(arguments))
+    graph = database.graph()
     cited = set(graph.cites.targets)
-    rows = [[graph.labels[node]] for node in range(graph.theorems) if node not in cited]
-    why = f"{graph.name}: there is no theorem that nobody cites"
+    labels = [graph.labels[node] for node in range(graph.theorems) if node not in cited]
+    which = ""
+    if arguments.not_discouraged:
+        text = database.text
+        labels = [each for each in labels if not is_discouraged(text, text.by_label[each])]
+        which = " and that may be cited"
+    rows = [[label] for label in labels]
+    why = f"{graph.name}: there is no theorem that nobody cites{which}"
     context.table(["theorem"], rows, why, "theorem")
     return 0
 

@@ -15,7 +15,7 @@ PAGE = """
 Writes statements, citations and marks as tables of SQLite into FILE. One that `export` wrote before
 is replaced, another file isn't. docs/SQL.md describes the columns, with ten queries.
 
-table  its name: about, chapter, statement, hypothesis, disjoint, citation, mark
+table  its name: about, chapter, statement, hypothesis, disjoint, proof, citation, mark
 rows   how many rows it has
 
   $ mmquery export --sqlite set.db set.mm

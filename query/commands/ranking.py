@@ -1,4 +1,5 @@
-"""`top`, `within` and `same`: axioms and theorems by what rests on them and on what they rest."""
+"""`top`, `sets`, `within` and `same`: axioms and theorems by what rests on them and on what they
+rest."""
 
 import argparse
 
@@ -33,6 +34,20 @@ axiom     the label of the axiom
   $ mmquery top set.mm --against old.mm
 """
 
+SETS_PAGE = """
+Counts for each set of axioms the theorems that rest on just these: the histogram of all sets, the
+one of most theorems first. Equal ones are in file order of the first theorem.
+
+theorems  how many rest on just these axioms
+size      how many axioms these are
+first     the first of the theorems
+axioms    the axioms
+
+The filters choose which theorems are counted.
+
+  $ mmquery sets set.mm 5 --axioms ax-
+"""
+
 WITHIN_PAGE = """
 Lists in file order the theorems that rest on no more axioms than the LABELs: on these, on some of
 these, or on none. Only axioms of typecode |- count, unless --all or --only T is given.
@@ -49,6 +64,9 @@ theorem  the label of the theorem
 
   $ mmquery same set.mm id
 """
+
+
+SETS = ("theorems", "size", "first", "axioms")
 
 
 def configure_top(parser: Parser) -> None:
@@ -110,6 +128,36 @@ def put_ranking(context: Context, arguments: argparse.Namespace, dependence: Dep
     context.out.table(columns, passing)
 
 
+def configure_sets(parser: Parser) -> None:
+    """The words and options of `sets`."""
+    add_database(parser)
+    parser.add_argument(
+        "number", metavar="N", nargs="?", type=positive, help="how many (else: all)"
+    )
+    add_choice_of_axioms(parser)
+
+
+def run_sets(context: Context, arguments: argparse.Namespace) -> int:
+    """Answers `sets`."""
+    dependence = context.database(arguments.database, options_of(arguments)).dependence()
+    passes = context.test()
+    counts: dict[int, int] = {}
+    first: dict[int, str] = {}
+    for row, label in enumerate(dependence.theorems):
+        if passes(label):
+            bits = dependence.bits(row)
+            counts[bits] = counts.get(bits, 0) + 1
+            first.setdefault(bits, label)
+    sizes = sorted(counts, key=lambda bits: -counts[bits])
+    rows: list[list[Value]] = []
+    for bits in sizes[: arguments.number]:
+        axioms = [dependence.axioms[column] for column in dependence.columns_of(bits)]
+        rows.append([counts[bits], len(axioms), first[bits], axioms])
+    which = " that passes the filters" if dependence.theorems else ""
+    context.table(SETS, rows, f"{dependence.name}: has no theorem{which}")
+    return 0
+
+
 def configure_within(parser: Parser) -> None:
     """The words and options of `within`."""
     add_database(parser)
@@ -159,6 +207,7 @@ def run_same(context: Context, arguments: argparse.Namespace) -> int:
 
 COMMANDS = [
     Command("top", TOP_PAGE, configure_top, run_top, lists=True),
+    Command("sets", SETS_PAGE, configure_sets, run_sets, lists=True),
     Command("within", WITHIN_PAGE, configure_within, run_within, lists=True),
     Command("same", SAME_PAGE, configure_same, run_same, lists=True),
 ]

@@ -6,6 +6,7 @@ import re
 import sqlite3
 import unittest
 
+from query.contributed import contributed
 from query.tests.world import DATABASES, SMALL, TOP, World, invented
 
 PARTS = """$c |- wff class -> = $. $v p x y $. wp $f wff p $. vx $f class x $. vy $f class y $.
@@ -66,8 +67,8 @@ class Export(World):
             list(tables.execute("SELECT * FROM statement")),
             [
                 (1, "ax", "axiom", "|-", "|- x = x", 10, 1, None, 1, 0,
-                 "A comment of (New usage is discouraged.) ~ ax ."),
-                (2, "t", "open", "|-", "|- p", 16, 2, "O'Neill", 0, 0, ""),
+                 "A comment of (New usage is discouraged.) ~ ax .", None, None),
+                (2, "t", "open", "|-", "|- p", 16, 2, "O'Neill", 0, 0, "", None, None),
             ],
         )  # fmt: skip
         self.assertEqual(
@@ -83,6 +84,40 @@ class Export(World):
         )
         about = dict(tables.execute("SELECT key, value FROM about"))
         self.assertEqual((about["database"], about["open"]), ("parts.mm", "true"))
+
+    def test_who_contributed(self) -> None:
+        """Whose name a comment has, and the day, as set.mm writes them."""
+        for said, wanted in (
+            ("(Contributed by NM, 5-Aug-1993.)", ("NM", "1993-08-05")),
+            (
+                "x (Contributed by\n  Mario  Carneiro,\n 12-Dec-2016.) y",
+                ("Mario Carneiro", "2016-12-12"),
+            ),
+            ("(Contributed by A, B, and C, 1-Jan-2020.)", ("A, B, and C", "2020-01-01")),
+            ("(Contributed by X, 31-Feb-2020.)", ("X", None)),
+            ("(Contributed by X, 1-Foo-2020.)", ("X", None)),
+            ("(Contributed by X.)", ("X", None)),
+            (
+                "(Contributed by X, 1-Jan-2020.) (Contributed by Y, 2-Jan-2020.)",
+                ("X", "2020-01-01"),
+            ),
+            ("(Revised by X, 1-Jan-2020.)", (None, None)),
+            ("(Contributed by (X), 1-Jan-2020.)", (None, None)),
+            ("(Contributed by )", (None, None)),
+        ):
+            self.assertEqual(contributed(said), wanted, said)
+        text = SMALL.replace("ax1 $p", "$( Said.  (Contributed by\n NM, 5-Aug-1993.) $)\nax1 $p")
+        self.write("small.mm", text)
+        tables = self.tables("small.mm")
+        query = "SELECT label, contributor, contributed FROM statement WHERE contributor NOT NULL"
+        self.assertEqual(list(tables.execute(query)), [("ax1", "NM", "1993-08-05")])
+
+    def test_proofs(self) -> None:
+        self.write("small.mm", SMALL)
+        tables = self.tables("small.mm")
+        query = "SELECT label, steps, depth, bytes FROM proof JOIN statement ON id = theorem"
+        wanted = [("wi2", 5, 1, 16), ("ax1", 3, 1, 12), ("a1i", 9, 1, 32), ("a2", 9, 2, 29)]
+        self.assertEqual(list(tables.execute(f"{query} ORDER BY id")), wanted)
 
     def test_which_files_are_replaced(self) -> None:
         self.write("small.mm", SMALL)
