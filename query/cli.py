@@ -126,22 +126,32 @@ def hold_descriptors() -> None:
 def main(words: list[str]) -> NoReturn:
     """Runs `mmquery` and ends the process."""
     gc.disable()  # a command ends before anything would have to be collected
+    status = 2
+    try:
+        status = ended(words)
+    except BaseException:  # there may be no memory to say what failed
+        os.write(2, b"mmquery: out of memory\n")
+    finally:
+        os._exit(status)
+
+
+def ended(words: list[str]) -> int:
+    """Runs a command to its end, whatever that is. Returns the status."""
     try:
         hold_descriptors()
         signals.listen()
-        status = run(words)
+        return run(words)
     except NoAnswer as why:
-        status = no_answer(why.sentence())
+        return no_answer(why.sentence())
     except MemoryError:
-        status = no_answer("out of memory")
+        return no_answer("out of memory")
     except OSError as error:
         about = f"{shown(os.fsdecode(error.filename))}: " if error.filename else ""
-        status = no_answer(about + reason(error))
+        return no_answer(about + reason(error))
     except ModuleNotFoundError as error:  # some systems leave out sqlite3, lzma or bz2
-        status = no_answer(f"this Python lacks the module {error.name}")
+        return no_answer(f"this Python lacks the module {error.name}")
     except Exception as error:  # a traceback would end with status 1, which is the answer no
-        status = no_answer(f"a fault of mmquery itself: {error_line(error)}")
-    os._exit(status)
+        return no_answer(f"a fault of mmquery itself: {error_line(error)}")
 
 
 def error_line(error: Exception) -> str:

@@ -6,7 +6,7 @@ less of both than a reader needs that takes the square. All are databases that t
 
 import os
 import resource
-from collections.abc import Callable, Mapping
+from collections.abc import Callable, Mapping, Sequence
 from dataclasses import dataclass
 from pathlib import Path
 
@@ -54,9 +54,15 @@ class Took:
     said: str
 
 
-def ran(words: list[str], folder: Path, limit: int, surroundings: Mapping[str, str]) -> Took:
+def ran(
+    words: list[str],
+    folder: Path,
+    limit: int,
+    surroundings: Mapping[str, str],
+    start: Sequence[str] = (str(MMQUERY),),
+) -> Took:
     """Runs a command without kept results in a folder, for so many seconds of the processor at the
-    most."""
+    most. `start` is how mmquery is started."""
     name, *others = words
     child = os.fork()
     if child == 0:
@@ -66,7 +72,7 @@ def ran(words: list[str], folder: Path, limit: int, surroundings: Mapping[str, s
         for number, descriptor in enumerate((nowhere, nowhere, errors)):
             os.dup2(descriptor, number)
         resource.setrlimit(resource.RLIMIT_CPU, (limit, limit))
-        os.execve(MMQUERY, ["mmquery", name, "--no-cache", *others], dict(surroundings))
+        os.execve(start[0], [*start, name, "--no-cache", *others], dict(surroundings))
     _, status, usage = os.wait4(child, 0)
     said = (folder / "errors").read_text("latin-1")
     memory = usage.ru_maxrss * 1024

@@ -16,7 +16,7 @@ from pathlib import Path
 from query.findings import in_markdown
 from query.tests.repositories import ADDED, BASE, WATCH, Repositories, changed
 from query.tests.shapes import proof
-from query.tests.world import DATABASES, TOP, Done
+from query.tests.world import DATABASES, MMQUERY, TOP, Done
 
 CHEAT = (
     "2p2e4 $p |- ( 2 + 2 ) = 4 $= df-4",
@@ -968,6 +968,74 @@ class Files(Hostile):
         self.commit(BASE)
         self.assertIn("there is no theorem '19.2'", self.findings()[0])
 
+    def test_forms_of_the_file(self) -> None:
+        """Only UTF-8 without a mark before it, with ends of lines as TOML has them, is taken."""
+        self.asks(WATCH)
+        for data, why in (
+            (b"\xef\xbb\xbf" + WATCH.encode(), "Invalid statement"),
+            (WATCH.encode("utf-16"), "not UTF-8"),
+            (WATCH.replace("\n", "\r").encode(), "Expected newline or end of document"),
+            (WATCH.encode() + b"\0", "Invalid statement"),
+            (b"# \0\n" + WATCH.encode(), "Found invalid character"),
+            (b"\xc2\x85" + WATCH.encode(), "Invalid statement"),
+            (WATCH.encode() * 2, "Cannot overwrite a value"),
+            (WATCH.replace("\n", "\r\n").encode(), ""),
+            (b'# \xe2\x80\xa8[rules]\r\n"\\u0077atch" = ["ax-ac2"]', ""),
+        ):
+            (self.folder / "mmdepend.toml").write_bytes(data)
+            self.commit(NEEDS)
+            found = self.findings()
+            self.assertEqual(found[0].rpartition(" ")[2], "[newly]")
+            self.assertEqual(len(found), 2 if why else 1, found)
+            self.assertIn(why, found[-1])
+            base = self.git("rev-parse", "HEAD")
+            self.commit(changed(NEEDS, CHEAT))
+            words = ("--base", base, "db.mm")
+            if why:
+                self.is_refused(*words, why=f"mmdepend.toml: {why}")
+            else:
+                self.assertEqual(self.findings(*words), [CHEAT_FOUND])
+
+
+class Surroundings(Hostile):
+    """Limits and folders that the system, or whoever starts mmquery, gives it."""
+
+    def test_limits_of_the_system(self) -> None:
+        """Under each the answer is the right one, or there is none."""
+        self.cheats()
+        whole = self.query("gate", "--base", "main", "work:db.mm")
+        self.assertEqual(whole.status, 1)
+        refused = set()
+        for kind, limits in (
+            ("-n", (6, 9, 12, 16, 64)),
+            ("-f", (0, 1, 8)),
+            ("-v", (22_000, 30_000, 40_000, 60_000, 400_000)),
+            ("-s", (64, 256, 8192)),
+            *(("-t", (9,)), ("-u", (1,)), ("-l", (0,)), ("-q", (0,)), ("-c", (0,))),
+        ):
+            for limit in limits:
+                line = f'ulimit {kind} {limit}; exec "$@"'
+                words = ("gate", "--no-cache", "--base", "main", "work:db.mm")
+                done = self.ran("bash", "-c", line, "sh", str(MMQUERY), *words)
+                if done.status == 2:
+                    refused.add(kind)
+                    self.assertRegex(done.err, r"\Ammquery: [^\n]+\n\Z", line)
+                    self.assertEqual(done.out, "", line)
+                else:
+                    self.assertEqual(done, whole, line)
+        self.assertLessEqual({"-n", "-v"}, refused)
+
+    def test_homes(self) -> None:
+        """No folder of the user's has a say, whether something can be kept there or not."""
+        self.cheats()
+        (self.folder / ".gitconfig").write_text("[core]\n\tbare = true\n")
+        self.write("file", "")
+        for home in ("/nowhere", "/dev/null", "/proc", "", ".", str(self.folder / "file")):
+            more = {"HOME": home, "XDG_CACHE_HOME": "", "XDG_CONFIG_HOME": ""}
+            if os.geteuid() == 0 and home == "/nowhere":
+                more["HOME"] = "/proc/nowhere"  # who may do anything would make the other one
+            self.assertEqual(self.findings(more=more), [CHEAT_FOUND], home)
+
 
 class Many(Hostile):
     """Findings without end."""
@@ -1103,6 +1171,22 @@ class Honest(Hostile):
             self.commit(text)
             self.assertEqual(len(self.git("log", "-1", "--format=%P").split()), 3)
             self.assertEqual(self.findings(status=1 if found else 0), found)
+
+    def test_files_in_a_circle(self) -> None:
+        """Each path has what stands there, whoever had it before."""
+        self.write("one.mm", changed(BASE, CHEAT))
+        self.commit(BASE + ADDED, "two.mm")
+        for turn, found in ((1, [CHEAT_FOUND]), (2, [])):
+            self.git("checkout", "--quiet", "-B", "work", "main")
+            for _ in range(turn):
+                for old, new in (("db", "x"), ("one", "db"), ("two", "one"), ("x", "two")):
+                    self.git("mv", f"{old}.mm", f"{new}.mm")
+            self.git("commit", "--quiet", "--message", "a circle")
+            self.assertEqual(self.findings(status=1 if found else 0), found)
+        self.git("checkout", "--quiet", "main")
+        self.commit(BASE + "$( A remark. $)\n")
+        self.git("checkout", "--quiet", "work")
+        self.is_refused(why="can't be merged: CONFLICT")
 
     def test_labels_in_a_circle(self) -> None:
         three = BASE + "ax-a $a |- 2 $.\nax-b $a |- ( 2 + 2 ) $.\nax-c $a |- 4 $.\n"
