@@ -2,6 +2,7 @@
 
 import os
 import re
+import sys
 import time
 import unittest
 from pathlib import Path
@@ -11,7 +12,7 @@ from query import limits, program, system, unpacking
 from query.limits import MEGABYTE, Limits
 from query.source import Source
 from query.tests.repositories import ADDED, BASE, Repositories, changed
-from query.tests.world import PROGRAM_FOR_NODE, SMALL, TOP, World, built_program
+from query.tests.world import PROGRAM_FOR_NODE, SMALL, TOP, Done, World, built_program
 
 LARGE = SMALL + "$( " + "x " * 3_000_000 + "$)\n"
 BURNS = '#!/bin/sh\n[ "$1" != --version ] || exit 0\nwhile :; do :; done\n'
@@ -75,6 +76,18 @@ class Runs(World):
         self.refuses("rests", "large.mm", "a2", "--limit-memory", "8", why=why)
         self.nothing_is_kept()
         self.assertEqual(self.query("rests", "large.mm", "a2", "--limit-memory", "99").status, 0)
+
+    def test_the_worst_text_of_the_bench(self) -> None:
+        """Axioms with half a million pairs of distinct variables each: 2 MB, which take 860."""
+        bench = str(TOP / "bench" / "hostile")
+        words = ("--only", "disjoints-of-their-own", "--count", "200", "--write", "worst.mm")
+        self.assertEqual(self.ran(sys.executable, bench, *words), Done("", "", 0))
+        why = "worst.mm: not judged: the text needs more than 383 MB of memory (--limit-memory)"
+        for name in ("verify", "chapters", "uncited"):
+            self.refuses(name, "worst.mm", why=why)
+        self.nothing_is_kept()
+        done = self.query("verify", "worst.mm", "--limit-memory", "2000")
+        self.assertEqual(done, Done("worst.mm: valid, 200 axioms and 0 theorems\n", "", 0))
 
     def test_what_the_program_says(self) -> None:
         script = '#!/bin/sh\n[ "$1" != --version ] || exit 0\nexec yes\n'
