@@ -5,14 +5,19 @@ which passes."""
 import bz2
 import gzip
 import lzma
+import random
+import re
 import shutil
 import subprocess
 import tarfile
+import unittest
 from collections.abc import Callable
 from io import BytesIO
 
+from query.includes import new_includes
 from query.tests.repositories import ADDED, BASE, changed
 from query.tests.test_hostile import CHEAT, CHEAT_FOUND, Hostile
+from query.tests.world import built_program
 
 EVIL = "$c evil $.\nax-evil $a |- 2 $.\n"
 NOTE = "$( A remark. $)\n"
@@ -141,6 +146,59 @@ class Includes(Hostile):
             self.assertEqual(done.status, 0)
             self.assertIn(told, done.err)
             self.assertEqual(bool(told), bool(done.err))
+
+
+NEAR = ("Begin", "Skip", "End", "$[", "$]", "evil.mm", "$t", "$j", "/*", "`", "~", "$", "$!", "x")
+BETWEEN = (" ", " ", "\n", "\t", "\r\n", "\f", "  ")
+TURNS = 300
+
+
+@unittest.skipUnless(shutil.which("metamath"), "there is no metamath.exe")
+class Near(Hostile):
+    """Comments that are nearly includes, made by chance: what the rule lets pass metamath.exe reads
+    as we do."""
+
+    def comment(self, chance: random.Random) -> str:
+        """A comment that is an include, or nearly so."""
+        words = [chance.choice(("Skip", "Skip", "Begin", "End")), "$[", "evil.mm", "$]"]
+        for _ in range(chance.choice((0, 1, 1, 2))):
+            place = chance.randrange(len(words) + 1)
+            words[place : place + chance.randrange(2)] = chance.choices(NEAR, k=chance.randrange(2))
+        gaps = [chance.choice(BETWEEN) for _ in range(len(words) + 1)]
+        if chance.random() < 0.2:
+            gaps[chance.randrange(1, len(gaps))] = ""
+        parts = [part for pair in zip(gaps, [*words, ""]) for part in pair]
+        return f"$({''.join(parts)}{chance.choice(BETWEEN)}$)"
+
+    def read(self) -> bool:
+        """Whether metamath.exe reads the database, and the labels of BASE alone."""
+        words = ("metamath", "read db.mm", "show labels *", "verify proof *", "exit")
+        done = subprocess.run(words, cwd=self.folder, capture_output=True, check=False)
+        labels = re.findall(r"^\d+ .* \$[ap]", done.stdout.decode("latin-1"), re.MULTILINE)
+        found = {word for line in labels for word in re.findall(r"\d+ (\S+) \$[ap]", line)}
+        is_verified = b"All proofs in the database were verified" in done.stdout
+        return is_verified and found == set(re.findall(r"(\S+) \$[ap] ", BASE))
+
+    def test_at_random(self) -> None:
+        self.write("evil.mm", EVIL.replace("$c evil $.\n", ""))
+        chance = random.Random(7)
+        counts = {True: 0, False: 0}
+        for _ in range(TURNS):
+            place = chance.choice([match.start() for match in re.finditer(r"\s", BASE)])
+            comment = self.comment(chance)
+            text = f"{BASE[:place]} {comment}{BASE[place:]}".encode("latin-1")
+            self.write("db.mm", text)
+            done = subprocess.run(
+                [built_program(), "--report=counts", self.folder / "db.mm"],
+                capture_output=True,
+                check=False,
+            )
+            if done.returncode == 0:
+                is_told = any(new_includes(BASE.encode(), text))
+                is_read = self.read()
+                self.assertTrue(is_told or is_read, text)
+                counts[is_read] += 1
+        self.assertGreater(min(counts.values()), TURNS // 10)
 
 
 class Attributes(Built):
