@@ -4,6 +4,7 @@ others have more."""
 
 import json
 import os
+import random
 import re
 import shutil
 import subprocess
@@ -13,7 +14,10 @@ import unittest
 from collections.abc import Mapping
 from pathlib import Path
 
+from query.errors import NoAnswer
 from query.findings import in_markdown
+from query.git import Repository
+from query.objects import Objects
 from query.tests.repositories import ADDED, BASE, WATCH, Repositories, changed
 from query.tests.shapes import proof
 from query.tests.world import DATABASES, MMQUERY, TOP, Done
@@ -761,6 +765,83 @@ class Moving(Hostile):
         self.commit(changed(BASE, ("4 $.\nax-1", "4 $.\n\nax-1")))
         self.moves("refs/heads/work", first, second, "--base", "main", "work:db.mm")
         self.moves("refs/heads/work", second, first, "--base", "main", "work:db.mm")
+
+
+NAMES = ("db.mm", "a.mm", "d/db.mm", "d/a.mm", "e/db.mm")
+LINES = tuple(f"line {number}\n" for number in range(12))
+Tree = dict[str, list[str]]
+
+
+class Merges(Hostile):
+    """What the gate takes for the merge is what git makes by its own settings, which look for files
+    that were renamed, or one of the two is a conflict."""
+
+    def changed(self, tree: Tree, chance: random.Random) -> None:
+        """Changes files by chance: their lines, their names, or which there are."""
+        name, other = chance.choice([*tree]), chance.choice(NAMES)
+        what = chance.choice(("lines", "lines", "lines", "rename", "copy", "swap", "folder", "new"))
+        if what == "lines" and tree[name]:
+            tree[name][chance.randrange(len(tree[name]))] = f"other {chance.randrange(99)}\n"
+        elif what == "rename":
+            tree[other] = tree.pop(name)
+        elif what == "copy":
+            tree[other] = [*tree[name]]
+        elif what == "swap":
+            tree[name], tree[other] = tree.get(other, []), tree[name]
+        elif what == "folder":
+            for each in [each for each in tree if each.startswith("d/")]:
+                tree[f"e/{each[2:]}"] = tree.pop(each)
+        elif what == "new":
+            tree[other] = [f"new {chance.randrange(99)}\n" for _ in range(8)]
+
+    def committed(self, tree: Tree, *parents: str) -> str:
+        """A commit with these files."""
+        self.git("read-tree", "--empty")
+        for name, lines in tree.items():
+            self.write("object", "".join(lines))
+            blob = self.git("hash-object", "-w", "object")
+            self.git("update-index", "--add", "--cacheinfo", f"100644,{blob},{name}")
+        words = [word for parent in parents for word in ("-p", parent)]
+        return self.git("commit-tree", self.git("write-tree"), *words, "-m", "x")
+
+    def are_same(self, objects: Objects, tips: list[str], one: str, other: str) -> None:
+        """Two merges have the same files where the base had any."""
+        for name in NAMES:
+            if objects.entry(tips[0], name) is not None:
+                found = [objects.entry(tree, name) for tree in (one, other)]
+                self.assertEqual(found[0], found[1], f"{name} of the merge of {tips}")
+
+    def by_git(self, *words: str) -> str | None:
+        """The tree of a merge by git; None where there is a conflict."""
+        done = self.ran("git", *words)
+        self.assertIn(done.status, (0, 1), done)
+        return done.lines()[0] if done.status == 0 else None
+
+    def test_at_random(self) -> None:
+        chance = random.Random(4)
+        counts = {"same": 0, "conflict": 0}
+        for _ in range(60):
+            tree = {name: [*LINES] for name in chance.sample(NAMES, 3)}
+            base = self.committed(tree)
+            tips = []
+            for _ in range(2):
+                mine = {name: [*lines] for name, lines in tree.items()}
+                for _ in range(chance.randrange(1, 4)):
+                    self.changed(mine, chance)
+                tips.append(self.committed(mine, base))
+            with Objects(Repository(self.folder, self.folder / ".git")) as objects:
+                try:
+                    merged = objects.merged(*tips)
+                except NoAnswer as why:
+                    self.assertIn("can't be merged: CONFLICT", why.sentence())
+                    counts["conflict"] += 1
+                    continue
+                for more in ((), ("-c", "merge.directoryRenames=true")):
+                    theirs = self.by_git(*more, "merge-tree", "--write-tree", *tips)
+                    if theirs is not None:
+                        self.are_same(objects, tips, merged, theirs)
+                        counts["same"] += 1
+        self.assertGreater(min(counts.values()), 10)
 
 
 class OfTexts(Hostile):
