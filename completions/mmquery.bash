@@ -34,7 +34,7 @@ _mmquery() {
                     same:-*) words='--only --all --axioms --ignore-definitions --essential --open --format --before --main --mathbox --under --like --not --among --no-cache --limit-time --limit-memory -h --help' ;;
                     compare:-*) words='--only --all --axioms --ignore-definitions --essential --open --format --no-cache --limit-time --limit-memory -h --help' ;;
                     review:-*) words='--only --all --axioms --ignore-definitions --essential --open --format --no-cache --limit-time --limit-memory -h --help' ;;
-                    history:-*) words='--of --essential --open --format --no-cache --limit-time --limit-memory -h --help' ;;
+                    history:-*) words='--of --faults --essential --open --format --no-cache --limit-time --limit-memory -h --help' ;;
                     gate:-*) words='--base --merge-base --config --config-of-new --summary --all --format --no-cache --limit-time --limit-memory -h --help' ;;
                     chapters:-*) words='--only --all --axioms --ignore-definitions --essential --open --format --no-cache --limit-time --limit-memory -h --help' ;;
                     proofs:-*) words='--by --most --essential --open --format --before --main --mathbox --under --like --not --among --no-cache --limit-time --limit-memory -h --help' ;;

@@ -305,6 +305,7 @@ complete -c mmquery -n '__fish_seen_subcommand_from review' -l limit-time -r -d 
 complete -c mmquery -n '__fish_seen_subcommand_from review' -l limit-memory -r -d 'for verifying a text (else: 256, and 64 for each MB)'
 complete -c mmquery -n '__fish_seen_subcommand_from review' -s h -l help -d 'show this page'
 complete -c mmquery -n '__fish_seen_subcommand_from history' -l of -r -d 'since when the theorem T rests on each AXIOM'
+complete -c mmquery -n '__fish_seen_subcommand_from history' -l faults -d 'only when faults began and ended'
 complete -c mmquery -n '__fish_seen_subcommand_from history' -l essential -d 'only the logical part of proofs cites'
 complete -c mmquery -n '__fish_seen_subcommand_from history' -l open -d 'a theorem whose proof is ? counts as an axiom'
 complete -c mmquery -n '__fish_seen_subcommand_from history' -l format -x -a 'text tsv csv json' -d 'the form of the answer (else: text)'

@@ -10,10 +10,11 @@ import json
 from array import array
 from collections import deque
 from collections.abc import Iterator, Sequence
-from dataclasses import asdict, dataclass, replace
+from dataclasses import asdict, dataclass
 from functools import partial
 
 from query import cache, progress, system
+from query.assertions import Damaged
 from query.database import Database, result_key, unpacked_numbers
 from query.errors import NoAnswer, shown
 from query.faults import Refused
@@ -21,6 +22,7 @@ from query.git import short
 from query.history import Revision
 from query.marks import columns_of
 from query.objects import Objects
+from query.one_run import MARKS, marks_alone
 from query.options import Options
 from query.parallel import Task, begun
 from query.prepared import Prepared
@@ -28,7 +30,7 @@ from query.source import NO_TEXT, Source, see_plain
 
 AT_ONCE = 4
 """So many revisions are judged at once, where there are as many processors."""
-FORM = 1
+FORM = 2
 """Counts the forms in which figures are kept. A change of what they hold has to change it."""
 
 
@@ -63,18 +65,62 @@ class Figures:
         return bool(self.count(axiom)) if self.fault is None and self.has_theorem else None
 
 
+@dataclass(frozen=True)
+class Content:
+    """What a revision has as the file: the full id of the bytes, and how messages call them."""
+
+    blob: str
+    path: str
+    name: str
+
+
 def figures_of(
     objects: Objects, found: Sequence[Revision], question: Question
 ) -> Iterator[Figures]:
-    """What each revision says, in their order."""
-    waiting = deque(found)
+    """What each revision says, in their order. Equal files are judged once."""
+    contents: list[Content | Figures] = []
+    for revision in found:
+        if len(contents) % 100 == 0:
+            progress.now(f"looking at revision {len(contents) + 1} of {len(found)}")
+        contents.append(content_of(objects, revision))
+    first: dict[str, Content] = {}
+    for each in contents:
+        if isinstance(each, Content):
+            first.setdefault(each.blob, each)
+    told = judged(objects, list(first.values()), question)
+    known: dict[str, Figures] = {}
+    for each in contents:
+        if isinstance(each, Content):
+            if each.blob not in known:
+                known[each.blob] = next(told)
+            yield known[each.blob]
+        else:
+            yield each
+
+
+def content_of(objects: Objects, revision: Revision) -> Content | Figures:
+    """What a revision has as the file; or that it isn't judged."""
+    objects.tops.setdefault(revision.commit, revision.tree)
+    try:
+        entry = objects.entry(revision.commit, revision.path)
+    except NoAnswer as why:
+        return Figures(fault=str(why))
+    if entry is None:
+        return Figures(fault=f"there is no {shown(revision.path)}")
+    name = f"{short(revision.commit)}:{shown(revision.path)}"
+    return Content(entry.name, revision.path, name)
+
+
+def judged(objects: Objects, contents: Sequence[Content], question: Question) -> Iterator[Figures]:
+    """What each of several files says, in their order."""
+    waiting = deque(contents)
     tasks: deque[Task] = deque()
     at_once = min(AT_ONCE, system.processors())
     try:
-        for number in range(len(found)):
+        for number in range(len(contents)):
             while waiting and len(tasks) < at_once:
                 tasks.append(begun(partial(in_json, objects, waiting.popleft(), question)))
-            progress.now(f"verifying revision {number + 1} of {len(found)}")
+            progress.now(f"verifying file {number + 1} of {len(contents)}")
             yield Figures(**json.loads(tasks[0].result()))
             tasks.popleft()
     finally:
@@ -82,29 +128,24 @@ def figures_of(
             task.stop()
 
 
-def in_json(objects: Objects, revision: Revision, question: Question) -> bytes:
-    """What a revision says, as JSON."""
-    try:
-        found = figures(objects, revision, question)
-    except Refused as refused:
-        found = Figures(fault=f"refused {refused.line}:{refused.column} {refused.code}")
-    return json.dumps(asdict(found)).encode()
+def in_json(objects: Objects, content: Content, question: Question) -> bytes:
+    """What a file says, as JSON."""
+    return json.dumps(asdict(figures(objects, content, question))).encode()
 
 
-def figures(objects: Objects, revision: Revision, question: Question) -> Figures:
-    """What a revision says. Refused where it is refused, NoAnswer where the program fails."""
-    name = f"{short(revision.commit)}:{shown(revision.path)}"
+def figures(objects: Objects, content: Content, question: Question) -> Figures:
+    """What a file says. NoAnswer where the program fails."""
     try:
-        data = objects.content(revision.commit, revision.path)
-        if data is None:
-            return Figures(fault=f"there is no {shown(revision.path)}")
-        see_plain(name, data)
+        data = objects.blob(content.blob, content.path)
+        see_plain(shown(content.path), data)
     except NoAnswer as why:
         return Figures(fault=str(why))
-    source = Source(name, data)
+    source = Source(content.name, data)
     if source.is_report():
         return Figures(fault=NO_TEXT)
     parts = kept(Database(source, question.options, question.uses_cache), question.theorem)
+    if parts["fault"]:
+        return Figures(fault=parts["fault"].decode())
     columns = parts["axioms"].decode().split("\n") if parts["axioms"] else []
     numbers = dict(zip(columns, unpacked_numbers(parts["numbers"])))
     rest = {axiom: numbers[axiom] for axiom in question.axioms if axiom in numbers}
@@ -116,10 +157,25 @@ def kept(database: Database, theorem: str | None) -> dict[str, bytes]:
     key = result_key("figures", FORM, database.key, theorem)
     parts = cache.load(key) if database.uses_cache else None
     if parts is None:
-        parts = in_parts(database.kept or replace(database, uses_cache=False).of_program(), theorem)
+        parts = parts_of(database, theorem)
         if database.uses_cache:
             cache.store(key, parts)
     return parts
+
+
+def parts_of(database: Database, theorem: str | None) -> dict[str, bytes]:
+    """The figures of a database, or why it is refused, in the form in which they are kept."""
+    try:
+        found = database.kept
+        if found is None:
+            try:
+                found = marks_alone(database.said("--form=2", MARKS))
+            except Damaged as why:
+                raise NoAnswer(f"{database.name}: {why}") from None
+    except Refused as refused:
+        where = f"refused {refused.line}:{refused.column} {refused.code}"
+        return {"fault": where.encode()}
+    return in_parts(found, theorem)
 
 
 def in_parts(found: Prepared, theorem: str | None) -> dict[str, bytes]:
@@ -135,6 +191,7 @@ def in_parts(found: Prepared, theorem: str | None) -> dict[str, bytes]:
             for column in columns_of(bits, found.marks.columns):
                 numbers[column] = 1
     return {
+        "fault": b"",
         "theorems": b"%d" % len(found.theorems),
         "axioms": "\n".join(found.columns).encode(),
         "numbers": array("I", numbers).tobytes(),

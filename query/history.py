@@ -21,6 +21,8 @@ from query.objects import Objects
 
 MOST_NAMES = 50
 """So many names of a file are followed. For each the revisions are walked through once more."""
+MOST_SHOWN = 200
+"""So many characters of a name and of a subject are shown at the most."""
 MOST_COMPARED = 100
 """Of a revision that adds and removes more files than these, a file that was renamed and changed at
 once isn't found."""
@@ -39,10 +41,14 @@ class Range:
 @dataclass(frozen=True)
 class Revision:
     """A revision that changed the file: its full id, when it was committed in seconds since 1970,
-    and the path of the file from the top."""
+    the id of its tree, its author's name, the first line of its message, and the path of the file
+    from the top."""
 
     commit: str
     seconds: int
+    tree: str
+    author: str
+    subject: str
     path: str
 
     @property
@@ -85,10 +91,15 @@ def revisions(objects: Objects, within: Range, path: str) -> list[Revision]:
 def walked(objects: Objects, within: Range, path: str) -> list[Revision]:
     """The revisions that changed what has this path, the newest first."""
     limits = [within.new] if within.old is None else [within.new, f"^{within.old}"]
-    words = ("rev-list", "--first-parent", "--timestamp", *limits, "--", path)
-    lines = objects.must("--literal-pathspecs", *words).decode("ascii").splitlines()
-    pairs = (line.split(" ") for line in lines)
-    return [Revision(commit, int(seconds), path) for seconds, commit in pairs]
+    form = "--format=%H%x00%ct%x00%T%x00%an%x00%s"
+    words = ("log", "--first-parent", "-z", "--encoding=UTF-8", form, *limits, "--", path)
+    fields = objects.must("--literal-pathspecs", *words).split(b"\0")[:-1]
+    found = []
+    for each in zip(*(fields[number::5] for number in range(5)), strict=True):
+        commit, seconds, tree = (part.decode("ascii") for part in each[:3])
+        author, subject = (part.decode("utf-8", "replace")[:MOST_SHOWN] for part in each[3:])
+        found.append(Revision(commit, int(seconds), tree, author, subject, path))
+    return found
 
 
 def name_before(objects: Objects, revision: Revision) -> tuple[str, str] | None:

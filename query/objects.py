@@ -250,9 +250,11 @@ class Objects:
     def content(self, tree: str, path: str, most: int = MOST_DATABASE_BYTES) -> bytes | None:
         """The bytes of that file; None where there is none. NoAnswer where there are too many."""
         entry = self.entry(tree, path)
-        if entry is None:
-            return None
-        data = self.read("blob", entry.name, most, path)
+        return None if entry is None else self.blob(entry.name, path, most)
+
+    def blob(self, name: str, path: str, most: int = MOST_DATABASE_BYTES) -> bytes:
+        """The bytes of a file, given by its full id. NoAnswer where there are too many."""
+        data = self.read("blob", name, most, path)
         if data.startswith(POINTER):
             raise NoAnswer(f"{shown(path)}: a pointer of Git LFS, and not what it stands for")
         return data

@@ -19,6 +19,8 @@ from query.parallel import Task, begun
 from query.prepared import Prepared
 
 SECTIONS = "--report=matrix,citations,statements"
+MARKS = "--report=matrix,statements"
+"""The report that has all but the citations, which take longest to read."""
 COUNTS = "--report=citations"
 """The report whose head counts axioms and theorems, and for which no marks are made."""
 HEAD = re.compile(
@@ -50,14 +52,27 @@ class OneRun:
             raise Damaged
         return lines
 
+    def labels(self, statements: bytes) -> tuple[list[str], list[str], list[str]]:
+        """The labels of theorems and of axioms, and the typecodes of these."""
+        theorems, axioms, typecodes = labels_in(ascii_text(statements))
+        if (len(axioms), len(theorems)) != (self.axioms, self.theorems):
+            raise Damaged
+        return theorems, axioms, typecodes
+
+    def without_citations(self) -> Prepared:
+        """What a report of the other sections says."""
+        matrix = self.section(b"matrix", b"statements")
+        statements = self.last()
+        theorems, axioms, typecodes = self.labels(statements)
+        marks = marks_of(matrix, theorems, len(axioms))
+        return Prepared(theorems, axioms, [], marks, None, len(axioms), typecodes, statements)
+
     def prepared(self) -> Prepared:
         """What they say."""
         matrix = self.section(b"matrix", b"citations")
         citations = self.section(b"citations", b"statements")
         statements = self.last()
-        theorems, axioms, typecodes = labels_in(ascii_text(statements))
-        if (len(axioms), len(theorems)) != (self.axioms, self.theorems):
-            raise Damaged
+        theorems, axioms, typecodes = self.labels(statements)
         coming = Citations(ascii_text(citations), theorems, axioms)
         try:
             marks = marks_of(matrix, theorems, len(axioms))
@@ -165,6 +180,11 @@ def packed_cites(section: str, theorems: list[str], node: dict[str, int]) -> byt
     except (KeyError, ValueError):
         return b""
     return array("I", places).tobytes() + array("I", targets).tobytes()
+
+
+def marks_alone(data: bytes) -> Prepared:
+    """What a report without citations says. Damaged where it isn't one."""
+    return OneRun(data).without_citations()
 
 
 def prepared_of(data: bytes) -> Prepared:

@@ -29,25 +29,33 @@ axiom     the AXIOM, an axiom of any typecode
 rest      how many theorems rest on it; none where the file has no such axiom
 fault     why nothing is known of this revision: `refused LINE:COLUMN CODE` where a proof or the
           text is faulty, or that the file isn't there
+author    the name of its author
+subject   the first line of its message
 
-With --of T, only the revisions at which the answer changed, and the first one:
+With --faults, only the revisions at which a fault began or ended, or became another one than that
+before. Where a row has no fault, one has ended.
 
-rev, date, axiom, fault   the same
-theorem                   T
-rests                     whether T rests on the axiom; none where there is no theorem T
+With --of T, only the revisions at which the answer changed or a fault began or ended, and the first
+one:
+
+rev, date, axiom, fault, author, subject   the same
+theorem                                    T
+rests                                      whether T rests on the axiom; none where there is no
+                                           theorem T
 So the last row of an axiom says since which revision it is as it is.
 
 REV..REV are the revisions of the second REV that aren't in the first, as in git; REV alone is all
 of them. Of a merge the first parent is followed: a merge into the branch is one change, by whatever
-revisions it was made. The file is followed through renames, labels aren't. What is known of a
-revision is kept; each other one takes as long as a first question.
+revisions it was made. The file is followed through renames, labels aren't. Equal files are judged
+once. What is known of a file is kept; each other one takes as long as a first question.
 
   $ mmquery history set.mm v1..main ax-ac2 ax-reg
+  $ mmquery history set.mm v1..main --faults
   $ mmquery history set.mm v1..main ax-ac2 --of zorn
 """
 
-COLUMNS = ("rev", "date", "theorems", "axiom", "rest", "fault")
-COLUMNS_OF = ("rev", "date", "theorem", "axiom", "rests", "fault")
+COLUMNS = ("rev", "date", "theorems", "axiom", "rest", "fault", "author", "subject")
+COLUMNS_OF = ("rev", "date", "theorem", "axiom", "rests", "fault", "author", "subject")
 
 Row = tuple[Value, ...]
 Known = Sequence[tuple[Revision, Figures]]
@@ -59,6 +67,8 @@ def configure(parser: Parser) -> None:
     parser.add_argument("range", metavar="REV..REV")
     parser.add_argument("axiom", metavar="AXIOM", nargs="*")
     parser.value("--of", "T", "since when the theorem T rests on each AXIOM")
+    parser.flag("--faults", "only when faults began and ended")
+    parser.exclude("--of", "--faults")
     add_choice_of_citations(parser)
 
 
@@ -86,8 +96,13 @@ def run(context: Context, arguments: argparse.Namespace) -> int:
     if repository.is_shallow():
         context.tell("the clone is shallow, so there may be revisions before the first one")
     if theorem is None:
+        shown_ones = known
+        if arguments.faults:
+            shown_ones = [pair for pair, is_turn in zip(known, fault_turns(known)) if is_turn]
+            if found and not shown_ones:
+                context.tell(f"no revision of {within.word} of {shown(word)} has a fault")
         aside = [] if axioms else ["axiom", "rest"]
-        context.out.table(COLUMNS, counts(known, axioms), aside)
+        context.out.table(COLUMNS, counts(shown_ones, axioms), aside)
     else:
         context.out.table(COLUMNS_OF, turns(known, axioms, theorem))
     return 0
@@ -105,28 +120,42 @@ def see_labels(known: Known, question: Question, name: str) -> None:
         raise NoAnswer(f"no revision in {name} has a theorem '{shown(str(question.theorem))}'")
 
 
+def fault_turns(known: Known) -> Iterator[bool]:
+    """For each revision whether a fault began or ended there, or became another one. A refusal for
+    the same kind of fault is the same one, be it at another place: what stands before it grows."""
+    last = None
+    for _, each in known:
+        fault = each.fault
+        if fault is not None and fault.startswith("refused "):
+            fault = fault.split(" ")[-1]
+        yield fault != last
+        last = fault
+
+
 def counts(known: Known, axioms: Sequence[str]) -> Iterator[Row]:
     """For each revision the theorems that rest on each axiom."""
     for revision, each in known:
+        said = (each.fault, revision.author, revision.subject)
         if not axioms:
-            yield revision.commit, revision.date, each.theorems, None, None, each.fault
+            yield revision.commit, revision.date, each.theorems, None, None, *said
         for axiom in axioms:
             rest = each.count(axiom)
-            yield revision.commit, revision.date, each.theorems, axiom, rest, each.fault
+            yield revision.commit, revision.date, each.theorems, axiom, rest, *said
 
 
 def turns(known: Known, axioms: Sequence[str], theorem: str) -> Iterator[Row]:
     """For each revision the axioms of which it is another answer than before whether the theorem
-    rests on them."""
+    rests on them, or all where a fault began or ended."""
     last: dict[str, bool | None] = {}
-    for revision, each in known:
+    for (revision, each), is_turn in zip(known, fault_turns(known)):
         for axiom in axioms:
             rests = each.rests(axiom)
-            is_same = axiom in last and last[axiom] == rests
+            is_same = each.fault is not None or (axiom in last and last[axiom] == rests)
             if each.fault is None:
                 last[axiom] = rests
-            if each.fault is not None or not is_same:
-                yield revision.commit, revision.date, theorem, axiom, rests, each.fault
+            if is_turn or not is_same:
+                said = (each.fault, revision.author, revision.subject)
+                yield revision.commit, revision.date, theorem, axiom, rests, *said
 
 
 COMMANDS = [Command("history", PAGE, configure, run)]

@@ -1,12 +1,13 @@
 """`history`, over repositories that are made: each revision compared with what is asked of it
 alone, renames, merges, faults, and repositories that are made to hurt."""
 
+import json
 import os
 import random
 import unittest
 
 from query.tests.repositories import ADDED, BASE, FREED, Repositories, changed
-from query.tests.world import invented, program
+from query.tests.world import MMQUERY, invented, program
 
 OF_AC = ("db.mm", "HEAD", "ax-ac2")
 BROKEN = changed(BASE, ("$= df-4 $.", "$= none $."))
@@ -196,6 +197,44 @@ class Revisions(History):
         done = self.query("history", "db.mm", "main~7..bad", "ax-none", "--format=json")
         self.assertEqual((done.status, done.err, len(done.rows())), (0, "", 1))
 
+    def test_when_faults_began_and_ended(self) -> None:
+        """Of a fault only where it began, became another one, and ended; in both forms."""
+        longer = changed(BASE + ADDED, ("$= df-4 $.", "$= none $."))
+        for text in (BASE + ADDED, BROKEN, "\n" + longer, BASE + "x $a nothing $.\n", BASE):
+            self.commit(text)
+        rows = self.rows(*OF_AC)
+        self.assertEqual([row["fault"] is None for row in rows], [True, True, *[False] * 3, True])
+        codes = [str(row["fault"]).split(" ")[-1] for row in rows]
+        self.assertEqual(codes[2], codes[3])
+        turns = self.rows(*OF_AC, "--faults")
+        self.assertEqual(turns, [rows[2], rows[4], rows[5]])
+        self.assertEqual(self.rows("db.mm", "HEAD", "--faults")[0]["rev"], rows[2]["rev"])
+        turns = self.rows(*OF_AC, "--of", "zorn")
+        told = [(row["rev"], row["rests"]) for row in turns]
+        wanted = [(rows[0]["rev"], True), (rows[2]["rev"], None), (rows[4]["rev"], None)]
+        self.assertEqual(told, [*wanted, (rows[5]["rev"], True)])
+        self.git("reset", "--quiet", "--hard", "HEAD~4")
+        self.is_empty("db.mm", "HEAD", "--faults", why="no revision of HEAD of db.mm has a fault")
+        self.refuses("history", *OF_AC, "--of=zorn", "--faults", why="not allowed with argument")
+
+    def test_who_and_what(self) -> None:
+        """The author's name and the first line of the message, whatever signs they have."""
+        subject = "one\ttwo \x1b[31m <b> \u00e9 " + "x" * 300
+        self.write("db.mm", changed(BASE, FREED))
+        self.git("add", "--all")
+        author = "An, Author \u00fc <a@b>"
+        self.git("commit", "--quiet", f"--author={author}", "--message", f"{subject}\n\nbody\n")
+        done = self.ran(str(MMQUERY), "history", "--format=json", "db.mm", "HEAD")
+        row = json.loads(done.out)[-1]
+        self.assertEqual(row["author"], "An, Author \u00fc")
+        self.assertEqual(row["subject"], subject[:200])
+        rows = self.rows("db.mm", "HEAD")
+        for row in rows:
+            told = self.git("show", "--no-patch", "--format=%an%n%s", str(row["rev"])).split("\n")
+            self.assertEqual(str(row["author"])[:9], told[0][:9])
+        lines = self.query("history", "db.mm", "HEAD", "--format=tsv").lines()
+        self.assertEqual({line.count("\t") for line in lines}, {7})
+
     def test_a_program_that_fails(self) -> None:
         self.write("failing", '#!/bin/sh\n[ "$1" = --version ] || exit 3\n')
         (self.folder / "failing").chmod(0o755)
@@ -263,6 +302,14 @@ class Kept(History):
         self.assertEqual(self.answer_and_runs(*OF_AC, "--essential"), ([2, 0, 2], 3))
         self.assertEqual(self.answer_and_runs(*OF_AC, "--of", "zorn"), ([True, False, True], 3))
         self.assertEqual(self.answer_and_runs(*OF_AC, "--of", "zorn"), ([True, False, True], 0))
+
+    def test_equal_files_are_judged_once(self) -> None:
+        for text in (BASE, changed(BASE, FREED), BASE, BROKEN, BASE, BROKEN):
+            self.commit(text)
+        wanted = [2, 0, 2, 0, 2, None, 2, None]
+        self.assertEqual(self.answer_and_runs(), (wanted, 3))
+        self.assertEqual(self.answer_and_runs(), (wanted, 0))
+        self.assertEqual(self.answer_and_runs(*OF_AC, "--no-cache"), (wanted, 3))
 
     def test_a_whole_result_is_enough(self) -> None:
         for revision in ("HEAD", "HEAD~1"):
