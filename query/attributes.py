@@ -3,7 +3,7 @@ that a commit has. The files `.gitattributes` of a tree say them, and git reads 
 
 from __future__ import annotations
 
-from collections.abc import Iterator, Mapping
+from collections.abc import Iterator, Mapping, Sequence
 from dataclasses import dataclass
 from pathlib import Path
 
@@ -13,8 +13,10 @@ from query.git import said
 from query.objects import Objects, call_apart, make_empty
 
 FILE = ".gitattributes"
+IGNORED = "export-ignore"
+"""What a folder may have too."""
 NAMES = (
-    *("export-subst", "export-ignore", "filter", "ident", "working-tree-encoding"),
+    *("export-subst", IGNORED, "filter", "ident", "working-tree-encoding"),
     *("merge", "eol", "text", "crlf"),
 )
 MOST_BYTES, MOST_LINE = 1 << 20, 2000
@@ -80,14 +82,29 @@ def places(path: str) -> list[str]:
 
 
 def values_of(folder: Path, path: str, ignores_case: str) -> Values:
-    """What the files in a folder say of a path."""
+    """What the files in a folder say of a path. An archive that leaves out a folder on the way
+    leaves out the file too."""
+    found = {name: value for _, name, value in said_of(folder, ignores_case, NAMES, path)}
+    above = [f"{each}/" for each in Path(path).parents if each != Path()]
+    for _, name, value in said_of(folder, ignores_case, (IGNORED,), *above):
+        if value not in ("unspecified", "unset"):
+            found[name] = value
+    return found
+
+
+def said_of(
+    folder: Path, ignores_case: str, names: Sequence[str], *paths: str
+) -> list[tuple[str, str, str]]:
+    """Paths, names of attributes and their values, by the files in a folder."""
     words = ("-c", f"core.ignoreCase={ignores_case}", f"--work-tree={folder}")
-    asked = (*words, "check-attr", "-z", *NAMES, "--", path)
+    asked = (*words, "check-attr", "-z", *names, "--", *paths)
+    if not paths:
+        return []
     done = call_apart(folder / ".git", *asked, folder=folder)
     if done.returncode != 0:
         raise NoAnswer(said(done))
     fields = done.stdout.decode("utf-8", "surrogateescape").split("\0")
-    return dict(zip(fields[1::3], fields[2::3]))
+    return list(zip(fields[::3], fields[1::3], fields[2::3]))
 
 
 def given_newly(old: list[Text], new: list[Text]) -> Iterator[str]:

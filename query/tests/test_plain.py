@@ -303,6 +303,36 @@ class Attributes(Built):
         self.commit(BASE, "deep/db.mm")
         self.assertEqual(self.findings(*words, status=0), [])
 
+    def test_a_folder_that_archives_leave_out(self) -> None:
+        """The file has no attribute then, and is in no archive."""
+        (self.folder / "deep/er").mkdir(parents=True)
+        self.write("deep/er/db.mm", BASE)
+        self.commit(BASE)
+        self.branch()
+        words = ("--base", "main", "HEAD:deep/er/db.mm")
+        for line, is_left_out in (
+            ("deep export-ignore", True),
+            ("/deep/ export-ignore", True),
+            ("deep/er export-ignore", True),
+            ("d* export-ignore", True),
+            ("DEEP export-ignore", True),
+            ("er/ export-ignore\ndb.mm -export-ignore", True),
+            ("deep -export-ignore", False),
+            ("deep/e export-ignore", False),
+            ("eep export-ignore", False),
+        ):
+            self.write(".gitattributes", f"{line}\n")
+            self.commit(BASE)
+            lines = self.findings(*words, status=1 if is_left_out else 0)
+            told = "`.gitattributes` gives it `export-ignore`, so others may get another text than"
+            self.assertEqual([told in each for each in lines], [True] * is_left_out, line)
+            packed = subprocess.run(
+                ["git", "archive", "HEAD"], cwd=self.folder, capture_output=True, check=True
+            )
+            with tarfile.open(fileobj=BytesIO(packed.stdout)) as archive:
+                is_there = "deep/er/db.mm" in archive.getnames()
+            self.assertEqual(is_there, not is_left_out or line.startswith("DEEP"), line)
+
     def test_files_that_others_read_otherwise(self) -> None:
         self.assertIn(
             ".GITATTRIBUTES stands beside it, which some systems take for the same name",
