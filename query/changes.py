@@ -7,8 +7,10 @@ one to what rests on it, and the citation that is the reason why a theorem came 
 
 from __future__ import annotations
 
+from collections import Counter
 from collections.abc import Iterable, Iterator
-from dataclasses import dataclass, replace
+from contextlib import suppress
+from dataclasses import dataclass
 from functools import cached_property
 
 from query import progress
@@ -16,11 +18,9 @@ from query.assertions import Assertion, Damaged
 from query.database import Database, Dependence
 from query.differences import Differences, coming
 from query.errors import NoAnswer
-from query.faults import Refused
 from query.graph import Graph
 from query.marks import columns_of, mask
-from query.sparing import read_sparingly
-from query.standing import OldText
+from query.standing import NewText, OldText
 from query.statements import Cites, Pairing, Statement, pairing_of, statement_of
 from query.text import Text
 
@@ -57,35 +57,21 @@ class Side:
         return known
 
 
-def side_by_side(old: Database, new: Database) -> Comparison:
-    """Both databases, compared by one run of the program, while another one reports on NEW. Refused
-    where one of them is refused: if both are, OLD."""
+def side_by_side(old: Database, new: Database, *, is_reported: bool) -> Comparison:
+    """Both databases, compared by one run of the program. Where NEW's report will be asked for in
+    any case, another run makes it meanwhile. Refused where one of them is refused: if both are,
+    OLD."""
     for each in (old, new):
         each.see_text()
     with coming(old, new) as result:
-        failed = failure_of(new)
+        if is_reported:
+            with suppress(NoAnswer):  # what is wrong is told by the other run, or comes again
+                _ = new.prepared
         progress.now(f"comparing {old.name} and {new.name}")
-        try:
-            differences = result()
-        except NoAnswer as why:
-            raise why if failed is None or isinstance(why, Refused) else failed
-    if failed is not None:
-        raise failed
+        differences = result()
     comparison = Comparison(Side(old), Side(new), differences)
-    comparison.see_one_answer()
-    comparison.see_old_axioms()
+    comparison.see_axioms()
     return comparison
-
-
-def failure_of(database: Database) -> NoAnswer | None:
-    """Why nothing is known of a database; None where its report is read."""
-    try:
-        if database.known is None and not database.uses_cache:
-            read_sparingly(database)
-        _ = database.text
-    except NoAnswer as why:
-        return why
-    return None
 
 
 @dataclass(frozen=True)
@@ -112,27 +98,27 @@ class Comparison:
         self.proved_alike: dict[str, bool] = {}  # of assertions that were asked for
         self.rows_before: dict[str, int] = {}  # of theorems that were asked for, not too many
 
-    def see_one_answer(self) -> None:
-        """Damaged where the program says something else of an assertion of NEW in each run."""
-        for label, one in self.differences.new.items():
-            same = self.text.find(label)
-            if same is None or replace(same, number=one.number) != one:
-                raise Damaged
-
     @staticmethod
     def within(side: Side) -> Comparison:
         """A database beside itself."""
         return Comparison(side, side, Differences())
 
-    @property
-    def text(self) -> Text:
+    @cached_property
+    def text(self) -> NewText:
         """The text of NEW."""
-        return self.new.database.text
+        return NewText(self.new.database.data(), self.differences)
 
     @cached_property
     def old_text(self) -> OldText:
         """The text of OLD."""
         return OldText(self.old.database.data(), self.text, self.differences)
+
+    @cached_property
+    def gaining(self) -> Counter[str]:
+        """How many theorems gained each axiom of NEW, as the program says. For one that OLD hasn't,
+        or has otherwise, these are all that rest on it."""
+        gained = self.differences.gained.values()
+        return Counter(axiom for axioms in gained for axiom in axioms.split())
 
     @cached_property
     def touched(self) -> list[Assertion]:
@@ -190,11 +176,17 @@ class Comparison:
         ]
         return dict.fromkeys(same + [label for label in gone if options.has_axiom(label)])
 
-    def see_old_axioms(self) -> None:
-        """NoAnswer where the options choose no axiom of OLD, which its report says as that of NEW
-        does."""
-        known, words = self.old_axioms, self.new.database.options.axioms
-        if not known or not all(any(each.startswith(word) for each in known) for word in words):
+    def see_axioms(self) -> None:
+        """NoAnswer where the options choose no axiom of OLD or of NEW, as its report says. It isn't
+        asked where all axioms are chosen, and both have one."""
+        options, texts = self.new.database.options, (self.old_text, self.text)
+        is_all = options.only is None and not options.axioms and not options.ignore_definitions
+        if is_all and all(any(one.kind == "a" for one in text.assertions) for text in texts):
+            return
+        known = self.old_axioms
+        if not known or not all(
+            any(each.startswith(word) for each in known) for word in options.axioms
+        ):
             _ = self.old.dependence
 
     @cached_property
@@ -316,7 +308,7 @@ class Comparison:
             wanted.setdefault(statement_of(self.text.by_label[label]), []).append(label)
         formulas = {statement.formula for statement in wanted}
         found: dict[str, str] = {}
-        for one in self.text.assertions if wanted else ():
+        for one in self.new.database.text.assertions if wanted else ():
             if one.formula not in formulas or not self._has_stayed(one):
                 continue
             labels = wanted.get(statement_of(one), [])

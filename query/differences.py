@@ -105,7 +105,7 @@ def coming(old: Database, new: Database) -> Iterator[Callable[[], Differences]]:
     with handed([old.source, new.source]) as (names, passed):
         words = ["--essential"] * options.essential + ["--open"] * options.open
         words += [f"--against={names[0]}", names[1]]
-        running = new.program.running(words, None, True, *map(len, texts), passed=passed)
+        running = new.program.running(words, None, True, sum(map(len, texts)), passed)
         try:
             yield result
         finally:

@@ -141,11 +141,10 @@ class Allowed:
         return system.limiting(self.seconds, None if self.is_node else self.memory)
 
 
-def allowed_for(is_node: bool, *sizes: int) -> Allowed:
-    """What a run over texts of so many bytes may take: what each of them may."""
+def allowed_for(size: int, is_node: bool) -> Allowed:
+    """What a run over so many bytes may take."""
     chosen = limits.chosen()
-    seconds, memory = sum(map(chosen.seconds_for, sizes)), sum(map(chosen.bytes_for, sizes))
-    return Allowed(seconds, memory, is_node)
+    return Allowed(chosen.seconds_for(size), chosen.bytes_for(size), is_node)
 
 
 @dataclass(frozen=True)
@@ -165,13 +164,13 @@ class Program:
         words: list[str],
         given: int | None,
         is_kept: bool,
-        *sizes: int,
+        size: int | None = None,
         passed: Sequence[int] = (),
     ) -> Running:
         """The program while it runs with these words, and an open file as standard input; None for
-        an empty one. It gets the open files `passed` besides. Where it reads texts of so many
-        bytes, by these it is limited."""
-        allowed = allowed_for(self.node is not None, *sizes) if sizes else None
+        an empty one. It gets the open files `passed` besides. Where it reads so many bytes, by
+        these it is limited."""
+        allowed = None if size is None else allowed_for(size, self.node is not None)
         if self.node is None:
             return Running(self.path, words, given, is_kept, passed, None, allowed)
         line = [self.path, *words]

@@ -22,7 +22,7 @@ from query.graph import Graph
 from query.includes import OPENING, new_includes
 from query.introduced import introduced
 from query.remarks import tokens
-from query.standing import OldText
+from query.standing import NewText, OldText, words_of_proof
 from query.text import HEADING_START, Text
 
 DISCOURAGED = re.compile(r"\(New\s+usage\s+is\s+discouraged\.\)")
@@ -78,7 +78,7 @@ class Case:
         return self.comparison.old_text
 
     @property
-    def text(self) -> Text:
+    def text(self) -> NewText:
         """The text of NEW."""
         return self.comparison.text
 
@@ -98,9 +98,24 @@ class Case:
         return Arrivals(self.comparison, watched_axioms(self), self.config)
 
     @cached_property
-    def open(self) -> frozenset[str]:
-        """The theorems of NEW that are left open."""
-        return frozenset(one.label for one in self.text.assertions if one.is_open)
+    def open(self) -> dict[str, None]:
+        """The theorems of NEW that are left open, in file order. Its report isn't asked where no
+        statement has the sign for that."""
+        text = self.text
+        if all(text.data.find(b"?", one.place, one.end) < 0 for one in text.assertions):
+            return {}
+        told = self.new.database.text.assertions
+        return dict.fromkeys(one.label for one in told if one.is_open)
+
+    @cached_property
+    def may_arrive(self) -> bool:
+        """Whether a theorem may have come to rest on a watched axiom: the program tells that it
+        gained one, or it has the label of another one, with which it was compared."""
+        told, watch, was = self.comparison.differences, self.config.watch, self.comparison.to_old
+        if any(one.kind == "p" and one.label in told.gone for one in told.new.values()):
+            return bool(watch)
+        meant = Labels(watch)
+        return any(each in meant or was.get(each, "") in meant for each in self.comparison.gaining)
 
 
 def shown_formula(assertion: Assertion) -> str:
@@ -176,7 +191,7 @@ def reason_of_new(case: Case, axiom: Assertion) -> str:
 def resting(case: Case, axiom: str) -> str:
     """How many theorems rest on an axiom of NEW, as the end of a sentence. For the program it is
     another axiom than in OLD, so it tells of each of them."""
-    count = len(case.new.dependence.users(case.new.dependence.columns[axiom]))
+    count = case.comparison.gaining[axiom]
     rest = "theorems rest" if count > 1 else "theorem rests"
     return f"; {count} {rest} on it" if count else ""
 
@@ -262,6 +277,8 @@ def new(case: Case) -> Iterator[Finding]:
 def arrived(case: Case, rule: str, how: str) -> Iterator[Finding]:
     """What breaks one of these rules: the first theorem for each proof that is the cause, or all
     theorems with all axioms."""
+    if not case.may_arrive:
+        return
     if not case.tells_all:
         for each in case.arrivals.effects(rule):
             others = f" and {more(each.axioms, 'watched axiom')}" if each.axioms else ""
@@ -336,16 +353,19 @@ def promises(text: Text) -> list[tuple[str, str]]:
 def promises_gone(case: Case) -> Iterator[tuple[str, str]]:
     """The theorems and axioms of NEW of which a comment of OLD rightly said that the one avoids the
     other, and none of NEW does."""
-    same, old, columns = case.comparison, case.old_text, case.new.dependence.columns
+    same, gone = case.comparison, case.comparison.differences.gone
     before = dict.fromkeys(promises(case.old_text))
+    rows, columns = (case.new.dependence.rows, case.new.dependence.columns) if before else ({}, {})
     kept = set(promises(case.text)) if before else set()
     for labels in before:
         now = (same.to_new.get(labels[0], ""), same.to_new.get(labels[1], ""))
         if now in kept or not now[0] or now[1] not in columns:
             continue
-        theorem, axiom = (old.by_label[label] for label in labels)
+        is_theorem, is_proved = (
+            gone[label].letter == "p" if label in gone else label in rows for label in labels
+        )
         bit = case.new.dependence.mask_of([columns[now[1]]])
-        if theorem.letter == "p" and axiom.letter != "p" and not same.row_before(labels[0]) & bit:
+        if is_theorem and not is_proved and not same.row_before(labels[0]) & bit:
             yield now
 
 
@@ -480,8 +500,8 @@ class Judge:
 
 def open_theorems(case: Case) -> Iterator[Finding]:
     """A theorem is left open, and isn't allowed."""
-    for label in case.new.dependence.axioms:
-        if label in case.open and not case.config.allows("open", label):
+    for label in case.open:
+        if not case.config.allows("open", label):
             yield case.finding("open", label, "a theorem whose proof is left open")
 
 
@@ -513,10 +533,24 @@ def across_mathboxes(graph: Graph, text: Text) -> Iterator[tuple[str, str, str |
         yield graph.labels[user], graph.labels[each], names.get(user), names[each]
 
 
+def may_cross(text: Text) -> bool:
+    """Whether a proof has the label of an assertion of a mathbox, and isn't in that itself. So
+    otherwise nobody has to be asked what proofs cite."""
+    boxes = {one.label: number for one, number, _ in text.boxed()}
+    first = text.by_label[next(iter(boxes))].number if boxes else len(text.assertions)
+    for one in text.assertions[first:]:
+        inside = boxes.keys() & words_of_proof(text, one) if one.kind == "p" else ()
+        own = boxes.get(one.label)
+        if any(boxes[label] != own for label in inside):
+            return True
+    return False
+
+
 def mathboxes(case: Case) -> Iterator[Finding]:
     """A mathbox is cited from outside it, or no longer has what it had, and that isn't allowed."""
     same = case.comparison
-    for user, cited, box, other in across_mathboxes(case.new.graph, case.text):
+    crossing = across_mathboxes(case.new.graph, case.text) if may_cross(case.text) else ()
+    for user, cited, box, other in crossing:
         if not case.config.allows("mathboxes", user):
             where = f"in the mathbox for {box}, " if box else ""
             reason = f"{where}cites {cited} of the mathbox for {other}"
@@ -575,26 +609,25 @@ def discouraged(case: Case) -> Iterator[Finding]:
             reason = "its comment no longer says `(New usage is discouraged.)`"
             yield case.finding("discouraged", now.label, reason)
     for one in same.touched:
-        before = old.find(same.was(one.label))
-        known = hidden_marks(old, before) if before else []
-        fresh = [mark for mark in hidden_marks(text, one) if mark not in known]
-        for mark in () if case.config.allows("discouraged", one.label) else fresh:
-            reason = f"another comment stands behind that with `{mark}`, so metamath.exe misses it"
-            yield case.finding("discouraged", one.label, reason)
+        for mark in hidden_marks(text, one):
+            before = old.find(same.was(one.label))
+            was_hidden = before is not None and mark in hidden_marks(old, before)
+            if not was_hidden and not case.config.allows("discouraged", one.label):
+                reason = (
+                    f"another comment stands behind that with `{mark}`, so metamath.exe misses it"
+                )
+                yield case.finding("discouraged", one.label, reason)
 
 
 def citations_of_discouraged(case: Case) -> list[tuple[str, str]]:
     """The citations of what is discouraged that OLD may lack, as what cites and what it cites:
     those by and of what the change is about."""
     text, same = case.text, case.comparison
-    users = [one.label for one in same.touched if one.letter == "p"]
-    cited = {user: case.new.cites(user) for user in users}
-    marked = {
-        label
-        for label in frozenset().union(same.differences.new, *cited.values())
-        if is_discouraged(text, text.by_label[label])
-    }
-    found = {(user, label) for user in users for label in cited[user] & marked}
+    words = {one.label: words_of_proof(text, one) for one in same.touched if one.kind == "p"}
+    named = set(same.differences.new).union(*words.values()) & text.by_label.keys()
+    marked = {label for label in named if is_discouraged(text, text.by_label[label])}
+    users = [label for label, named in words.items() if not marked.isdisjoint(named)]
+    found = {(user, label) for user in users for label in case.new.cites(user) & marked}
     fresh = marked & same.differences.new.keys()
     if fresh:
         found.update(citations(case.new.graph, fresh))

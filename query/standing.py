@@ -1,71 +1,118 @@
-"""Where the assertions of OLD stand, whose own report nobody asked for, and what of both texts
-isn't alike.
+"""Where the assertions of two texts stand that the program accepted, and what of both isn't alike.
 
-Which assertions OLD has, and what they say, is known from what the program says of both. Where the
-texts are alike at their beginning, they stand there as those of NEW do. So they do where the texts
-are alike at their end. The program accepted both: if a comment were open in one of them alone, the
-next `$(` or `$)` would be a fault of the one or the other, and so would be the next keyword if a
-statement were. Between the two each `$a` and `$p` that isn't in a comment is the keyword of an
-assertion, since no symbol has a `$`.
+No report is asked for that. No symbol has a `$`, so each `$a` and `$p` that isn't in a comment is
+the keyword of an assertion, whose label is before it. Of OLD only what isn't alike is read so.
+Where the texts begin alike, its assertions stand as those of NEW do. So they do where the texts end
+alike: if a comment were open in one of them alone, the next `$(` or `$)` would be a fault of the
+one or the other, and so would be the next keyword if a statement were.
 """
 
 from __future__ import annotations
 
 import re
 from bisect import bisect_left
+from collections.abc import Iterator
 
 from query.assertions import Assertion, Damaged
 from query.bare import without_comments
 from query.differences import Differences
 from query.text import Text
 
-ASSERTION = re.compile(
-    rb"(?<!\S)([A-Za-z0-9._-]++)\s++\$([ap])(?=\s)[^$]*+(?:\$=[^$]*+)?\$\.(?!\S)"
-)
+WHOLE = rb"(?<!\S)([A-Za-z0-9._-]++)\s++\$([ap])(?=\s)[^$]*+(?:\$=[^$]*+)?\$\.(?!\S)"
+ASSERTION = re.compile(WHOLE)
+NEXT = re.compile(rb"\$\(|" + WHOLE + rb"|\$[ap](?=\s)")
+SIGN = re.compile(rb"\$[(.]")
 
 
-class OldText(Text):
-    """The text of OLD, found beside that of NEW."""
+def places(data: bytes) -> Iterator[tuple[str, str, int, int]]:
+    """Of each assertion the label, the letter of the keyword, and where it begins and ends."""
+    since = place = 0
+    while match := NEXT.search(data, place):
+        place, start = match.end(), 0
+        if match[0] == b"$(":
+            place = data.index(b"$)", place) + 2
+            continue
+        if not match.lastindex:  # a comment stands within the statement
+            place, start = end_of_statement(data, place), since
+            match = ASSERTION.search(without_comments(data[since:place]))
+            if match is None:
+                raise Damaged
+        label, letter = match[1].decode("ascii"), match[2].decode("ascii")
+        yield label, letter, start + match.start(), start + match.end()
+        since = place
 
-    def __init__(self, data: bytes, new: Text, differences: Differences) -> None:
+
+def end_of_statement(data: bytes, place: int) -> int:
+    """Where a statement ends, behind its keyword."""
+    while (match := SIGN.search(data, place)) and match[0] == b"$(":
+        place = data.index(b"$)", match.end()) + 2
+    if match is None:
+        raise Damaged
+    return match.end()
+
+
+class FoundText(Text):
+    """A text, of which the program tells some assertions, by their labels. What others say isn't
+    known."""
+
+    def __init__(self, data: bytes, told: dict[str, Assertion]) -> None:
         super().__init__(data, b"")
+        self.told = told
+
+    def read(self, data: bytes, start: int = 0) -> None:
+        """Adds the assertions of a part of the text, which begins at a place."""
+        for label, letter, place, end in places(data):
+            self.add(label, letter, start + place, start + end)
+
+    def add(self, label: str, letter: str, place: int, end: int) -> None:
+        """Adds an assertion that stands there. Damaged where the program tells another one."""
+        said, known = "", self.told.get(label)
+        if known is not None:
+            if (known.kind, known.place, known.end) != (letter, place, end):
+                raise Damaged
+            letter, said = known.letter, known.said
+        self.assertions.append(Assertion(label, letter, place, end, said, len(self.assertions)))
+
+    def see_all(self, count: int) -> None:
+        """Damaged where there aren't so many assertions, or those that the program tells aren't
+        among them."""
+        if not len(self.assertions) == len(self.by_label) == count:
+            raise Damaged
+        if not self.told.keys() <= self.by_label.keys():
+            raise Damaged
+
+
+class NewText(FoundText):
+    """The text of NEW."""
+
+    def __init__(self, data: bytes, differences: Differences) -> None:
+        super().__init__(data, differences.new)
+        self.read(data)
+        self.see_all(len(self.assertions))
+
+
+class OldText(FoundText):
+    """The text of OLD beside that of NEW. Of both, `between` is what isn't alike, from the end of
+    one assertion to the label of another. `touched` are the assertions there and the next one, for
+    what stands before that may be another comment."""
+
+    def __init__(self, data: bytes, new: NewText, differences: Differences) -> None:
+        super().__init__(data, differences.gone)
         first, after = alike(data, new)
-        see_told(new, differences, first, after)
         start = new.assertions[first - 1].end if first else 0
         stop = new.assertions[after].place if after < len(new.assertions) else len(new.data)
         shift = len(data) - len(new.data)
         self.between = (data[start : stop + shift], new.data[start:stop])
-        """What of both isn't alike, from the end of one assertion to the label of another."""
         self.assertions = new.assertions[:first]
-        for match in ASSERTION.finditer(without_comments(self.between[0])):
-            label = match[1].decode("ascii")
-            same = None if label in differences.new else new.find(label)
-            known = differences.gone.get(label, same)
-            if known is None or known.kind != match[2].decode("ascii"):
-                raise Damaged
-            self.add(known, start + match.start(), start + match.end())
+        self.read(self.between[0], start)
         last = len(self.assertions)
         for one in new.assertions[after:]:
-            known = differences.gone.get(one.label, one)
-            self.add(known, one.place + shift, one.end + shift)
+            self.add(one.label, one.kind, one.place + shift, one.end + shift)
         self.touched = (self.assertions[first : last + 1], new.assertions[first : after + 1])
-        """The assertions of both that stand there, and the next one: what stands before it may be
-        another comment."""
-        count = len(new.assertions) - len(differences.new) + len(differences.gone)
-        if not len(self.assertions) == len(self.by_label) == count:
-            raise Damaged
-
-    def add(self, known: Assertion, place: int, end: int) -> None:
-        """Adds an assertion that stands there."""
-        number = len(self.assertions)
-        self.assertions.append(Assertion(known.label, known.letter, place, end, known.said, number))
-
-
-def see_told(new: Text, differences: Differences, first: int, after: int) -> None:
-    """Damaged where the program tells of an assertion that OLD hasn't its label, and it stands
-    where the texts are alike."""
-    for label in differences.new.keys() - differences.gone.keys():
-        if not first <= new.by_label[label].number < after:
+        self.see_all(len(new.assertions) - len(differences.new) + len(differences.gone))
+        lacking = differences.new.keys() - differences.gone.keys()
+        is_wrong = any(new.by_label[label].number < first for label in differences.new)
+        if is_wrong or not lacking.isdisjoint(self.by_label):
             raise Damaged
 
 
@@ -102,3 +149,12 @@ def common_end(one: bytes, other: bytes, most: int) -> int:
         else:
             high = middle - 1
     return low
+
+
+def words_of_proof(text: Text, one: Assertion) -> list[str]:
+    """Words of a proof, among which are all labels that it cites. In a compressed proof the letters
+    aren't among them."""
+    body = text.data[one.place : one.end]
+    if b"$(" in body:
+        return text.proof(one)
+    return body.partition(b"$=")[2].partition(b")")[0].decode("ascii").split()

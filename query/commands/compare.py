@@ -112,7 +112,8 @@ def compared(context: Context, arguments: argparse.Namespace) -> Comparison:
     words, options = (arguments.old, arguments.new), options_of(arguments)
     if words == ("-", "-"):
         raise NoAnswer("only one of two databases can be the standard input")
-    return side_by_side(*(context.database(word, options) for word in words))
+    old, new = (context.database(word, options) for word in words)
+    return side_by_side(old, new, is_reported=True)
 
 
 def why_empty(arguments: argparse.Namespace, comparison: Comparison, otherwise: str) -> str:

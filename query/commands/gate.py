@@ -150,7 +150,7 @@ def found_in(request: Request, tells_all: bool) -> Iterator[Finding]:
         yield Finding("valid", request.new.name, 0, "", "", reason)
         return
     try:
-        comparison = side_by_side(request.old, request.new)
+        comparison = side_by_side(request.old, request.new, is_reported=False)
     except Refused as refused:
         if refused.source is not request.new.source:
             raise

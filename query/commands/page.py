@@ -88,7 +88,7 @@ def made_page(databases: list[Database], words: list[str]) -> bytes:
         line = [packer(), "page", *words, *(f"--against={path}" for path in others), first]
         node = wanted("node", "pages are made by Node 18 or later, and there is no command node")
         size = sum(len(database.source.data) for database in databases)
-        allowed = allowed_for(True, size)
+        allowed = allowed_for(size, True)
         running = Running(node, line, None, True, passed, without_node(), allowed)
         out, errors, status = running.ended()
     exceeded = running.exceeded(status, len(out))

@@ -6,8 +6,9 @@ import subprocess
 
 from query.assertions import Damaged
 from query.differences import Differences, differences_of
-from query.standing import OldText
+from query.standing import NewText, OldText
 from query.tests.world import SMALL, World, built_program, database_text
+from query.text import Text
 
 AXIOM = "ax-new $a |- ( p -> ( p -> p ) ) $.\n"
 NEWER = SMALL.replace("wi2 $p", AXIOM + "wi2 $p").replace(
@@ -196,8 +197,16 @@ class Read(World):
         self.assertEqual(told("compare", "old.mm", "new.mm"), 1)
 
 
+def standing(text: Text) -> list[tuple[str, str, int, int, int, str]]:
+    """Of each assertion what it is, where it stands, and the comment before it."""
+    return [
+        (one.label, one.kind, one.place, one.end, one.number, text.comment(one))
+        for one in text.assertions
+    ]
+
+
 class Standing(World):
-    """Where the assertions of OLD stand, beside what its own report says."""
+    """Where the assertions of both stand, beside what their own reports say."""
 
     COMMENTS = (
         *("$( a comment $)", "$( x $p |- p $= ? $. $)", "$( $a $)", "$( (New usage) $. ${ $)"),
@@ -242,31 +251,22 @@ class Standing(World):
             except subprocess.CalledProcessError:
                 continue
             tried += 1
-            text = database_text(new.encode())
             differences = differences_of(said, old.encode(), new.encode())
-            found = OldText(old.encode(), text, differences)
-            wanted = database_text(old.encode())
-            self.assertEqual(
-                [
-                    (one.label, one.letter, one.place, one.end, one.number, one.formula)
-                    for one in found.assertions
-                ],
-                [
-                    (one.label, one.letter, one.place, one.end, one.number, one.formula)
-                    for one in wanted.assertions
-                ],
-                f"seed {seed}",
-            )
-            for one, other_one in zip(found.assertions, wanted.assertions):
-                self.assertEqual(found.comment(one), wanted.comment(other_one))
+            after = NewText(new.encode(), differences)
+            before = OldText(old.encode(), after, differences)
+            for found, data in ((before, old), (after, new)):
+                wanted = database_text(data.encode())
+                self.assertEqual(standing(found), standing(wanted), f"seed {seed}")
         self.assertGreater(tried, 40)
 
     def test_an_answer_that_does_not_fit(self) -> None:
         """Of other texts it isn't taken."""
-        text = database_text(NEWER.encode())
         said = said_of(SMALL, NEWER, str(self.folder))
         right = differences_of(said, SMALL.encode(), NEWER.encode())
+        text = NewText(NEWER.encode(), right)
         self.assertEqual(len(OldText(SMALL.encode(), text, right).assertions), 7)
+        with self.assertRaises(Damaged):
+            NewText(SMALL.encode(), right)
         for wrong in (
             Differences(),
             Differences(right.new),

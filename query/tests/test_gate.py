@@ -649,6 +649,44 @@ class Folded(Repositories):
         self.assertEqual(self.found(BASE, new, WATCH), told[:1])
 
 
+class Words(Repositories):
+    """Reports aren't asked for where words of proofs show that they needn't be. Nothing gets past
+    that."""
+
+    def test_a_comment_among_the_labels_of_a_proof(self) -> None:
+        for proof in ("( $( ) $) Ann1 ) ABC", "( Ann1 $( a ) comment $) ) ABC", "( Ann1 ) ABC"):
+            new = BOXES + f"more $p |- ( p -> ( q -> p ) ) $= {proof} $.\n"
+            self.commit(BOXES)
+            told = [line for line in self.gate_of(new, status=1) if "more" in line]
+            why = "more: cites Ann1 of the mathbox for Ann [mathboxes]"
+            self.assertEqual([line.partition(": ")[2] for line in told], [why], proof)
+
+    def test_a_label_that_was_that_of_a_hypothesis(self) -> None:
+        """The text of the theorem that cites is the same."""
+        theorem = "|- ( 2 + 2 ) = 4 $. t $p |- ( 2 + 2 ) = 4 $= foo $. $}\n"
+        mark = "$( (New usage is discouraged.) $)\n"
+        self.commit(BASE + "${ foo $e " + theorem)
+        new = BASE + mark + "foo $p |- ( 2 + 2 ) = 4 $= df-4 $.\n${ bar $e " + theorem
+        told = "t: cites foo, whose new usage is discouraged [discouraged]"
+        self.assertEqual([each.partition(": ")[2] for each in self.gate_of(new, status=1)], [told])
+
+    def test_a_mark_that_goes_with_a_statement_that_is_renamed(self) -> None:
+        mark = "$( (New usage is discouraged.) $)\n"
+        old = changed(BASE, ("free $p", f"{mark}free $p"))
+        self.commit(old)
+        self.assertEqual(self.gate_of(old.replace("free", "free1"), status=0), [])
+        told = "free1: its comment no longer says `(New usage is discouraged.)` [discouraged]"
+        lines = self.gate_of(BASE.replace("free", "free1"), status=1)
+        self.assertEqual([each.partition(": ")[2] for each in lines], [told])
+
+    def test_a_comment_within_each_statement(self) -> None:
+        """Where they stand is found all the same."""
+        new = BASE.replace(" $p ", " $( $p x $. $) $p $( y $= $. $) ")
+        self.assertEqual(self.gate_of(new, status=0), [])
+        lines = self.gate_of(new + "todo $p |- p $= $( a $) ? $.\n", status=1)
+        self.assertEqual(lines, ["db.mm:16: todo: a theorem whose proof is left open [open]"])
+
+
 class Outputs(Repositories):
     """The forms of the answer."""
 

@@ -158,7 +158,11 @@ class Lacking(World):
         """Nothing is at `/proc` and at `/dev/fd`, for any program."""
         start = ["unshare", "--mount", "--map-root-user", "sh", "-c"]
         line = 'mount -t tmpfs none /proc && [ ! -e /dev/fd/0 ] && exec "$@"'
-        for words in (["rests", "db.mm", "a2"], ["page", "--against", "HEAD:db.mm", "newer.mm"]):
+        for words in (
+            ["rests", "db.mm", "a2"],
+            ["compare", "--no-cache", "HEAD:db.mm", "newer.mm"],
+            ["page", "--against", "HEAD:db.mm", "newer.mm"],
+        ):
             if words[0] == "page" and not PROGRAM_FOR_NODE.exists():
                 continue
             whole = self.query(*words)
