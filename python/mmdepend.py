@@ -24,6 +24,12 @@ from typing import Literal
 
 __all__ = ["FAULTS", "PARTS", "Refused", "Report", "against", "report", "version"]
 
+
+def __dir__() -> list[str]:
+    """The names that are promised, without those of the modules on which this one stands."""
+    return sorted(__all__)
+
+
 # The parts of a report by their names, each with its bit. `all` are the first three of the others.
 PARTS = {"all": 7, "matrix": 1, "counts": 2, "usage": 4, "citations": 8, "statements": 16}
 USAGE = PARTS["usage"]

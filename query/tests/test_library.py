@@ -25,6 +25,16 @@ def module() -> ModuleType:
     return found
 
 
+class Names(unittest.TestCase):
+    """What the module shows of itself."""
+
+    def test_only_what_is_promised(self) -> None:
+        found = module()
+        self.assertEqual(dir(found), sorted(found.__all__))
+        for name in found.__all__:
+            self.assertTrue(hasattr(found, name), name)
+
+
 class Room(unittest.TestCase):
     """A library that needs so many bytes of room, and writes so many."""
 
