@@ -54,10 +54,11 @@ off. The status is 1 where
   valid        the database is refused, or compressed
 
 unless mmdepend.toml allows it. Which statements came in and went, and which theorems rest on more,
-is what `mmdepend --against` says, whose answer is proved. An mmdepend.toml that is brought judges as well. Each line has file,
-line, label, reason and rule; the last line says what was compared. What one changed proof does to
-many theorems is one finding, and at most 1000 are told; --all tells each theorem, and all of them.
---format github writes annotations, and --format log what no server takes for a command.
+is what `mmdepend --against` says, whose answer is proved. An mmdepend.toml that is brought judges
+as well. Each line has file, line, label, reason and rule; the last line says what was compared.
+What one changed proof does to many theorems is one finding, and at most 1000 are told; --all tells
+each theorem, and all of them. --format github writes annotations, and --format log what no server
+takes for a command.
 
   $ mmquery gate --base origin/main set.mm
 """
