@@ -126,6 +126,22 @@ class Agreement(World):
         names = {"renamed", "changed", "new", "gone", "gained", "lost", "to_old", "refused"}
         self.assertLessEqual(names, set(seen))
 
+    def test_what_is_meant_to_differ(self) -> None:
+        """Hypotheses of another order are another frame now, also where those of each kind alone
+        have theirs; and so what has another label too isn't taken for renamed."""
+        head = "$c |- wff a $. $v p q $. "
+        forms = ("wp $f wff p $. ", "wq $f wff q $. ", "e $e |- p $. ")
+        axiom = "${{ {}{}{}ax $a |- a p q $. $}}\n"
+        old = head + axiom.format(*forms)
+        for order in ((1, 0, 2), (0, 2, 1)):
+            new = head + axiom.format(*(forms[number] for number in order))
+            now, before = both(self.folder, old, new, ALL)
+            self.assertEqual((now.pop("changed"), before.pop("changed")), (["ax"], []))
+            self.assertEqual(now, before)
+            now, before = both(self.folder, old, new.replace("ax ", "bx "), ALL)
+            self.assertEqual((now["renamed"], before["renamed"]), ({}, {"bx": "ax"}))
+            self.assertEqual((now["new"], now["gone"]), (["bx"], ["ax"]))
+
     def check_versions(self, name: str) -> None:
         """Compares a database of Debian's with one in which it is changed in several ways."""
         path = DATABASES / f"{name}.mm"
