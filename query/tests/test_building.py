@@ -31,7 +31,7 @@ class Missing(World):
 
     def fails(self, *words: str, why: str, **more: str) -> None:
         """A command says what is missing, and calls nothing."""
-        done = self.ran(*words, PATH=str(self.commands), **more)
+        done = self.ran(*words, given=b"", PATH=str(self.commands), **more)
         self.assertNotEqual(done.status, 0)
         self.assertIn(why, done.err)
         self.assertEqual(os.listdir(self.folder), [], done.err)
