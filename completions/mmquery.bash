@@ -5,10 +5,10 @@ _mmquery() {
     if [ "$word" = = ]; then word=; elif [ "$before" = = ]; then
         before=${COMP_WORDS[COMP_CWORD - 2]}; fi
     if [ "$COMP_CWORD" -eq 1 ]; then
-        words='verify rests falls cites cited-by uncited why way-out frees spare repeats top sets within same compare review history gate chapters proofs order unfinished discouraged mathboxes definitions equivalents needs move graph picture page set-proof export cache --help --version'
+        words='verify rests falls cites cited-by uncited why way-out frees spare repeats top sets within same compare review history gate chapters proofs order unfinished discouraged mathboxes definitions equivalents search needs move graph picture page set-proof export cache --help --version'
     else
         case ${COMP_WORDS[1]}:$before in
-            verify:--format | rests:--format | falls:--format | cites:--format | cited-by:--format | uncited:--format | why:--format | way-out:--format | frees:--format | spare:--format | repeats:--format | top:--format | sets:--format | within:--format | same:--format | compare:--format | history:--format | chapters:--format | proofs:--format | order:--format | unfinished:--format | discouraged:--format | mathboxes:--format | equivalents:--format | needs:--format | move:--format | export:--format | cache:--format) words='text tsv csv json' ;;
+            verify:--format | rests:--format | falls:--format | cites:--format | cited-by:--format | uncited:--format | why:--format | way-out:--format | frees:--format | spare:--format | repeats:--format | top:--format | sets:--format | within:--format | same:--format | compare:--format | history:--format | chapters:--format | proofs:--format | order:--format | unfinished:--format | discouraged:--format | mathboxes:--format | equivalents:--format | search:--format | needs:--format | move:--format | export:--format | cache:--format) words='text tsv csv json' ;;
             review:--format) words='text tsv csv json markdown' ;;
             gate:--format) words='text log json github markdown' ;;
             definitions:--format) words='text tsv csv json github' ;;
@@ -44,7 +44,8 @@ _mmquery() {
                     mathboxes:-*) words='--essential --open --format --before --main --mathbox --under --like --not --among --no-cache --limit-time --limit-memory -h --help' ;;
                     definitions:-*) words='--trust --equality --basis --expand --without --essential --open --format --before --main --mathbox --under --like --not --among --no-cache --limit-time --limit-memory -h --help' ;;
                     equivalents:-*) words='--only --all --axioms --ignore-definitions --essential --open --format --no-cache --limit-time --limit-memory -h --help' ;;
-                    needs:-*) words='--tree --format --before --main --mathbox --under --like --not --among --no-cache --limit-time --limit-memory -h --help' ;;
+                    search:-*) words='--open --format --before --main --mathbox --under --like --not --among --no-cache --limit-time --limit-memory -h --help' ;;
+                    needs:-*) words='--tree --open --format --before --main --mathbox --under --like --not --among --no-cache --limit-time --limit-memory -h --help' ;;
                     move:-*) words='--to --format --no-cache --limit-time --limit-memory -h --help' ;;
                     graph:-*) words='--as --depth --through --landmarks --essential --open --no-cache --limit-time --limit-memory -h --help' ;;
                     picture:-*) words='--png --svg --across --down --only --all --axioms --ignore-definitions --essential --open --no-cache --limit-time --limit-memory -h --help' ;;

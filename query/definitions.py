@@ -10,7 +10,7 @@ which it follows, which are those of `CONDITIONS`, and the proof.
 from __future__ import annotations
 
 from bisect import bisect_right
-from collections.abc import Collection, Iterator, Mapping, Sequence
+from collections.abc import Collection, Iterable, Iterator, Mapping, Sequence
 from dataclasses import dataclass, field, replace
 
 from query.ambiguity import Ambiguity, ambiguity
@@ -575,6 +575,15 @@ def read_as(one: Assertion) -> tuple[list[str], dict[str, str]]:
     floating = (each.formula for each in one.frame().hypotheses() if each.kind == "f")
     variables = {name: kind for kind, _, name in (each.partition(" ") for each in floating)}
     return one.formula.split(" ")[1:], variables
+
+
+def syntax_of(assertions: Iterable[Assertion]) -> Grammar:
+    """The grammar of all axioms but those of typecode `|-`."""
+    grammar = Grammar()
+    for one in assertions:
+        if one.letter == "a" and one.typecode != PROVABLE:
+            grammar.add(one.label, one.typecode, *read_as(one))
+    return grammar
 
 
 def parts_within(tree: Tree, root: Part, variables: bool = False) -> Iterator[Part]:

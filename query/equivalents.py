@@ -18,10 +18,10 @@ from dataclasses import dataclass
 
 from query import progress
 from query.assertions import Assertion
-from query.definitions import read_as
+from query.definitions import read_as, syntax_of
 from query.equality import PROVABLE, WFF
 from query.errors import NoAnswer
-from query.grammar import Grammar, NotRead, Part, Tree
+from query.grammar import NotRead, Part, Tree
 
 Pairs = frozenset[frozenset[int]]
 """Pairs of variables that are distinct, by their numbers in a statement."""
@@ -86,16 +86,14 @@ class Logic:
     each form that may be put before a statement and taken away the part that is left, and both
     rules."""
 
-    def __init__(self, assertions: Iterable[Assertion]) -> None:
-        self.grammar = Grammar()
+    def __init__(self, assertions: Sequence[Assertion]) -> None:
+        self.grammar = syntax_of(assertions)
         self.detaching: dict[str, dict[int, str]] = {}
         self.opened: dict[str, tuple[int, frozenset[str]]] = {}
         closing: dict[tuple[str, int], str] = {}
         opening: dict[tuple[str, int], str] = {}
         for one in assertions:
             if one.typecode != PROVABLE:
-                if one.letter == "a":
-                    self.grammar.add(one.label, one.typecode, *read_as(one))
                 continue
             frame = one.frame()
             given = [each.formula for each in frame.hypotheses() if each.kind == "e"]
@@ -204,7 +202,7 @@ class Links:
 
     def __init__(self, assertions: Sequence[Assertion], free: Sequence[bool]) -> None:
         self.free = free
-        self.logic = Logic(one for one in assertions if free[one.number])
+        self.logic = Logic([one for one in assertions if free[one.number]])
         self.all: list[Shaped] = []
         self.by_symbol: dict[str, list[Shaped]] = {}
         for one in assertions:

@@ -65,6 +65,7 @@ INDEX: dict[str, tuple[str, str]] = {
     "mathboxes": ("structure", "citations of a mathbox from outside it"),
     "definitions": ("definitions", "whether definitions add nothing but names, and if not, why"),
     "equivalents": ("equivalents", "which statements give AX back, with the theorems that say so"),
+    "search": ("search", "which formulas have a pattern, by what may stand for its variables"),
     "needs": ("definitions", "the definitions under the symbols of a statement"),
     "move": ("moving", "what has to go along where THEOREM is moved"),
     "graph": ("graphs", "the citations as DOT, GraphML or a list of edges"),

@@ -24,7 +24,13 @@ from query.errors import NoAnswer, shown
 from query.findings import escaped
 from query.grounds import BEGINNING
 from query.needs import Needs
-from query.options import Parser, add_choice_of_citations, add_database, options_of
+from query.options import (
+    Parser,
+    add_choice_of_citations,
+    add_database,
+    add_open,
+    options_of,
+)
 from query.output import Value
 from query.unfolding import statement, without
 
@@ -187,6 +193,7 @@ def configure_needs(parser: Parser) -> None:
     add_database(parser)
     parser.add_argument("label", metavar="LABEL")
     parser.flag("--tree", "as a tree")
+    add_open(parser)
 
 
 def run_needs(context: Context, arguments: argparse.Namespace) -> int:

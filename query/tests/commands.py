@@ -49,6 +49,7 @@ WORDS: dict[str, tuple[str, ...]] = {
     "mathboxes": ("DB",),
     "definitions": ("DB",),
     "equivalents": ("DB", "ax-1"),
+    "search": ("DB", "( p ->"),
     "needs": ("DB", "a2"),
     "move": ("DB", "a2", "--to", "a1i"),
     "graph": ("DB", "a2"),

@@ -1,0 +1,54 @@
+"""`search`: statements by their formulas."""
+
+import argparse
+
+from query.commands import Command
+from query.context import Context
+from query.options import Options, Parser, add_database, add_open
+from query.output import Value
+from query.searching import Searcher, pattern_of
+
+PAGE = """
+Lists in file order the formulas that have each PATTERN: symbols as they are typed, of a whole
+formula or of a part. A constant stands for itself. A variable stands for anything that may be put
+in its place, the same wherever it stands: `A ~~ B ->` finds `( ( A u. B ) ~~ C -> ph )`. In double
+quotes, as in '"A ~~ B ->"', a variable stands for itself, too. One that begins with - goes behind
+--, after which nothing is an option.
+
+label    that of the axiom or theorem
+given    the label of the $e whose formula it is; nothing where it is that of the statement
+formula  the formula
+
+  $ mmquery search set.mm 'A ~~ B ->' --main
+  $ mmquery search set.mm '"|- -. -. ph"'
+  $ mmquery search -- set.mm '-. A = B'
+"""
+UNREAD = "{} formulas aren't read by the syntax axioms, so less may be found; the first is of {}"
+GIVEN_UP = "of {} formulas it takes too long to say whether they have it; the first is of {}"
+COLUMNS = ("label", "given", "formula")
+
+
+def configure(parser: Parser) -> None:
+    """Adds the words and options."""
+    add_database(parser)
+    parser.add_argument("patterns", metavar="PATTERN", nargs="+")
+    add_open(parser)
+
+
+def run(context: Context, arguments: argparse.Namespace) -> int:
+    """Answers."""
+    database = context.database(arguments.database, Options(open=arguments.open))
+    text = database.text
+    patterns = [pattern_of(text, database.name, word) for word in arguments.patterns]
+    passes = context.test()
+    searcher = Searcher([one for one in text.assertions if passes(one.label)], text.assertions)
+    rows: list[list[Value]] = []
+    for hit in searcher.hits(patterns):
+        rows.append([hit.one.label, hit.given, hit.formula])
+    why = f"{database.name}: no formula has that"
+    remarks = {UNREAD: searcher.unread, GIVEN_UP: searcher.given_up}
+    context.table(COLUMNS, rows, why, remarks=remarks)
+    return 0
+
+
+COMMANDS = [Command("search", PAGE, configure, run, lists=True)]

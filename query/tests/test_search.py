@@ -1,0 +1,161 @@
+"""`search`, against all that may be put in place of variables, and against metamath.exe."""
+
+import itertools
+import random
+import re
+import shutil
+import unittest
+from collections.abc import Iterator, Sequence
+
+from query.tests import metamath
+from query.tests.test_equivalents import BASE, NAMES
+from query.tests.world import DATABASES, SMALL, World
+
+WFFS = ("ph", "ps")
+
+
+def formula(chance: random.Random, depth: int) -> str:
+    """A formula made by chance."""
+    if depth == 0:
+        names = chance.choices(NAMES[:3], k=2)
+        return chance.choice([f"R {names[0]} {names[1]}", f"Q {names[0]}", "Foo", "ph", "ps"])
+    one, other = (formula(chance, depth - 1) for _ in range(2))
+    quantified = f"A. {chance.choice(NAMES[:3])} {one}"
+    return chance.choice([f"( {one} -> {other} )", f"( {one} <-> {other} )", quantified])
+
+
+def end_of(words: Sequence[str], place: int) -> int | None:
+    """Where the formula ends that begins at a place; None where none does."""
+    word = words[place] if place < len(words) else ""
+    if word in (*WFFS, "Foo"):
+        return place + 1
+    if word in ("R", "Q"):
+        last = place + (3 if word == "R" else 2)
+        return last if last <= len(words) and {*words[place + 1 : last]} <= {*NAMES} else None
+    if word == "A." and place + 1 < len(words) and words[place + 1] in NAMES:
+        return end_of(words, place + 2)
+    middle = end_of(words, place + 1) if word == "(" else None
+    if middle is None or middle >= len(words) or words[middle] not in ("->", "<->"):
+        return None
+    end = end_of(words, middle + 1)
+    return end + 1 if end is not None and end < len(words) and words[end] == ")" else None
+
+
+def is_formula(words: Sequence[str]) -> bool:
+    """Whether symbols are a formula."""
+    return end_of(words, 0) == len(words)
+
+
+def ways(pattern: Sequence[str], words: Sequence[str]) -> Iterator[dict[str, tuple[str, ...]]]:
+    """The ways to put something in place of the variables of a pattern so that it becomes these
+    symbols, by all ways to cut them."""
+    if not pattern:
+        if not words:
+            yield {}
+        return
+    for end in range(1, len(words) + 1):
+        head = tuple(words[:end])
+        if pattern[0] in WFFS:
+            fits = is_formula(head)
+        elif pattern[0] in NAMES:
+            fits = end == 1 and head[0] in NAMES
+        else:
+            fits = head == (pattern[0],)
+        if fits:
+            for way in ways(pattern[1:], words[end:]):
+                if pattern[0] not in (*WFFS, *NAMES) or way.get(pattern[0], head) == head:
+                    yield {**way, pattern[0]: head}
+
+
+def has(pattern: Sequence[str], words: Sequence[str]) -> bool:
+    """Whether a formula has a pattern, by all its stretches."""
+    stretches = itertools.combinations(range(len(words) + 1), 2)
+    return any(any(ways(pattern, words[start:end])) for start, end in stretches)
+
+
+class Searched(World):
+    """What is found."""
+
+    def found(self, *words: str) -> list[tuple[object, object]]:
+        """The labels and the `$e` of an answer."""
+        done = self.query("search", "--format=json", *words)
+        self.assertEqual(done.status, 0, done.err)
+        self.assertEqual(done.err != "", done.out == "[]\n")
+        return [(row["label"], row["given"]) for row in done.rows()]
+
+    def test_by_chance(self) -> None:
+        tried = 0
+        for seed in range(6):
+            chance = random.Random(seed)
+            said = {f"t{number}": formula(chance, 3) for number in range(12)}
+            given = {f"t{number}": formula(chance, 2) for number in range(0, 12, 4)}
+            lines = [BASE]
+            for label, each in said.items():
+                before = f"{label}.h $e |- {given[label]} $. " if label in given else ""
+                lines.append(f"${{ {before}{label} $a |- {each} $. $}}\n")
+            self.write("db.mm", "".join(lines))
+            formulas = [
+                (label, which, ["|-", *each.split()])
+                for label, one in said.items()
+                for which, each in ((None, one), (f"{label}.h", given.get(label)))
+                if each is not None
+            ]
+            for _ in range(8):
+                words = ["|-", *formula(chance, chance.choice([1, 2])).split()]
+                start = chance.randrange(len(words) - 1)
+                pattern = words[start : start + chance.randint(1, 7)]
+                wanted = [(label, which) for label, which, each in formulas if has(pattern, each)]
+                found = self.found("--like=t*", "--", "db.mm", " ".join(pattern))
+                self.assertEqual(found, wanted, (pattern, formulas))
+                tried += 0 < len(wanted) < len(formulas)
+                text = " ".join(pattern)
+                wanted = [
+                    (label, which)
+                    for label, which, each in formulas
+                    if f" {text} " in f" {' '.join(each)} "
+                ]
+                self.assertEqual(self.found("db.mm", f'"{text}"', "--like=t*"), wanted)
+        self.assertGreater(tried, 12)
+
+    def test_by_hand(self) -> None:
+        self.write("small.mm", SMALL)
+        self.assertEqual(self.found("small.mm", "( p -> q ) )"), [("ax-1", None), ("wi2", None),
+                         ("ax1", None), ("a2", None)])  # fmt: skip
+        self.assertEqual(self.found("small.mm", '"|- p"'), [("ax-mp", "min"), ("a1i", "h"),
+                         ("a2", "g")])  # fmt: skip
+        several = self.found("small.mm", "( p -> ( q -> p ) )", "|-")
+        self.assertEqual(several, [("ax-1", None), ("ax1", None)])
+        self.assertEqual(self.found("small.mm", "( p -> ( p ->"), [("a2", None)])
+        self.assertEqual(self.found("small.mm", "( p -> ( p -> ( p"), [])
+        self.assertEqual(self.found("small.mm", "wff q"), [("wi", None), ("wi2", None)])
+        self.refuses("search", "small.mm", "-> p", why="there is no option")
+        self.assertIn(("a1i", None), self.found("--", "small.mm", "-> p"))
+        self.refuses("search", "small.mm", "( p <-> q )", why="no statement has the symbol '<->'")
+        self.refuses("search", "small.mm", '""', why="wants at least one symbol")
+        self.refuses("search", "small.mm", "  ", why="wants at least one symbol")
+        self.write("report", self.report("small.mm"))
+        self.refuses("search", "report", "p")
+
+    def test_what_is_not_read(self) -> None:
+        """Of a formula without a tree only variables are parts."""
+        self.write("db.mm", SMALL + "odd $a |- ( p q $.\n")
+        done = self.query("search", "db.mm", "( p q", "--format=tsv")
+        self.assertEqual(done.lines()[1:], ["odd\t\t|- ( p q"])
+        self.assertIn("1 formulas aren't read", done.err)
+
+    @unittest.skipUnless(shutil.which("metamath"), "there is no metamath.exe")
+    @unittest.skipUnless((DATABASES / "iset.mm").exists(), "there is no iset.mm")
+    def test_metamath(self) -> None:
+        """Text in quotes, as metamath.exe finds it in statements."""
+        path = DATABASES / "iset.mm"
+        for text in ("A ~~ B ->", "|- ( ph -> ( ph", "E! x A. y"):
+            (said,) = metamath.asked(path, [f'search * "{text}"'])
+            wanted = re.findall(r"^\d+ (\S+) \$[ap]", said, re.M)
+            rows = self.query("search", str(path), f'"{text}"', "--format=json").rows()
+            found = [row["label"] for row in rows if row["given"] is None]
+            self.assertEqual(found, wanted, text)
+            self.assertTrue(wanted, text)
+
+
+if __name__ == "__main__":
+    unittest.main()
