@@ -626,9 +626,14 @@ def citations_of_discouraged(case: Case) -> list[tuple[str, str]]:
     words = {one.label: words_of_proof(text, one) for one in same.touched if one.kind == "p"}
     named = set(same.differences.new).union(*words.values()) & text.by_label.keys()
     marked = {label for label in named if is_discouraged(text, text.by_label[label])}
-    users = [label for label, named in words.items() if not marked.isdisjoint(named)]
-    found = {(user, label) for user in users for label in case.new.cites(user) & marked}
     fresh = marked & same.differences.new.keys()
+    users = [
+        label
+        for label, named in words.items()
+        if not marked.isdisjoint(named)
+        and not (same.is_proved_alike(label) and fresh.isdisjoint(named))
+    ]
+    found = {(user, label) for user in users for label in case.new.cites(user) & marked}
     if fresh:
         found.update(citations(case.new.graph, fresh))
     numbers = {label: one.number for label, one in text.by_label.items()} if found else {}

@@ -93,8 +93,8 @@ class NewText(FoundText):
 
 class OldText(FoundText):
     """The text of OLD beside that of NEW. Of both, `between` is what isn't alike, from the end of
-    one assertion to the label of another. `touched` are the assertions there and the next one, for
-    what stands before that may be another comment."""
+    one assertion to the label of another, and `touched` are the assertions whose statement is
+    another one there, or what stands before it, such as a comment."""
 
     def __init__(self, data: bytes, new: NewText, differences: Differences) -> None:
         super().__init__(data, differences.gone)
@@ -108,12 +108,28 @@ class OldText(FoundText):
         last = len(self.assertions)
         for one in new.assertions[after:]:
             self.add(one.label, one.kind, one.place + shift, one.end + shift)
-        self.touched = (self.assertions[first : last + 1], new.assertions[first : after + 1])
+        inside = (self.assertions[first : last + 1], new.assertions[first : after + 1])
+        self.touched = (lacking_in(new, self, inside[0]), lacking_in(self, new, inside[1]))
         self.see_all(len(new.assertions) - len(differences.new) + len(differences.gone))
         lacking = differences.new.keys() - differences.gone.keys()
         is_wrong = any(new.by_label[label].number < first for label in differences.new)
         if is_wrong or not lacking.isdisjoint(self.by_label):
             raise Damaged
+
+
+def stretch(text: Text, one: Assertion) -> bytes:
+    """A text from the end of the assertion before one to the end of this."""
+    return text.data[text.assertions[one.number - 1].end if one.number else 0 : one.end]
+
+
+def lacking_in(other: Text, text: Text, some: list[Assertion]) -> list[Assertion]:
+    """Those of some assertions of a text that don't stand in another one under their label with the
+    same bytes, and with the same ones before them."""
+    return [
+        one
+        for one in some
+        if (same := other.find(one.label)) is None or stretch(other, same) != stretch(text, one)
+    ]
 
 
 def alike(old: bytes, new: Text) -> tuple[int, int]:
