@@ -1,3 +1,4 @@
 pub mod BoundsLaw
 pub mod PairsLaw
 pub mod FindLaw
+pub mod FramesLaw

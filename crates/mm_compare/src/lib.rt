@@ -5,6 +5,7 @@
 #![tactic(auto)]
 
 mod assertions;
+mod frames;
 mod hypotheses;
 mod only_in;
 mod pairs;

@@ -8,6 +8,7 @@ ghost use Rattle.mm_spec.specs.Scope.{statement_at};
 ghost use Rattle.mm_spec.specs.Citation.{is_assertion};
 ghost use Rattle.mm_spec.specs.Assertion.{is_told, is_axiom_at, label_at};
 ghost use Rattle.mm_spec.specs.Comparison.{is_same, is_same_kind, is_there, is_only_in, only_in};
+ghost use Rattle.mm_compare.specs.Frames.{AreKnown};
 ghost use Rattle.mm_compare.specs.Sides.{side_of, IsTheSame};
 
 use crate::assertions::says_same;
@@ -62,14 +63,17 @@ fn is_same_kind<D: Allocator, E: Allocator>(
 }
 
 /// Returns the statement of the other that is this assertion: it has its label, is of its kind, and
-/// says the same. `None` if the other hasn't it.
+/// says the same. `None` if the other hasn't it. `known` is that of [`says_same`].
 pub fn find_same<D: Allocator, E: Allocator>(
     database: &Database<'_, D>,
     k: u32,
     other: &Database<'_, E>,
+    known: &mut Option<(u32, u32)>,
 ) -> Option<u32>
     requires k_lt_length { k < length database.now.statements }
     requires is_assertion { list_any is_assertion (statement_at database.now.statements k) ≡ true }
+    requires are_known { AreKnown database.now.statements other.now.statements known.old }
+    ensures are_known { AreKnown database.now.statements other.now.statements known.new }
     ensures is_the_same { IsTheSame (side_of database.now) k (side_of other.now) result }
     ensures is_below_length { IfSome result (λ j. j < length other.now.statements) }
 {
@@ -78,7 +82,7 @@ pub fn find_same<D: Allocator, E: Allocator>(
     };
     if is_assertion(other, j)
         && is_same_kind(database, k, other, j)
-        && says_same(database, k, other, j)
+        && says_same(database, k, other, j, known)
     {
         Some(j)
     } else {
@@ -86,17 +90,20 @@ pub fn find_same<D: Allocator, E: Allocator>(
     }
 }
 
-/// Whether the other has an assertion.
+/// Whether the other has an assertion. `known` is that of [`says_same`].
 fn is_there<D: Allocator, E: Allocator>(
     database: &Database<'_, D>,
     k: u32,
     other: &Database<'_, E>,
+    known: &mut Option<(u32, u32)>,
 ) -> bool
     requires k_lt_length { k < length database.now.statements }
     requires is_assertion { list_any is_assertion (statement_at database.now.statements k) ≡ true }
-    ensures { result ≡ is_there (side_of database.now) k (side_of other.now) }
+    requires are_known { AreKnown database.now.statements other.now.statements known.old }
+    ensures are_known { AreKnown database.now.statements other.now.statements known.new }
+    ensures is_there { result ≡ is_there (side_of database.now) k (side_of other.now) }
 {
-    find_same(database, k, other).is_some()
+    find_same(database, k, other, known).is_some()
 }
 
 /// Whether a statement has a line: it is an assertion, and has the typecode if one is chosen.
@@ -110,18 +117,21 @@ fn is_told<D: Allocator>(database: &Database<'_, D>, only: Option<&[u8]>, statem
 }
 
 /// Whether a statement is an assertion that the other hasn't, and has the typecode if one is
-/// chosen.
+/// chosen. `known` is that of [`says_same`].
 fn is_only_in<D: Allocator, E: Allocator>(
     database: &Database<'_, D>,
     only: Option<&[u8]>,
     other: &Database<'_, E>,
     k: u32,
+    known: &mut Option<(u32, u32)>,
 ) -> bool
-    requires { k < length database.now.statements }
-    ensures { result
+    requires k_lt_length { k < length database.now.statements }
+    requires are_known { AreKnown database.now.statements other.now.statements known.old }
+    ensures are_known { AreKnown database.now.statements other.now.statements known.new }
+    ensures is_only_in { result
         ≡ is_only_in (side_of database.now) (option_copied only.entry) (side_of other.now) k }
 {
-    is_told(database, only, k) && !is_there(database, k, other)
+    is_told(database, only, k) && !is_there(database, k, other, known)
 }
 
 /// Lists the assertions that the other hasn't, or those of them that have the typecode if one is
@@ -137,8 +147,9 @@ pub fn list_only_in<A: Allocator, D: Allocator, E: Allocator>(
         ≡ only_in (side_of database.now) (option_copied only.entry) (side_of other.now)) }
 {
     let mut listed = Vec::new(alloc);
+    let mut known = None;
     for k in 0..database.len() {
-        if is_only_in(database, only, other, k) {
+        if is_only_in(database, only, other, k, &mut known) {
             listed.push(k)?;
         }
     }

@@ -8,7 +8,7 @@ use mm_database::{Database, Sym};
 use std::alloc::Allocator;
 
 /// Whether a symbol of the one has the name of a symbol of the other.
-fn has_same_name<D: Allocator, E: Allocator>(
+pub(crate) fn has_same_name<D: Allocator, E: Allocator>(
     database: &Database<'_, D>,
     x: Sym,
     other: &Database<'_, E>,

@@ -165,6 +165,18 @@ module _ {A : Type 0} (fs : List (Frame A)) where
             ∙ ap (option_map mandatory_in) (slice_get_past fs p length_le))))
       ]
 
+  -- two statements with one index have one frame
+  pub frame_of_same_index : (ps : List ℕ) (i j p q : ℕ)
+      → IsSome (get_or (frames_at fs ps) i None) → IsSome (get_or (frames_at fs ps) j None)
+      → p ≡ get_or ps i p → q ≡ get_or ps j q → p ≡ q
+      → get_or (frames_at fs ps) i None ≡ get_or (frames_at fs ps) j None
+  frame_of_same_index ps i j p q i_has_frame j_has_frame p_is_index q_is_index same =
+      let i_lt = frame_index_lt_length ps i i_has_frame in
+      let j_lt = frame_index_lt_length ps j j_has_frame in
+      let frame_by = λ (r : ℕ). option_map mandatory_in (slice_get fs r) in
+      get_or-map frame_by ps i p None i_lt ∙ ap frame_by (sym p_is_index ∙ same ∙ q_is_index)
+      ∙ sym (get_or-map frame_by ps j q None j_lt)
+
 -- a shifted index is that of one of the frames of both lists, or `never`
 shifted_index_known : (m n q : ℕ) → (q < n) ⊎ (q ≡ never)
     → (shifted_index m q < m + n) ⊎ (shifted_index m q ≡ never)

@@ -266,6 +266,23 @@ impl<'a, A: Allocator> Database<'a, A> {
         self.tables.frame_tables.frames.of(assertion)
     }
 
+    /// Whether two assertions share a frame: they have the same mandatory hypotheses and pairs of
+    /// disjoint variables. Others may have the same ones too.
+    pub fn share_frame(&self, one: u32, other: u32) -> bool
+        requires one_is_assertion { list_any is_assertion (statement_at self.now.statements one)
+            ≡ true }
+        requires other_is_assertion { list_any is_assertion
+            (statement_at self.now.statements other) ≡ true }
+        ensures same_hypotheses { result ≡ true
+            → mandatory_hypotheses self.now.statements one
+            ≡ mandatory_hypotheses self.now.statements other }
+        ensures same_pairs { result ≡ true
+            → mandatory_pairs self.now.statements one
+            ≡ mandatory_pairs self.now.statements other }
+    {
+        self.tables.frame_tables.frames.are_shared(one, other)
+    }
+
     /// Whether a `$d` that is active at the statement, or at the end, has both variables. Always
     /// false for a variable and itself.
     pub fn disjoint_at(&self, statement: u32, x: Sym, y: Sym) -> bool

@@ -1,7 +1,7 @@
 //! What is kept beside the statements: the frames of the assertions, and the `$d` by variables.
 
 ghost use Rattle.std.specs.Prelude.{◌≡◌, ◌≢◌, ◌<◌, ◌+◌, ◌^◌, ◌++◌, ◌∷◌, [], Some, None};
-ghost use Rattle.std.specs.Prelude.{IfOk, OnOk, IsSome, get_or, length};
+ghost use Rattle.std.specs.Prelude.{IfOk, OnOk, IsSome, get_or, length, true};
 ghost use Rattle.mm_database.specs.Frames.{mandatory_in, shifted_index};
 ghost use Rattle.mm_outline.specs.Blocks.{never};
 
@@ -125,6 +125,15 @@ impl<A: Allocator> Frames<A> {
         }
         list.append(&mut later_list)?;
         Ok(Frames { list, indices })
+    }
+
+    /// Whether two assertions share a frame. Others may have equal frames.
+    pub fn are_shared(&self, one: u32, other: u32) -> bool
+        requires one_is_assertion { IsSome (get_or self.now one None) }
+        requires other_is_assertion { IsSome (get_or self.now other None) }
+        ensures { result ≡ true → get_or self.now one None ≡ get_or self.now other None }
+    {
+        self.indices[one as usize] == self.indices[other as usize]
     }
 
     /// Returns the frame of an assertion.

@@ -15,8 +15,9 @@ use std::marker::Model;
 /// Stands for a guess that hasn't been made.
 const NO_GUESS: u32 = 4_294_967_295;
 
-/// The number of guesses at first. There are twice as many once there are half as many names.
-const FIRST_GUESSES: usize = 64;
+/// The number of guesses at first, one for each byte. There are twice as many once there are half
+/// as many names.
+const FIRST_GUESSES: usize = 256;
 
 /// How many places the guess for a name can have, one after the other.
 const WINDOW: usize = 4;
@@ -64,12 +65,15 @@ fn ends_of(word: &[u8]) -> (u32, u32) {
     }
 }
 
-/// Returns where the guess for a name is among so many: by the upper bits of a sum of products,
-/// since a product's upper bits depend on more bits of its factors than its lower bits do. The
-/// factors are odd numbers whose bits look random, as hash functions have them (xxHash and
-/// MurmurHash3).
+/// Returns where the guess for a name is among so many. For a name of one byte, as most symbols of
+/// a formula are, it is that byte. For others it goes by the upper bits of a sum of products, since
+/// a product's upper bits depend on more bits of its factors than its lower bits do. The factors
+/// are odd numbers whose bits look random, as hash functions have them (xxHash and MurmurHash3).
 #[inline(always)]
 fn guess_index(word: &[u8], guesses: usize) -> usize {
+    if word.len() == 1 {
+        return word[0] as usize;
+    }
     let (first, last) = ends_of(word);
     let len = (word.len() % 0x1_0000_0000) as u32;
     let sum = first

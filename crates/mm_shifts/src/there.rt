@@ -44,8 +44,9 @@ pub(crate) fn axioms_there<A: Allocator + Copy, D: Allocator, E: Allocator>(
 {
     let axioms = this.axioms();
     let mut there = Vec::new(alloc);
+    let mut known = None;
     for i in 0..axioms.len() {
-        there.push(find_same(this.database(), axioms[i], other.database()))?;
+        there.push(find_same(this.database(), axioms[i], other.database(), &mut known))?;
     }
     Ok(there)
 }

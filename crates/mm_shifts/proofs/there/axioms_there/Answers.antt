@@ -19,6 +19,10 @@ find_same-requires-clause-is_assertion g c =
     (element_is_assertion c.args.this.now.contents.statements c.loop-i.i
     (rw c.axioms-axioms.ensures.axioms_are at c.loop-i-test.true))
 
+pub find_same-requires-clause-are_known : goal.find_same-requires-clause-are_known
+find_same-requires-clause-are_known g c =
+    rw (c.database.ensures, c.database-in-loop-i.ensures) c.loop-i.invariant.are_known
+
 pub loop-i-preserved : goal.loop-i-preserved
 loop-i-preserved g c =
     let axioms = columns c.args.this.now.contents.statements None in
@@ -29,6 +33,8 @@ loop-i-preserved g c =
     at c.find_same.ensures.is_the_same in
     let count = c.loop-i.invariant.count_is in
     record {
+      are_known = rw (c.database.ensures, c.database-in-loop-i.ensures)
+          at c.find_same.ensures.are_known;
       count_is = rw (pushed, length-append) (omega (arith, count));
       each_is_same = rw pushed
           (each_push (λ (j : ℕ) (x : Option ℕ). IsTheSame (side_in c.args.this.now)
