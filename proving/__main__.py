@@ -33,11 +33,6 @@ def arguments() -> argparse.Namespace:
     of_bodies.add_argument("--jobs", type=int, default=1, metavar="N", help="N crates at once")
     of_bodies.add_argument("--anew", action="store_true", help="try also what an earlier run tried")
     of_bodies.add_argument(
-        "--tell-doubts",
-        action="store_true",
-        help="tell what rt ci would take as refused, but not for a reason, and don't fail for it",
-    )
-    of_bodies.add_argument(
         "--keep", type=Path, metavar="FOLDER", help="leave there what the checks say"
     )
     of_change = commands.add_parser("changed", help="what the change since a revision reaches")
@@ -57,7 +52,7 @@ def main() -> int:
     if words.command == "program":
         return take(TOP)
     jobs = max(words.jobs, 1)
-    choice = Choice(words.names, jobs, words.anew, words.keep, words.tell_doubts)
+    choice = Choice(words.names, jobs, words.anew, words.keep)
     return int(toolchain.rt().where_disk_lasts(try_bodies, choice))
 
 

@@ -29,9 +29,6 @@ WITHOUT = {
 # How many edits of each crate `rt ci` tries by itself, at least.
 LEAST = 2
 WAYS = ("kept", "joined", "in place", "alone")
-# How it is told that `rt` takes an edit as refused, but by names alone or without a reason, which
-# says nothing of a contract.
-IN_DOUBT = "refused "
 
 
 @dataclass(frozen=True)
@@ -43,8 +40,6 @@ class Choice:
     jobs: int = 1
     is_anew: bool = False
     keep: Path | None = None
-    # Whether doubts are told and nothing more. Otherwise they are failures.
-    tells_doubts: bool = False
 
     def crates(self) -> set[str]:
         """The names of the crates."""
@@ -128,8 +123,7 @@ def tried(tree: Tree, choice: Choice, tell: Teller) -> int:
     for edit in left:
         results.keep(edit)
     trials.sort(key=lambda it: str(it.crate.name))
-    doubts: list[str] = [] if choice.tells_doubts else wrong
-    return told(trials, wrong, doubts, busy() - before)
+    return told(trials, wrong, busy() - before)
 
 
 def busy() -> float:
@@ -160,24 +154,22 @@ def joined(trial: Trial, results: Results, tell: Teller) -> None:
     )
 
 
-def told(trials: list[Trial], wrong: list[str], doubts: list[str], alone: float) -> int:
+def told(trials: list[Trial], wrong: list[str], alone: float) -> int:
     """Prints what became of each edit, the table, the seconds for those tried alone, and the last
     line. Returns the status.
 
-    A doubt is an edit that `rt` refuses by names alone or without a reason, or a function that
-    isn't proved in a check though no edit is in it. Doubts are added to a list of their own, or to
-    what is wrong.
+    An edit is wrong too if `rt` refuses it by names alone or without a reason, and so is a function
+    that isn't proved in a check though no edit is in it.
     """
     passed = 0
     for trial in trials:
-        doubts += trial.odd
+        wrong += trial.odd
         for edit in trial.edits:
             if edit.refused:
                 passed += 1
                 print(f"{edit.name}: refused: {edit.refused}")
             else:
-                why = edit.failed or edit.unclear
-                (doubts if why.startswith(IN_DOUBT) else wrong).append(f"{edit.name}: {why}")
+                wrong.append(f"{edit.name}: {edit.failed or edit.unclear}")
     head = ("Crate", "Edits", *(way.capitalize() for way in WAYS), "Checks", "Seconds of processor")
     print(f"\n| {' | '.join(head)} |\n|{'---|' * len(head)}")
     for trial in trials:
@@ -186,8 +178,6 @@ def told(trials: list[Trial], wrong: list[str], doubts: list[str], alone: float)
     if alone:
         print(f"\nWhat was tried alone took {alone:.0f} seconds of processor more.")
     print()
-    for it in doubts if doubts is not wrong else ():
-        print(f"in doubt: {it}")
     for it in wrong:
         print(f"FAILED: {it}")
     print(f"{passed} passed, {len(wrong)} failed")

@@ -68,9 +68,6 @@ class Refused(Repository):
         self.assertEqual(done.status, 1, done.said)
         self.assertIn("names what it took away", done.said)
         self.assertEqual(done.last, "0 passed, 1 failed")
-        told = self.bodies("--tell-doubts", "low/one_less")
-        self.assertIn("in doubt: low/must-fail/one_less: refused only because", told.said)
-        self.assertEqual(told.last, "0 passed, 0 failed")
 
     def test_folders(self) -> None:
         self.write("crates/low/must-fail/no edit.txt", "")
