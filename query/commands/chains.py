@@ -22,6 +22,8 @@ error says so.
 
 label    what is on the chain
 
+With --longest it is a longest chain instead, of several again the one that comes first.
+
 With --all, the part of the graph between: all citations that are on a chain, in file order.
 
 theorem  who cites
@@ -29,6 +31,7 @@ cited    what is cited
 
   $ mmquery why set.mm zorn ax-ac2
   $ mmquery why set.mm zorn ax-ac2 --all
+  $ mmquery why set.mm 2p2e4 ax-1 --longest
 """
 
 WAY_OUT_PAGE = """
@@ -97,7 +100,9 @@ def configure_why(parser: Parser) -> None:
     add_database(parser)
     parser.add_argument("label", metavar="LABEL")
     parser.add_argument("on", metavar="ON")
+    parser.exclude("--all", "--longest")
     parser.flag("--all", "all citations on chains between")
+    parser.flag("--longest", "a longest chain in place of a shortest one")
     add_choice_of_citations(parser)
 
 
@@ -106,7 +111,8 @@ def run_why(context: Context, arguments: argparse.Namespace) -> int:
     options = options_of(argparse.Namespace(**{**vars(arguments), "all": False}))
     graph = context.database(arguments.database, options).graph()
     node, end = graph.node(arguments.label), graph.node(arguments.on)
-    chain = graph.chain(node, end) if node != end else []
+    found = longest_chain if arguments.longest else Graph.chain
+    chain = found(graph, node, end) if node != end else []
     if not chain:
         context.tell(
             f"{graph.labels[node]} doesn't rest on {graph.labels[end]}{reverse(graph, node, end)}"
@@ -123,6 +129,21 @@ def run_why(context: Context, arguments: argparse.Namespace) -> int:
     else:
         context.out.table(["label"], [[graph.labels[each]] for each in chain])
     return 0
+
+
+def longest_chain(graph: Graph, node: int, end: int) -> list[int]:
+    """A longest chain of citations from one node to another, both included; of several the one that
+    is first in the file at each step. Empty where there is none."""
+    far = {end: 0}
+    for theorem in range(min(node + 1, graph.theorems)):
+        steps = [far[each] for each in graph.cites[theorem] if each in far]
+        if steps:
+            far[theorem] = 1 + max(steps)
+    chain = [node] if node in far else []
+    while chain and chain[-1] != end:
+        left = far[chain[-1]] - 1
+        chain.append(next(each for each in graph.cites[chain[-1]] if far.get(each) == left))
+    return chain
 
 
 def reverse(graph: Graph, node: int, end: int) -> str:

@@ -5,8 +5,10 @@ import argparse
 from query.commands import Command
 from query.context import Context
 from query.errors import shown
+from query.graph import Graph
 from query.options import Parser, add_choice_of_citations, add_database, options_of
 from query.rules import is_discouraged
+from query.text import Text
 
 CITES_PAGE = """
 Lists in file order what the proof of LABEL itself applies, axioms and theorems of every typecode.
@@ -31,7 +33,8 @@ cited    what is cited, one of the LABELs
 
 UNCITED_PAGE = """
 Lists in file order the theorems that no other one cites. With --not-discouraged, only those that
-may be cited: whose comment doesn't say (New usage is discouraged.).
+may be cited: whose comment doesn't say (New usage is discouraged.). With --outside-mathboxes, what
+a mathbox cites counts as not cited, so that what is cited in mathboxes alone is listed too.
 
 theorem  the label of the theorem
 
@@ -96,6 +99,7 @@ def configure_uncited(parser: Parser) -> None:
     """The words and options of `uncited`."""
     add_database(parser)
     parser.flag("--not-discouraged", "only those whose new usage isn't discouraged")
+    parser.flag("--outside-mathboxes", "those that nothing outside of mathboxes cites")
     add_choice_of_citations(parser)
 
 
@@ -104,6 +108,8 @@ def run_uncited(context: Context, arguments: argparse.Namespace) -> int:
     database = context.database(arguments.database, options_of(arguments))
     graph = database.graph()
     cited = set(graph.cites.targets)
+    if arguments.outside_mathboxes:
+        cited = cited_outside(database.text, graph)
     labels = [graph.labels[node] for node in range(graph.theorems) if node not in cited]
     which = ""
     if arguments.not_discouraged:
@@ -114,6 +120,15 @@ def run_uncited(context: Context, arguments: argparse.Namespace) -> int:
     why = f"{graph.name}: there is no theorem that nobody cites{which}"
     context.table(["theorem"], rows, why, "theorem")
     return 0
+
+
+def cited_outside(text: Text, graph: Graph) -> set[int]:
+    """What is cited by theorems that stand in no mathbox."""
+    found: set[int] = set()
+    for node in range(graph.theorems):
+        if text.box(text.by_label[graph.labels[node]]) is None:
+            found.update(graph.cites[node])
+    return found
 
 
 COMMANDS = [

@@ -111,6 +111,15 @@ class Lengths(World):
         self.assertEqual((done.status, done.out), (0, ""))
         self.assertIn("no theorem that nobody cites and that may be cited", done.err)
 
+    def test_what_mathboxes_alone_cite(self) -> None:
+        box = "$(\n#*#*#*#\n  Mathbox for A\n#*#*#*#\n$)\n"
+        self.write("db.mm", SMALL.replace("${ g ", f"{box}${{ g "))
+        self.assertEqual(self.answers("uncited", "db.mm"), ["wi2", "ax1", "a2"])
+        every = ["wi2", "ax1", "a1i", "a2"]
+        self.assertEqual(self.answers("uncited", "db.mm", "--outside-mathboxes"), every)
+        words = ("uncited", "db.mm", "--outside-mathboxes", "--main")
+        self.assertEqual(self.answers(*words), ["wi2", "ax1", "a1i"])
+
 
 def listed(field: object) -> list[object]:
     """A list of JSON."""

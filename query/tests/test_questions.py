@@ -125,7 +125,13 @@ class Questions(World):
                 with mock.patch("query.context.Context.tell") as tell:
                     chain = first(asked("why", path, "--", label, on))
                     edges = asked("why", path, "--all", "--", label, on)
+                    longest = first(asked("why", path, "--longest", "--", label, on))
                 self.assertEqual(tell.called, not chains)
+                if chains:
+                    self.assertIn(longest, chains)
+                    self.assertEqual(len(longest), max(map(len, chains)))
+                else:
+                    self.assertEqual(longest, [])
                 if chains:
                     self.assertIn(chain, chains)
                     self.assertEqual(len(chain), min(map(len, chains)))
