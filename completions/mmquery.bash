@@ -22,11 +22,11 @@ _mmquery() {
                     falls:-*) words='--any-of --all-of --without --only --all --axioms --ignore-definitions --essential --open --format --before --main --mathbox --under --like --not --among --no-cache --limit-time --limit-memory -h --help' ;;
                     cites:-*) words='--on --essential --open --format --before --main --mathbox --under --like --not --among --no-cache --limit-time --limit-memory -h --help' ;;
                     cited-by:-*) words='--essential --open --format --before --main --mathbox --under --like --not --among --no-cache --limit-time --limit-memory -h --help' ;;
-                    uncited:-*) words='--not-discouraged --essential --open --format --before --main --mathbox --under --like --not --among --no-cache --limit-time --limit-memory -h --help' ;;
-                    why:-*) words='--all --essential --open --format --no-cache --limit-time --limit-memory -h --help' ;;
+                    uncited:-*) words='--not-discouraged --outside-mathboxes --essential --open --format --before --main --mathbox --under --like --not --among --no-cache --limit-time --limit-memory -h --help' ;;
+                    why:-*) words='--all --longest --essential --open --format --no-cache --limit-time --limit-memory -h --help' ;;
                     way-out:-*) words='--keep --keep-wrappers --essential --open --format --before --main --mathbox --under --like --not --among --no-cache --limit-time --limit-memory -h --help' ;;
                     frees:-*) words='--most --plan --given --keep --keep-wrappers --essential --open --format --before --main --mathbox --under --like --not --among --no-cache --limit-time --limit-memory -h --help' ;;
-                    spare:-*) words='--all --shorter --new-steps --theorem --write --proof --only --open --jobs --cite-discouraged --cite-old --cite-mathboxes --change-discouraged --format --no-cache --limit-time --limit-memory -h --help' ;;
+                    spare:-*) words='--all --shorter --new-steps --theorem --may-gain --write --proof --only --open --jobs --cite-discouraged --cite-old --cite-mathboxes --change-discouraged --format --no-cache --limit-time --limit-memory -h --help' ;;
                     repeats:-*) words='--only --open --kept --format --before --main --mathbox --under --like --not --among --no-cache --limit-time --limit-memory -h --help' ;;
                     top:-*) words='--theorems --below --against --only --all --axioms --ignore-definitions --essential --open --format --before --main --mathbox --under --like --not --among --no-cache --limit-time --limit-memory -h --help' ;;
                     sets:-*) words='--only --all --axioms --ignore-definitions --essential --open --format --before --main --mathbox --under --like --not --among --no-cache --limit-time --limit-memory -h --help' ;;

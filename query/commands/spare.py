@@ -14,12 +14,13 @@ from query.spare.kept import Change
 from query.spare.judge import judge_changes, rewritten
 from query.spare.rules import UNREAD
 
-COLUMNS = ("how", "theorem", "loses", "replaced", "by", "step", "bytes", "chapter")
+COLUMNS = ("how", "theorem", "loses", "replaced", "by", "step", "bytes", "chapter", "gains")
 
 PAGE = """
 Lists the theorems that can do without AXIOM, in file order: their proofs cite statements that stand
-before them in place of others, or they cite theorems whose proofs do. Nothing is gained by that: a
-statement is only cited where the theorem rests on all of its axioms anyway.
+before them in place of others, or they cite theorems whose proofs do. Nothing is gained by that but
+what --may-gain names: a statement is only cited where the theorem rests on all of its other axioms
+anyway.
 
 how       direct:  the proof of the theorem is another one; a row for each step that is replaced
           cascade: its proof stays, and something that it cites rests on less
@@ -30,13 +31,18 @@ by        what it cites now
 step      the formula of the step, of at most 400 symbols
 bytes     of a direct one, how much longer its proof is
 chapter   the number of the header under which it stands
+gains     with --may-gain the axioms on which it comes to rest
+
+With --may-gain AXIOM, which may be given several times, a theorem may come to rest on that one and
+on any rule of syntax, where no proof is found that gains nothing; and so may all that cite it, also
+such as lose nothing. A definition has to be named as well.
 
 With --shorter these are the proofs that get shorter by that, whatever axioms they lose.
 
 Several AXIOMs are tried together, and one after the other in this order where a proof can't do
 without all of them. The answer is judged before it is given: the program verifies the database with
 the new proofs, which has to have the same statements, and in which the theorems have to lose just
-these axioms and gain none. If something isn't so, there is no answer.
+these axioms, and gain none but what is said. If something isn't so, there is no answer.
 
 Nothing is cited that is discouraged, that has a label which ends in ALT or OLD, or that stands in
 another mathbox; and no proof is changed whose modification is discouraged. Options set each of
@@ -55,6 +61,7 @@ compressed. --proof prints one of them, from the label of its theorem to the end
 
   $ mmquery spare set.mm ax-13 --write new.mm
   $ mmquery spare set.mm ax-10 ax-13 --theorem eujust
+  $ mmquery spare set.mm ax-ac2 --may-gain ax-cc
 """
 
 
@@ -82,6 +89,9 @@ def configure(parser: Parser) -> None:
     for name, words in FLAGS.items():
         parser.flag(name, words)
     parser.values("--theorem", "T", "change only the proof of T")
+    parser.values(
+        "--may-gain", "AXIOM", "theorems may come to rest on AXIOM; may be given several times"
+    )
     parser.value("--write", "NEW", "the file to make, with the new proofs")
     parser.value("--proof", "T", "print the theorem T with its new proof")
     add_only(parser, "|-")
@@ -100,6 +110,11 @@ def wanted_of(database: Database, arguments: argparse.Namespace) -> Wanted:
         dependence.see_axiom(label)
     for label in theorems:
         dependence.see_theorem(label)
+    gained: list[str] = arguments.may_gain
+    for label in gained:
+        dependence.see_axiom(label)
+        if label in axioms:
+            raise NoAnswer(f"{shown(label)} can't be lost and gained")
     if axioms and arguments.all:
         raise NoAnswer("an AXIOM and --all exclude one another")
     if arguments.shorter and (axioms or arguments.all or arguments.new_steps):
@@ -108,7 +123,9 @@ def wanted_of(database: Database, arguments: argparse.Namespace) -> Wanted:
         raise NoAnswer("an AXIOM is wanted, or --theorem T, or --all, or --shorter")
     return Wanted(
         typecode=arguments.only,
-        axioms=tuple(axioms or reversed(dependence.axioms)),
+        axioms=tuple(
+            axioms or (each for each in reversed(dependence.axioms) if each not in gained)
+        ),
         theorems=frozenset(theorems) or None,
         cites_discouraged=arguments.cite_discouraged,
         cites_old=arguments.cite_old,
@@ -116,6 +133,7 @@ def wanted_of(database: Database, arguments: argparse.Namespace) -> Wanted:
         changes_discouraged=arguments.change_discouraged,
         has_new_steps=arguments.new_steps,
         is_shorter=arguments.shorter,
+        may_gain=frozenset(gained),
     )
 
 
@@ -131,14 +149,15 @@ def run(context: Context, arguments: argparse.Namespace) -> int:
     changer = Changer(database, wanted, arguments.jobs)
     changes = list(changer.changes())
     data = rewritten(database.text, changes)
-    judge_changes(database, data, changes)
+    judge_changes(database, data, changes, changer.gainable)
     if arguments.proof is not None:
         context.out.text(new_statement(database, changes, arguments.proof))
     else:
         empty = f"{database.name}: no theorem was found that can do without"
         given_up = [change.theorem for change in changes if change.is_given_up]
         remarks = {GIVEN_UP: given_up, UNREAD: changer.rules.unread}
-        context.table(COLUMNS, rows_of(database, changes), empty, remarks=remarks)
+        aside = [] if arguments.may_gain else ["gains"]
+        context.table(COLUMNS, rows_of(database, changes), empty, aside=aside, remarks=remarks)
     if arguments.write is not None:
         write_new(arguments.write, data)
     return 0
@@ -150,19 +169,20 @@ def rows_of(database: Database, changes: list[Change]) -> list[list[Value]]:
     rows: list[list[Value]] = []
     for change in changes:
         label = change.theorem
-        if change.proof is None and not change.loses:
-            continue
         loses = [axiom for axiom in change.loses if axiom in axioms] or None
+        gains = [axiom for axiom in change.gains if axiom in axioms] or None
+        if change.proof is None and not change.loses and not gains:
+            continue
         chapter = database.text.chapter_number(database.text.by_label[label])
         if change.proof is None:
-            rows.append(["cascade", label, loses, None, None, None, None, chapter])
+            rows.append(["cascade", label, loses, None, None, None, None, chapter, gains])
             continue
         longer = len(change.proof) - change.old_length
         steps: list[list[Value]] = [
             [list(each.old) or None, each.new, each.formula] for each in change.replaced
         ]
         for step in steps or [[None, None, None]]:
-            rows.append(["direct", label, loses, *step, longer, chapter])
+            rows.append(["direct", label, loses, *step, longer, chapter, gains])
     return rows
 
 

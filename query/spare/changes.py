@@ -44,11 +44,13 @@ class Wanted:
     """Whether instances of statements without hypotheses may be new steps."""
     is_shorter: bool = False
     """Whether proofs are wanted that are shorter, whatever they lose."""
+    may_gain: frozenset[str] = frozenset()
+    """The axioms on which theorems may come to rest."""
 
     def fields(self) -> dict[str, object]:
         """What tells it from others."""
         theorems = None if self.theorems is None else sorted(self.theorems)
-        return {**asdict(self), "theorems": theorems}
+        return {**asdict(self), "theorems": theorems, "may_gain": sorted(self.may_gain)}
 
 
 class ProofRange:
@@ -97,6 +99,10 @@ class Changer:
         self.axioms = 0  # those that proofs shall do without, as bits
         for label in wanted.axioms:
             self.axioms |= self.bit_of[label]
+        self.gainable = gainable(database, wanted)
+        self.may_gain = 0  # those on which they may come to rest, as bits
+        for label in self.gainable:
+            self.may_gain |= self.bit_of[label]
         fields = [f"{name} {value}" for name, value in sorted(wanted.fields().items())]
         key = result_key(kept_changes.FORM, "changes", database.key, *fields)
         self.key = key if database.uses_cache else None
@@ -213,22 +219,24 @@ class Changer:
     def change(self, number: int) -> Change | None:
         """What becomes of a theorem."""
         old = self.old_rests[number]
-        if not old & self.axioms and not self.wanted.is_shorter:
+        is_sought = bool(old & self.axioms) or self.wanted.is_shorter
+        if not is_sought and not self.may_gain:
             return None
         rests = self.resting(self.cites[number])
         change, is_given_up = None, False
-        if rests & self.axioms or self.wanted.is_shorter:
+        if is_sought and (rests & self.axioms or self.wanted.is_shorter):
             try:
                 change = self.changed(number, rests, self.axioms)
             except GivenUp:
                 is_given_up = True
         if change is None:
             self.state.rest(number, rests)
-        lost = old & ~self.state.rests[number]
-        if change is None and (lost or is_given_up):
+        lost, gained = old & ~self.state.rests[number], self.state.rests[number] & ~old
+        if change is None and (lost or gained or is_given_up):
             change = Change(self.names[number], (), is_given_up=is_given_up)
         if change is not None:
             change.loses = tuple(self.columns[bit] for bit in bits_of(lost))
+            change.gains = tuple(self.columns[bit] for bit in bits_of(gained))
         return change
 
     def resting(self, cited: list[int]) -> int:
@@ -252,10 +260,13 @@ class Changer:
             if proof_range.has_comment:
                 return None
             proof = self.proof(number)
+            allowed = rests | self.may_gain
             if self.wanted.is_shorter:
-                steps = AllSteps(self.shelf, self.state, rule, proof, rests).shortest()
+                steps = AllSteps(self.shelf, self.state, rule, proof, allowed).shortest()
             elif self.needs(proof, wanted):
                 steps = self.best(rule, proof, wanted & rests, rests)
+                if steps is None and allowed != rests:
+                    steps = self.best(rule, proof, wanted & rests, allowed)
             return None if steps is None else self.made(rule, proof, steps, proof_range, rests)
         except Unfit:
             return None
@@ -275,8 +286,9 @@ class Changer:
         return any(rests[step.rule] & wanted for steps in proof.steps.values() for step in steps)
 
     def best(self, rule: Rule, proof: Proof, axioms: int, rests: int) -> Steps | None:
-        """A proof without as many of the axioms as are found: all at once that it can do without
-        one by one, or else one after the other, in the order in which they are wanted."""
+        """A proof without as many of the axioms as are found, which rests on no others than
+        `rests`: all at once that it can do without one by one, or else one after the other, in the
+        order in which they are wanted."""
         if axioms.bit_count() > 1 and not self.closed:
             axioms &= AllSteps(self.shelf, self.state, rule, proof, rests).losable()
         if not axioms:
@@ -303,7 +315,7 @@ class Changer:
         labels, letters = self.writer.words(rule, proof, steps)
         numbers = [self.numbers[label] for label in labels if label in self.numbers]
         new = self.resting(numbers)
-        if new & ~rests:
+        if new & ~(rests | self.may_gain):
             return None
         old = self.text.data[proof_range.start : proof_range.end]
         written = laid_out(labels, letters, old, self.width)
@@ -327,6 +339,16 @@ class Changer:
         formula = " ".join([self.wanted.typecode, *symbols])
         labels = dict.fromkeys(self.names[each.rule] for each in was)
         return Replaced(tuple(labels), self.names[step.rule], formula)
+
+
+def gainable(database: Database, wanted: Wanted) -> frozenset[str]:
+    """The axioms on which theorems may come to rest: those that are named, and where there are some
+    all rules of syntax, without which these would be of little use."""
+    if not wanted.may_gain:
+        return frozenset()
+    found = database.prepared
+    pairs = zip(found.columns, found.typecodes)
+    return wanted.may_gain | {label for label, kind in pairs if kind != wanted.typecode}
 
 
 def used(proof: Proof, steps: Steps) -> list[int]:

@@ -1,12 +1,12 @@
 """The judge of changed proofs. Whatever the search says, it is answered only where the program
 verifies the new database, and where this has the same statements, has nothing else changed than the
 proofs that are said to be, and is marked as is said: no theorem rests on an axiom on which it
-didn't rest before.
+didn't rest before, but for what it may gain.
 """
 
 from __future__ import annotations
 
-from collections.abc import Sequence
+from collections.abc import Collection, Sequence
 from typing import NoReturn
 
 from query import progress
@@ -15,6 +15,7 @@ from query.bare import without_comments
 from query.database import Database
 from query.errors import NoAnswer
 from query.faults import Refused
+from query.marks import bit
 from query.prepared import Prepared
 from query.source import Source
 from query.spare.kept import Change
@@ -26,8 +27,11 @@ def fail(what: str) -> NoReturn:
     raise NoAnswer(f"what was found isn't so: {what}")
 
 
-def judge_changes(database: Database, data: bytes, changes: Sequence[Change]) -> None:
-    """Judges a new database. NoAnswer where something isn't so."""
+def judge_changes(
+    database: Database, data: bytes, changes: Sequence[Change], may_gain: Collection[str] = ()
+) -> None:
+    """Judges a new database, in which theorems may gain some axioms. NoAnswer where something isn't
+    so."""
     progress.now("judging what was found")
     new = Database(Source("the new database", data), database.options, False)
     try:
@@ -38,7 +42,7 @@ def judge_changes(database: Database, data: bytes, changes: Sequence[Change]) ->
     if len(by_label) != len(changes):
         fail("a theorem is changed twice")
     compare_texts(database.text, new.text, by_label)
-    compare_marks(database.prepared, prepared, by_label)
+    compare_marks(database.prepared, prepared, by_label, may_gain)
     compare_citations(database, new, changes)
 
 
@@ -71,20 +75,23 @@ def before_proof(text: Text, theorem: Assertion) -> bytes:
     return data[: without_comments(data).index(b"$=") + 2]
 
 
-def compare_marks(old: Prepared, new: Prepared, changes: dict[str, Change]) -> None:
+def compare_marks(
+    old: Prepared, new: Prepared, changes: dict[str, Change], may_gain: Collection[str]
+) -> None:
     """Compares on which axioms the theorems rest."""
     if old.theorems != new.theorems or old.columns != new.columns:
         fail("there are other theorems or axioms")
     assert old.marks is not None and new.marks is not None
-    columns = {label: column for column, label in enumerate(old.columns)}
+    bits = {label: bit(len(old.columns), column) for column, label in enumerate(old.columns)}
+    allowed = sum(bits[label] for label in {*may_gain})
     for row, label in enumerate(old.theorems):
         before, after = old.marks.row(row), new.marks.row(row)
-        if after & ~before:
-            fail(f"{label} rests on an axiom on which it didn't")
         change = changes.get(label)
-        loses = () if change is None else change.loses
-        lost = sum(1 << (8 * old.marks.width - 1 - columns[axiom]) for axiom in {*loses})
-        if before & ~after != lost:
+        loses, gains = ((), ()) if change is None else (change.loses, change.gains)
+        gained = after & ~before
+        if gained & ~allowed or gained != sum(bits[axiom] for axiom in {*gains}):
+            fail(f"{label} rests on an axiom on which it didn't")
+        if before & ~after != sum(bits[axiom] for axiom in {*loses}):
             fail(f"{label} doesn't lose just the axioms that are said")
 
 

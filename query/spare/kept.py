@@ -9,7 +9,7 @@ from typing import Any
 
 from query import cache
 
-FORM = 2
+FORM = 3
 """Counts the forms in which changes are kept, and the ways in which they are sought."""
 
 
@@ -24,9 +24,9 @@ class Replaced:
 
 @dataclass(slots=True)
 class Change:
-    """What became of a theorem: which axioms it loses, and where its own proof is another one what
-    stands in its place between `$=` and `$.`, and which steps were replaced; or that the search in
-    its proof was given up."""
+    """What became of a theorem: which axioms it loses and gains, and where its own proof is another
+    one what stands in its place between `$=` and `$.`, and which steps were replaced; or that the
+    search in its proof was given up."""
 
     theorem: str
     loses: tuple[str, ...]
@@ -34,6 +34,7 @@ class Change:
     old_length: int = 0
     replaced: list[Replaced] = field(default_factory=list)
     is_given_up: bool = False
+    gains: tuple[str, ...] = ()
 
     def labels(self) -> list[str]:
         """The labels in brackets of the new proof."""
@@ -55,9 +56,15 @@ def from_fields(fields: dict[str, Any]) -> Change:
     replaced = [
         Replaced(tuple(one["old"]), one["new"], one["formula"]) for one in fields["replaced"]
     ]
-    loses = tuple(fields["loses"])
-    given_up = fields["is_given_up"]
-    return Change(fields["theorem"], loses, proof, fields["old_length"], replaced, given_up)
+    return Change(
+        fields["theorem"],
+        tuple(fields["loses"]),
+        proof,
+        fields["old_length"],
+        replaced,
+        fields["is_given_up"],
+        tuple(fields["gains"]),
+    )
 
 
 def store(key: str, done: int, changes: Sequence[Change]) -> None:

@@ -4,7 +4,7 @@ A formula of a proof is *free* of axioms where it is a hypothesis; or where what
 it doesn't rest on them, and its premises are free; or where some statement before the theorem
 becomes it, doesn't rest on them, has its premises among the free formulas, and keeps the conditions
 of distinct variables. This is repeated until nothing is added. A statement is only cited where the
-theorem rests on all of its axioms anyway, so nothing is gained.
+theorem rests on all of its axioms anyway, so nothing is gained; or where it may gain the others.
 """
 
 from __future__ import annotations
@@ -80,11 +80,13 @@ class State:
         self._blocked: dict[int, int] = {}
 
     def rest(self, number: int, rests: int) -> None:
-        """An assertion rests on these now, which are fewer or the same."""
+        """An assertion rests on these now."""
         if rests == self.rests[number]:
             return
         for axiom in bits_of(self.rests[number] & ~rests):
             self.columns[axiom] &= ~(1 << number)
+        for axiom in bits_of(rests & ~self.rests[number]):
+            self.columns[axiom] |= 1 << number
         self.rests[number] = rests
         self.changed.append(number)
         self._blocked.clear()

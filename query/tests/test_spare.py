@@ -21,7 +21,7 @@ from query.spare.changes import Changer, Wanted
 from query.spare.kept import Change, Replaced
 from query.tests import shapes
 from query.tests.metamath import asked
-from query.tests.world import DATABASES, World
+from query.tests.world import DATABASES, World, built_program
 from query.text import Text
 
 BASE = """$c ( ) -> |- wff $.
@@ -53,10 +53,10 @@ ${{ $d p q $. t3 $p |- ( ( p -> ( q -> p ) ) -> ( p -> ( p -> p ) ) ) $=
 )
 NEW = SPARE.replace("( wi i bad both ) AACBBCADBEF", "( wi i both ) AACBBCADBDE")
 ROWS = [
-    ["direct", "t1", "bad", "bad", "i", "|- ( q -> q )", "-4", "0.1"],
-    ["cascade", "t2", "bad", "", "", "", "", "0.1"],
+    ["direct", "t1", "bad", "bad", "i", "|- ( q -> q )", "-4", "0.1", ""],
+    ["cascade", "t2", "bad", "", "", "", "", "0.1", ""],
 ]
-NAMES = ["how", "theorem", "loses", "replaced", "by", "step", "bytes", "chapter"]
+NAMES = ["how", "theorem", "loses", "replaced", "by", "step", "bytes", "chapter", "gains"]
 
 
 class Spare(World):
@@ -78,13 +78,73 @@ class Spare(World):
         self.assertEqual(self.rows("db.mm", "bad"), ROWS)
         self.assertEqual(self.rows("db.mm", "bad", "--theorem", "t1"), ROWS)
         self.assertEqual(self.rows("db.mm", "--theorem", "t1"), ROWS)
-        other = ["direct", "t3", "far", "far", "near", "|- ( p -> ( q -> p ) )", "-21", "0.1"]
+        other = ["direct", "t3", "far", "far", "near", "|- ( p -> ( q -> p ) )", "-21", "0.1", ""]
         self.assertEqual(self.rows("db.mm", "--all"), [*ROWS, other])
         self.assertEqual(self.rows("db.mm", "near", "bad"), ROWS)
         self.assertEqual(self.rows("db.mm", "bad", "--theorem", "t2"), [])
         done = self.query("spare", "db.mm", "near")
         self.assertEqual((done.out, done.status), ("", 0))
         self.assertIn("no theorem was found that can do without", done.err)
+
+    def test_what_may_be_gained(self) -> None:
+        """A proof gains what is named where it can't do without AXIOM otherwise, and so does what
+        cites it; the program and metamath.exe verify what is written."""
+        text = SPARE + (
+            "only $p |- ( q -> q ) $= wq bad $.\n"
+            "over $p |- ( r -> ( q -> q ) ) $= wq wq wi wr wq only up $.\n"
+            "free $p |- ( p -> p ) $= wp i $.\n"
+            "own $p |- ( p -> ( p -> p ) ) $= wp wp near $.\n"
+        )
+        self.write("gain.mm", text)
+        self.assertEqual(self.rows("gain.mm", "bad"), ROWS)
+        step = ["bad", "i", "|- ( q -> q )"]
+        gained = [
+            ["direct", "only", "bad", *step, "", "0.1", "i"],
+            ["cascade", "over", "bad", "", "", "", "", "0.1", "i"],
+        ]
+        for jobs in ("1", "3"):
+            words = ("gain.mm", "bad", "--may-gain", "i", f"--jobs={jobs}")
+            rows = self.rows(*words, "--no-cache")
+            for row in rows:
+                if row[1] == "only":
+                    row[6] = ""
+            self.assertEqual(rows, [*ROWS, *gained])
+        self.assertEqual(self.rows("gain.mm", "bad", "--may-gain=near"), ROWS)
+        self.rows("gain.mm", "bad", "--may-gain=i", "--write=new.mm")
+        self.assertEqual(self.query("verify", "new.mm").status, 0)
+        self.assertEqual(self.answers("rests", "new.mm", "over"), ["i", "up"])
+        self.assertEqual(self.answers("falls", "new.mm", "bad"), [])
+        if shutil.which("metamath"):
+            (said,) = asked(self.folder / "new.mm", ["verify proof *"])
+            self.assertIn("All proofs in the database were verified", said)
+        lines = self.query("spare", "gain.mm", "bad", "--may-gain", "i").lines()
+        self.assertTrue(lines[0].endswith("chapter  gains"))
+        all_rows = self.rows("gain.mm", "--all", "--may-gain", "i", "--no-cache")
+        self.assertEqual([row[1] for row in all_rows], ["t1", "t2", "t3", "only", "over"])
+        self.refuses("spare", "gain.mm", "bad", "--may-gain=bad", why="can't be lost and gained")
+        self.refuses("spare", "gain.mm", "bad", "--may-gain=t1", why="has no axiom")
+
+    def test_more_is_gained_than_may_be(self) -> None:
+        """The judge refuses what gains another axiom, or isn't said to gain it."""
+        text = SPARE + "only $p |- ( q -> q ) $= wq bad $.\n"
+        self.write("gain.mm", text)
+        data = text.replace("wq bad $.", "wq i $.").encode()
+        environment = mock.patch.dict(os.environ, {"MMDEPEND": built_program()})
+        with environment:
+            database = Context(uses_cache=False).database(str(self.folder / "gain.mm"))
+            said = Change("only", ("bad",), b" wq i ", 7, [Replaced(("bad",), "i", "")])
+            for gains, may_gain, is_so in (
+                (("i",), {"i"}, True),
+                ((), {"i"}, False),
+                (("i",), set[str](), False),
+                (("i", "near"), {"i", "near"}, False),
+            ):
+                said.gains = gains
+                if is_so:
+                    judge.judge_changes(database, data, [said], may_gain)
+                else:
+                    with self.assertRaisesRegex(NoAnswer, "only rests on an axiom"):
+                        judge.judge_changes(database, data, [said], may_gain)
 
     def test_write(self) -> None:
         self.assertEqual(self.rows("db.mm", "bad", "--write", "new.mm"), ROWS)

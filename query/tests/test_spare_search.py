@@ -198,14 +198,17 @@ class Everything:
         self.terms = {one.label: parsed(one.formula) for one in text.assertions}
         self.frames = {one.label: one.frame().hypotheses() for one in text.assertions}
 
-    def is_freed(self, theorem: Assertion, axiom: str) -> bool:
-        """Whether a proof of the theorem's formulas does without the axiom."""
+    def is_freed(
+        self, theorem: Assertion, axiom: str, may_gain: frozenset[str] = frozenset()
+    ) -> bool:
+        """Whether a proof of the theorem's formulas does without the axiom, and gains none but
+        these."""
         given = {each.label: parsed(each.formula) for each in self.frames[theorem.label]}
         steps = self.steps(theorem, given)
         formulas = {term for term, _, _ in steps}
         own = set().union(*(self.rests[label] for _, label, _ in steps)) if steps else set()
         free = {given[each.label] for each in self.frames[theorem.label] if each.kind == "e"}
-        allowed = own - {axiom}
+        allowed = (own | may_gain) - {axiom}
         before = [
             one.label
             for one in self.text.assertions[: theorem.number]
@@ -311,14 +314,20 @@ class ByChance(World):
     """The same theorems are freed."""
 
     def freed(
-        self, path: str, axioms: tuple[str, ...], new_steps: bool = False
+        self,
+        path: str,
+        axioms: tuple[str, ...],
+        new_steps: bool = False,
+        may_gain: frozenset[str] = frozenset(),
+        at_once: int = 1,
     ) -> tuple[list[Change], Text, bytes]:
         """What the search finds, judged."""
         database = Context(uses_cache=False).database(path, Options())
-        wanted = Wanted("|-", axioms, has_new_steps=new_steps)
-        changes = list(Changer(database, wanted).changes())
+        wanted = Wanted("|-", axioms, has_new_steps=new_steps, may_gain=may_gain)
+        changer = Changer(database, wanted, at_once)
+        changes = list(changer.changes())
         data = rewritten(database.text, changes)
-        judge_changes(database, data, changes)
+        judge_changes(database, data, changes, changer.gainable)
         return changes, database.text, data
 
     def marks(self, path: str) -> dict[str, set[str]]:
@@ -347,6 +356,37 @@ class ByChance(World):
                 direct += sum(each.proof is not None for each in changes)
                 cascades += sum(each.proof is None for each in changes)
         self.assertGreater(min(direct, cascades, kept), 40)
+
+    def test_what_may_be_gained(self) -> None:
+        """By all replacements that gain no others; what gains is said, and no more is gained."""
+        more = gaining = 0
+        for seed in range(15):
+            path = str(self.folder / self.write("chance.mm", Maker(seed).text(40)))
+            before = self.marks(path)
+            axioms = {axiom for rests in before.values() for axiom in rests}
+            for axiom, gain in (("bad", {"k"}), ("bad", axioms), ("tr", axioms), ("five", axioms)):
+                may_gain = frozenset(gain - {axiom})
+                changes, text, data = self.freed(path, (axiom,), may_gain=may_gain)
+                new = str(self.folder / self.write("new.mm", data))
+                after = self.marks(new)
+                everything = Everything(text, after)
+                told = {each.theorem: each for each in changes}
+                for one in text.assertions:
+                    if one.kind != "p":
+                        continue
+                    change = told.get(one.label)
+                    gained = after[one.label] - before[one.label]
+                    logic = set(change.gains) & axioms if change is not None else set()
+                    self.assertEqual(gained, logic)
+                    gaining += bool(gained)
+                    if axiom in before[one.label]:
+                        is_lost = axiom not in after[one.label]
+                        wanted = everything.is_freed(one, axiom, may_gain)
+                        self.assertEqual(is_lost, wanted, f"{seed} {axiom} {gain} {one.label}")
+                        more += is_lost and not everything.is_freed(one, axiom)
+                shared, _, other = self.freed(path, (axiom,), may_gain=may_gain, at_once=3)
+                self.assertEqual((shared, other), (changes, data))
+        self.assertGreater(min(more, gaining), 10)
 
     def test_each_axiom(self) -> None:
         """Which axioms a theorem can do without one by one, found for all of them at once."""
