@@ -175,7 +175,7 @@ class Statuses(World):
                     self.assertRegex(done.out, rf"\A{file}:\d+:\d+: refused {code} in ")
                 elif name in OF_GIT:
                     self.assertEqual((done.status, done.err), (0, ""))
-                    self.assertRegex(done.out, rf"  refused \d+:\d+ {code}\n")
+                    self.assertRegex(done.out, rf"  refused \d+:\d+ {code}  a@b ")
                 elif name in MENDING and code == "E37":
                     self.assertEqual((done.status, done.err), (0, ""))
                 elif name == "gate" and done.status == 1:
