@@ -74,7 +74,6 @@ class Cache(World):
             ("chapters",),
             ("order", "--format=tsv"),
             ("discouraged", "--format=json"),
-            ("compare", "small.mm"),
             ("verify",),
         ):
             given = (words[0], "small.mm", *words[1:])
@@ -88,6 +87,15 @@ class Cache(World):
         self.assertEqual(self.answers("chapters", "small.mm", MMDEPEND=counted), wanted[CHAPTERS])
         self.assertEqual(path.read_bytes(), whole)
         self.assertEqual(self.runs(), 2)
+
+    def test_what_two_databases_differ_in_is_kept_too(self) -> None:
+        counted = self.counted()
+        words = ("compare", "small.mm", "small.mm")
+        answer = self.answers(*words, MMDEPEND=counted)
+        found = (self.runs(), len(self.files()))
+        self.assertEqual(found, (2, 2))
+        self.assertEqual(self.answers(*words, MMDEPEND=counted), answer)
+        self.assertEqual((self.runs(), len(self.files())), found)
 
     def test_a_check_keeps_nothing(self) -> None:
         counted = self.counted()
