@@ -1,5 +1,6 @@
 """What tests share: running mmquery in an empty folder, and databases made by chance."""
 
+import io
 import json
 import os
 import random
@@ -8,6 +9,7 @@ import subprocess
 import sys
 import tempfile
 import unittest
+from contextlib import redirect_stderr
 from dataclasses import dataclass, field
 from pathlib import Path
 
@@ -255,7 +257,8 @@ def answered(form: str, *words: str) -> bytes:
     is_taken = form in chosen.formats
     arguments = parser_of(chosen).read([*(["--format", form] if is_taken else []), *words[1:]])
     out = Output(getattr(arguments, "format", "text"))
-    chosen.run(Context(out, False), arguments)
+    with redirect_stderr(io.StringIO()):  # remarks, which are none of the tests'
+        chosen.run(Context(out, False), arguments)
     return b"".join(out.taken())
 
 
