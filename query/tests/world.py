@@ -1,6 +1,5 @@
 """What tests share: running mmquery in an empty folder, and databases made by chance."""
 
-import io
 import json
 import os
 import random
@@ -9,9 +8,9 @@ import subprocess
 import sys
 import tempfile
 import unittest
-from contextlib import redirect_stderr
 from dataclasses import dataclass, field
 from pathlib import Path
+from unittest import mock
 
 from query.cli import parser_of
 from query.commands import command
@@ -257,7 +256,7 @@ def answered(form: str, *words: str) -> bytes:
     is_taken = form in chosen.formats
     arguments = parser_of(chosen).read([*(["--format", form] if is_taken else []), *words[1:]])
     out = Output(getattr(arguments, "format", "text"))
-    with redirect_stderr(io.StringIO()):  # remarks, which are none of the tests'
+    with mock.patch("query.context.tell"):  # remarks, which are none of the tests'
         chosen.run(Context(out, False), arguments)
     return b"".join(out.taken())
 
