@@ -1,7 +1,8 @@
 -- `Database` has an invariant, `IsDatabase`: each field is what the definitions say of the
 -- statements. The calls go back from fields to statements: names by `index_of_distinct`
--- (`SymbolsLaw.antt`), and a word by its slots in a `NameMap`, of which those before a free one
--- have other names (`absent_at_free_slot`, `NameMapLaw.antt`); kinds by `test_by_kind`, theorems by
+-- (`SymbolsLaw.antt`), and a word by its guess in a `NameMap`: a word with a free place, before
+-- which no guess is right, is no name (`absent_at_free_place`, `GuessesLaw.antt`), and where no
+-- place is free the map is asked; kinds by `test_by_kind`, theorems by
 -- `theorems_by_kind` (`KindsLaw.antt`). Lists that are kept one after the other are the lists that
 -- were joined (`joined_with_one_more`, `joined_lists_are_part`, `ListsLaw.antt` of `mm_lists`):
 -- labels and proofs (`label_is_retained` and `proof_is_retained`, `RetainedWordsLaw.antt`), and the
@@ -18,6 +19,7 @@
 pub mod SymbolsLaw
 pub mod TypecodeLaw
 pub mod NamesLaw
+pub mod GuessesLaw
 pub mod DisjointIndexLaw
 pub mod StartsLaw
 pub mod RowSearchLaw

@@ -2,6 +2,7 @@ pub use Rattle.mm_outline.specs.Blocks
 pub use Rattle.mm_outline.specs.Parts
 pub use Rattle.mm_outline.specs.Statements
 pub mod Names
+pub mod Guesses
 pub mod TextKeyed
 pub mod Labels
 pub mod Pairs

@@ -1,9 +1,12 @@
 //! A map whose keys are names, in the order in which these were added.
 
 ghost use Rattle.std.specs.Prelude.{◌≡◌, [], ℕ, List, Some, IfOk, IfSome, OnOk, bytes_eq};
-ghost use Rattle.std.specs.Prelude.{if◌then◌else◌, is_some, length, slice_get};
+ghost use Rattle.std.specs.Prelude.{if◌then◌else◌, is_some, length, slice_get, IfNone, ◌≢◌};
+ghost use Rattle.std.specs.Prelude.{◌+◌, ◌<◌, ◌≤◌, ◌^◌};
 ghost use Rattle.std.specs.Option.{option_map};
 ghost use Rattle.mm_spec.specs.Frame.{index_of};
+ghost use Rattle.mm_database.specs.Guesses.{AreGuessed, IsGuessed, ends_of, first_place};
+ghost use Rattle.mm_database.specs.Guesses.{no_guess, number_at};
 ghost use Rattle.mm_database.specs.Names.{find, names_of, with_name};
 
 use crate::name::Name;
@@ -15,8 +18,8 @@ use std::marker::Model;
 /// Stands for a guess that hasn't been made.
 const NO_GUESS: u32 = 4_294_967_295;
 
-/// The number of guesses at first, one for each byte. There are twice as many once there are half
-/// as many names.
+/// The number of places for guesses at first, one for each byte. There are twice as many once there
+/// are half as many names.
 const FIRST_GUESSES: usize = 256;
 
 /// How many places the guess for a name can have, one after the other.
@@ -24,7 +27,8 @@ const WINDOW: usize = 4;
 
 /// Names, each with a value, in the order in which they were added. The index of a name is guessed
 /// by the name's ends and its length. A guess is verified before use, so most names are found by
-/// one comparison, without a hash.
+/// one comparison, without a hash. A guess stands in the first place that was free, so a word of
+/// which a place is free, and no guess before that is right, is no name.
 pub struct NameMap<'a, V: Copy, A: Allocator> {
     entries: IndexMap<Name<'a>, V, TextKeyed, A>,
     guesses: Vec<u32, A>,
@@ -43,34 +47,52 @@ impl<'a, V: Copy, A: Allocator> Drop for NameMap<'a, V, A> {
 impl<'a, V: Copy, A: Allocator> Model for NameMap<'a, V, A> {
     ghost use Rattle.std.specs.Prelude.{◌≡◌, List, true};
     ghost use Rattle.mm_database.specs.declared.name.Name.{Name as SpecName};
+    ghost use Rattle.mm_database.specs.Guesses.{AreGuessed};
     ghost use Rattle.mm_database.specs.Names.{are_distinct, names_of};
 
     ghost Value = { List (SpecName × V) };
 
     ghost view = { λ m. m.entries.entries };
 
-    ghost invariant = { λ m. are_distinct (names_of m.entries.entries) ≡ true };
+    ghost invariant = { λ m. (are_distinct (names_of m.entries.entries) ≡ true)
+        × AreGuessed (names_of m.entries.entries) m.guesses.items };
+}
+
+/// Returns the four bytes of a word from `at` on as a number.
+#[inline(always)]
+fn number_at(word: &[u8], at: usize) -> u32
+    requires { at + 4 ≤ length word.now }
+    ensures { result ≡ number_at word.now at }
+{
+    u32::from_le_bytes([word[at], word[at + 1], word[at + 2], word[at + 3]])
 }
 
 /// Returns the first and the last four bytes of a word, each as a number, or of a shorter word the
 /// first and the last byte.
 #[inline(always)]
-fn ends_of(word: &[u8]) -> (u32, u32) {
-    match (word.first_chunk::<4>(), word.last_chunk::<4>()) {
-        (Some(first), Some(last)) => (u32::from_le_bytes(*first), u32::from_le_bytes(*last)),
-        _ => match (word.first(), word.last()) {
-            (Some(first), Some(last)) => (*first as u32, *last as u32),
-            _ => (0, 0),
-        },
+fn ends_of(word: &[u8]) -> (u32, u32)
+    ensures { result ≡ ends_of word.now }
+{
+    let len = word.len();
+    if len >= 4 {
+        (number_at(word, 0), number_at(word, len - 4))
+    } else if len > 0 {
+        (word[0] as u32, word[len - 1] as u32)
+    } else {
+        (0, 0)
     }
 }
 
-/// Returns where the guess for a name is among so many. For a name of one byte, as most symbols of
-/// a formula are, it is that byte. For others it goes by the upper bits of a sum of products, since
-/// a product's upper bits depend on more bits of its factors than its lower bits do. The factors
-/// are odd numbers whose bits look random, as hash functions have them (xxHash and MurmurHash3).
+/// Returns the first place of the guess for a name among so many. For a name of one byte, as most
+/// symbols of a formula are, it is that byte. For others it goes by the upper bits of a sum of
+/// products, since a product's upper bits depend on more bits of its factors than its lower bits
+/// do. The factors are odd numbers whose bits look random, as hash functions have them (xxHash and
+/// MurmurHash3).
 #[inline(always)]
-fn guess_index(word: &[u8], guesses: usize) -> usize {
+fn first_place(word: &[u8], count: usize) -> usize
+    ensures is_first_place { result ≡ first_place word.now count }
+    ensures is_small { result < 2 ^ 32 }
+{
     if word.len() == 1 {
         return word[0] as usize;
     }
@@ -80,55 +102,85 @@ fn guess_index(word: &[u8], guesses: usize) -> usize {
         .wrapping_mul(0x9E37_79B1)
         .wrapping_add(last.wrapping_mul(0x85EB_CA6B))
         .wrapping_add(len.wrapping_mul(0x27D4_EB2F));
-    (sum as usize).wrapping_mul(guesses) >> 32
+    (sum as usize).wrapping_mul(count) / 0x1_0000_0000
 }
 
-/// Sets the guess for names such as `word`, unless one has been made or the index is too large.
-fn set_guess<A: Allocator>(guesses: &mut Vec<u32, A>, word: &[u8], index: usize) {
-    if let Ok(small_index) = u32::try_from(index) {
-        let first = guess_index(word, guesses.len());
-        for at in first..first.saturating_add(WINDOW) {
-            if let Some(guess) = guesses.get_mut(at) {
-                if *guess == NO_GUESS {
-                    *guess = small_index;
-                    return;
-                }
+/// Returns the guess at a place, if there is such a place.
+#[inline(always)]
+fn guess_at<A: Allocator>(guesses: &Vec<u32, A>, place: usize) -> Option<u32>
+    ensures { result ≡ slice_get guesses.now.items place }
+{
+    guesses.get(place).copied()
+}
+
+/// Puts a guess into the first free one of its places, if one is free.
+fn put_guess<A: Allocator>(guesses: &mut Vec<u32, A>, word: &[u8], guess: u32)
+    requires { guess < no_guess }
+    ensures is_guessed { IsGuessed guesses.new.items word.now guess }
+    ensures others_stay { (w : List ℕ) (i : ℕ) → IsGuessed guesses.old.items w i
+        → IsGuessed guesses.new.items w i }
+{
+    let first = first_place(word, guesses.len());
+    for place in first..first + WINDOW {
+        if let Some(before) = guess_at(guesses, place) {
+            if before == NO_GUESS {
+                guesses[place] = guess;
+                return;
             }
         }
     }
 }
 
-/// Makes twice as many guesses, and sets each of them anew.
-fn double_guesses<'a, V: Copy, A: Allocator>(
+/// Sets the guess for a name. An index that is too large for a guess leaves no guesses.
+fn set_guess<A: Allocator>(guesses: &mut Vec<u32, A>, word: &[u8], index: usize)
+    ensures is_guessed { IsGuessed guesses.new.items word.now index }
+    ensures others_stay { (w : List ℕ) (i : ℕ) → IsGuessed guesses.old.items w i
+        → IsGuessed guesses.new.items w i }
+{
+    if index < NO_GUESS as usize {
+        put_guess(guesses, word, index as u32);
+    } else {
+        guesses.clear();
+    }
+}
+
+/// Makes four times as many places for guesses as there are names, and sets the guess for each.
+/// Without memory for them there are no guesses, and names are found by their hashes.
+fn renew_guesses<'a, V: Copy, A: Allocator>(
     entries: &IndexMap<Name<'a>, V, TextKeyed, A>,
     guesses: &mut Vec<u32, A>,
-) -> Result<(), AllocError> {
-    let count = guesses.len().saturating_mul(2).max(FIRST_GUESSES);
-    guesses.resize(count, NO_GUESS)?;
-    guesses.fill(NO_GUESS);
+)
+    ensures { AreGuessed (names_of entries.now.entries) guesses.new.items }
+{
+    let count = entries.len().saturating_mul(4).max(FIRST_GUESSES);
+    guesses.clear();
+    if guesses.resize(count, NO_GUESS).is_err() {
+        return;
+    }
     for index in 0..entries.len() {
         if let Some((name, _)) = entries.get_index(index) {
             set_guess(guesses, name.bytes, index);
         }
     }
-    Ok(())
 }
 
-/// Sets the guess for a name that was added, and makes more guesses where there are few for so many
-/// names. Without memory for more guesses, names are found by their hashes.
+/// Sets the guess for a name that was added, and makes more places where there are few for so many
+/// names.
 fn add_guess<'a, V: Copy, A: Allocator>(
     entries: &IndexMap<Name<'a>, V, TextKeyed, A>,
     guesses: &mut Vec<u32, A>,
     word: &[u8],
     index: usize,
-) {
+)
+    requires is_name { slice_get (names_of entries.now.entries) index ≡ Some word.now }
+    requires others_are_guessed { (i : ℕ) (w : List ℕ) → i ≢ index
+        → slice_get (names_of entries.now.entries) i ≡ Some w → IsGuessed guesses.old.items w i }
+    ensures { AreGuessed (names_of entries.now.entries) guesses.new.items }
+{
     if index < guesses.len() / 2 {
         set_guess(guesses, word, index);
-        return;
-    }
-    match double_guesses(entries, guesses) {
-        Ok(()) => {}
-        Err(_) => {}
+    } else {
+        renew_guesses(entries, guesses);
     }
 }
 
@@ -155,16 +207,17 @@ impl<'a, V: Copy, A: Allocator> NameMap<'a, V, A> {
         self.entries.get_index(index)
     }
 
-    /// Returns the index of the name guessed at this place and its value, if the guess is right.
+    /// Returns the value of the name with this index, if the name is the word.
     #[inline(always)]
-    fn guessed_at(&self, at: usize, word: &[u8]) -> Option<(usize, &V)>
-        ensures index_is { IfSome result (λ p. p.0 ≡ index_of word.now (names_of self.now)) }
-        ensures value_is { IfSome result (λ p. Some p.1.now ≡ find self.now word.now) }
+    fn value_at(&self, index: usize, word: &[u8]) -> Option<&V>
+        ensures index_is { IfSome result (λ v. index ≡ index_of word.now (names_of self.now)) }
+        ensures value_is { IfSome result (λ v. Some v.now ≡ find self.now word.now) }
+        ensures is_other { IfNone result
+            (slice_get (names_of self.now) index ≢ Some word.now) }
     {
-        let guess = *self.guesses.get(at)? as usize;
-        let (name, value) = self.entries.get_index(guess)?;
+        let (name, value) = self.entries.get_index(index)?;
         if name.bytes == word {
-            Some((guess, value))
+            Some(value)
         } else {
             None
         }
@@ -177,10 +230,15 @@ impl<'a, V: Copy, A: Allocator> NameMap<'a, V, A> {
         ensures index_is { result.0 ≡ index_of word.now (names_of self.now) }
         ensures value_is { option_map (λ v. v.now) result.1 ≡ find self.now word.now }
     {
-        let first = guess_index(word, self.guesses.len());
-        for at in first..first.saturating_add(WINDOW) {
-            if let Some((index, value)) = self.guessed_at(at, word) {
-                return (index, Some(value));
+        let first = first_place(word, self.guesses.len());
+        for place in first..first + WINDOW {
+            if let Some(guess) = guess_at(&self.guesses, place) {
+                if guess == NO_GUESS {
+                    return (self.entries.len(), None);
+                }
+                if let Some(value) = self.value_at(guess as usize, word) {
+                    return (guess as usize, Some(value));
+                }
             }
         }
         self.hashed(word)
@@ -204,10 +262,13 @@ impl<'a, V: Copy, A: Allocator> NameMap<'a, V, A> {
         ensures index_is { result.0 ≡ index_of word.now (names_of self.now) }
         ensures value_is { option_map (λ v. v.now) result.1 ≡ find self.now word.now }
     {
-        match self.guessed_at(guess_index(word, self.guesses.len()), word) {
-            Some((index, value)) => (index, Some(value)),
-            None => self.looked_up(word),
+        if let Some(guess) = guess_at(&self.guesses, first_place(word, self.guesses.len())) {
+            let index = guess as usize;
+            if let Some(value) = self.value_at(index, word) {
+                return (index, Some(value));
+            }
         }
+        self.looked_up(word)
     }
 }
 
@@ -233,7 +294,10 @@ impl<'a, V: Copy, A: Allocator + Copy> NameMap<'a, V, A> {
             (names_of self.new ≡ with_name word.now (names_of self.old)) }
     {
         let (index, before) = self.entries.insert_full(Name { bytes: word }, value)?;
+        if before.is_some() {
+            return Ok(true);
+        }
         add_guess(&self.entries, &mut self.guesses, word, index);
-        Ok(before.is_some())
+        Ok(false)
     }
 }

@@ -1,0 +1,43 @@
+-- Where a map of names has its guesses of the names' indices.
+use Rattle.std.specs.Prelude.{◌≡◌, ℕ, ◌+◌, ◌-◌, ◌*◌, ◌/◌, ◌%◌, ◌^◌, ◌<◌, nat_eq, nat_le, nat_lt}
+use Rattle.std.specs.Prelude.{List, length, Some, slice_get, slice_index, if◌then◌else◌}
+
+-- stands in a place without a guess
+abbrev pub no_guess : ℕ
+no_guess = 4294967295
+
+-- how many places the guess for a name can have, one after the other
+abbrev pub window : ℕ
+window = 4
+
+-- the four bytes of a word from i on as a number, the lowest first
+abbrev pub number_at : List ℕ → ℕ → ℕ
+number_at w i =
+    slice_index w i + slice_index w (i + 1) * 256 + slice_index w (i + 2) * 65536
+    + slice_index w (i + 3) * 16777216
+
+-- the first and the last four bytes of a word, or of a shorter word the first and the last byte
+abbrev pub ends_of : List ℕ → ℕ × ℕ
+ends_of w =
+    if nat_le 4 (length w) then (number_at w 0, number_at w (length w - 4)) else
+    (if nat_lt 0 (length w) then (slice_index w 0, slice_index w (length w - 1)) else (0, 0))
+
+-- The first place of the guess for a name among so many. Which one it is decides only how fast a
+-- name is found.
+abbrev pub first_place : List ℕ → ℕ → ℕ
+first_place w count =
+    if nat_eq (length w) 1 then slice_index w 0 else
+    (let ends = ends_of w in
+    (((ends.0 * 2654435761 % 2 ^ 32 + ends.1 * 2246822507 % 2 ^ 32) % 2 ^ 32
+    + length w % 2 ^ 32 * 668265263 % 2 ^ 32) % 2 ^ 32 * count) % 2 ^ 64 / 2 ^ 32)
+
+-- before a free place of a name's guess stands the guess that is its index
+abbrev pub IsGuessed : List ℕ → List ℕ → ℕ → Type 0
+IsGuessed guesses w i =
+    let first = first_place w (length guesses) in
+    (k : ℕ) → k < window → slice_get guesses (first + k) ≡ Some no_guess
+    → (m : ℕ) × (m < k) × (i < no_guess) × (slice_get guesses (first + m) ≡ Some i)
+
+-- each name is guessed, or all places of its guess are taken
+abbrev pub AreGuessed : List (List ℕ) → List ℕ → Type 0
+AreGuessed ns guesses = (i : ℕ) (w : List ℕ) → slice_get ns i ≡ Some w → IsGuessed guesses w i
