@@ -172,8 +172,8 @@ pub absent_at_free_place : (ns : List Bytes) (guesses : List ℕ) (w : Bytes) (f
 absent_at_free_place ns guesses w first p are_guessed first_is first_le_p p_lt_end others is_free =
     let p_is : first + (p - first) ≡ p = omega (arith, first_le_p) in
     isnt_in ns w (λ i name_is_w. guess_isnt_right ns guesses w first p i others name_is_w
-    (subst (IsGuessedFrom guesses i) (sym first_is) (are_guessed i w name_is_w) (p - first) (omega (arith, first_le_p, p_lt_end))
-    (ap (slice_get guesses) p_is ∙ is_free)))
+    (subst (IsGuessedFrom guesses i) (sym first_is) (are_guessed i w name_is_w) (p - first)
+    (omega (arith, first_le_p, p_lt_end)) (ap (slice_get guesses) p_is ∙ is_free)))
 
 -- a name is there if it has a value
 has_value : {V : Type 0} (es : List (Name × V)) (w : Bytes)

@@ -29,7 +29,8 @@ fn write_output<'a, A: Allocator + Copy>(
     ensures name_stays { OnOk result (to.new.out.ghost_name ≡ to.old.out.ghost_name) }
     ensures before_stays { OnOk result (to.new.before.bytes ≡ to.old.before.bytes) }
     ensures appends_output { IfOk result (λ status.
-        HasVerdict status (report_of text.now) request.now.with_open × ((bytes : List ℕ) × IsOutput text.now request.now bytes
+        HasVerdict status (report_of text.now) request.now.with_open
+        × ((bytes : List ℕ) × IsOutput text.now request.now bytes
         × (to.new.written.bytes ≡ to.old.written.bytes ++ bytes))) }
 {
     match write_judged(alloc, text, request, judged, to) {

@@ -10,7 +10,8 @@ use Rattle.mm_rows.specs.Marks.{Marks, mark}
 use Rattle.mm_shifts.specs.Resting.{IsMarked, IsNextMarked, RestsInCell, resting}
 
 module _ (d : Contents) (c : Citing) (axioms : List ℕ) (m : Marks)
-    (is_marked : IsMarked d c axioms m) (row : ℕ) (row_lt_count : row < length (theorems d.statements)) where
+    (is_marked : IsMarked d c axioms m) (row : ℕ)
+    (row_lt_count : row < length (theorems d.statements)) where
   -- a cell decides
   cell_decides : (k : ℕ) → k < length (columns d.statements None)
       → Decides (mark m row k) (RestsInCell (resting d c) row k)

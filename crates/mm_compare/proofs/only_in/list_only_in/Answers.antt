@@ -17,7 +17,8 @@ loop-k-preserved g c =
         are_known = c.is_only_in.ensures.are_known;
         listed_are =
             filter_range_passes wanted c.loop-k.k c.loop-k.listed.items _
-            c.loop-k.invariant.listed_are (sym c.is_only_in.ensures.is_only_in ∙ w.if-is_only_in.true)
+            c.loop-k.invariant.listed_are
+            (sym c.is_only_in.ensures.is_only_in ∙ w.if-is_only_in.true)
             (rw w.listed-is w.in_ok-push.ensures.items);
       }
       | else-is_only_in w ↦ record {
@@ -26,6 +27,7 @@ loop-k-preserved g c =
         listed_are =
             rw w.listed-is
             (filter_range_skips wanted c.loop-k.k c.loop-k.listed.items
-            c.loop-k.invariant.listed_are (sym c.is_only_in.ensures.is_only_in ∙ w.if-is_only_in.false));
+            c.loop-k.invariant.listed_are
+            (sym c.is_only_in.ensures.is_only_in ∙ w.if-is_only_in.false));
       }
     ]

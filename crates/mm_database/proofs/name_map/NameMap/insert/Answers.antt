@@ -20,8 +20,8 @@ invariant_of-self-then-is_some g c =
       subst (λ (ns : List (List ℕ)). are_distinct ns ≡ true) (sym names_are)
           (distinct_with_name c.args.word.now (names_of es) c.self.invariant.0),
       subst (λ (ns : List (List ℕ)). AreGuessed ns c.self.inside.guesses.items) (sym names_are)
-          (known_name_stays_guessed c.args.word.now (names_of es) c.self.inside.guesses.items is_known
-          c.self.invariant.1),
+          (known_name_stays_guessed c.args.word.now (names_of es) c.self.inside.guesses.items
+          is_known c.self.invariant.1),
     )
 
 -- the clause `updates` of `insert_full`, at a key with these bytes
