@@ -110,14 +110,16 @@ impl<A: Allocator> DisjointCache<A> {
         }
     }
 
-    /// Removes all pairs, then adds those of a theorem's frame.
+    /// Removes all pairs, then adds those of a theorem's frame, as far as there is room. The others
+    /// aren't looked at: a frame that many theorems share can have many.
     pub fn restart(&mut self, database: &Database<A>, theorem: u32)
         requires { is_assertion_at database.now.statements theorem ≡ true }
         ensures { AreDisjointAt database.now.statements theorem self.new }
     {
         self.pairs.clear();
         self.rows.clear();
-        for pair in pairs(database, theorem) {
+        let of_frame = pairs(database, theorem);
+        for pair in &of_frame[..of_frame.len().min(PAIR_SLOTS)] {
             self.insert_pair(pair.0, pair.1);
         }
     }

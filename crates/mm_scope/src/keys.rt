@@ -21,32 +21,36 @@ const MIN_LIST_BYTES: usize = 34;
 /// with them, and can't choose names by what these keys make of them.
 pub(crate) fn keys_of(text: &[u8], tokens: &[Word]) -> TextKeyed {
     let mut state = Sha256::new();
-    let mut before = 0;
     let mut list = usize::MAX;
     let mut min_bytes = 0;
-    for token in tokens {
+    for index in 0..tokens.len() {
+        let token = tokens[index];
         let start = token.start as usize;
-        if token.end.wrapping_sub(token.start) == 2 && text.get(start) == Some(&b'$') {
-            match text.get(start + 1).copied() {
-                Some(b'a' | b'p' | b'e' | b'f') => feed(&mut state, text, before, start),
-                Some(b'c' | b'v') => {
-                    list = start;
-                    min_bytes = 0;
-                }
-                Some(b'd') => {
-                    list = start;
-                    min_bytes = MIN_LIST_BYTES;
-                }
-                Some(b'.') => {
-                    if start >= list && start - list >= min_bytes {
-                        feed(&mut state, text, list, start);
-                    }
-                    list = usize::MAX;
-                }
-                _ => {}
-            }
+        if token.end.wrapping_sub(token.start) != 2 || text.get(start) != Some(&b'$') {
+            continue;
         }
-        before = start;
+        match text.get(start + 1).copied() {
+            Some(b'a' | b'p' | b'e' | b'f') => {
+                if index > 0 {
+                    feed(&mut state, text, tokens[index - 1].start as usize, start);
+                }
+            }
+            Some(b'c' | b'v') => {
+                list = start;
+                min_bytes = 0;
+            }
+            Some(b'd') => {
+                list = start;
+                min_bytes = MIN_LIST_BYTES;
+            }
+            Some(b'.') => {
+                if start >= list && start - list >= min_bytes {
+                    feed(&mut state, text, list, start);
+                }
+                list = usize::MAX;
+            }
+            _ => {}
+        }
     }
     let digest = state.finalize();
     let keys = match digest.first_chunk::<16>() {
