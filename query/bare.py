@@ -9,7 +9,6 @@ from __future__ import annotations
 import re
 
 COMMENT = re.compile(rb"\$\(.*?(?:\$\)|\Z)", re.DOTALL)
-PROOF = re.compile(rb"\$=[^$]*+\$\.")
 
 Stretch = tuple[int, int]
 
@@ -34,14 +33,6 @@ def declared_at(bare_text: bytes, label: str) -> int | None:
     return None if match is None else match.start()
 
 
-def floating(bare_text: bytes, label: str) -> list[str]:
-    """The typecode and the variable of a `$f` statement. KeyError where there is none."""
-    match = match_behind(bare_text, label, rb"\$f\s([^$]*+)\$\.")
-    if match is None:
-        raise KeyError(label)
-    return match[1].decode("latin-1").split()
-
-
 def proof_of(bare_text: bytes, label: str) -> Stretch | None:
     """Where the proof of a theorem stands, between `$=` and `$.`; None where there is none."""
     match = match_behind(bare_text, label, rb"\$p\s[^$]*+\$=([^$]*+)\$\.")
@@ -55,9 +46,3 @@ def leave_open(bare_text: bytes, data: bytearray, place: int) -> None:
     keyword = bare_text.rindex(b"$p", 0, start)
     data[keyword : keyword + 2] = b"$a"
     data[start:end] = re.sub(rb"[^\n]", b" ", data[start:end])
-
-
-def without_proofs(bare_text: bytes) -> bytes:
-    """A beginning of a text with `?` in place of each proof, and its blocks closed."""
-    blocks = bare_text.count(b"${") - bare_text.count(b"$}")
-    return PROOF.sub(b"$= ? $.", bare_text) + b" $}" * blocks

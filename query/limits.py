@@ -10,6 +10,15 @@ FREE_SECONDS, SECONDS_FOR_MEGABYTE = 10, 5
 FREE_BYTES, BYTES_FOR_BYTE = 256 * MEGABYTE, 64
 MOST_GIVEN = 999_999
 """The largest number that an option or a file may give."""
+EXPLAINED_PROOF = MEGABYTE
+"""A proof of more bytes up to its fault isn't carried out to say what is wrong with it."""
+EXPLAINED_SYMBOLS = 10_000_000
+"""So many symbols are read and written at the most for all proofs of a database that are carried
+out so: a short one may build long formulas. A step counts as ten besides."""
+EXPLAINED_BYTES = 64 * MEGABYTE
+"""So many bytes are read at the most of what the program says of the assertions that they cite."""
+EXPLAINED_FORMULA = 100_000
+"""A formula of a proof that has more characters isn't shown."""
 
 
 @dataclass(frozen=True)

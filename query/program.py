@@ -96,8 +96,9 @@ class Running:
     @property
     def most_output(self) -> int:
         """How many bytes are read of what it writes."""
-        memory = MOST_OUTPUT_BYTES if self.allowed is None else self.allowed.memory
-        return min(memory, MOST_OUTPUT_BYTES)
+        if self.allowed is None:
+            return MOST_OUTPUT_BYTES
+        return min(self.allowed.memory, self.allowed.output)
 
     def exceeded(self, status: int, said: int) -> str:
         """Which limit ended it, in words; "" where none did. `said` is how many bytes it wrote."""
@@ -130,21 +131,23 @@ class Running:
 @dataclass(frozen=True)
 class Allowed:
     """What a run of the program may take: seconds of the processor, and bytes of memory. Node sets
-    aside more than it uses, and limits the memory of its module by itself."""
+    aside more than it uses, and limits the memory of its module by itself. `output` is how many
+    bytes are read of what it writes."""
 
     seconds: int
     memory: int
     is_node: bool
+    output: int = MOST_OUTPUT_BYTES
 
     def limiting(self) -> Callable[[], None] | None:
         """What limits a process before the program begins in it."""
         return system.limiting(self.seconds, None if self.is_node else self.memory)
 
 
-def allowed_for(size: int, is_node: bool) -> Allowed:
+def allowed_for(size: int, is_node: bool, output: int = MOST_OUTPUT_BYTES) -> Allowed:
     """What a run over so many bytes may take."""
     chosen = limits.chosen()
-    return Allowed(chosen.seconds_for(size), chosen.bytes_for(size), is_node)
+    return Allowed(chosen.seconds_for(size), chosen.bytes_for(size), is_node, output)
 
 
 @dataclass(frozen=True)
@@ -166,11 +169,12 @@ class Program:
         is_kept: bool,
         size: int | None = None,
         passed: Sequence[int] = (),
+        output: int = MOST_OUTPUT_BYTES,
     ) -> Running:
         """The program while it runs with these words, and an open file as standard input; None for
         an empty one. It gets the open files `passed` besides. Where it reads so many bytes, by
-        these it is limited."""
-        allowed = None if size is None else allowed_for(size, self.node is not None)
+        these it is limited, and no more is read of what it writes than `output`."""
+        allowed = None if size is None else allowed_for(size, self.node is not None, output)
         if self.node is None:
             return Running(self.path, words, given, is_kept, passed, None, allowed)
         line = [self.path, *words]
@@ -252,21 +256,25 @@ def ready() -> Program:
     return program
 
 
-def report(program: Program, source: Source, words: list[str]) -> bytes:
+def report(
+    program: Program, source: Source, words: list[str], output: int = MOST_OUTPUT_BYTES
+) -> bytes:
     """The report that the program writes over a source with these options. Refused where it refuses
-    the source, NoAnswer where it has no answer."""
-    running = over(program, source, words)
+    the source, NoAnswer where it has no answer, or one of more bytes than `output`."""
+    running = over(program, source, words, output)
     try:
         return judged_report(source, running)
     finally:
         running.stop()
 
 
-def over(program: Program, source: Source, words: list[str]) -> Running:
+def over(
+    program: Program, source: Source, words: list[str], output: int = MOST_OUTPUT_BYTES
+) -> Running:
     """The program running over a source."""
     descriptor = source.opened()
     try:
-        return program.running(words, descriptor, True, len(source.data))
+        return program.running(words, descriptor, True, len(source.data), output=output)
     finally:
         os.close(descriptor)
 

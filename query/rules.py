@@ -6,7 +6,6 @@ gives a `Finding` for each thing that breaks it, in file order.
 
 from __future__ import annotations
 
-import os
 import re
 from bisect import bisect_right
 from collections.abc import Callable, Iterable, Iterator
@@ -18,6 +17,7 @@ from query.assertions import Assertion
 from query.boxes import exposed
 from query.changes import Comparison, Side
 from query.config import RULES, Claim, Config, Labels, is_meant
+from query.excerpts import cut, cut_both
 from query.graph import Graph
 from query.includes import OPENING, new_includes
 from query.introduced import introduced
@@ -33,12 +33,8 @@ QUOTED = "'"
 """Stands for a quoted word: no other word has this sign."""
 MOST_REASONS = 1_000_000
 """So many reasons are remembered at the most."""
-SHOWN_FORMULA = 200
-"""How many characters of a formula are shown."""
 SHOWN_INCLUDE = 100
 """How many characters of a comment with an include are shown."""
-SHOWN_BEFORE = 60
-"""How many of these stand before the place where two formulas differ."""
 
 
 @dataclass(frozen=True)
@@ -118,25 +114,6 @@ class Case:
         return any(each in meant or was.get(each, "") in meant for each in self.comparison.gaining)
 
 
-def shown_formula(assertion: Assertion) -> str:
-    """A formula, cut where it is long."""
-    formula = assertion.formula
-    return formula if len(formula) <= SHOWN_FORMULA else formula[:SHOWN_FORMULA] + " .."
-
-
-def shown_change(old: str, new: str) -> tuple[str, str]:
-    """Two formulas, where they are long from a little before the place where they differ on."""
-    start = 0
-    if len(old) > SHOWN_FORMULA or len(new) > SHOWN_FORMULA:
-        start = max(0, len(os.path.commonprefix([old, new])) - SHOWN_BEFORE)
-    both = []
-    for formula in (old, new):
-        end = start + SHOWN_FORMULA
-        dots = ".. " if start else "", " .." if end < len(formula) else ""
-        both.append(dots[0] + formula[start:end] + dots[1])
-    return both[0], both[1]
-
-
 def axioms(case: Case) -> Iterator[Finding]:
     """An axiom is new, changed or gone, and isn't allowed. What the rule `definitions` judges is
     left to it."""
@@ -178,7 +155,7 @@ def axioms_gone(case: Case) -> Iterator[tuple[str, str]]:
 
 def reason_of_new(case: Case, axiom: Assertion) -> str:
     """Why an axiom is a new one."""
-    formula = shown_formula(axiom)
+    formula = cut(axiom.formula)
     was = case.comparison.axioms.renamed.get(axiom.label)
     if was:
         return f"a new label of the axiom {was}: {formula}{resting(case, axiom.label)}"
@@ -199,7 +176,7 @@ def resting(case: Case, axiom: str) -> str:
 def reason_of_changed(case: Case, before: Assertion, axiom: Assertion) -> str:
     """How an axiom was changed."""
     differ = case.comparison.axioms.changed[axiom.label]
-    was, now = shown_change(before.formula, axiom.formula)
+    was, now = cut_both(before.formula, axiom.formula)
     shift = f", from {was} to {now}" if was != now else ""
     return f"a changed axiom: {differ}{shift}{resting(case, axiom.label)}"
 

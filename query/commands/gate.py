@@ -14,6 +14,7 @@ from query.config import FILE_NAME, RULES, content_of, find_config, load_config
 from query.context import Context
 from query.database import Database
 from query.errors import NoAnswer, shown
+from query.excerpts import SHOWN_FORMULA
 from query.faults import Refused
 from query.findings import FORMS, Verdict, as_summary
 from query.git import short
@@ -182,7 +183,12 @@ def judged(comparison: Comparison, asked: Asked, tells_all: bool) -> Iterator[Fi
 
 def refusal_of(refused: Refused) -> Finding:
     """The finding that the database is refused."""
+    # It takes 12 milliseconds, and most databases have no fault.
+    from query.explained import explanations
+
     said = f"{refused.said()}; {refused.advice}"
+    for why in explanations([refused]):
+        said += f"; {why.clause(SHOWN_FORMULA)}" if why is not None else ""
     return Finding("valid", refused.source.name, refused.line, "", "", said, refused.column)
 
 

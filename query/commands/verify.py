@@ -4,11 +4,12 @@ import argparse
 from collections.abc import Iterator
 from functools import cached_property
 
-from query import program, progress
+from query import explanation, program, progress
 from query.bare import declared_at, leave_open, without_comments
 from query.commands import Command
 from query.context import Context
 from query.database import Database
+from query.explanation import Explanation
 from query.faults import Refused
 from query.includes import misleading
 from query.options import Parser, add_choice_of_citations, add_database, positive, options_of
@@ -17,16 +18,29 @@ from query.source import Source
 
 PAGE = """
 Tells whether every proof is valid (status 0), or the first fault (status 1) as compilers write it:
-file, line, column, code and statement; what the code means, and what to do. Where a proof ends in
-another formula than that of its theorem, both formulas are shown. Where a proof has a word that it
-can't cite, the word is shown, and the line on which something of this name is declared.
+file, line, column, code and statement; what the code means, and what to do. Of a wrong step of a
+proof it says what it cites, which hypothesis wants what and what stands there, or which variables
+aren't distinct; and it shows the steps before. Where a proof ends in another formula than that of
+its theorem, both are shown. Where a proof has a word that it can't cite, the word is shown, and the
+line on which something of this name is declared.
 
 valid      whether the database is accepted
 axioms     how many axioms of every typecode it has
 theorems   how many theorems it has
 line, column, code, statement, meaning, advice   the fault; the column counts bytes from 1
-proved, wanted   the formula that the proof proves and that of the theorem, for the code E38
-word, declared   the word, and the line on which there is something of this name, for the code E33
+proved, wanted   the formula that the proof proves and that of the theorem, for the code E38; what
+           stands there and what the hypothesis wants, for E35
+word, declared   the word, and the line on which there is something of this name, for E33
+step, cited   which step is wrong, and the label that it cites, for E34, E35, E36 and E39
+hypothesis   the label of the first hypothesis that what stands there doesn't fit, for E35
+distinct   the two variables that must be distinct, for E36
+first, second   what stands for each of them
+lacking    the variable that both have, or two that no active $d has
+steps      the last five steps before: number, label and formula, which is cut where it is long
+
+All steps are counted, those too that build formulas, as metamath.exe's `show proof T /all` counts
+them. Each number of a compressed proof is a step; the label @N says that it repeats the step N. As
+text, formulas are cut where they are long: `..` stands for what is left out.
 
 With --each, the faults of all proofs: a theorem whose proof has one is taken as an axiom, and the
 other proofs are judged on. --most N ends with the Nth fault.
@@ -40,7 +54,7 @@ NOTHING = ["--report=citations", "--only="]
 SHOWN_WORD = 1000
 """Bytes of a word that are shown."""
 FIELDS = ["line", "column", "code", "statement", "meaning", "advice"]
-FIELDS += ["proved", "wanted", "word", "declared"]
+FIELDS += ["proved", "wanted", "word", "declared", *explanation.COLUMNS]
 COLUMNS = ["valid", "axioms", "theorems", *FIELDS]
 
 
@@ -107,20 +121,25 @@ def others(database: Database, first: Refused, most: int) -> Iterator[Refused]:
 
 def put_refusals(context: Context, refusals: list[Refused]) -> None:
     """Answers with faults of one database."""
+    # It takes 12 milliseconds, and most databases have no fault.
+    from query.explained import explanations
+
     words = Words(refusals[0].source)
+    known = zip(refusals, explanations(refusals))
     if context.out.format == "text":
-        for refusal in refusals:
-            put_lines(context, refusal, words)
+        for refusal, why in known:
+            put_lines(context, refusal, words, why or Explanation())
         return
     rows: list[list[Value]] = []
-    for refusal in refusals:
+    for refusal, why in known:
+        why = why or Explanation()
         row: list[Value] = [refusal.line, refusal.column, refusal.code, refusal.statement() or None]
-        row += [refusal.meaning, refusal.advice, *formulas(refusal), *words.of(refusal)]
-        rows.append([False, None, None, *row])
+        row += [refusal.meaning, refusal.advice, *why.formulas(), *words.of(refusal)]
+        rows.append([False, None, None, *row, *why.fields()])
     context.out.table(COLUMNS, rows)
 
 
-def put_lines(context: Context, refusal: Refused, words: "Words") -> None:
+def put_lines(context: Context, refusal: Refused, words: "Words", why: Explanation) -> None:
     """Answers with a fault, for a person."""
     at = f"{refusal.source.name}:{refusal.line}:{refusal.column}"
     context.out.line(f"{at}: {refusal.said()}")
@@ -129,21 +148,12 @@ def put_lines(context: Context, refusal: Refused, words: "Words") -> None:
         where = f"is declared on line {declared}" if declared else "is declared nowhere"
         context.out.line(f"  the word          {word}, which {where}")
     context.out.line(f"  what to do        {refusal.advice}")
-    proved, wanted = formulas(refusal)
-    if proved is not None:
-        context.out.line(f"  the proof proves  {proved}")
-        context.out.line(f"  the theorem says  {wanted}")
-
-
-def formulas(refusal: Refused) -> tuple[str | None, str | None]:
-    """What the proof proves and what its theorem says; None where that can't be told."""
-    # It takes 12 milliseconds, and most databases have no such fault.
-    from query.proof import proved
-
-    source = refusal.source
-    if refusal.code != "E38" or source.is_report():
-        return None, None
-    return proved(source, refusal.at() + len(b"$.")) or (None, None)
+    for name, text in why.lines():
+        context.out.line(f"  {name:<16}  {text}")
+    name = "the last steps" if why.step is None else "the steps before"
+    for line in why.step_lines():
+        context.out.line(f"  {name:<16}  {line}")
+        name = ""
 
 
 class Words:

@@ -363,6 +363,45 @@ def long_formulas(count: int) -> Files:
     return one(f"x $p |- ( p -> p ) $= ( wi ax via two ) {letters_of} $.\n")
 
 
+def wrong_proofs(count: int) -> Files:
+    """Proofs with long formulas, of which each proves another one than its theorem says."""
+    steps = "AAB" + "".join(f"Z{letters(4 + k)}B" for k in range(16))
+    return one("".join(f"x{number} $p |- q $= ( wi ax ) {steps}C $.\n" for number in range(count)))
+
+
+def wrong_symbols(count: int) -> Files:
+    """A long symbol, a formula that has it again and again, and a proof of another one."""
+    symbol = "s" * count
+    long = f"$c {symbol} $. long $a wff ( {symbol} p p ) $.\n"
+    return one(f"{long}x $p |- p $= ( long ax ) A{'B' * 14}C $.\n")
+
+
+def wrong_steps(count: int) -> Files:
+    """A proof of many steps that ends with too many entries."""
+    return one(f"x $p |- p $= {'wp ax ' * count}$.\n")
+
+
+def wrong_distinct(count: int) -> Files:
+    """A proof in which formulas of many variables have to be distinct, and lack one pair."""
+    made, found = variables(count)
+    middle = count // 2
+    some = f"$d {' '.join(found[1:])} $. $d {' '.join(found[:-1])} $."
+    parts = [
+        f"w{' w'.join(names)}{' wi' * (len(names) - 1)}"
+        for names in (found[:middle], found[middle:])
+    ]
+    theorem = f"x $p |- ( p -> p ) $= {' '.join(parts)} apart $."
+    return one(f"{made}${{ $d p q $. apart $a |- ( p -> q ) $. $}}\n{some}\n{theorem}\n")
+
+
+def wrong_hypotheses(count: int) -> Files:
+    """A wrong proof that names assertions with many hypotheses each, and cites none of them."""
+    lines = [f"e{number} $e |- p $. y{number} $a |- p $." for number in range(count)]
+    labels = " ".join(f"y{number}" for number in range(count))
+    lines.append(f"x $p |- q $= ( ax {labels} ) {letters(3)}{letters(count + 3)} $.")
+    return one("${\n" + "\n".join(lines) + "\n$}\n")
+
+
 def definitions(size: int) -> Files:
     """Forms, statements without them, and their definitions; and a formula in many quantifiers."""
     lines = [
@@ -478,6 +517,12 @@ SHAPES = [
           ("chapters a.mm ax", "mathboxes a.mm", "picture a.mm --png", "page a.mm")),
     Shape("dummy variables", dummies, 2_000, 2_000, ("page a.mm",), is_answer=True),
     Shape("long formulas", long_formulas, 20, 40, ("verify a.mm",)),
+    Shape("wrong proofs with long formulas", wrong_proofs, 40, 60, ("verify --each a.mm",)),
+    Shape("a long symbol in a wrong proof", wrong_symbols, 400_000, 400_000, ("verify a.mm",)),
+    Shape("a wrong proof of many steps", wrong_steps, 100_000, 150_000, ("verify a.mm",)),
+    Shape("a wrong proof with many variables", wrong_distinct, 2_000, 2_000, ("verify a.mm",)),
+    Shape("hypotheses that a wrong proof names", wrong_hypotheses, 2_000, 3_000,
+          ("verify a.mm",), is_answer=True, is_limited=True),
     Shape("hypotheses in any order", premises, 400, 60, ("repeats a.mm", "spare a.mm ax")),
     Shape("hypotheses of many forms", keys, 3_000, 1_000, ("repeats a.mm", "spare a.mm ax")),
     Shape("lists", lists, 1_000, 400, ("spare a.mm ax", "definitions a.mm")),

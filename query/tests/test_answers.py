@@ -113,7 +113,7 @@ class Answers(World):
             done = self.query("verify", "wrong.mm")
             self.assertEqual((done.status, done.err), (1, ""))
             self.assertIn("refused E38", done.out)
-            shown = [line.split("  ")[-1].split(" ", 1)[1] for line in done.lines()[2:]]
+            shown = [line.split("  ")[-1].split(" ", 1)[1] for line in done.lines()[2:4]]
             self.assertEqual(shown, [proved, wanted])
 
     def test_verify_tells_both_formulas_of_a_compressed_proof(self) -> None:

@@ -9,6 +9,7 @@ import unittest
 from pathlib import Path
 
 from query.errors import shown
+from query.excerpts import cut_both
 from query.findings import (
     SHOWN_TEXT,
     MOST_SUMMARY_BYTES,
@@ -18,7 +19,7 @@ from query.findings import (
     as_summary,
 )
 from query.output import Output, for_terminal
-from query.rules import Finding, shown_change
+from query.rules import Finding
 from query.tests.world import MMQUERY, SMALL, World
 
 EVIL = "\x1b]0;owned\x07\x9b2J\x7f\u202e\u2066\u200f\u061c\r\x08"
@@ -152,7 +153,7 @@ class Changes(unittest.TestCase):
     """Formulas that differ."""
 
     def test_short_ones_are_whole(self) -> None:
-        self.assertEqual(shown_change("a b", "a c"), ("a b", "a c"))
+        self.assertEqual(cut_both("a b", "a c"), ("a b", "a c"))
 
     def test_long_ones_are_shown_where_they_differ(self) -> None:
         start = "x " * 500
@@ -163,11 +164,11 @@ class Changes(unittest.TestCase):
             ("s" * 1000 + "o", "s" * 1000 + "n"),
             ("o " + start, "n " + start),
         ):
-            was, now = shown_change(old, new)
+            was, now = cut_both(old, new)
             self.assertNotEqual(was, now)
             for text in (was, now):
                 self.assertLessEqual(len(text), 206)
-        self.assertEqual(shown_change("o" * 300, "n")[1], "n")
+        self.assertEqual(cut_both("o" * 300, "n")[1], "n")
 
 
 class Summary(unittest.TestCase):

@@ -5,7 +5,8 @@ import re
 import unittest
 
 from query.assertions import Damaged, assertions_of
-from query.bare import declared_at, floating, proof_of, without_comments
+from query.bare import declared_at, proof_of, without_comments
+from query.outline import Outline
 from query.tests.world import DATABASES, World, invented, database_text
 from query.text import Text
 
@@ -156,7 +157,9 @@ class Reader(World):
         self.assertEqual(re.findall(rb"\$[()]|stray|inner", text), [])
         start, end = proof_of(text, "first") or (0, 0)
         self.assertEqual(SMALL[start:end], b" ( vy $( ) $) ax ) ABE ")
-        self.assertEqual(floating(text, "vy"), ["set", "y"])
+        outline = Outline(text, [start], {b"ax"})
+        self.assertEqual(outline.floating["vy"], ["set", "y"])
+        self.assertEqual([one.label for one in outline.theorems], ["first"])
         for label in ("wp", "first.e", "first", "fourth"):
             place = declared_at(text, label)
             self.assertIsNotNone(place)
@@ -164,7 +167,7 @@ class Reader(World):
         for label in ("p", "irst", "e", "x", "->", "None", "\u2192"):
             self.assertIsNone(declared_at(text, label), label)
         self.assertIsNone(proof_of(text, "wi"))
-        self.assertRaises(KeyError, floating, text, "first.e")
+        self.assertNotIn("first.e", outline.floating)
         self.assertEqual(without_comments(b"a $( $( b"), b"a " + b" " * 7)
 
 
