@@ -6,7 +6,8 @@
 -- (`ChainsLaw.antt`) give the `$d` by variables. `chained_are_higher` and `row_with_next`
 -- (`DisjointRowsLaw.antt`) make the rows of the narrow ones. With `have_blocks` of `mm_database`
 -- they give `IsDisjointIndex`. `pairs_are_mandatory_pairs` (`MandatoryPairsLaw.antt`) gives the
--- pairs.
+-- pairs. `wide_are_listed` and `rows_are_listed` (`SymbolFactsLaw.antt`) say that only variables
+-- that may be in an active `$d` need be looked up.
 -- `same_frame` (`NeighboursLaw.antt`) says when an assertion has the frame of the one before it.
 -- (`SkipsLaw.antt`: the loops of `skips_of`; `LoopsLaw.antt`: one more element in the loops that
 -- collect.) The loop of `frames_between` adds to the frames by `frames_with_statement`
@@ -26,3 +27,4 @@ pub mod ChainsLaw
 pub mod DisjointRowsLaw
 pub mod NeighboursLaw
 pub mod StretchesLaw
+pub mod SymbolFactsLaw

@@ -5,3 +5,4 @@ pub mod Sources
 pub mod Together
 pub mod Stretches
 pub mod Neighbours
+pub mod SymbolFacts

@@ -2,14 +2,15 @@
 //! Here `at` is the number of the statement at which something is active, not a place of the text.
 
 ghost use Rattle.std.specs.Prelude.{◌≡◌, ◌<◌, ◌+◌, ◌&&◌, ◌||◌, ℕ, OnOk, IfOk, All, length};
-ghost use Rattle.std.specs.Prelude.{get_or, map, nat_eq, nat_lt};
+ghost use Rattle.std.specs.Prelude.{get_or, map, nat_eq, nat_le, nat_lt, slice_index};
 ghost use Rattle.std.specs.List.{list_any};
 ghost use Rattle.mm_spec.specs.Derivation.{is_member, pair};
 ghost use Rattle.mm_spec.specs.Frame.{mandatory_variables, mandatory_pairs, symbol_names};
 ghost use Rattle.mm_database.specs.DisjointIndex.{is_active_local, is_active_in_row, IsWellFormed};
-ghost use Rattle.mm_database.specs.DisjointIndex.{IsRow};
+ghost use Rattle.mm_database.specs.DisjointIndex.{IsRow, row_of};
 ghost use Rattle.mm_frame.specs.Hypotheses.{AreStamps};
 ghost use Rattle.mm_frame.specs.Sources.{AreSources};
+ghost use Rattle.mm_frame.specs.SymbolFacts.{AreDisjointVariables};
 ghost use Rattle.mm_frame.specs.Together.{has_later, is_higher_variable_in_row};
 ghost use Rattle.mm_frame.specs.Together.{is_higher_variable_in_rows};
 ghost use Rattle.mm_database.specs.Pairs.{has_pair, AreRising};
@@ -98,6 +99,29 @@ pub(crate) fn symbol_pairs<A: Allocator + Copy>(
         symbols.push((Sym::new(*low), Sym::new(*high)))?;
     }
     Ok(symbols)
+}
+
+/// Lists those of the variables whose disjoint end isn't before the statement `at`. The others are
+/// in no `$d` that is active there. Replaces what `disjoint_variables` has.
+pub(crate) fn list_disjoint_variables<A: Allocator>(
+    disjoint_ends: &[u32],
+    variables: &[Sym],
+    at: u32,
+    disjoint_variables: &mut Vec<Sym, A>,
+) -> Result<(), AllocError>
+    requires { All (λ s. s < length disjoint_ends.now) variables.now }
+    ensures { OnOk result
+        ((x : ℕ)
+        → is_member disjoint_variables.new.items x
+        ≡ (is_member variables.now x && nat_le at (slice_index disjoint_ends.now x))) }
+{
+    disjoint_variables.clear();
+    for variable in variables {
+        if at <= disjoint_ends[variable.number() as usize] {
+            disjoint_variables.push(*variable)?;
+        }
+    }
+    Ok(())
 }
 
 /// Whether a symbol is higher than `low`, whose row has it with an active `$d`.
@@ -204,45 +228,55 @@ fn add_walked<A: Allocator>(
 }
 
 /// Appends the pairs of variables, the lower one first, that a narrow `$d` has that is active at
-/// the statement `at`. The variables have the stamp. For each of them the cost is one step for each
-/// pair of its row, or one look-up for each variable, whichever are fewer.
+/// the statement `at`. The variables have the stamp, and only the disjoint variables may be in such
+/// a `$d`. For each of these the cost is one step for each pair of its row, or one look-up for each
+/// of them, whichever are fewer.
 fn add_narrow<A: Allocator>(
     blocks: &Blocks<A>,
     disjoint_index: &DisjointIndex<A>,
     marks: &[u32],
     stamp: u32,
     variables: &[Sym],
+    disjoint_variables: &[Sym],
     at: u32,
     pairs: &mut Vec<(u32, u32), A>,
 ) -> Result<(), AllocError>
     requires well_formed { IsWellFormed blocks.now disjoint_index.now }
     requires variables_lt_count { All (λ s. s < length marks.now) variables.now }
     requires are_stamps { AreStamps (length marks.now) stamp marks.now variables.now }
+    requires higher_are_disjoint_variables { (x y : ℕ)
+        → is_higher_variable_in_row blocks.now (row_of disjoint_index.now.rows x) x variables.now
+        at y
+        ≡ is_higher_variable_in_row blocks.now (row_of disjoint_index.now.rows x) x
+        disjoint_variables.now at y }
     ensures { OnOk result
         ((x y : ℕ)
         → has_pair pairs.new.items x y
         ≡ (has_pair pairs.old.items x y
-        || is_higher_variable_in_rows blocks.now disjoint_index.now.rows variables.now at x y)) }
+        || is_higher_variable_in_rows blocks.now disjoint_index.now.rows disjoint_variables.now at x
+        y)) }
 {
-    for variable in variables {
+    for variable in disjoint_variables {
         let row = disjoint_index.row(*variable);
         let low = variable.number();
-        if row.len() <= variables.len() {
+        if row.len() <= disjoint_variables.len() {
             add_walked(blocks, row, low, marks, stamp, variables, at, pairs)?;
         } else {
-            add_looked_up(blocks, row, low, variables, at, pairs)?;
+            add_looked_up(blocks, row, low, disjoint_variables, at, pairs)?;
         }
     }
     Ok(())
 }
 
 /// Lists the mandatory pairs of an assertion in `pairs`, by its mandatory variables, which have the
-/// stamp 1 more than the assertion. For wide `$d` the cost is one step for each active one of each
-/// of these variables, and one for each pair in each of these `$d`. What the lists had before is
-/// removed.
+/// stamp 1 more than the assertion. Only the disjoint variables among them may be in an active
+/// `$d`, so nothing is looked up for the others. For wide `$d` the cost is one step for each active
+/// one of each disjoint variable, and one for each pair in each of these `$d`. What the lists had
+/// before is removed.
 pub(crate) fn list_pairs<A: Allocator>(
     sources: &FrameSources<A>,
     variables: &[Sym],
+    disjoint_variables: &[Sym],
     marks: &[u32],
     assertion: u32,
     variables_by_statement: &mut Vec<(u32, u32), A>,
@@ -253,6 +287,8 @@ pub(crate) fn list_pairs<A: Allocator>(
     requires are_mandatory { (x : ℕ)
         → is_member variables.now x
         ≡ is_member (mandatory_variables sources.now.statements.now.list assertion) x }
+    requires are_disjoint_variables { AreDisjointVariables sources.now.statements.now.list
+        sources.now.statements.now.blocks assertion variables.now disjoint_variables.now }
     requires are_stamps { AreStamps (length (symbol_names sources.now.statements.now.list))
         (assertion + 1) marks.now variables.now }
     ensures { OnOk result
@@ -265,7 +301,7 @@ pub(crate) fn list_pairs<A: Allocator>(
     append_all_active_wide(
         blocks,
         disjoint_index,
-        variables,
+        disjoint_variables,
         assertion,
         variables_by_statement,
     )?;
@@ -277,6 +313,7 @@ pub(crate) fn list_pairs<A: Allocator>(
         marks,
         assertion + 1,
         variables,
+        disjoint_variables,
         assertion,
         pairs,
     )?;

@@ -12,36 +12,21 @@ ghost use Rattle.mm_spec.specs.Frame.{symbol_names};
 ghost use Rattle.mm_outline.specs.Blocks.{never};
 ghost use Rattle.mm_database.specs.Frames.{frame_or_none, frames_between, mandatory};
 ghost use Rattle.mm_database.specs.Frames.{mandatory_at};
-ghost use Rattle.mm_database.specs.ParsedStatements.{IsSound};
 ghost use Rattle.mm_frame.specs.Sources.{AreSources};
-ghost use Rattle.mm_frame.specs.Hypotheses.{AreLastFloats, IsFresh};
+ghost use Rattle.mm_frame.specs.Hypotheses.{IsFresh};
+ghost use Rattle.mm_frame.specs.SymbolFacts.{AreSymbolFacts};
 ghost use Rattle.mm_frame.specs.Neighbours.{AreEssentialLists, IsReady, is_further, index_from};
 
-use crate::disjoint::{list_pairs, symbol_pairs};
+use crate::disjoint::{list_disjoint_variables, list_pairs, symbol_pairs};
 use crate::hypotheses::{list_further_variables, list_hypotheses, list_mandatory_variables};
 use crate::neighbours::{EssentialLists, filled, keeps_scope, list_scope};
 use crate::sources::FrameSources;
+use crate::symbol_facts::{SymbolFacts, add_symbol_facts, symbol_facts_before};
 use mm_database::frames::{Frame, Frames};
 use mm_database::statements::Statements;
 use mm_outline::blocks::NEVER;
 use mm_outline::symbol::Sym;
 use std::alloc::{AllocError, Allocator};
-
-/// Makes the statement the last `$f` of its variable, if it is a `$f`.
-fn set_last_float<A: Allocator>(
-    statements: &Statements<A>,
-    statement: u32,
-    last_floats: &mut Vec<u32, A>,
-)
-    requires is_sound { IsSound statements.now.list }
-    requires statement_lt_length { statement < length statements.now.list }
-    requires are_last_floats { AreLastFloats statements.now.list statement last_floats.old.items }
-    ensures { AreLastFloats statements.now.list (statement + 1) last_floats.new.items }
-{
-    if let Some(variable) = statements.typed_variable(statement) {
-        last_floats[variable.number() as usize] = statement;
-    }
-}
 
 /// What an assertion's frame is made of, in lists whose memory is used again for the next one.
 struct FrameLists<A: Allocator> {
@@ -49,6 +34,8 @@ struct FrameLists<A: Allocator> {
     marks: Vec<u32, A>,
     /// The mandatory variables.
     variables: Vec<Sym, A>,
+    /// Those of them that may be in an active `$d`.
+    disjoint_variables: Vec<Sym, A>,
     /// The mandatory hypotheses.
     hypotheses: Vec<u32, A>,
     /// The active wide `$d` of the mandatory variables, each paired with those of them that it has.
@@ -63,6 +50,7 @@ impl<A: Allocator> Drop for FrameLists<A> {
         let Self {
             marks: _,
             variables: _,
+            disjoint_variables: _,
             hypotheses: _,
             variables_by_statement: _,
             pairs: _,
@@ -108,6 +96,7 @@ impl<A: Allocator + Copy> FrameLists<A> {
         Ok(FrameLists {
             marks,
             variables: Vec::new(alloc),
+            disjoint_variables: Vec::new(alloc),
             hypotheses: Vec::new(alloc),
             variables_by_statement: Vec::new(alloc),
             pairs: Vec::new(alloc),
@@ -135,23 +124,6 @@ impl<A: Allocator + Copy> Scratch<A> {
     }
 }
 
-/// Returns for each symbol the last `$f` before the statement `at` that types it, or `NEVER`.
-fn last_floats_before<A: Allocator + Copy>(
-    alloc: A,
-    statements: &Statements<A>,
-    at: u32,
-) -> Result<Vec<u32, A>, AllocError>
-    requires is_sound { IsSound statements.now.list }
-    requires at_le_length { at ≤ length statements.now.list }
-    ensures { IfOk result (λ v. AreLastFloats statements.now.list at v.items) }
-{
-    let mut last_floats = filled(alloc, NEVER, statements.symbol_count())?;
-    for statement in 0..at {
-        set_last_float(statements, statement, &mut last_floats);
-    }
-    Ok(last_floats)
-}
-
 /// Returns the numbers in a list without spare capacity.
 fn copied<A: Allocator + Copy>(alloc: A, numbers: &[u32]) -> Result<Vec<u32, A>, AllocError>
     ensures { IfOk result (λ v. v.items ≡ numbers.now) }
@@ -164,15 +136,15 @@ fn copied<A: Allocator + Copy>(alloc: A, numbers: &[u32]) -> Result<Vec<u32, A>,
 /// Lists what is mandatory for an assertion, by its active `$e`. Replaces what the lists have.
 fn list_frame<A: Allocator>(
     sources: &FrameSources<A>,
-    last_floats: &[u32],
+    facts: &SymbolFacts<A>,
     assertion: u32,
     scope: &EssentialLists<A>,
     lists: &mut FrameLists<A>,
 ) -> Result<(), AllocError>
     requires are_sources { AreSources sources.now }
     requires assertion_lt_length { assertion < length sources.now.statements.now.list }
-    requires are_last_floats { AreLastFloats sources.now.statements.now.list assertion
-        last_floats.now }
+    requires are_facts { AreSymbolFacts sources.now.statements.now.list
+        sources.now.statements.now.blocks assertion facts.now }
     requires are_fresh { IsFresh
         (length (symbol_names sources.now.statements.now.list)) assertion lists.old.marks.items }
     requires are_essential { AreEssentialLists sources.now.statements.now.list assertion scope.now }
@@ -192,15 +164,22 @@ fn list_frame<A: Allocator>(
     )?;
     list_hypotheses(
         sources.statements,
-        last_floats,
+        &facts.last_floats,
         assertion,
         &scope.essentials,
         &lists.variables,
         &mut lists.hypotheses,
     )?;
+    list_disjoint_variables(
+        &facts.disjoint_ends,
+        &lists.variables,
+        assertion,
+        &mut lists.disjoint_variables,
+    )?;
     list_pairs(
         sources,
         &lists.variables,
+        &lists.disjoint_variables,
         &lists.marks,
         assertion,
         &mut lists.variables_by_statement,
@@ -312,7 +291,7 @@ fn list_further<A: Allocator>(
 fn add_assertion<A: Allocator + Copy>(
     alloc: A,
     sources: &FrameSources<A>,
-    last_floats: &[u32],
+    facts: &SymbolFacts<A>,
     from: u32,
     assertion: u32,
     scratch: &mut Scratch<A>,
@@ -323,8 +302,8 @@ fn add_assertion<A: Allocator + Copy>(
     requires from_le_assertion { from ≤ assertion }
     requires is_assertion { list_any is_assertion
         (statement_at sources.now.statements.now.list assertion) ≡ true }
-    requires are_last_floats { AreLastFloats sources.now.statements.now.list assertion
-        last_floats.now }
+    requires are_facts { AreSymbolFacts sources.now.statements.now.list
+        sources.now.statements.now.blocks assertion facts.now }
     requires is_ready { IsReady sources.now.statements.now.list from assertion scratch.old }
     requires are_frames { frames.old
         ≡ frames_between sources.now.statements.now.list from assertion }
@@ -349,7 +328,7 @@ fn add_assertion<A: Allocator + Copy>(
     }
     list_frame(
         sources,
-        last_floats,
+        facts,
         assertion,
         &scratch.scope,
         &mut scratch.lists,
@@ -384,7 +363,7 @@ fn add_other<A: Allocator>(
 fn add_frame<A: Allocator + Copy>(
     alloc: A,
     sources: &FrameSources<A>,
-    last_floats: &[u32],
+    facts: &SymbolFacts<A>,
     from: u32,
     statement: u32,
     scratch: &mut Scratch<A>,
@@ -393,8 +372,8 @@ fn add_frame<A: Allocator + Copy>(
     requires are_sources { AreSources sources.now }
     requires statement_lt_length { statement < length sources.now.statements.now.list }
     requires from_le_statement { from ≤ statement }
-    requires are_last_floats { AreLastFloats sources.now.statements.now.list statement
-        last_floats.now }
+    requires are_facts { AreSymbolFacts sources.now.statements.now.list
+        sources.now.statements.now.blocks statement facts.now }
     requires is_ready { IsReady sources.now.statements.now.list from statement scratch.old }
     requires are_frames { frames.old
         ≡ frames_between sources.now.statements.now.list from statement }
@@ -406,15 +385,7 @@ fn add_frame<A: Allocator + Copy>(
         ≡ frames.old ++ frame_or_none sources.now.statements.now.list statement ∷ []) }
 {
     if sources.statements.is_assertion(statement) {
-        add_assertion(
-            alloc,
-            sources,
-            last_floats,
-            from,
-            statement,
-            scratch,
-            frames,
-        )
+        add_assertion(alloc, sources, facts, from, statement, scratch, frames)
     } else {
         add_other(sources.statements, from, statement, scratch, frames)
     }
@@ -434,20 +405,20 @@ pub(crate) fn frames_between<A: Allocator + Copy>(
         (λ v. v ≡ frames_between sources.now.statements.now.list from to) }
 {
     let statements = sources.statements;
-    let mut last_floats = last_floats_before(alloc, statements, from)?;
+    let mut facts = symbol_facts_before(alloc, statements, from)?;
     let mut scratch = Scratch::new(alloc, statements.symbol_count())?;
     let mut frames = Frames::none(alloc, (to - from) as usize);
     for statement in from..to {
         add_frame(
             alloc,
             sources,
-            &last_floats,
+            &facts,
             from,
             statement,
             &mut scratch,
             &mut frames,
         )?;
-        set_last_float(statements, statement, &mut last_floats);
+        add_symbol_facts(statements, statement, &mut facts);
     }
     Ok(frames)
 }

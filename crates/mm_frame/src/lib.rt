@@ -13,3 +13,4 @@ pub mod hypotheses;
 mod neighbours;
 mod sources;
 pub mod stretches;
+mod symbol_facts;

@@ -10,5 +10,6 @@ invariant-loop-variable g l =
     (x y : ℕ)
     → has_pair l.pairs.items x y
     ≡ (has_pair l.initial.pairs.items x y
-    || (is_member (take l.variable-index l.variables) x
-    && is_higher_variable_in_row l.blocks (row_of l.disjoint_index.rows x) x l.variables l.fn.at y))
+    || (is_member (take l.variable-index l.disjoint_variables) x
+    && is_higher_variable_in_row l.blocks (row_of l.disjoint_index.rows x) x l.disjoint_variables
+    l.fn.at y))

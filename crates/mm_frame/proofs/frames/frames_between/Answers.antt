@@ -1,18 +1,17 @@
-use Rattle.std.proofs.Common.{◌≡◌, length, ap, sym, ◌∙◌, subst, arith}
-use Rattle.mm_frame.specs.Hypotheses.{AreLastFloats}
+use Rattle.std.proofs.Common.{◌≡◌, length, ap, sym, ◌∙◌, arith}
 use Rattle.mm_database.specs.Frames.{frames_between}
 use Rattle.mm_frame.proofs.FramesLaw.{no_frames_at_start, frames_with_statement, frame_count}
 use Rattle.mm_frame.proofs.frames.frames_between.Goals as goal
 
-pub last_floats_before-requires-clause-at_le_length :
-    goal.last_floats_before-requires-clause-at_le_length
-last_floats_before-requires-clause-at_le_length g c =
+pub symbol_facts_before-requires-clause-at_le_length :
+    goal.symbol_facts_before-requires-clause-at_le_length
+symbol_facts_before-requires-clause-at_le_length g c =
     let from_le_to = c.requires.from_le_to in
     let to_le_length = c.requires.to_le_length in omega (arith, from_le_to, to_le_length)
 
 pub loop-statement-init : goal.loop-statement-init
 loop-statement-init g c = record {
-  last_floats = c.in_ok-last_floats.ensures;
+  facts = c.in_ok-facts.ensures;
   ready =
       c.in_ok-scratch.ensures c.args.sources.now.statements.now.list c.args.from
       (sym c.symbol_count.ensures.count_is);
@@ -24,7 +23,7 @@ loop-statement-init g c = record {
 
 pub loop-statement-preserved : goal.loop-statement-preserved
 loop-statement-preserved g c = record {
-  last_floats = c.set_last_float.ensures;
+  facts = c.add_symbol_facts.ensures;
   ready = c.in_ok-add_frame.ensures.is_ready;
   from_le_statement =
       (let from_le_statement = c.loop-statement.invariant.from_le_statement in
@@ -34,13 +33,6 @@ loop-statement-preserved g c = record {
       c.loop-statement.statement _ _ c.loop-statement.invariant.from_le_statement
       c.loop-statement.invariant.frames c.in_ok-add_frame.ensures.frame_is_added;
 }
-
-pub add_frame-requires-clause-are_last_floats : goal.add_frame-requires-clause-are_last_floats
-add_frame-requires-clause-are_last_floats g c =
-    subst (λ xs. AreLastFloats c.args.sources.now.statements.now.list c.loop-statement.statement
-    xs)
-    (sym c.deref.ensures.value)
-    c.loop-statement.invariant.last_floats
 
 pub add_frame-requires-clause-statement_lt_length :
     goal.add_frame-requires-clause-statement_lt_length
@@ -61,9 +53,9 @@ add_frame-requires-clause-few_frames g c =
     let to_le_length = c.requires.to_le_length in
     omega (arith, count, few_statements, statement_lt_end, end_is_to, to_le_length)
 
-pub set_last_float-requires-clause-statement_lt_length :
-    goal.set_last_float-requires-clause-statement_lt_length
-set_last_float-requires-clause-statement_lt_length g c =
+pub add_symbol_facts-requires-clause-statement_lt_length :
+    goal.add_symbol_facts-requires-clause-statement_lt_length
+add_symbol_facts-requires-clause-statement_lt_length g c =
     let statement_lt_end = c.loop-statement-test.true in
     let end_is_to = c.loop-statement.auto.statement-end in
     let to_le_length = c.requires.to_le_length in

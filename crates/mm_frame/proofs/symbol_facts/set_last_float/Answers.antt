@@ -1,6 +1,6 @@
 use Rattle.std.proofs.Common.{rules, arith}
 use Rattle.mm_frame.proofs.FramesLaw.{last_floats_without_float, last_floats_with_float}
-use Rattle.mm_frame.proofs.frames.set_last_float.Goals as goal
+use Rattle.mm_frame.proofs.symbol_facts.set_last_float.Goals as goal
 
 pub returns-in-Some : goal.returns-in-Some
 returns-in-Some g c = search (rules, arith, last_floats_with_float)
