@@ -1,5 +1,5 @@
-//! What a walk over the statements knows of each symbol: its last `$f`, and how long it may be in an
-//! active `$d`.
+//! What a walk over the statements knows of each symbol: its last `$f`, and how long it may be in
+//! an active `$d`.
 
 ghost use Rattle.std.specs.Prelude.{◌≡◌, ◌<◌, ◌≤◌, ◌+◌, ℕ, All, IfOk, length, slice_index, true};
 ghost use Rattle.mm_spec.specs.Derivation.{is_member};

@@ -47,4 +47,5 @@ returns g c = λ x y.
     ∙ ap (λ (xs : List ℕ). has_pair c.args.pairs.now.items x y
     || (is_member xs x && is_higher_variable_in_row c.args.blocks.now
     (row_of c.args.disjoint_index.now.rows x) x c.args.disjoint_variables.now c.args.at y))
-    (take_all c.loop-variable.variable-index c.args.disjoint_variables.now c.loop-variable-test.false)
+    (take_all c.loop-variable.variable-index c.args.disjoint_variables.now
+    c.loop-variable-test.false)
