@@ -5,7 +5,13 @@ use Rattle.std.proofs.Common.{[], ◌∷◌, ◌++◌, length, nat_eq, nat_lt, s
 use Rattle.std.proofs.Common.{inl, inr, true≢false, eqb-true, get_or, length-append}
 use Rattle.std.proofs.lemmas.Bool.{cases_lt, cases_order, and_parts, or_cases, false_from_ne_true}
 use Rattle.std.proofs.lemmas.List.{get_or_append_left, get_or_push}
+use Rattle.std.proofs.Common.{Option, Some, None, slice_get}
+use Rattle.std.proofs.lemmas.Option.{same_Some}
+use Rattle.std.proofs.Math.Bool.{or-false}
 use Rattle.std.specs.List.{list_any}
+use Rattle.std.specs.Option.{option_map}
+use Rattle.mm_database.specs.Kinds.{kind_of}
+use Rattle.mm_outline.specs.declared.parts.Kind.{Kind}
 use Rattle.std.proofs.lemmas.Bool.Decides.{nat_tests}
 use Rattle.mm_spec.specs.Statement.{Statement}
 use Rattle.mm_spec.specs.Scope.{statement_at, is_block_open}
@@ -14,7 +20,7 @@ use Rattle.mm_spec.specs.Frame.{active_of}
 use Rattle.mm_spec.proofs.BoolLaw.{same_tests}
 use Rattle.mm_spec.proofs.MemberLaw.{member_push, IsLocalTest, active_member}
 use Rattle.mm_outline.specs.Blocks.{never}
-use Rattle.mm_frame.specs.Latest.{is_staying, IsCandidate, IsLatest}
+use Rattle.mm_frame.specs.Latest.{is_staying, IsCandidate, IsLatest, is_part, is_part_kind}
 use Rattle.mm_frame.proofs.NestedLaw.{open_at_earlier, open_at_nested}
 
 -- how far the search still has to go
@@ -189,3 +195,24 @@ pub each_latest_with_next : (test : Statement → Bool) (db : List Statement) (x
     }
 each_latest_with_next test db xs ys last k length_is ys_are_pushed latest_before latest_at_next =
     grind (arith, common_steps, length-append, cases_lt, get_or_append_left, get_or_push)
+
+-- whether a statement counts shows by its kind
+kind_counts : (essentials_alone : Bool) (s : Statement)
+    → is_part essentials_alone s ≡ is_part_kind essentials_alone (kind_of s)
+kind_counts true s = grind (arith, common_steps)
+kind_counts false s = grind (arith, common_steps)
+
+pub part_at : (essentials_alone : Bool) (db : List Statement) (k : ℕ) (kind : Kind)
+    → option_map kind_of (slice_get db k) ≡ Some kind
+    → is_part_kind essentials_alone kind
+    ≡ list_any (is_part essentials_alone) (statement_at db k)
+part_at essentials_alone db k kind kind_is = at (slice_get db k) kind_is
+  where
+    at : (o : Option Statement) → option_map kind_of o ≡ Some kind
+        → is_part_kind essentials_alone kind
+        ≡ list_any (is_part essentials_alone) (elim o [ None ↦ [] | Some s ↦ s ∷ [] ])
+    at None kind_is = absurd (cc)
+    at (Some s) kind_is =
+        sym (or-false (is_part essentials_alone s)
+        ∙ kind_counts essentials_alone s
+        ∙ ap (is_part_kind essentials_alone) (same_Some _ _ kind_is))

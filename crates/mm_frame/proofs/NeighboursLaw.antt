@@ -1,183 +1,190 @@
 -- Assertions of one scope and with the same further variables have the same frame.
 use Rattle.std.proofs.Common.{◌≡◌, ◌≢◌, ℕ, zero, suc, ◌+◌, ◌-◌, ◌<◌, ◌≤◌, Bool, true, false, ◌&&◌}
-use Rattle.std.proofs.Common.{◌||◌, not, cond, List, [], ◌∷◌, ◌++◌, length, get_or, take, nat_eq}
-use Rattle.std.proofs.Common.{nat_lt, nat_le, refl, sym, ap, ap₂, ◌∙◌, subst, arith, true≢false}
-use Rattle.std.proofs.Common.{Option, Some, None, slice_get, count_by, append-nil, if◌then◌else◌}
-use Rattle.std.proofs.lemmas.Bool.{le-leb, lt-ltb, ne_eqb}
-use Rattle.std.proofs.lemmas.Option.{same_Some}
+use Rattle.std.proofs.Common.{◌||◌, not, cond, List, [], ◌∷◌, length, get_or, nat_eq, nat_lt, refl}
+use Rattle.std.proofs.Common.{sym, ap, ap₂, ◌∙◌, subst, arith, true≢false, Option, Some, None}
+use Rattle.std.proofs.Common.{slice_get, if◌then◌else◌, inl, inr}
+use Rattle.std.proofs.lemmas.Bool.{lt-ltb, le-ltb, ne_eqb, cases_lt, cases_eq, cases_order}
 use Rattle.std.proofs.lemmas.Grind.{common_steps}
-use Rattle.std.proofs.lemmas.List.Elements.{filter-append}
-use Rattle.std.proofs.Math.Bool.{or-false, and-true}
+use Rattle.std.proofs.Math.Bool.{or-false}
 use Rattle.std.proofs.lemmas.List.FromFn.{get_or-map-range_with_len}
 use Rattle.std.specs.List.{list_any, range_with_len, filter}
-use Rattle.std.specs.Option.{option_map}
-use Rattle.mm_spec.specs.Statement.{Statement, variables, is_opening, is_closing}
-use Rattle.mm_spec.specs.Scope.{statement_at, active, active_at, depth, is_block_open}
-use Rattle.mm_spec.specs.Scope.{is_some_still_active}
+use Rattle.mm_spec.specs.Statement.{Statement}
+use Rattle.mm_spec.specs.Scope.{statement_at, active, active_at, is_block_open}
+use Rattle.mm_spec.specs.Scope.{is_still_active, is_some_still_active}
 use Rattle.mm_spec.specs.Derivation.{is_member, Pair}
 use Rattle.mm_spec.specs.Citation.{is_assertion}
 use Rattle.mm_spec.specs.Frame.{is_variable_number, is_essential, is_floating, formula_at}
 use Rattle.mm_spec.specs.Frame.{is_disjoint_statement, active_of, mandatory_variables}
 use Rattle.mm_spec.specs.Frame.{mandatory_hypotheses, mandatory_pairs, pairs_below, symbol_names}
-use Rattle.mm_spec.proofs.ActivityLaw.{range_with_one_more, is_block_open_one_later}
-use Rattle.mm_spec.proofs.ActivityLaw.{is_block_open_iff_in_block}
+use Rattle.mm_spec.proofs.MemberLaw.{same_members_same_any, IsLocalTest}
 use Rattle.mm_outline.specs.Blocks.{never}
-use Rattle.mm_outline.specs.declared.parts.Kind.{Kind}
-use Rattle.mm_database.specs.Kinds.{kind_of}
 use Rattle.mm_database.specs.Frames.{Mandatory, mandatory, mandatory_at, frame_or_none}
 use Rattle.mm_database.specs.Frames.{frames_between}
 use Rattle.mm_frame.specs.Hypotheses.{IsFresh}
-use Rattle.mm_frame.specs.Neighbours.{keeps_scope, keeps_scope_by_kind, IsSameScope, is_further}
-use Rattle.mm_frame.specs.Neighbours.{IsReady, IsSameAsPrevious, AreEssentialLists, index_from}
-use Rattle.mm_spec.proofs.MemberLaw.{same_members_same_any}
+use Rattle.mm_frame.specs.Latest.{is_frame_part, is_staying, IsLatest}
+use Rattle.mm_frame.specs.Neighbours.{IsSameScope, is_further, IsReady, IsPreviousKnown}
+use Rattle.mm_frame.specs.Neighbours.{AreEssentialLists, index_from}
 use Rattle.mm_frame.specs.declared.frames.Scratch.{Scratch}
 use Rattle.mm_frame.proofs.HypothesesLaw.{found_are_mandatory_variables}
+use Rattle.mm_frame.proofs.LatestLaw.{staying_at_nested}
 
 -- ---- lists that are filtered alike
-
--- tests that agree below the end of a range pass the same numbers of it
-filters_agree_below : (p q : ℕ → Bool) (a n : ℕ) → ((j : ℕ) → j < a + n → p j ≡ q j)
-    → filter p (range_with_len a n) ≡ filter q (range_with_len a n)
-filters_agree_below p q a zero tests_agree = refl
-filters_agree_below p q a (suc n) tests_agree =
-    ap₂ (λ c xs. cond c (a ∷ xs) xs) (tests_agree a (omega arith))
-    (filters_agree_below p q (a + 1) n (λ j j_lt. tests_agree j (omega (arith, j_lt))))
 
 -- equal tests pass the same
 filters_agree : {X : Type 0} (p q : X → Bool) (xs : List X) → ((x : X) → p x ≡ q x)
     → filter p xs ≡ filter q xs
 filters_agree p q xs h1 = grind (arith, common_steps)
 
--- ---- one statement more in the same scope
+-- a filter of a list with one number more
+filter_of_next : (q : ℕ → Bool) (passes : Bool) (a : ℕ) (xs : List ℕ)
+    → filter q (cond passes (a ∷ xs) xs)
+    ≡ cond (passes && q a) (a ∷ filter q xs) (filter q xs)
+filter_of_next q true a xs = refl
+filter_of_next q false a xs = refl
 
--- a statement that keeps the scope neither opens nor closes a block
-keeping_is_no_block : (s : Statement) → keeps_scope s ≡ true
-    → (is_opening s ≡ false) × (is_closing s ≡ false)
-keeping_is_no_block s h1 = grind (arith, common_steps, true≢false)
+-- if what passes both tests passes `q` and the other, the filters agree
+filters_agree_with : (q f g : ℕ → Bool) (a n : ℕ)
+    → ((j : ℕ) → j < a + n → (f j && q j) ≡ (g j && q j))
+    → filter q (filter f (range_with_len a n)) ≡ filter q (filter g (range_with_len a n))
+filters_agree_with q f g a zero tests_agree = refl
+filters_agree_with q f g a (suc n) tests_agree =
+    filter_of_next q (f a) a (filter f (range_with_len (a + 1) n))
+    ∙ ap₂ (λ c xs. cond c (a ∷ xs) xs) (tests_agree a (omega arith))
+    (filters_agree_with q f g (a + 1) n (λ j j_lt. tests_agree j (omega (arith, j_lt))))
+    ∙ sym (filter_of_next q (g a) a (filter g (range_with_len (a + 1) n)))
 
--- a kind that keeps the scope is that of a statement that does
-kind_keeps_scope : (s : Statement) → keeps_scope s ≡ keeps_scope_by_kind (kind_of s)
-kind_keeps_scope s = grind (arith, common_steps)
+-- a range that goes on with numbers that don't pass
+filter_of_longer : (f : ℕ → Bool) (a n more : ℕ) → n ≤ more
+    → ((j : ℕ) → a + n ≤ j → f j ≡ false)
+    → filter f (range_with_len a more) ≡ filter f (range_with_len a n)
+filter_of_longer f a zero zero n_le_more fails = refl
+filter_of_longer f a zero (suc more) n_le_more fails =
+    ap (λ c. cond c (a ∷ filter f (range_with_len (a + 1) more))
+    (filter f (range_with_len (a + 1) more))) (fails a (omega arith))
+    ∙ filter_of_longer f (a + 1) zero more (omega arith)
+    (λ j a_le_j. fails j (omega (arith, a_le_j)))
+filter_of_longer f a (suc n) zero n_le_more fails = absurd (omega (arith, n_le_more))
+filter_of_longer f a (suc n) (suc more) n_le_more fails =
+    ap (λ xs. cond (f a) (a ∷ xs) xs)
+    (filter_of_longer f (a + 1) n more (omega (arith, n_le_more))
+    (λ j a_le_j. fails j (omega (arith, a_le_j))))
 
--- an assertion keeps the scope
-assertion_keeps : (s : Statement) → is_assertion s ≡ true → keeps_scope s ≡ true
-assertion_keeps s h1 = grind (arith, common_steps, true≢false)
+-- ---- statements of which frames are made
 
--- a `$d`, `$e` or `$f` doesn't keep it
-keeping_is_no_hypothesis : (s : Statement) → keeps_scope s ≡ true
+-- such a statement is active to the end of its block
+part_local : IsLocalTest is_frame_part
+part_local s b h1 = grind (arith, common_steps, true≢false)
+
+-- another one is none of a `$e`, `$f` and `$d`
+other_is_no_part : (s : Statement) → is_frame_part s ≡ false
     → (is_essential s ≡ false) × (is_floating s ≡ false) × (is_disjoint_statement s ≡ false)
-keeping_is_no_hypothesis s h1 = grind (arith, common_steps, true≢false)
-
--- what follows for each statement follows for the one that is found, if there is one
-found_follows : (t u : Statement → Bool) (d : Bool) (o : Option Statement)
-    → ((s : Statement) → t s ≡ true → u s ≡ d)
-    → list_any t (elim o [ None ↦ [] | Some s ↦ s ∷ [] ]) ≡ true
-    → list_any u (elim o [ None ↦ [] | Some s ↦ s ∷ [] ]) ≡ d
-found_follows t u d o h1 h2 = grind (arith, common_steps, true≢false, or-false)
-
--- a statement that doesn't pass isn't counted
-not_counted : (t : Statement → Bool) (db : List Statement) (k : ℕ)
-    → list_any t (statement_at db k) ≡ false
-    → count_by t (take (suc k) db) ≡ count_by t (take k db)
-not_counted t [] zero fails = refl
-not_counted t [] (suc k) fails = refl
-not_counted t (s ∷ db) zero fails = grind (arith, common_steps, or-false)
-not_counted t (s ∷ db) (suc k) fails = grind (arith, common_steps, not_counted t db k fails)
-
-module _ (db : List Statement) (k : ℕ) where
-  pub kind_at_keeps : (kind : Kind) → option_map kind_of (slice_get db k) ≡ Some kind
-      → keeps_scope_by_kind kind ≡ true → list_any keeps_scope (statement_at db k) ≡ true
-  kind_at_keeps kind kind_is keeps = at (slice_get db k) kind_is
-    where
-      at : (o : Option Statement) → option_map kind_of o ≡ Some kind
-          → list_any keeps_scope (elim o [ None ↦ [] | Some s ↦ s ∷ [] ]) ≡ true
-      at None kind_is = absurd (cc)
-      at (Some s) kind_is =
-          or-false (keeps_scope s)
-          ∙ kind_keeps_scope s
-          ∙ ap keeps_scope_by_kind (same_Some _ _ kind_is)
-          ∙ keeps
-
-  pub assertion_at_keeps : list_any is_assertion (statement_at db k) ≡ true
-      → list_any keeps_scope (statement_at db k) ≡ true
-  assertion_at_keeps is_one =
-      found_follows is_assertion keeps_scope true (slice_get db k) assertion_keeps is_one
+other_is_no_part s h1 = grind (arith, common_steps, true≢false)
 
 module _ (db : List Statement) where
-  keeping_tests : (j : ℕ) → list_any keeps_scope (statement_at db j) ≡ true
+  other_tests : (j : ℕ) → list_any is_frame_part (statement_at db j) ≡ false
       → (list_any is_essential (statement_at db j) ≡ false)
       × (list_any is_floating (statement_at db j) ≡ false)
       × (list_any is_disjoint_statement (statement_at db j) ≡ false)
-  keeping_tests j keeps = (
-    found_follows keeps_scope is_essential false (slice_get db j)
-        (λ s k. (keeping_is_no_hypothesis s k).0) keeps,
-    found_follows keeps_scope is_floating false (slice_get db j)
-        (λ s k. (keeping_is_no_hypothesis s k).1) keeps,
-    found_follows keeps_scope is_disjoint_statement false (slice_get db j)
-        (λ s k. (keeping_is_no_hypothesis s k).2) keeps,
-  )
+  other_tests j is_other = at (slice_get db j) is_other
+    where
+      at : (o : Option Statement)
+          → list_any is_frame_part (elim o [ None ↦ [] | Some s ↦ s ∷ [] ]) ≡ false
+          → (list_any is_essential (elim o [ None ↦ [] | Some s ↦ s ∷ [] ]) ≡ false)
+          × (list_any is_floating (elim o [ None ↦ [] | Some s ↦ s ∷ [] ]) ≡ false)
+          × (list_any is_disjoint_statement (elim o [ None ↦ [] | Some s ↦ s ∷ [] ]) ≡ false)
+      at None fails = (refl, refl, refl)
+      at (Some s) fails =
+          let tests = other_is_no_part s (sym (or-false (is_frame_part s)) ∙ fails) in (
+            or-false (is_essential s) ∙ tests.0,
+            or-false (is_floating s) ∙ tests.1,
+            or-false (is_disjoint_statement s) ∙ tests.2,
+          )
 
-  module _ (k : ℕ) (k_keeps : list_any keeps_scope (statement_at db k) ≡ true) where
-    -- the depth stays
-    depth_stays : depth db (suc k) ≡ depth db k
-    depth_stays =
-        ap₂ (λ o c. o - c)
-        (not_counted is_opening db k (found_follows keeps_scope is_opening false (slice_get db k)
-        (λ s k. (keeping_is_no_block s k).0) k_keeps))
-        (not_counted is_closing db k (found_follows keeps_scope is_closing false (slice_get db k)
-        (λ s k. (keeping_is_no_block s k).1) k_keeps))
+  -- such a statement is active where its block is open
+  part_active : (j k : ℕ) → j < k → list_any is_frame_part (statement_at db j) ≡ true
+      → active_at db j k ≡ is_block_open db j k
+  part_active j k j_lt_k is_part = at (slice_get db j) is_part
+    where
+      at : (o : Option Statement)
+          → list_any is_frame_part (elim o [ None ↦ [] | Some s ↦ s ∷ [] ]) ≡ true
+          → (nat_lt j k && is_some_still_active o (is_block_open db j k)) ≡ is_block_open db j k
+      at None passes = absurd (true≢false (sym passes))
+      at (Some s) passes =
+          ap (λ c. c && is_still_active s (is_block_open db j k)) (lt-ltb j k j_lt_k)
+          ∙ part_local s (is_block_open db j k) (sym (or-false (is_frame_part s)) ∙ passes)
 
-    -- so do the open blocks
-    open_stays : (j : ℕ) → j < k → is_block_open db j (suc k) ≡ is_block_open db j k
-    open_stays j j_lt_k = is_block_open_one_later db j k (omega arith) ∙ by_test
-        (is_block_open db j k) refl
+  module _ (p k last : ℕ) (p_lt_k : p < k) (latest_at_p : IsLatest is_frame_part db p last)
+      (latest_at_k : IsLatest is_frame_part db k last) where
+    -- with the same last one, each earlier one stays until k if it stays until p
+    staying_agree : (j : ℕ) → j < p
+        → is_staying is_frame_part db j k ≡ is_staying is_frame_part db j p
+    staying_agree j j_lt_p = elim (cases_eq last never) [
+      | inl is_never ↦
+          latest_at_k.later_are_not_staying j (omega (arith, j_lt_p, p_lt_k)) (inr is_never)
+          ∙ sym (latest_at_p.later_are_not_staying j j_lt_p (inr is_never))
+      | inr is_some ↦
+          let at_p = latest_at_p.last_is_staying is_some in
+          let at_k = latest_at_k.last_is_staying is_some in
+          let last_lt_p = at_p.0 in
+          elim (cases_order j last) [
+            | inl j_is_last ↦ rw j_is_last (at_k.1 ∙ sym at_p.1)
+            | inr (inl j_lt_last) ↦
+                staying_at_nested is_frame_part db j last k j_lt_last
+                (omega (arith, last_lt_p, p_lt_k)) at_k.1
+                ∙ sym (staying_at_nested is_frame_part db j last p j_lt_last
+                (omega (arith, last_lt_p)) at_p.1)
+            | inr (inr last_lt_j) ↦
+                latest_at_k.later_are_not_staying j (omega (arith, j_lt_p, p_lt_k)) (inl last_lt_j)
+                ∙ sym (latest_at_p.later_are_not_staying j j_lt_p (inl last_lt_j))
+          ]
+    ]
+
+    -- and none between them stays
+    none_since : (j : ℕ) → p ≤ j → j < k → is_staying is_frame_part db j k ≡ false
+    none_since j p_le_j j_lt_k = elim (cases_eq last never) [
+      | inl is_never ↦ latest_at_k.later_are_not_staying j j_lt_k (inr is_never)
+      | inr is_some ↦
+          let last_lt_p = (latest_at_p.last_is_staying is_some).0 in
+          latest_at_k.later_are_not_staying j j_lt_k (inl (omega (arith, last_lt_p, p_le_j)))
+    ]
+
+    parts_agree : (j : ℕ) → j < k → list_any is_frame_part (statement_at db j) ≡ true
+        → active_at db j k ≡ active_at db j p
+    parts_agree j j_lt_k is_part = elim (cases_lt j p) [
+      | inl j_lt_p ↦
+          part_active j k j_lt_k is_part
+          ∙ sym (ap (λ c. c && is_block_open db j k) is_part)
+          ∙ staying_agree j j_lt_p
+          ∙ ap (λ c. c && is_block_open db j p) is_part
+          ∙ sym (part_active j p j_lt_p is_part)
+      | inr p_le_j ↦
+          part_active j k j_lt_k is_part
+          ∙ sym (ap (λ c. c && is_block_open db j k) is_part)
+          ∙ none_since j p_le_j j_lt_k
+          ∙ sym (ap (λ c. c && is_some_still_active (slice_get db j) (is_block_open db j p))
+          (le-ltb j p p_le_j))
+    ]
+
+    -- so the two have the same scope
+    pub same_scope_of_latest : IsSameScope db p k
+    same_scope_of_latest = λ q fails.
+        filters_agree_with q (λ j. active_at db j k) (λ j. active_at db j p) 0 k
+        (λ j j_lt_k. by_test q fails j j_lt_k (list_any is_frame_part (statement_at db j)) refl)
+        ∙ ap (filter q) (filter_of_longer (λ j. active_at db j p) 0 p k (omega (arith, p_lt_k))
+        (λ j p_le_j. ap (λ c. c
+        && is_some_still_active (slice_get db j) (is_block_open db j p))
+        (le-ltb j p (omega (arith, p_le_j)))))
       where
-        by_test : (c : Bool) → is_block_open db j k ≡ c
-            → (is_block_open db j k && nat_le (depth db j) (depth db (suc k)))
-            ≡ is_block_open db j k
-        by_test true is_open =
-            let depth_is = depth_stays in
-            let deep = (is_block_open_iff_in_block db j k (omega arith)).0 is_open k j_lt_k
-            (omega arith) in
-            ap (λ c. is_block_open db j k && c)
-            (le-leb (depth db j) (depth db (suc k)) (omega (arith, depth_is, deep)))
-            ∙ and-true (is_block_open db j k)
-        by_test false is_closed =
-            ap (λ c. c && nat_le (depth db j) (depth db (suc k))) is_closed ∙ sym is_closed
-
-    active_stays : (j : ℕ) → j < 0 + k → active_at db j (suc k) ≡ active_at db j k
-    active_stays j j_lt_k =
-        ap₂ (λ c o. c && is_some_still_active (slice_get db j) o)
-        (lt-ltb j (suc k) (omega (arith, j_lt_k)) ∙ sym (lt-ltb j k (omega (arith, j_lt_k))))
-        (open_stays j (omega (arith, j_lt_k)))
-
-    -- a statement more that keeps the scope
-    pub same_scope_with_next : (p next : ℕ) → next ≡ k + 1 → IsSameScope db p k
-        → IsSameScope db p next
-    same_scope_with_next p next next_is same_scope = λ q passes_none.
-        let next_is_suc : next ≡ suc k = omega (arith, next_is) in
-        let zero_plus_k : 0 + k ≡ k = omega arith in
-        let range_is : range_with_len 0 (suc k) ≡ range_with_len 0 k ++ k ∷ [] =
-        range_with_one_more 0 k ∙ ap (λ j. range_with_len 0 k ++ j ∷ []) zero_plus_k in
-        ap (λ n. filter q (active db n)) next_is_suc
-        ∙ ap (λ xs. filter q (filter (λ j. active_at db j (suc k)) xs)) range_is
-        ∙ ap (filter q) (filter-append (λ j. active_at db j (suc k)) (range_with_len 0 k) (k ∷ []))
-        ∙ filter-append q (filter (λ j. active_at db j (suc k)) (range_with_len 0 k))
-        (filter (λ j. active_at db j (suc k)) (k ∷ []))
-        ∙ ap₂ (λ xs ys. filter q xs ++ ys)
-        (filters_agree_below (λ j. active_at db j (suc k)) (λ j. active_at db j k) 0 k active_stays)
-        (none_of_last q (passes_none k k_keeps) (active_at db k (suc k)))
-        ∙ append-nil (filter q (active db k))
-        ∙ same_scope q passes_none
-      where
-        none_of_last : (q : ℕ → Bool) → q k ≡ false → (c : Bool)
-            → filter q (cond c (k ∷ []) []) ≡ []
-        none_of_last q q_fails true = ap (λ c. cond c (k ∷ []) []) q_fails
-        none_of_last q q_fails false = refl
-
-    -- the scope of an assertion is that of the next statement
-    pub scope_of_last : (next : ℕ) → next ≡ k + 1 → IsSameScope db k next
-    scope_of_last next next_is = same_scope_with_next k next next_is (λ q passes_none. refl)
+        by_test : (q : ℕ → Bool)
+            → ((j : ℕ) → list_any is_frame_part (statement_at db j) ≡ false → q j ≡ false)
+            → (j : ℕ) → j < 0 + k → (passes : Bool)
+            → list_any is_frame_part (statement_at db j) ≡ passes
+            → (active_at db j k && q j) ≡ (active_at db j p && q j)
+        by_test q fails j j_lt_k true is_part =
+            ap (λ c. c && q j) (parts_agree j (omega (arith, j_lt_k)) is_part)
+        by_test q fails j j_lt_k false is_other =
+            let q_fails = fails j is_other in
+            grind (arith, q_fails)
 
   -- ---- the same frame
 
@@ -186,12 +193,12 @@ module _ (db : List Statement) where
     pub same_essentials : active_of is_essential db k ≡ active_of is_essential db p
     same_essentials =
         same_scope (λ j. list_any is_essential (statement_at db j))
-        (λ j keeps. (keeping_tests j keeps).0)
+        (λ j is_other. (other_tests j is_other).0)
 
     same_disjoints : active_of is_disjoint_statement db k ≡ active_of is_disjoint_statement db p
     same_disjoints =
         same_scope (λ j. list_any is_disjoint_statement (statement_at db j))
-        (λ j keeps. (keeping_tests j keeps).2)
+        (λ j is_other. (other_tests j is_other).2)
 
     module _ (vs : List ℕ) (variables_are : (x : ℕ) → is_member vs x
         ≡ (is_variable_number db x
@@ -215,7 +222,8 @@ module _ (db : List Statement) where
 
       same_hypotheses : mandatory_hypotheses db k ≡ mandatory_hypotheses db p
       same_hypotheses =
-          same_scope _ (λ j keeps. rw ((keeping_tests j keeps).0, (keeping_tests j keeps).1) refl)
+          same_scope _ (λ j is_other. rw ((other_tests j is_other).0, (other_tests j is_other).1)
+          refl)
           ∙ filters_agree _ _ (active db p)
           (λ j. ap (λ c. list_any is_essential (statement_at db j)
           || (list_any is_floating (statement_at db j) && c))
@@ -258,65 +266,29 @@ pub fresh_later : (n k : ℕ) (stamps : List ℕ) → IsFresh n k stamps → IsF
 fresh_later n k stamps fresh = grind (arith, common_steps)
 
 module _ {A : Type 0} (db : List Statement) (from k : ℕ) (s : Scratch A) where
-  previous_later : IsReady db from k s → s.previous ≢ never
-      → (from ≤ s.previous) × (s.previous < k + 1)
-      × (list_any is_assertion (statement_at db s.previous) ≡ true)
-  previous_later ready is_some =
-      let previous = ready.previous_is_assertion is_some in
-      let previous_lt = previous.1 in
-      (previous.0, omega (arith, previous_lt), previous.2)
+  module _ (same_scope : IsSameScope db s.previous k) (known : IsPreviousKnown db s) where
+    -- the `$e` of an assertion are those of the one before it in the same scope
+    pub essential_lists_stay : s.previous < k → AreEssentialLists db k s.scope
+    essential_lists_stay previous_lt_k =
+        let lists = known.essential_lists in record {
+          are_stamps = lists.are_stamps;
+          stamp_le = let stamp_le = lists.stamp_le in omega (arith, stamp_le, previous_lt_k);
+          essentials_are = λ i. lists.essentials_are i
+              ∙ ap (λ es. is_member es i) (sym (same_essentials db s.previous k same_scope));
+          variables_are = lists.variables_are;
+        }
 
-  -- after a statement that keeps the scope
-  pub ready_in_same_scope : IsReady db from k s
-      → list_any keeps_scope (statement_at db k) ≡ true → IsReady db from (k + 1) s
-  ready_in_same_scope ready keeps = record {
-    stamps_are_fresh = fresh_later _ k _ ready.stamps_are_fresh;
-    marks_are_fresh = fresh_later _ k _ ready.marks_are_fresh;
-    previous_is_assertion = previous_later ready;
-    previous_is_known = λ is_same. let known = ready.previous_is_known is_same in
-        record {
-          has_previous = known.has_previous;
-          same_scope =
-              same_scope_with_next db k keeps s.previous (k + 1) refl known.same_scope;
-          essential_lists = known.essential_lists;
-          further_are = known.further_are;
-        };
-  }
-
-  -- after another one
-  pub ready_without_scope : (t : Scratch A) → IsReady db from k s → t.is_same_scope ≡ false
-      → t.previous ≡ s.previous → t.scope.stamps.items ≡ s.scope.stamps.items
-      → t.lists.marks.items ≡ s.lists.marks.items → IsReady db from (k + 1) t
-  ready_without_scope t ready is_other previous_stays stamps_stay marks_stay = record {
-    stamps_are_fresh = rw stamps_stay (fresh_later _ k _ ready.stamps_are_fresh);
-    marks_are_fresh = rw marks_stay (fresh_later _ k _ ready.marks_are_fresh);
-    previous_is_assertion = rw previous_stays (previous_later ready);
-    previous_is_known = λ is_same. absurd (true≢false (sym is_same ∙ is_other));
-  }
-
-  -- the `$e` of an assertion are those of the one before it in the same scope
-  pub essential_lists_stay : IsSameAsPrevious db k s → AreEssentialLists db s.previous s.scope
-      → s.previous < k → AreEssentialLists db k s.scope
-  essential_lists_stay known lists previous_lt_k = record {
-    are_stamps = lists.are_stamps;
-    stamp_le = let stamp_le = lists.stamp_le in omega (arith, stamp_le, previous_lt_k);
-    essentials_are = λ i. lists.essentials_are i
-        ∙ ap (λ es. is_member es i)
-        (sym (same_essentials db s.previous k known.same_scope));
-    variables_are = lists.variables_are;
-  }
-
-  -- with the same further variables it has the same frame
-  pub taken_over : IsSameAsPrevious db k s → (fs : List ℕ) → fs ≡ s.previous_further.items
-      → ((x : ℕ) → is_member fs x ≡ is_further db k s.scope.variables.items x)
-      → mandatory_at db k ≡ mandatory_at db s.previous
-  taken_over known fs fs_are fs_are_further =
-      same_frame db s.previous k known.same_scope s.scope.variables.items
-      (λ x. known.essential_lists.variables_are x
-      ∙ ap (λ z. is_variable_number db x && z)
-      (same_members_same_any (λ j. is_member (formula_at db j) x) s.scope.essentials.items
-      (active_of is_essential db s.previous) known.essential_lists.essentials_are))
-      (λ x. sym (fs_are_further x) ∙ ap (λ xs. is_member xs x) fs_are ∙ known.further_are x)
+    -- with the same further variables it has the same frame
+    pub taken_over : (fs : List ℕ) → fs ≡ s.previous_further.items
+        → ((x : ℕ) → is_member fs x ≡ is_further db k s.scope.variables.items x)
+        → mandatory_at db k ≡ mandatory_at db s.previous
+    taken_over fs fs_are fs_are_further =
+        same_frame db s.previous k same_scope s.scope.variables.items
+        (λ x. known.essential_lists.variables_are x
+        ∙ ap (λ z. is_variable_number db x && z)
+        (same_members_same_any (λ j. is_member (formula_at db j) x) s.scope.essentials.items
+        (active_of is_essential db s.previous) known.essential_lists.essentials_are))
+        (λ x. sym (fs_are_further x) ∙ ap (λ xs. is_member xs x) fs_are ∙ known.further_are x)
 
   -- the assertion before has a frame
   pub previous_has_frame : IsReady db from k s → (fs : List (Option Mandatory))
@@ -330,13 +302,13 @@ module _ {A : Type 0} (db : List Statement) (from k : ℕ) (s : Scratch A) where
       ∙ frame_at_previous db from k s.previous previous.0 previous.1 previous.2
 
   -- after an assertion
-  pub ready_after_assertion : (t : Scratch A) → t.previous ≡ k → k ≢ never → from ≤ k
+  pub ready_after_assertion : (t : Scratch A) → t.previous ≡ k → from ≤ k
       → list_any is_assertion (statement_at db k) ≡ true → AreEssentialLists db k t.scope
       → IsFresh (length (symbol_names db)) (k + 1) t.lists.marks.items
       → ((x : ℕ) → is_member t.previous_further.items x
       ≡ is_further db k t.scope.variables.items x)
       → IsReady db from (k + 1) t
-  ready_after_assertion t previous_is k_ne_never from_le_k is_one lists marks_are_fresh
+  ready_after_assertion t previous_is from_le_k is_one lists marks_are_fresh
       further_are =
       record {
         stamps_are_fresh = record {
@@ -350,11 +322,7 @@ module _ {A : Type 0} (db : List Statement) (from k : ℕ) (s : Scratch A) where
           omega (arith, previous_is),
           ap (λ j. list_any is_assertion (statement_at db j)) previous_is ∙ is_one,
         );
-        previous_is_known = λ is_same. record {
-          has_previous = λ is_never. k_ne_never (sym previous_is ∙ is_never);
-          same_scope =
-              subst (λ p. IsSameScope db p (k + 1)) (sym previous_is)
-              (scope_of_last db k (assertion_at_keeps db k is_one) (k + 1) refl);
+        previous_is_known = λ is_some. record {
           essential_lists =
               subst (λ p. AreEssentialLists db p t.scope) (sym previous_is) lists;
           further_are = λ x. further_are x

@@ -1,10 +1,31 @@
 -- The last statement of a kind that is active at a statement.
-use Rattle.std.specs.Prelude.{◌≡◌, ◌≢◌, ℕ, ◌+◌, ◌<◌, ◌≤◌, Bool, true, false, ◌&&◌, List, length}
-use Rattle.std.specs.Prelude.{slice_index, ◌⊎◌}
+use Rattle.std.specs.Prelude.{◌≡◌, ◌≢◌, ℕ, ◌+◌, ◌<◌, ◌≤◌, Bool, true, false, ◌&&◌, not}
+use Rattle.std.specs.Prelude.{List, length, slice_index, ◌⊎◌, if◌then◌else◌}
 use Rattle.std.specs.List.{list_any}
-use Rattle.mm_spec.specs.Statement.{Statement}
+use Rattle.mm_spec.specs.Statement.{Statement, disjoint, floating, essential}
 use Rattle.mm_spec.specs.Scope.{statement_at, is_block_open}
+use Rattle.mm_spec.specs.Frame.{is_essential}
 use Rattle.mm_outline.specs.Blocks.{never}
+use Rattle.mm_outline.specs.declared.parts.Kind.{Kind}
+use Rattle.mm_outline.specs.declared.parts.Kind.TheVariants as kind
+
+-- the statements of which frames are made: a `$d`, a `$e` or a `$f`
+abbrev pub is_frame_part : Statement → Bool
+is_frame_part (disjoint k xs d) = true
+is_frame_part (floating l k xs d) = true
+is_frame_part (essential l k xs d) = true
+is_frame_part _ = false
+
+-- all of them, or the `$e` alone
+abbrev pub is_part : (essentials_alone : Bool) → Statement → Bool
+is_part essentials_alone = if essentials_alone then is_essential else is_frame_part
+
+-- the same by its kind
+abbrev pub is_part_kind : (essentials_alone : Bool) → Kind → Bool
+is_part_kind essentials_alone kind.Essential = true
+is_part_kind essentials_alone kind.Disjoint = not essentials_alone
+is_part_kind essentials_alone kind.Floating = not essentials_alone
+is_part_kind essentials_alone _ = false
 
 module _ (test : Statement → Bool) (db : List Statement) where
   -- statement j is of the kind, and its block is open at k

@@ -1,44 +1,25 @@
--- What is found once for neighbouring assertions between which no hypothesis, no `$d` and no block
--- begins or ends.
+-- What is found once for neighbouring assertions at which the same `$d`, `$e` and `$f` are active.
 use Rattle.std.specs.Prelude.{◌≡◌, ◌≢◌, ℕ, ◌+◌, ◌-◌, ◌<◌, ◌≤◌, Bool, true, false, ◌&&◌, not}
 use Rattle.std.specs.Prelude.{List, length, nat_eq, if◌then◌else◌}
 use Rattle.std.specs.List.{list_any, filter}
-use Rattle.mm_spec.specs.Statement.{Statement, constants, variables}
-use Rattle.mm_spec.specs.Statement.{axiomatic, provable}
+use Rattle.mm_spec.specs.Statement.{Statement}
 use Rattle.mm_spec.specs.Scope.{statement_at, active}
 use Rattle.mm_spec.specs.Derivation.{is_member}
 use Rattle.mm_spec.specs.Citation.{is_assertion}
 use Rattle.mm_spec.specs.Frame.{symbol_names, is_variable_number, is_essential, formula_at}
 use Rattle.mm_spec.specs.Frame.{active_of}
 use Rattle.mm_outline.specs.Blocks.{never}
-use Rattle.mm_outline.specs.declared.parts.Kind.{Kind}
-use Rattle.mm_outline.specs.declared.parts.Kind.TheVariants as kind
 use Rattle.mm_frame.specs.Hypotheses.{AreStamps, IsFresh}
+use Rattle.mm_frame.specs.Latest.{is_frame_part}
 use Rattle.mm_frame.specs.declared.neighbours.EssentialLists.{EssentialLists}
 use Rattle.mm_frame.specs.declared.frames.Scratch.{Scratch}
 
--- whether a statement leaves the active `$d`, `$e` and `$f` as they are
-abbrev pub keeps_scope : Statement → Bool
-keeps_scope (constants k xs d) = true
-keeps_scope (variables k xs d) = true
-keeps_scope (axiomatic l k xs d) = true
-keeps_scope (provable l k xs e ps d) = true
-keeps_scope _ = false
-
--- the same by its kind
-abbrev pub keeps_scope_by_kind : Kind → Bool
-keeps_scope_by_kind kind.Constants = true
-keeps_scope_by_kind kind.Variables = true
-keeps_scope_by_kind kind.Axiom = true
-keeps_scope_by_kind kind.Theorem = true
-keeps_scope_by_kind _ = false
-
--- what holds of active statements is the same at p and at k, if it holds of none that keeps the
--- scope
+-- what holds of active statements is the same at p and at k, if it holds only of `$d`, `$e` and
+-- `$f`
 abbrev pub IsSameScope : List Statement → ℕ → ℕ → Type 0
 IsSameScope db p k =
     (q : ℕ → Bool)
-    → ((j : ℕ) → list_any keeps_scope (statement_at db j) ≡ true → q j ≡ false)
+    → ((j : ℕ) → list_any is_frame_part (statement_at db j) ≡ false → q j ≡ false)
     → filter q (active db k) ≡ filter q (active db p)
 
 -- whether x is a variable of statement k and none of these
@@ -61,10 +42,8 @@ module _ {A : Type 0} where
         ≡ (is_variable_number db x
         && list_any (λ j. is_member (formula_at db j) x) s.essentials.items)
 
-  -- The last assertion before k has the same scope as k, and these are the lists of it.
-  pub record IsSameAsPrevious (db : List Statement) (k : ℕ) (s : Scratch A) : Type 0 where
-    pub has_previous : s.previous ≢ never
-    pub same_scope : IsSameScope db s.previous k
+  -- these are the lists of the last assertion
+  pub record IsPreviousKnown (db : List Statement) (s : Scratch A) : Type 0 where
     pub essential_lists : AreEssentialLists db s.previous s.scope
     pub further_are : (x : ℕ) → is_member s.previous_further.items x
         ≡ is_further db s.previous s.scope.variables.items x
@@ -76,4 +55,4 @@ module _ {A : Type 0} where
     pub previous_is_assertion : s.previous ≢ never
         → (from ≤ s.previous) × (s.previous < k)
         × (list_any is_assertion (statement_at db s.previous) ≡ true)
-    pub previous_is_known : s.is_same_scope ≡ true → IsSameAsPrevious db k s
+    pub previous_is_known : s.previous ≢ never → IsPreviousKnown db s

@@ -19,7 +19,7 @@ ghost use Rattle.mm_frame.specs.Neighbours.{AreEssentialLists, IsReady, is_furth
 
 use crate::disjoint::{list_disjoint_variables, list_pairs, symbol_pairs};
 use crate::hypotheses::{list_further_variables, list_hypotheses, list_mandatory_variables};
-use crate::neighbours::{EssentialLists, filled, keeps_scope, list_scope};
+use crate::neighbours::{EssentialLists, filled, is_same_scope, list_scope};
 use crate::sources::FrameSources;
 use crate::symbol_facts::{SymbolFacts, add_symbol_facts, symbol_facts_before};
 use mm_database::frames::{Frame, Frames};
@@ -62,8 +62,6 @@ impl<A: Allocator> Drop for FrameLists<A> {
 struct Scratch<A: Allocator> {
     /// The last assertion before, or `NEVER`.
     previous: u32,
-    /// Whether since then no `$d`, `$e` or `$f` and no block has begun or ended.
-    is_same_scope: bool,
     /// Its active `$e`.
     scope: EssentialLists<A>,
     /// The variables of its formula that aren't in these `$e`, in ascending order.
@@ -78,7 +76,6 @@ impl<A: Allocator> Drop for Scratch<A> {
     fn drop(self) {
         let Self {
             previous: _,
-            is_same_scope: _,
             scope: _,
             previous_further: _,
             further: _,
@@ -115,7 +112,6 @@ impl<A: Allocator + Copy> Scratch<A> {
         let lists = FrameLists::new(alloc, symbol_count)?;
         Ok(Scratch {
             previous: NEVER,
-            is_same_scope: false,
             scope,
             previous_further: Vec::new(alloc),
             further: Vec::new(alloc),
@@ -314,15 +310,16 @@ fn add_assertion<A: Allocator + Copy>(
         (frames.new
         ≡ frames.old ++ Some (mandatory_at sources.now.statements.now.list assertion) ∷ []) }
 {
+    let is_same_scope = is_same_scope(sources, scratch.previous, assertion);
     list_further(
         sources,
         assertion,
-        scratch.is_same_scope,
+        is_same_scope,
         &mut scratch.scope,
         &mut scratch.further,
     )?;
     let previous = index_from(from, scratch.previous);
-    if scratch.is_same_scope && are_same(&scratch.further, &scratch.previous_further) {
+    if is_same_scope && are_same(&scratch.further, &scratch.previous_further) {
         scratch.previous = assertion;
         return frames.add_shared(previous);
     }
@@ -336,27 +333,7 @@ fn add_assertion<A: Allocator + Copy>(
     add_listed(alloc, previous, &scratch.lists, frames)?;
     std::mem::swap(&mut scratch.further, &mut scratch.previous_further);
     scratch.previous = assertion;
-    scratch.is_same_scope = true;
     Ok(())
-}
-
-/// Adds a statement that is no assertion.
-fn add_other<A: Allocator>(
-    statements: &Statements<A>,
-    from: u32,
-    statement: u32,
-    scratch: &mut Scratch<A>,
-    frames: &mut Frames<A>,
-) -> Result<(), AllocError>
-    requires statement_lt_length { statement < length statements.now.list }
-    requires is_ready { IsReady statements.now.list from statement scratch.old }
-    ensures is_ready { OnOk result (IsReady statements.now.list from (statement + 1) scratch.new) }
-    ensures none_is_added { OnOk result (frames.new ≡ frames.old ++ None ∷ []) }
-{
-    if !keeps_scope(statements.kind(statement)) {
-        scratch.is_same_scope = false;
-    }
-    frames.add_none()
 }
 
 /// Adds a statement, with its frame if it is an assertion.
@@ -387,7 +364,7 @@ fn add_frame<A: Allocator + Copy>(
     if sources.statements.is_assertion(statement) {
         add_assertion(alloc, sources, facts, from, statement, scratch, frames)
     } else {
-        add_other(sources.statements, from, statement, scratch, frames)
+        frames.add_none()
     }
 }
 

@@ -1,15 +1,16 @@
 //! The active `$e` and their variables, which neighbouring assertions have in common.
 
-ghost use Rattle.std.specs.Prelude.{◌≡◌, ◌<◌, ℕ, IfOk, OnOk, length, slice_index};
+ghost use Rattle.std.specs.Prelude.{◌≡◌, ◌≢◌, ◌<◌, ℕ, IfOk, OnOk, length, slice_index, true};
 ghost use Rattle.mm_spec.specs.Frame.{symbol_names};
 ghost use Rattle.mm_frame.specs.Sources.{AreSources};
 ghost use Rattle.mm_frame.specs.Hypotheses.{IsFresh};
-ghost use Rattle.mm_frame.specs.Neighbours.{AreEssentialLists, keeps_scope_by_kind};
+ghost use Rattle.mm_outline.specs.Blocks.{never};
+ghost use Rattle.mm_frame.specs.Neighbours.{AreEssentialLists, IsSameScope};
 
 use crate::active::active_essentials;
 use crate::hypotheses::list_essential_variables;
 use crate::sources::FrameSources;
-use mm_outline::parts::Kind;
+use mm_outline::blocks::NEVER;
 use mm_outline::symbol::Sym;
 use std::alloc::{AllocError, Allocator};
 
@@ -93,12 +94,21 @@ pub(crate) fn list_scope<A: Allocator>(
     Ok(())
 }
 
-/// Whether a statement of this kind leaves the active `$d`, `$e` and `$f` as they are.
-pub(crate) fn keeps_scope(kind: Kind) -> bool
-    ensures { result ≡ keeps_scope_by_kind kind }
+/// Whether the same `$d`, `$e` and `$f` are active at an assertion as at the one before it, which
+/// may be `NEVER`. They are if the last one is the same, since blocks are nested.
+pub(crate) fn is_same_scope<A: Allocator>(
+    sources: &FrameSources<A>,
+    previous: u32,
+    assertion: u32,
+) -> bool
+    requires are_sources { AreSources sources.now }
+    requires assertion_lt_length { assertion < length sources.now.statements.now.list }
+    requires previous_lt_assertion { previous ≢ never → previous < assertion }
+    ensures { result ≡ true
+        → (previous ≢ never) × IsSameScope sources.now.statements.now.list previous assertion }
 {
-    match kind {
-        Kind::Constants | Kind::Variables | Kind::Axiom | Kind::Theorem => true,
-        _ => false,
+    if previous == NEVER {
+        return false;
     }
+    sources.frame_parts[previous as usize] == sources.frame_parts[assertion as usize]
 }

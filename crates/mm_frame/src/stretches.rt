@@ -10,7 +10,7 @@ ghost use Rattle.mm_frame.specs.Sources.{AreSources};
 ghost use Rattle.mm_frame.specs.Stretches.{AreStretchFrames};
 ghost use Rattle.mm_stretches.specs.Stretches.{stretch_count};
 
-use crate::active::latest_essentials;
+use crate::active::latest_parts;
 use crate::disjoint_index::disjoint_index_of;
 use crate::frames::frames_between;
 use crate::sources::FrameSources;
@@ -124,10 +124,12 @@ pub fn frame_tables_of<R: Threads + Sync, A: Allocator + Copy + Send + Sync>(
         (λ b. AreFrameTables statements.now.list statements.now.blocks b) }
 {
     let disjoint_index = disjoint_index_of(alloc, statements)?;
-    let essentials = latest_essentials(alloc, statements)?;
+    let essentials = latest_parts(alloc, statements, true)?;
+    let frame_parts = latest_parts(alloc, statements, false)?;
     let sources = FrameSources {
         statements,
         essentials: &essentials,
+        frame_parts: &frame_parts,
         disjoint_index: &disjoint_index,
     };
     // The frames of a stretch begin with lists of all symbols.
@@ -148,10 +150,12 @@ pub fn frame_tables_alone<A: Allocator + Copy>(
         (λ b. AreFrameTables statements.now.list statements.now.blocks b) }
 {
     let disjoint_index = disjoint_index_of(alloc, statements)?;
-    let essentials = latest_essentials(alloc, statements)?;
+    let essentials = latest_parts(alloc, statements, true)?;
+    let frame_parts = latest_parts(alloc, statements, false)?;
     let sources = FrameSources {
         statements,
         essentials: &essentials,
+        frame_parts: &frame_parts,
         disjoint_index: &disjoint_index,
     };
     let frames = frames_between(alloc, &sources, 0, statements.len())?;

@@ -1,5 +1,5 @@
 use Rattle.std.proofs.Common.{◌≢◌, ◌∙◌, ◌++◌, ◌∷◌, [], ℕ, Some, None, is_some, Option, length}
-use Rattle.std.proofs.Common.{get_or, refl, sym, ap, arith, ◌-◌, Bool, List, if◌then◌else◌}
+use Rattle.std.proofs.Common.{get_or, refl, sym, ap, ◌-◌, Bool, List, if◌then◌else◌}
 use Rattle.std.proofs.lemmas.Bool.{eq-eqb}
 use Rattle.mm_spec.specs.Derivation.{is_member}
 use Rattle.mm_spec.specs.Frame.{symbol_names}
@@ -16,30 +16,27 @@ pub list_further-requires-clause-same_are_essential :
 list_further-requires-clause-same_are_essential g c = λ is_same.
     let db = c.args.sources.now.statements.now.list in
     let k = c.args.assertion in
-    let s = c.args.scratch.now in
-    let known = c.requires.is_ready.previous_is_known is_same in
-    essential_lists_stay db c.args.from k s known known.essential_lists
-    (c.requires.is_ready.previous_is_assertion known.has_previous).1
+    let scope = c.is_same_scope-is_same_scope.ensures is_same in
+    essential_lists_stay db c.args.from k c.args.scratch.now scope.1
+    (c.requires.is_ready.previous_is_known scope.0)
+    (c.requires.is_ready.previous_is_assertion scope.0).1
 
 pub add_shared-requires : goal.add_shared-requires
 add_shared-requires g c =
     let db = c.args.sources.now.statements.now.list in
-    let known = c.requires.is_ready.previous_is_known c.if-scratch.true in
+    let scope = c.is_same_scope-is_same_scope.ensures c.if-is_same_scope.true in
     ap (λ (p : ℕ). is_some (get_or c.args.frames.now p None)) c.index_from-previous.ensures
     ∙ ap is_some (previous_has_frame db c.args.from c.args.assertion c.args.scratch.now
-    c.requires.is_ready c.args.frames.now c.requires.are_frames known.has_previous)
+    c.requires.is_ready c.args.frames.now c.requires.are_frames scope.0)
 
 pub returns-then-are_same-clause-is_ready : goal.returns-then-are_same-clause-is_ready
 returns-then-are_same-clause-is_ready g c =
     let db = c.args.sources.now.statements.now.list in
     let k = c.args.assertion in
-    let k_lt_length = c.requires.assertion_lt_length in
-    let few_statements = c.requires.are_sources.sound.few_statements in
     let same_list = sym c.deref.ensures.value ∙ c.are_same.ensures c.if-are_same.true
-    ∙ c.deref-then-scratch.ensures.value in
+    ∙ c.deref-then-is_same_scope.ensures.value in
     let ready =
     ready_after_assertion db c.args.from k c.args.scratch.now _ refl
-    (λ k_is_never. absurd (omega (arith, k_is_never, k_lt_length, few_statements)))
     c.requires.from_le_assertion c.requires.is_assertion c.in_ok-list_further.ensures.are_essential
     (fresh_later (length (symbol_names db)) k c.args.scratch.now.lists.marks.items
     c.requires.is_ready.marks_are_fresh)
@@ -52,15 +49,16 @@ returns-then-are_same-clause-frame_is_added g c =
     let db = c.args.sources.now.statements.now.list in
     let k = c.args.assertion in
     let s = c.args.scratch.now in
-    let known = c.requires.is_ready.previous_is_known c.if-scratch.true in
+    let scope = c.is_same_scope-is_same_scope.ensures c.if-is_same_scope.true in
     let same_list = sym c.deref.ensures.value ∙ c.are_same.ensures c.if-are_same.true
-    ∙ c.deref-then-scratch.ensures.value in
-    let scope_stays = c.in_ok-list_further.ensures.same_stay c.if-scratch.true in
+    ∙ c.deref-then-is_same_scope.ensures.value in
+    let scope_stays = c.in_ok-list_further.ensures.same_stay c.if-is_same_scope.true in
     let frame_is =
     ap (λ (p : ℕ). get_or c.args.frames.now p None) c.index_from-previous.ensures
     ∙ previous_has_frame db c.args.from k s c.requires.is_ready c.args.frames.now
-    c.requires.are_frames known.has_previous
-    ∙ ap Some (sym (taken_over db c.args.from k s known c.list_further.new.further.items same_list
+    c.requires.are_frames scope.0
+    ∙ ap Some (sym (taken_over db c.args.from k s scope.1
+    (c.requires.is_ready.previous_is_known scope.0) c.list_further.new.further.items same_list
     (λ x. c.in_ok-list_further.ensures.are_further x
     ∙ ap (λ v. is_further db k v.variables.items x) scope_stays))) in
     on_ok_then c.add_shared.result c.add_shared.ensures
@@ -83,10 +81,7 @@ pub returns-clause-is_ready : goal.returns-clause-is_ready
 returns-clause-is_ready g c =
     let db = c.args.sources.now.statements.now.list in
     let k = c.args.assertion in
-    let k_lt_length = c.requires.assertion_lt_length in
-    let few_statements = c.requires.are_sources.sound.few_statements in
     ready_after_assertion db c.args.from k c.args.scratch.now _ refl
-    (λ k_is_never. absurd (omega (arith, k_is_never, k_lt_length, few_statements)))
     c.requires.from_le_assertion c.requires.is_assertion c.in_ok-list_further.ensures.are_essential
     c.in_ok-list_frame.ensures.are_fresh
     (λ x. ap (λ v. is_member v.items x) c.swap.ensures.y_after

@@ -1,6 +1,6 @@
 use Rattle.std.proofs.Common.{◌∙◌, sym, subst, arith}
 use Rattle.mm_spec.specs.Frame.{is_essential}
-use Rattle.mm_frame.specs.Latest.{AreLatest}
+use Rattle.mm_frame.specs.Latest.{AreLatest, is_frame_part}
 use Rattle.mm_frame.proofs.StretchesLaw.{frames_of_all}
 use Rattle.mm_frame.proofs.stretches.frame_tables_alone.Goals as goal
 
@@ -10,6 +10,9 @@ frames_between-requires-clause-are_sources g c = record {
   essentials_are =
       subst (λ xs. AreLatest is_essential c.args.statements.now.list xs) (sym c.deref.ensures.value)
       c.in_ok-essentials.ensures;
+  frame_parts_are =
+      subst (λ xs. AreLatest is_frame_part c.args.statements.now.list xs)
+      (sym c.deref-2.ensures.value) c.in_ok-frame_parts.ensures;
   index_is = c.in_ok-disjoint_index.ensures;
 }
 

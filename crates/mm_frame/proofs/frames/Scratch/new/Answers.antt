@@ -1,4 +1,4 @@
-use Rattle.std.proofs.Common.{sym, subst, true≢false, refl}
+use Rattle.std.proofs.Common.{sym, subst, refl}
 use Rattle.mm_frame.specs.Hypotheses.{IsFresh}
 use Rattle.mm_frame.proofs.frames.Scratch.new.Goals as goal
 
@@ -11,5 +11,5 @@ returns g c = λ db from count_is. record {
       subst (λ n. IsFresh n from c.in_ok-lists.lists.marks.items) (sym count_is)
       (c.in_ok-lists.ensures from);
   previous_is_assertion = λ is_some. absurd (is_some refl);
-  previous_is_known = λ is_same. absurd (true≢false (sym is_same));
+  previous_is_known = λ is_some. absurd (is_some refl);
 }
