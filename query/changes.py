@@ -21,7 +21,7 @@ from query.errors import NoAnswer
 from query.graph import Graph
 from query.marks import columns_of, mask
 from query.standing import NewText, OldText
-from query.statements import Cites, Pairing, Statement, pairing_of, statement_of
+from query.statements import ANOTHER_ORDER, Cites, Pairing, Statement, pairing_of, statement_of
 from query.text import Text
 
 MOST_ROWS = 10_000
@@ -231,20 +231,37 @@ class Comparison:
         return [axiom for axiom in lost if axiom in self.old_axioms]
 
     @cached_property
+    def restated(self) -> frozenset[str]:
+        """The theorems of which one label says something else in OLD and in NEW. What one rests on
+        and the other doesn't is no gain or loss."""
+        changed = self.theorems.changed.items()
+        return frozenset(label for label, differ in changed if differ != ANOTHER_ORDER)
+
+    def shift(self, theorem: str, was: str) -> tuple[list[str], list[str]]:
+        """The axioms on which a theorem rests in NEW alone, by their labels there, and those on
+        which it rests in OLD alone, under the label that it has there. None where it is left open
+        in one of them."""
+        if theorem not in self.new.dependence.rows or self.old_text.by_label[was].letter != "p":
+            return [], []
+        now, before = self.row(theorem), self.row_before(was)
+        dependence = self.new.dependence
+        gained = [dependence.axioms[column] for column in dependence.columns_of(now & ~before)]
+        left = columns_of(before & ~now, len(self._numbers))
+        went = [self.to_old[self.new.database.prepared.columns[number]] for number in left]
+        went += [each for each in self._lost(was) if self.to_new.get(each) not in self._numbers]
+        return gained, [axiom for axiom in dict.fromkeys(went) if axiom in self.old_axioms]
+
+    @cached_property
     def _shifted(self) -> tuple[dict[str, list[str]], dict[str, list[str]]]:
         """For each axiom the theorems of both that came to rest on it, by labels of NEW, and those
         that no longer do, by labels of OLD."""
         gained: dict[str, list[str]] = {}
         lost: dict[str, list[str]] = {}
-        dependence = self.new.dependence
         for theorem, was in self._shifting():
-            now, before = self.row(theorem), self.row_before(was)
-            for column in dependence.columns_of(now & ~before):
-                gained.setdefault(dependence.axioms[column], []).append(theorem)
-            left = columns_of(before & ~now, len(self._numbers))
-            went = [self.to_old[self.new.database.prepared.columns[number]] for number in left]
-            went += [each for each in self._lost(was) if self.to_new.get(each) not in self._numbers]
-            for axiom in self.old_axioms.keys() & went:
+            came, went = self.shift(theorem, was)
+            for axiom in came:
+                gained.setdefault(axiom, []).append(theorem)
+            for axiom in went:
                 lost.setdefault(axiom, []).append(was)
         order = self.old_text.by_label
         for theorems in lost.values():
@@ -252,17 +269,20 @@ class Comparison:
         return gained, lost
 
     def _shifting(self) -> Iterator[tuple[str, str]]:
-        """The theorems of both of which the program tells more or less axioms, or that were renamed
-        or changed; each by its labels in NEW and in OLD."""
+        """The theorems of both of which the program tells more or less axioms, or that were
+        renamed; each by its labels in NEW and in OLD. One that says something else isn't one of
+        both."""
         told = self.differences
         for theorem in self.new.dependence.theorems:
             was = self.to_old.get(theorem)
+            if was is None or theorem in self.restated:
+                continue
             if was != theorem or theorem in told.gained or theorem in told.lost:
-                if was is not None and self.old_text.by_label[was].letter == "p":
-                    yield theorem, was
+                yield theorem, was
 
     def gained(self, axiom: str) -> list[str]:
-        """The theorems of both that rest on an axiom of NEW and in OLD didn't."""
+        """The theorems of both that rest on an axiom of NEW and in OLD didn't. One that says
+        something else is none of them."""
         return self._shifted[0].get(axiom, [])
 
     def lost(self, axiom: str) -> list[str]:

@@ -17,11 +17,12 @@ from query.assertions import Assertion
 from query.boxes import exposed
 from query.changes import Comparison, Side
 from query.config import RULES, Claim, Config, Labels, is_meant
-from query.excerpts import cut, cut_both
+from query.excerpts import SHOWN_FORMULA, cut
 from query.graph import Graph
 from query.includes import OPENING, new_includes
 from query.introduced import introduced
 from query.remarks import tokens
+from query.restated import change_of
 from query.standing import NewText, OldText, words_of_proof
 from query.text import HEADING_START, Text
 
@@ -176,8 +177,8 @@ def resting(case: Case, axiom: str) -> str:
 def reason_of_changed(case: Case, before: Assertion, axiom: Assertion) -> str:
     """How an axiom was changed."""
     differ = case.comparison.axioms.changed[axiom.label]
-    was, now = cut_both(before.formula, axiom.formula)
-    shift = f", from {was} to {now}" if was != now else ""
+    change = change_of(before, axiom, differ, SHOWN_FORMULA)
+    shift = f", from {change.old} to {change.new}"
     return f"a changed axiom: {differ}{shift}{resting(case, axiom.label)}"
 
 

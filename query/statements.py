@@ -11,7 +11,7 @@ from __future__ import annotations
 
 from array import array
 from collections import deque
-from collections.abc import Callable, Iterable, Iterator
+from collections.abc import Callable, Iterable, Iterator, Mapping
 from dataclasses import dataclass, field
 from functools import cached_property
 from hashlib import blake2b
@@ -24,6 +24,8 @@ Cites = Callable[[str], frozenset[str]]
 
 ANOTHER_ORDER = "only the order of `$f` is other"
 """A proof gives the hypotheses in their order, so this is another frame."""
+FORMULA, HYPOTHESES, DISTINCT = "the formula", "the hypotheses", "the $d conditions"
+"""In what statements differ."""
 
 
 class Statement(NamedTuple):
@@ -87,11 +89,11 @@ def difference(old: Statement, new: Statement) -> str:
     """In words, in what two statements differ; "" where they don't."""
     parts = []
     if old.formula != new.formula:
-        parts.append("the formula")
+        parts.append(FORMULA)
     if old.essentials != new.essentials:
-        parts.append("the hypotheses")
+        parts.append(HYPOTHESES)
     if old.disjoint != new.disjoint:
-        parts.append("the $d conditions")
+        parts.append(DISTINCT)
     if old.typecodes != new.typecodes and not parts:
         parts.append("the typecodes of variables")
     if parts:
@@ -121,12 +123,12 @@ def pairing_of(
 ) -> Pairing:
     """Pairs assertions of one kind that OLD alone has with those that NEW alone has. The citations
     are asked for only where several say the same."""
-    before = {one.label: one for one in gone}
-    after = {one.label: one for one in new}
+    before = {one.label: (one.letter, statement_of(one)) for one in gone}
+    after = {one.label: (one.letter, statement_of(one)) for one in new}
     words = {label: in_words(before[label], one) for label, one in after.items() if label in before}
     opened = {label for label, differ in words.items() if not differ}
     old_ones, new_ones = (
-        by_statement(one for label, one in some.items() if label not in opened)
+        by_statement({label: said for label, (_, said) in some.items() if label not in opened})
         for some in (before, after)
     )
     found: dict[str, str] = {}
@@ -144,19 +146,20 @@ def pairing_of(
     return pairing
 
 
-def in_words(old: Assertion, new: Assertion) -> str:
-    """In what two assertions of one label differ; "" where only one of them is left open."""
-    words = difference(statement_of(old), statement_of(new))
-    if not words and old.letter == new.letter:
+def in_words(old: tuple[str, Statement], new: tuple[str, Statement]) -> str:
+    """In what two assertions of one label differ, each its letter and its statement; "" where only
+    one of them is left open."""
+    words = difference(old[1], new[1])
+    if not words and old[0] == new[0]:
         raise Damaged
     return words
 
 
-def by_statement(assertions: Iterable[Assertion]) -> dict[Statement, list[str]]:
+def by_statement(said: Mapping[str, Statement]) -> dict[Statement, list[str]]:
     """The labels of assertions by what these say."""
     found: dict[Statement, list[str]] = {}
-    for one in assertions:
-        found.setdefault(statement_of(one), []).append(one.label)
+    for label, statement in said.items():
+        found.setdefault(statement, []).append(label)
     return found
 
 

@@ -7,13 +7,15 @@ from query.changes import Comparison, side_by_side
 from query.commands import Command
 from query.context import Context
 from query.errors import NoAnswer, shown
+from query.restated import COLUMNS as BOTH
+from query.restated import Change, changes, lines_of, most_of
 from query.options import Parser, add_choice_of_axioms, add_database, options_of
 from query.output import Value
 from query.source import is_same_file
 from query.statements import ANOTHER_ORDER, Pairing
 
 Row = tuple[Value, ...]
-COLUMNS = ("change", "kind", "label", "was", "axiom", "citing", "cited")
+COLUMNS = ("change", "kind", "label", "was", "axiom", "citing", "cited", *BOTH)
 
 PAGE = """
 Compares two databases, OLD and NEW. The axioms are those of typecode |- unless the options choose
@@ -23,7 +25,8 @@ others; with AXIOM.., all lines are about these.
            gone     only OLD has it
            renamed  the same statement, under another label: its formula, its hypotheses in order,
                     and the pairs of its variables that must be distinct. This is a guess
-           changed  the same label, another statement
+           changed  the same label, another statement. Such a theorem neither gains nor loses an
+                    axiom, since it isn't one of both, unless only the order of its `$f` is other
            gained   a theorem of both that came to rest on an axiom
            lost     a theorem of both that no longer rests on one
   kind     axiom or theorem
@@ -33,8 +36,13 @@ others; with AXIOM.., all lines are about these.
   citing, cited
            why it was gained or lost: the first citation on a shortest chain from theorem to axiom
            that the other database lacks, as what cites and what it cites
+  differ   for `changed` in what the two statements differ, in words
+  old, new for `changed` both statements: the formula, and before it the hypotheses where these
+           differ, and the pairs of distinct variables that only one of both has. Where one of them
+           is long, they are cut: `..` stands for what is left out
 
-First come the theorems, in file order, then each axiom with what was gained and lost of it. What
+First come the theorems, in file order, then each axiom with what was gained and lost of it. With
+AXIOM.. a changed theorem is listed where only one of its statements rests on one of these. What
 only one of both has, and what rests on more or on less, is what `mmdepend --against OLD NEW` says.
 Its answer is proved. So OLD and NEW are databases, and not reports. That two labels are those of
 one statement is a guess: an axiom or theorem that was renamed is the same one to what is gained.
@@ -51,16 +59,19 @@ def configure(parser: Parser) -> None:
     add_choice_of_axioms(parser)
 
 
-def change_rows(pairing: Pairing, kind: str) -> Iterator[Row]:
-    """What is new, renamed, changed and gone of the theorems, or of the axioms."""
+def change_rows(comparison: Comparison, kind: str, most: int) -> Iterator[Row]:
+    """What is new, renamed, changed and gone of the theorems, or of the axioms. Of what was changed
+    so many characters of both statements are told at the most."""
+    pairing = comparison.theorems if kind == "theorem" else comparison.axioms
+    nothing = (None,) * (len(COLUMNS) - 4)
     for label in pairing.new:
-        yield ("new", kind, label, None, None, None, None)
+        yield ("new", kind, label, None, *nothing)
     for label, old in pairing.renamed.items():
-        yield ("renamed", kind, label, old, None, None, None)
-    for label in pairing.changed:
-        yield ("changed", kind, label, None, None, None, None)
+        yield ("renamed", kind, label, old, *nothing)
+    for each in changes(comparison, kind, most):
+        yield ("changed", kind, each.label, None, None, None, None, *each[1:])
     for label in pairing.gone:
-        yield ("gone", kind, label, None, None, None, None)
+        yield ("gone", kind, label, None, *nothing)
 
 
 def shifts_of(comparison: Comparison, old: str | None, new: str | None) -> Iterator[Row]:
@@ -69,7 +80,8 @@ def shifts_of(comparison: Comparison, old: str | None, new: str | None) -> Itera
         if axiom is None:
             continue
         for shift in comparison.shifts(axiom, lost=change == "lost"):
-            yield (change, "theorem", shift.theorem, None, axiom, shift.citing, shift.cited)
+            why = (axiom, shift.citing, shift.cited)
+            yield (change, "theorem", shift.theorem, None, *why, None, None, None)
 
 
 def axioms_of(comparison: Comparison) -> list[tuple[str | None, str | None]]:
@@ -93,10 +105,10 @@ def see_axioms(comparison: Comparison, labels: list[str]) -> None:
             raise NoAnswer(f"neither {names} has an axiom '{shown(label)}' among those chosen")
 
 
-def about_axioms(comparison: Comparison, named: list[str]) -> Iterator[Row]:
+def about_axioms(comparison: Comparison, named: list[str], most: int) -> Iterator[Row]:
     """The rows about each axiom, or about those named."""
     about: dict[str, list[Row]] = {}
-    for row in change_rows(comparison.axioms, "axiom"):
+    for row in change_rows(comparison, "axiom", most):
         about.setdefault(str(row[2]), []).append(row)
     for old, new in axioms_of(comparison):
         if named and old not in named and new not in named:
@@ -105,6 +117,22 @@ def about_axioms(comparison: Comparison, named: list[str]) -> Iterator[Row]:
             if label is not None:
                 yield from about.get(label, ())
         yield from shifts_of(comparison, old, new)
+
+
+def about_theorems(comparison: Comparison, named: list[str], most: int) -> Iterator[Row]:
+    """The rows about theorems; where axioms are named, of those that say something else now, and of
+    which only one of both statements rests on one of the axioms."""
+    rows = change_rows(comparison, "theorem", most)
+    if not named:
+        yield from rows
+        return
+    axioms = [pair for pair in axioms_of(comparison) if not {*pair}.isdisjoint(named)]
+    old, new = ({pair[side] for pair in axioms} for side in (0, 1))
+    for row in rows:
+        if row[0] == "changed" and row[2] in comparison.restated:
+            gained, lost = comparison.shift(str(row[2]), str(row[2]))
+            if not new.isdisjoint(gained) or not old.isdisjoint(lost):
+                yield row
 
 
 def compared(context: Context, arguments: argparse.Namespace) -> Comparison:
@@ -138,13 +166,16 @@ def run(context: Context, arguments: argparse.Namespace) -> int:
     """Answers."""
     comparison = compared(context, arguments)
     see_axioms(comparison, arguments.axiom)
-    rows: list[Row] = []
-    if not arguments.axiom:
-        rows += change_rows(comparison.theorems, "theorem")
-    rows += about_axioms(comparison, arguments.axiom)
+    most = most_of(context.out.format)
+    rows = [*about_theorems(comparison, arguments.axiom, most)]
+    rows += about_axioms(comparison, arguments.axiom, most)
     empty = why_empty(arguments, comparison, "don't differ in this")
     remarks = reordered(comparison.theorems, comparison.axioms)
-    context.table(COLUMNS, rows, empty, remarks=remarks)
+    context.table(COLUMNS, rows, empty, aside=BOTH, remarks=remarks)
+    if context.out.format == "text":
+        changed = [row for row in rows if row[0] == "changed"]
+        for line in lines_of(Change(*map(str, (row[2], *row[7:]))) for row in changed):
+            context.out.line(line)
     return 0
 
 

@@ -13,9 +13,12 @@ from query.introduced import introduced
 from query.order import longest_rising
 from query.options import Parser, add_choice_of_axioms, add_database
 from query.output import Value
+from query.restated import COLUMNS as BOTH
+from query.restated import Change, lines_of, most_of
+from query.restated import changes as both_statements
 from query.text import Text
 
-COLUMNS = ("theorem", "status", "was", "axioms", "gained", "lost", "via", "bytes")
+COLUMNS = ("theorem", "status", "was", "axioms", "gained", "lost", "via", "bytes", *BOTH)
 SHOWN_ROWS = 60
 """Rows of a comment's table, and axioms of a line. A longer one isn't read."""
 SHOWN_LABEL = 200
@@ -30,22 +33,26 @@ theorem  its label in NEW; of one that is gone, in OLD
 status   new:     only NEW has it
          gone:    only OLD has it
          renamed: it had another label
-         changed: the same label, another statement
+         changed: the same label, another statement. Such a theorem neither gains nor loses an
+                  axiom, unless only the order of its `$f` is other
          moved:   it stands before or behind others than it did
          proof:   it has another proof; one theorem may have several of these words
 was      of a renamed one the label in OLD
-axioms   of a new one, on how many axioms it rests
+axioms   of a new or changed one, on how many axioms it rests
 gained   the axioms on which it came to rest
 lost     the axioms on which it no longer rests
 via      for each axiom gained, by what: of the first new citation on a shortest chain to the axiom
          what the theorem cites, or, where another theorem has that citation, which one
 bytes    how much longer its text is, from the label to the end; of a new one how long
+differ   of a changed one in what its statements differ, in words
+old, new both statements of a changed one, as `compare` tells them
 
 Only what this change touches itself is listed: `compare` lists all theorems that came to rest on an
 axiom. Standard error says how many axioms of any typecode are new, changed, renamed and gone, and
 of each new or changed definition what it defines, or why it isn't sound. With --format markdown it
 is a comment for the pull request, which says first which axioms these are, then the same of
-definitions, and then has at most 60 theorems.
+definitions, and then has at most 60 theorems, and both statements of at most 60 that were changed,
+axioms included.
 
   $ mmquery review v1:set.mm set.mm
   $ mmquery review v1:set.mm set.mm --format markdown
@@ -70,11 +77,13 @@ class Outcome:
     lost: list[str] = field(default_factory=list)
     via: list[str] = field(default_factory=list)
     bytes: int = 0
+    change: Change | None = None
 
     def row(self) -> list[Value]:
         """Its row of the table."""
         lists = [self.gained, self.lost, self.via]
-        return [self.label, self.status, self.was, self.axioms, *lists, self.bytes]
+        both = (None, None, None) if self.change is None else self.change[1:]
+        return [self.label, self.status, self.was, self.axioms, *lists, self.bytes, *both]
 
 
 def configure(parser: Parser) -> None:
@@ -87,7 +96,7 @@ def configure(parser: Parser) -> None:
 def run(context: Context, arguments: argparse.Namespace) -> int:
     """Answers."""
     comparison = compared(context, arguments)
-    changes = changes_of(comparison)
+    changes = changes_of(comparison, most_of(context.out.format))
     empty = why_empty(
         arguments, comparison, "have the same theorems, with the same proofs, in one order"
     )
@@ -101,7 +110,11 @@ def run(context: Context, arguments: argparse.Namespace) -> int:
         context.tell(f"axioms: {counts}")
     told = f"; axioms: {counts}" if counts else ""
     remarks = reordered(comparison.theorems, comparison.axioms)
-    context.table(COLUMNS, [each.row() for each in changes], empty + told, remarks=remarks)
+    rows = [each.row() for each in changes]
+    context.table(COLUMNS, rows, empty + told, aside=BOTH, remarks=remarks)
+    if context.out.format == "text":
+        for line in lines_of(each.change for each in changes if each.change is not None):
+            context.out.line(line)
     return 0
 
 
@@ -117,8 +130,9 @@ def changed_axioms(comparison: Comparison) -> dict[str, list[str]]:
     }
 
 
-def changes_of(comparison: Comparison) -> list[Outcome]:
-    """What became of each theorem that the change is about."""
+def changes_of(comparison: Comparison, most: int) -> list[Outcome]:
+    """What became of each theorem that the change is about, with so many characters of the
+    statements of changed ones at the most."""
     old, new = comparison.old_text, comparison.text
     pairing = comparison.theorems
     fresh = set(pairing.new)
@@ -136,9 +150,6 @@ def changes_of(comparison: Comparison) -> list[Outcome]:
         change = Outcome(one.label, bytes=one.end - one.place)
         if one.label in fresh:
             change.status = ["new"]
-            row = comparison.new.dependence.rows.get(one.label)
-            bits = None if row is None else comparison.new.dependence.bits(row)
-            change.axioms = None if bits is None else bits.bit_count()
         elif one.label in origin:
             before = origin[one.label]
             change.bytes -= before.end - before.place
@@ -154,9 +165,19 @@ def changes_of(comparison: Comparison) -> list[Outcome]:
                     change.status.append(word)
         if change.status:
             found[one.label] = change
+    for label in (*fresh, *comparison.restated):
+        found[label].axioms = number_of_axioms(comparison, label)
+    for each in both_statements(comparison, "theorem", most):
+        found[each.label].change = each
     add_shifts(comparison, found)
     gone = [Outcome(label, ["gone"], bytes=-length(old, label)) for label in pairing.gone]
     return [*found.values(), *gone]
+
+
+def number_of_axioms(comparison: Comparison, label: str) -> int | None:
+    """On how many axioms a theorem of NEW rests; None of one that is left open."""
+    row = comparison.new.dependence.rows.get(label)
+    return None if row is None else comparison.new.dependence.bits(row).bit_count()
 
 
 def length(text: Text, label: str) -> int:
@@ -217,7 +238,22 @@ def comment(comparison: Comparison, changes: Sequence[Outcome]) -> str:
     if len(changes) > SHOWN_ROWS:
         more = f"{len(changes) - SHOWN_ROWS} more aren't shown"
         lines += ["", f"{more}; `mmquery review` lists them."]
+    lines += statement_lines(comparison, changes)
     return "\n".join(lines) + "\n"
+
+
+def statement_lines(comparison: Comparison, changes: Sequence[Outcome]) -> list[str]:
+    """Both statements of what was changed, first of axioms, and then of theorems."""
+    axioms = both_statements(comparison, "axiom", most_of("markdown"))
+    changed = [*axioms, *(each.change for each in changes if each.change is not None)]
+    lines = ["", "**Changed statements**:", ""] if changed else []
+    for each in changed[:SHOWN_ROWS]:
+        lines += [f"- {code(each.label)}: {each.differ}"]
+        lines += [f"  - was {fenced(each.old)}", f"  - is {fenced(each.new)}"]
+    if len(changed) > SHOWN_ROWS:
+        more = f"{len(changed) - SHOWN_ROWS} more aren't shown"
+        lines += ["", f"{more}; `mmquery compare` lists them."]
+    return lines
 
 
 def axioms_in_words(comparison: Comparison) -> str:
@@ -256,8 +292,12 @@ def listed(words: Sequence[str]) -> str:
 
 
 def code(text: str) -> str:
-    """A label, or symbols, as code, cut where it is long. A symbol may be a backtick."""
-    text = cut(text)
+    """A label, or symbols, as code, cut where it is long."""
+    return fenced(cut(text))
+
+
+def fenced(text: str) -> str:
+    """A text as code. A symbol may be a backtick."""
     longest = max((len(each) for each in BACKTICKS.findall(text)), default=0)
     fence, space = "`" * (longest + 1), " " if longest else ""
     return f"{fence}{space}{text}{space}{fence}"

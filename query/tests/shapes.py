@@ -196,6 +196,31 @@ def distinct(count: int) -> Files:
     return two(text, text.replace("|- (", "|-  ("))
 
 
+def redistinct(count: int) -> Files:
+    """A `$d` of many variables that lacks one of them in NEW, and a theorem of all of them."""
+    made, found = variables(count)
+    formula = " -> ".join(found)
+    text = f"w $a wff ( {formula} ) $. x $p |- ( {formula} ) $= w{' w'.join(found)} w ax $. $}}\n"
+    old, new = (f"{made}${{ $d {' '.join(each)} $. {text}" for each in (found, found[1:]))
+    return two(old, new)
+
+
+def restated(count: int) -> Files:
+    """Theorems that say something else in NEW, with a hypothesis more."""
+    made = [f"x{number} $p |- p $= wp ax $.\n" for number in range(count)]
+    given = "${{ e{0} $e |- q $. x{0} $p |- q $= wq ax $. $}}\n"
+    return two("".join(made), "".join(map(given.format, range(count))))
+
+
+def rehypothesized(count: int) -> Files:
+    """The same block of hypotheses with an assertion behind each, in NEW in other order."""
+    some = [
+        "".join(f"e{n} $e |- {'pq'[(n + first) % 2]} $. y{n} $a |- p $.\n" for n in range(count))
+        for first in (0, 1)
+    ]
+    return two(*(f"${{\n{lines}$}}\n" for lines in some))
+
+
 def far_distinct(count: int) -> Files:
     """A `$d` of many variables around many assertions of two."""
     made, found = variables(count)
@@ -482,6 +507,12 @@ SHAPES = [
           ("compare a.mm b.mm", "gate a.mm b.mm", "page a.mm")),
     Shape("a long `$d` around", far_distinct, 2_000, 4_000,
           ("compare a.mm b.mm", "gate a.mm b.mm", "page a.mm", "export --sqlite out.db a.mm")),
+    Shape("a long `$d` that is changed", redistinct, 1_000, 1_000,
+          ("compare a.mm b.mm", "review a.mm b.mm", "gate a.mm b.mm")),
+    Shape("changed statements", restated, 40_000, 10_000,
+          ("compare a.mm b.mm", "gate a.mm b.mm", "review a.mm b.mm")),
+    Shape("hypotheses that are changed", rehypothesized, 2_000, 1_000,
+          ("compare a.mm b.mm", "gate a.mm b.mm"), is_answer=True, is_limited=True),
     Shape("a `$d` before each", many_distinct, 4_000, 3_000,
           ("chapters a.mm", "compare a.mm b.mm", "gate a.mm b.mm", "page a.mm",
            "export --sqlite out.db a.mm")),

@@ -8,15 +8,21 @@ from collections import Counter
 from unittest import mock
 
 from query.statements import difference, statement_of
-from query.tests.generations import Generation, generation, next_generation
+from query.tests.generations import Generation, Part, generation, next_generation
+from query.tests import replay
 from query.tests.world import SMALL, World, asked, built_program, database_text
 
 Row = dict[str, str]
-COLUMNS = ("change", "kind", "label", "was", "axiom", "citing", "cited")
+COLUMNS = ("change", "kind", "label", "was", "axiom", "citing", "cited", "differ", "old", "new")
+
+
+def is_changed(part: Part, other: Part) -> bool:
+    """Whether an assertion says something else under the same label."""
+    return part.label == other.label and part.says != other.says
 
 
 def expected(old: Generation, new: Generation) -> set[tuple[str, ...]]:
-    """The rows that there have to be, without the reasons."""
+    """The rows that there have to be, without the reasons and the statements."""
     rows: set[tuple[str, ...]] = set()
     for part in new.parts:
         before = old.part(part.number)
@@ -25,7 +31,7 @@ def expected(old: Generation, new: Generation) -> set[tuple[str, ...]]:
             rows.add(("new", kind, part.label, "", ""))
         elif before.label != part.label:
             rows.add(("renamed", kind, part.label, before.label, ""))
-        elif before.says != part.says:
+        elif is_changed(part, before):
             rows.add(("changed", kind, part.label, "", ""))
     for part in old.parts:
         if new.part(part.number) is None:
@@ -33,7 +39,8 @@ def expected(old: Generation, new: Generation) -> set[tuple[str, ...]]:
             rows.add(("gone", kind, part.label, "", ""))
     for change, there, other in (("gained", new, old), ("lost", old, new)):
         for part in there.parts:
-            if part.is_axiom or other.part(part.number) is None:
+            counterpart = other.part(part.number)
+            if part.is_axiom or counterpart is None or is_changed(part, counterpart):
                 continue
             for axiom in there.rests(part.number) - other.rests(part.number):
                 rows.add((change, "theorem", part.label, "", there.label(axiom)))
@@ -78,8 +85,19 @@ class Comparisons(World):
                 if row["change"] in ("gained", "lost"):
                     sides = (new, old) if row["change"] == "gained" else (old, new)
                     self.check_reason(row, *sides)
+                self.check_statements(row, old, new)
         self.assertEqual(set(changes), {"new", "gone", "renamed", "changed", "gained", "lost"})
         self.assertGreater(min(changes.values()), 5)
+
+    def check_statements(self, row: Row, old: Generation, new: Generation) -> None:
+        """Checks that of what was changed both statements are told, and of nothing else."""
+        wanted = ["", "", ""]
+        if row["change"] == "changed":
+            after = next(part for part in new.parts if part.label == row["label"])
+            before = old.part(after.number)
+            assert before is not None
+            wanted = ["the formula changed", f"|- c{before.says}", f"|- c{after.says}"]
+        self.assertEqual([row[name] for name in ("differ", "old", "new")], wanted)
 
     def check_reason(self, row: Row, there: Generation, other: Generation) -> None:
         """Checks that a citation is on a shortest chain, and that the other database lacks it or it
@@ -112,9 +130,20 @@ class Comparisons(World):
                 about = [
                     row
                     for row in rows
-                    if row["axiom"] in names or row["kind"] == "axiom" and row["label"] in names
+                    if row["axiom"] in names
+                    or row["kind"] == "axiom"
+                    and row["label"] in names
+                    or self.rests_in_one(row, axiom.number, old, new)
                 ]
                 self.assertEqual(self.rows(*files, axiom.label), about)
+
+    def rests_in_one(self, row: Row, axiom: int, old: Generation, new: Generation) -> bool:
+        """Whether a row is about a theorem that was changed, and only one of its statements rests
+        on an axiom."""
+        if (row["change"], row["kind"]) != ("changed", "theorem"):
+            return False
+        number = next(part.number for part in new.parts if part.label == row["label"])
+        return (axiom in old.rests(number)) != (axiom in new.rests(number))
 
     def test_reports_have_no_texts(self) -> None:
         self.write("a.mm", SMALL)
@@ -217,6 +246,151 @@ class Statements(World):
             ("h1 $e |- p", "h1 $e wff p", "the hypotheses"),
         ):
             self.assertIn(said, self.compared(self.ONE, self.ONE.replace(before, after)))
+
+
+class Restated(World):
+    """Both statements of what was changed."""
+
+    HEAD = "$c |- wff ( ) -> ` | <b> @me [x](y) $. $v p q r $.\n"
+    HEAD += "wp $f wff p $. wq $f wff q $. wr $f wff r $. wi $a wff ( p -> q ) $. all $a |- p $.\n"
+    ONE = "${ h1 $e |- p $. h2 $e |- q $. $d p q $. one $p |- ( p -> q ) $= wp wq wi all $. $}\n"
+    TWO = "two $p |- ( p -> p ) $= wp wp wi all $.\n"
+    AXIOM = "${ a.1 $e |- p $. ax-one $a |- ( p -> q ) $. $}\n"
+
+    CASES: tuple[tuple[str, list[tuple[str, str]]], ...] = (
+        (ONE, [("( p -> q )", "( q -> p )"), ("wp wq wi", "wq wp wi")]),
+        (ONE, [("h2 $e |- q $. ", "")]),
+        (ONE, [("h1 $e |- p $. h2 $e |- q $.", "h2 $e |- q $. h1 $e |- p $.")]),
+        (ONE, [("$d p q $. ", "")]),
+        (ONE, [("$d p q $. one", "$d p q $. h3 $e |- r $. $d q r $. $d p r $. one")]),
+        (ONE, [("$d p q $. one $p |- ( p -> q )", "one $p |- ( p -> p )"), ("wp wq", "wp wp")]),
+        (AXIOM, [("( p -> q )", "( q -> p )")]),
+        (AXIOM, [("a.1 $e |- p", "a.1 $e |- q")]),
+        (AXIOM, [("a.1 $e |- p $. ", "")]),
+        (AXIOM, [("a.1 $e |- p $. ax-one", "$d p q $. a.1 $e |- p $. ax-one")]),
+    )
+
+    def statement(self, text: str, label: str) -> tuple[str, list[str], set[str]]:
+        """The formula of an assertion, its hypotheses, and its pairs of distinct variables."""
+        frame = next(one for one in replay.frames(text) if one.label == label)
+        pairs = {" ".join(sorted(pair)) for pair in frame.apart if pair <= frame.variables}
+        return frame.formula, [formula for _, formula in frame.essentials], pairs
+
+    def wanted(self, one: str, other: str, label: str) -> str:
+        """What has to be told of one of two databases, by what the other one has."""
+        formula, given, pairs = self.statement(one, label)
+        _, others, known = self.statement(other, label)
+        parts = [f"$e {each} $. " for each in given if given != others]
+        parts += [f"$d {each} $. " for each in sorted(pairs - known)]
+        return "".join(parts) + formula
+
+    def test_both_statements(self) -> None:
+        for part, changes in self.CASES:
+            changed = part
+            for before, after in changes:
+                self.assertIn(before, changed)
+                changed = changed.replace(before, after)
+            old, new = (self.HEAD + each + self.TWO for each in (part, changed))
+            label = "one" if part == self.ONE else "ax-one"
+            both = [self.wanted(old, new, label), self.wanted(new, old, label)]
+            self.write("old.mm", old)
+            self.write("new.mm", new)
+            done = self.query("compare", "old.mm", "new.mm", "--format=json")
+            self.assertEqual((done.status, done.err), (0, ""), changes)
+            (row,) = done.rows()
+            self.assertEqual((row["change"], row["label"]), ("changed", label))
+            told = [
+                re.sub(r"(?:\$d \S+ \S+ \$\. )+", in_order, str(row[e])) for e in ("old", "new")
+            ]
+            self.assertEqual(told, both, changes)
+            self.assertNotEqual(row["old"], row["new"])
+            lines = self.query("compare", "old.mm", "new.mm").lines()
+            self.assertEqual(lines[2:], ["", f"{label}: {row['differ']}"] + lines[4:])
+            shown = [f"  was  {row['old']}", f"  is   {row['new']}"]
+            self.assertEqual(lines[4:], shown)
+            comment = self.query("review", "old.mm", "new.mm", "--format=markdown").out
+            self.assertIn(f"\n- `{label}`: {row['differ']}\n", comment)
+            self.assertIn(f"\n  - was `{row['old']}`\n  - is `{row['new']}`\n", comment)
+            if label == "one":
+                (row,) = self.query("review", "old.mm", "new.mm", "--format=json").rows()
+                self.assertEqual((row["gained"], row["lost"], row["axioms"]), ([], [], 1))
+                self.assertEqual([row["old"], row["new"]], [told[0], told[1]] if told else [])
+
+    def test_another_order(self) -> None:
+        """Where only the order of `$f` is other, all hypotheses are told, and what it gained: it
+        says what it said."""
+        cited = "ax-2 $a |- ( p -> q ) $. ax-3 $a |- ( p -> q ) $.\n"
+        self.write("old.mm", self.HEAD + cited + "one $p |- ( r -> q ) $= wr wq ax-2 $.\n")
+        order = "wq $f wff q $. wr $f wff r $."
+        swapped = self.HEAD.replace(order, "wr $f wff r $. wq $f wff q $.")
+        self.write("new.mm", swapped + cited + "one $p |- ( r -> q ) $= wr wq ax-3 $.\n")
+        rows = self.query("compare", "old.mm", "new.mm", "--format=json").rows()
+        told = [(row["change"], row["label"], row["axiom"], row["old"], row["new"]) for row in rows]
+        old, new = "$f wff q $. $f wff r $. |- ( r -> q )", "$f wff r $. $f wff q $. |- ( r -> q )"
+        wanted = [("changed", "one", None, old, new), ("lost", "one", "ax-2", None, None)]
+        self.assertEqual(told, [*wanted, ("gained", "one", "ax-3", None, None)])
+
+    def test_what_a_changed_theorem_rests_on(self) -> None:
+        """It neither gains nor loses an axiom, what cites it does, and the gate finds both."""
+        head = self.HEAD + "${ c.1 $e |- p $. ax-c $a |- ( q -> p ) $. $}\n"
+        old = head + self.TWO + "citing $p |- ( p -> p ) $= wp two $.\n"
+        new = head + "two $p |- ( q -> p ) $= wp wq wp all ax-c $.\n"
+        new += "citing $p |- ( p -> p ) $= wp wp two $.\n"
+        self.write("old.mm", old)
+        self.write("new.mm", new)
+        both = ["the formula changed", "|- ( p -> p )", "|- ( q -> p )"]
+        changed = "\t".join(("changed", "theorem", "two", "", "", "", "", *both))
+        gained = "\t".join(("gained", "theorem", "citing", "", "ax-c", "two", "ax-c", "", "", ""))
+        words = ("compare", "old.mm", "new.mm", "--format=tsv")
+        self.assertEqual(self.answers(*words)[1:], [changed, gained])
+        self.assertEqual(self.answers(*words, "ax-c")[1:], [changed, gained])
+        self.assertEqual(self.answers(*words, "all")[1:], [])
+        self.write("mmdepend.toml", 'watch = ["ax-c"]\n')
+        done = self.query("gate", "old.mm", "new.mm", "--all")
+        self.assertEqual(done.status, 1)
+        found = [line.split(": ")[1:3] for line in done.lines()[:-1]]
+        self.assertEqual(found, [["two", "newly rests on ax-c"], ["citing", "newly rests on ax-c"]])
+        rows = self.query("review", "old.mm", "new.mm", "--format=json").rows()
+        told = [(row["theorem"], row["gained"], row["axioms"], row["differ"]) for row in rows]
+        wanted = [("two", [], 2, both[0]), ("citing", ["ax-c"], None, None)]
+        self.assertEqual(told, wanted)
+        comment = self.query("review", "old.mm", "new.mm", "--format=markdown").out
+        self.assertIn("\nTheorems of both came to rest on `ax-c` (1).\n", comment)
+
+    def test_symbols_that_markdown_means(self) -> None:
+        """They stand as code: no run of backticks within is as long as that around it."""
+        for symbols in ("` `` |", "<b> @me [x](y) **", "``", "`", "| --- |", "~~ \\"):
+            head = "$c wff |- $. $v p $. wp $f wff p $. all $a |- p $.\n"
+            head += f"$c {' '.join(dict.fromkeys(symbols.split()))} $.\n"
+            head += f"ws $a wff {symbols} $. wt $a wff {symbols} p $.\n"
+            self.write("old.mm", f"{head}one $p |- {symbols} $= ws all $.\n")
+            self.write("new.mm", f"{head}one $p |- {symbols} p $= wp wt all $.\n")
+            comment = self.query("review", "old.mm", "new.mm", "--format=markdown").out
+            for word, wanted in (("was", f"|- {symbols}"), ("is", f"|- {symbols} p")):
+                match = re.search(rf"(?m)^  - {word} (`+)( ?)(.*)\2\1$", comment)
+                assert match is not None, comment
+                self.assertEqual(match[3], wanted)
+                self.assertNotIn(match[1], re.findall("`+", match[3]))
+
+    def test_long_ones_are_cut(self) -> None:
+        """From a little before the place where they differ on."""
+        long = "( p -> " * 700
+        steps = "wp " * 701 + "wi " * 700 + "all"
+        for form, most in (("text", 300), ("json", 1000)):
+            self.write("old.mm", f"{self.HEAD}one $p |- {long}p{' )' * 700} $= {steps} $.\n")
+            other = steps.replace("wp wi", "wq wi", 1)
+            self.write("new.mm", f"{self.HEAD}one $p |- {long}q{' )' * 700} $= {other} $.\n")
+            done = self.query("compare", "old.mm", "new.mm", f"--format={form}")
+            self.assertEqual((done.status, done.err), (0, ""))
+            old, new = re.findall(r"\.\. [^.\n\"]* \.\.", done.out)
+            self.assertEqual(old.replace("-> p )", "-> q )", 1), new)
+            self.assertLessEqual(len(old), most + 6)
+            self.assertGreater(len(old), most - 6)
+
+
+def in_order(match: re.Match[str]) -> str:
+    """Pairs of distinct variables in the order of their names."""
+    return "".join(sorted(re.findall(r"\$d \S+ \S+ \$\. ", match[0])))
 
 
 def by_causes(out: str) -> Counter[str]:

@@ -569,7 +569,8 @@ class Folded(Repositories):
         new = DISTINCT.replace(
             "${ $d p q $. ax-d $a |- ( p -> q ) $. $}", "ax-d $a |- ( p -> q ) $."
         )
-        told = "ax-d: a changed axiom: the $d conditions changed; 20 theorems rest on it [axioms]"
+        told = "ax-d: a changed axiom: the $d conditions changed, from $d p q $. |- ( p -> q )"
+        told += " to |- ( p -> q ); 20 theorems rest on it [axioms]"
         for config in ("", 'watch = ["ax-d"]\n', 'watch = ["*"]\n'):
             self.assertEqual(self.found(DISTINCT, new, config), [told])
         allowed = 'watch = ["ax-d"]\n[allow]\naxioms = ["ax-d"]\n'
@@ -604,8 +605,12 @@ class Folded(Repositories):
         """It is another frame, so it is told; in words."""
         old = DISTINCT.partition("${")[0] + "ax-o $a |- ( p -> q ) $.\n"
         new = changed(old, ("wp $f wff p $.\nwq $f wff q $.", "wq $f wff q $.\nwp $f wff p $."))
-        why = "a changed axiom: only the order of `$f` is other"
-        told = [f"{label}: {why} [axioms]" for label in ("wi", "ax-o")]
+        why = "a changed axiom: only the order of `$f` is other, from"
+        one, other = "$f wff p $. $f wff q $.", "$f wff q $. $f wff p $."
+        told = [
+            f"{label}: {why} {one} {kind} ( p -> q ) to {other} {kind} ( p -> q ) [axioms]"
+            for label, kind in (("wi", "wff"), ("ax-o", "|-"))
+        ]
         self.assertEqual(self.found(old, new, ""), told)
         mixed = "${{ {}wb $f wff q $. {}ax-m $a |- ( p -> q ) $. $}}\n"
         head, hypothesis = (
@@ -615,7 +620,9 @@ class Folded(Repositories):
         found = self.found(
             head + mixed.format(hypothesis, ""), head + mixed.format("", hypothesis), ""
         )
-        self.assertEqual(found, [f"ax-m: {why} [axioms]"])
+        said, others = "$e |- p $. $f wff q $.", "$f wff q $. $e |- p $."
+        both = [f"$f wff p $. {each} |- ( p -> q )" for each in (said, others)]
+        self.assertEqual(found, [f"ax-m: {why} {' to '.join(both)} [axioms]"])
         done = self.query("compare", "old.mm", "new.mm")
         self.assertEqual(done.lines()[1].split()[:3], ["changed", "axiom", "ax-m"])
         self.assertIn("of 1 changed only the order of `$f` is other, such as ax-m", done.err)

@@ -23,7 +23,10 @@ class Reviewed(World):
     def reviewed(self, new: str) -> list[list[str]]:
         """The rows about a change of the small database."""
         paths = [str(self.folder / "old.mm"), str(self.folder / self.write("new.mm", new))]
-        return asked("review", *paths)
+        rows = asked("review", *paths)
+        for row in rows:
+            self.assertEqual(any(row[8:]), "changed" in row[1], row)
+        return [row[:8] for row in rows]
 
     def test_each_status(self) -> None:
         ax1 = "ax1 $p |- ( p -> ( q -> p ) ) $= wp wq ax-1 $.\n"
@@ -41,7 +44,7 @@ class Reviewed(World):
             ),
             (
                 SMALL.replace(ax1, ax1.replace("( q -> p )", "( p -> p )").replace("wq", "wp")),
-                [["ax1", "changed proof", *empty, "0"]],
+                [["ax1", "changed proof", "", "1", *empty[2:], "0"]],
             ),
         ):
             self.assertEqual(self.reviewed(text), rows, text)
