@@ -12,14 +12,18 @@ from query.output import Value
 from query.spare.changes import Changer, ProofRange, Wanted
 from query.spare.kept import Change
 from query.spare.judge import judge_changes, rewritten
+from query.spare.roots import Roots
 from query.spare.rules import UNREAD
 
-COLUMNS = ("how", "theorem", "loses", "replaced", "by", "step", "bytes", "chapter", "gains")
+COLUMNS = (
+    *("how", "theorem", "loses", "replaced", "by", "step", "bytes", "chapter", "gains", "with"),
+    "fault",
+)
 
 PAGE = """
-Lists the theorems that can do without AXIOM, in file order: their proofs cite statements that stand
-before them in place of others, or they cite theorems whose proofs do. Nothing is gained by that but
-what --may-gain names: a statement is only cited where the theorem rests on all of its other axioms
+Lists the theorems that can do without AXIOM: their proofs cite statements that stand before them in
+place of others, or they cite theorems whose proofs do. Nothing is gained by that but what
+--may-gain names: a statement is only cited where the theorem rests on all of its other axioms
 anyway.
 
 how       direct:  the proof of the theorem is another one; a row for each step that is replaced
@@ -32,6 +36,14 @@ step      the formula of the step, of at most 400 symbols
 bytes     of a direct one, how much longer its proof is
 chapter   the number of the header under which it stands
 gains     with --may-gain the axioms on which it comes to rest
+with      of a cascade the first of the theorems whose new proofs it loses them with
+fault     of a direct one the theorems at which the fault lies: they rest on the axiom, its old proof
+          cites them, and its new one proves once more what they say
+
+A theorem at which a fault lies is mended first, by the same steps or by others, also by new steps;
+then those that cite it lose the axiom with it, and keep their proofs. So what is told as a fault
+couldn't be mended there, or isn't to be: it isn't asked about, or it would have to cite what is
+discouraged, or what stands after it, or would rest on something else by that.
 
 With --may-gain AXIOM, which may be given several times, a theorem may come to rest on that one and
 on any rule of syntax, where no proof is found that gains nothing; and so may all that cite it, also
@@ -57,7 +69,8 @@ many. The answer is the same. What was found is kept each minute, so that a sear
 interrupted goes on from there.
 
 --write makes a new file: all is as in DATABASE but the proofs that are changed, which are
-compressed. --proof prints one of them, from the label of its theorem to the end.
+compressed, as metamath.exe would save them. --proof prints one of them, from the label of its
+theorem to the end.
 
   $ mmquery spare set.mm ax-13 --write new.mm
   $ mmquery spare set.mm ax-10 ax-13 --theorem eujust
@@ -65,6 +78,8 @@ compressed. --proof prints one of them, from the label of its theorem to the end
 """
 
 
+ASIDE = ("gains", "with", "fault")
+"""The columns that the form text leaves out where they say nothing."""
 FLAGS = {
     "--all": "every axiom, the last one first",
     "--shorter": "proofs that get shorter, whatever they lose",
@@ -132,6 +147,7 @@ def wanted_of(database: Database, arguments: argparse.Namespace) -> Wanted:
         cites_mathboxes=arguments.cite_mathboxes,
         changes_discouraged=arguments.change_discouraged,
         has_new_steps=arguments.new_steps,
+        is_all=arguments.all,
         is_shorter=arguments.shorter,
         may_gain=frozenset(gained),
     )
@@ -148,6 +164,8 @@ def run(context: Context, arguments: argparse.Namespace) -> int:
     wanted = wanted_of(database, arguments)
     changer = Changer(database, wanted, arguments.jobs)
     changes = list(changer.changes())
+    if not wanted.is_shorter:
+        changes = Roots(changer, changes).settled()
     data = rewritten(database.text, changes)
     judge_changes(database, data, changes, changer.gainable)
     if arguments.proof is not None:
@@ -156,8 +174,9 @@ def run(context: Context, arguments: argparse.Namespace) -> int:
         empty = f"{database.name}: no theorem was found that can do without"
         given_up = [change.theorem for change in changes if change.is_given_up]
         remarks = {GIVEN_UP: given_up, UNREAD: changer.rules.unread}
-        aside = [] if arguments.may_gain else ["gains"]
-        context.table(COLUMNS, rows_of(database, changes), empty, aside=aside, remarks=remarks)
+        rows = rows_of(database, changer.ranked(changes))
+        aside = [name for name in ASIDE if all(row[COLUMNS.index(name)] is None for row in rows)]
+        context.table(COLUMNS, rows, empty, aside=aside, remarks=remarks)
     if arguments.write is not None:
         write_new(arguments.write, data)
     return 0
@@ -174,15 +193,15 @@ def rows_of(database: Database, changes: list[Change]) -> list[list[Value]]:
         if change.proof is None and not change.loses and not gains:
             continue
         chapter = database.text.chapter_number(database.text.by_label[label])
+        sources, faults = list(change.sources) or None, list(change.faults) or None
         if change.proof is None:
-            rows.append(["cascade", label, loses, None, None, None, None, chapter, gains])
-            continue
-        longer = len(change.proof) - change.old_length
-        steps: list[list[Value]] = [
-            [list(each.old) or None, each.new, each.formula] for each in change.replaced
-        ]
+            steps: list[list[Value]] = [[None, None, None]]
+            how, longer = "cascade", None
+        else:
+            steps = [[list(each.old) or None, each.new, each.formula] for each in change.replaced]
+            how, longer = "direct", len(change.proof) - change.old_length
         for step in steps or [[None, None, None]]:
-            rows.append(["direct", label, loses, *step, longer, chapter, gains])
+            rows.append([how, label, loses, *step, longer, chapter, gains, sources, faults])
     return rows
 
 

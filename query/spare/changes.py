@@ -4,7 +4,7 @@ order, each with what those before it lost."""
 from __future__ import annotations
 
 import time
-from collections.abc import Iterator
+from collections.abc import Iterator, Sequence
 from dataclasses import KW_ONLY, asdict, dataclass
 
 from query import progress
@@ -12,14 +12,17 @@ from query.bare import without_comments
 from query.database import Database, result_key
 from query.rules import is_discouraged, is_proof_discouraged
 from query.spare import kept as kept_changes
+from query.spare.active import Active
 from query.spare.conventions import conventions_of
 from query.spare.kept import Change, Replaced
+from query.spare.ranking import Rank, Ranking
 from query.spare.index import GivenUp
-from query.spare.rules import Rule, bits_of, joined, rules_of
+from query.spare.rules import Rule, bits_of, rules_of
 from query.spare.proofs import Proof, Step, Unfit, run
-from query.spare.search import AllSteps, Search, Shelf, Steps, State
+from query.spare.search import AllSteps, Shelf, Steps, State, closed_of
+from query.spare.seeking import Answer, Seeker
 from query.spare.sharing import number_at_once, searched
-from query.spare.writing import Writer, laid_out, line_width
+from query.spare.writing import Writer, beginning, laid_out, line_width
 
 SECONDS = 60
 """After so many seconds what was found is kept."""
@@ -42,6 +45,8 @@ class Wanted:
     changes_discouraged: bool = False
     has_new_steps: bool = False
     """Whether instances of statements without hypotheses may be new steps."""
+    is_all: bool = False
+    """Whether these are all axioms."""
     is_shorter: bool = False
     """Whether proofs are wanted that are shorter, whatever they lose."""
     may_gain: frozenset[str] = frozenset()
@@ -64,11 +69,20 @@ class ProofRange:
         self.has_comment = text != data[place:end] and b"$(" in data[self.start : self.end]
 
 
+@dataclass(frozen=True, slots=True)
+class Written:
+    """A change, and the axioms on which its theorem rests then, as bits."""
+
+    change: Change
+    rests: int
+
+
 class Changer:
     """Changes the proofs of a database."""
 
     def __init__(self, database: Database, wanted: Wanted, at_once: int | None = 1) -> None:
         self.text = database.text
+        self.ranking = Ranking(database)
         self.wanted = wanted
         self.at_once = at_once
         self.rules = rules_of(database, wanted.typecode)
@@ -94,12 +108,20 @@ class Changer:
         self.width = line_width(self.proofs())
         self.closed = 0  # the statements that may be new steps, as bits
         if wanted.has_new_steps:
-            citable = self.shelf.citable
-            self.closed = joined(each for each in citable if not citable[each].premises)
+            self.closed = closed_of(self.shelf)
         self.axioms = 0  # those that proofs shall do without, as bits
         for label in wanted.axioms:
             self.axioms |= self.bit_of[label]
         self.gainable = gainable(database, wanted)
+        self.seeker = Seeker(
+            self.shelf,
+            self.state,
+            self.old_rests,
+            Active(self.text.data),
+            [self.bit_of[label] for label in wanted.axioms],
+            self.closed,
+            wanted.has_new_steps and not wanted.is_all,
+        )
         self.may_gain = 0  # those on which they may come to rest, as bits
         for label in self.gainable:
             self.may_gain |= self.bit_of[label]
@@ -231,12 +253,38 @@ class Changer:
                 is_given_up = True
         if change is None:
             self.state.rest(number, rests)
-        lost, gained = old & ~self.state.rests[number], self.state.rests[number] & ~old
-        if change is None and (lost or gained or is_given_up):
-            change = Change(self.names[number], (), is_given_up=is_given_up)
-        if change is not None:
-            change.loses = tuple(self.columns[bit] for bit in bits_of(lost))
-            change.gains = tuple(self.columns[bit] for bit in bits_of(gained))
+            if rests != old or is_given_up:
+                change = Change(self.names[number], (), is_given_up=is_given_up)
+        return None if change is None else self.finished(change, self.state.rests[number])
+
+    def rank(self, change: Change, rests: int) -> Rank:
+        """How a change ranks among others, after which its theorem rests on these axioms."""
+        return self.ranking.rank(change, (rests & self.axioms).bit_count())
+
+    def ranked(self, changes: Sequence[Change]) -> list[Change]:
+        """The new proofs by their rank, each followed by the theorems that keep their proofs and
+        name it as the best one by which they lose or gain axioms. What is equal is in file
+        order."""
+        new = [change for change in changes if change.proof is not None]
+        rests = self.state.rests
+        ranks = {
+            change.theorem: (self.rank(change, rests[self.numbers[change.theorem]]), place)
+            for place, change in enumerate(new)
+        }
+        last = (max(ranks.values())[0], len(new)) if ranks else ((0, 0, 0, 0), 0)
+
+        def place(change: Change) -> tuple[tuple[Rank, int], bool]:
+            named = [ranks[each] for each in change.sources if each in ranks]
+            own = ranks.get(change.theorem, last)
+            return min(named, default=own), change.proof is None
+
+        return sorted(changes, key=place)
+
+    def finished(self, change: Change, rests: int) -> Change:
+        """A change with what its theorem loses and gains, which rests on these axioms then."""
+        old = self.old_rests[self.numbers[change.theorem]]
+        change.loses = tuple(self.columns[bit] for bit in bits_of(old & ~rests))
+        change.gains = tuple(self.columns[bit] for bit in bits_of(rests & ~old))
         return change
 
     def resting(self, cited: list[int]) -> int:
@@ -255,7 +303,7 @@ class Changer:
             return None
         proof_range = ProofRange(self.text.data, one.place, one.end)
         first = len(self.rules.trees)
-        steps: Steps | None = None
+        found: Answer | None = None
         try:
             if proof_range.has_comment:
                 return None
@@ -263,11 +311,18 @@ class Changer:
             allowed = rests | self.may_gain
             if self.wanted.is_shorter:
                 steps = AllSteps(self.shelf, self.state, rule, proof, allowed).shortest()
+                found = Answer(steps)
             elif self.needs(proof, wanted):
-                steps = self.best(rule, proof, wanted & rests, rests)
-                if steps is None and allowed != rests:
-                    steps = self.best(rule, proof, wanted & rests, allowed)
-            return None if steps is None else self.made(rule, proof, steps, proof_range, rests)
+                found = self.seeker.best(rule, proof, wanted & rests, rests)
+                if found is None and allowed != rests:
+                    found = self.seeker.best(rule, proof, wanted & rests, allowed)
+            if found is None:
+                return None
+            written = self.written(rule, proof, found, proof_range, rests)
+            if written is None:
+                return None
+            self.state.rest(number, written.rests)
+            return written.change
         except Unfit:
             return None
         finally:
@@ -285,53 +340,35 @@ class Changer:
         rests = self.state.rests
         return any(rests[step.rule] & wanted for steps in proof.steps.values() for step in steps)
 
-    def best(self, rule: Rule, proof: Proof, axioms: int, rests: int) -> Steps | None:
-        """A proof without as many of the axioms as are found, which rests on no others than
-        `rests`: all at once that it can do without one by one, or else one after the other, in the
-        order in which they are wanted."""
-        if axioms.bit_count() > 1 and not self.closed:
-            axioms &= AllSteps(self.shelf, self.state, rule, proof, rests).losable()
-        if not axioms:
-            return None
-        search = Search(self.shelf, self.state, rule, proof)
-        search.closed = self.closed
-        steps = search.without(axioms, rests)
-        if steps is not None or axioms.bit_count() == 1:
-            return steps
-        lost = 0
-        for label in self.wanted.axioms:
-            bit = self.bit_of[label]
-            if bit & axioms:
-                found = search.without(lost | bit, rests)
-                if found is not None:
-                    steps, lost = found, lost | bit
-        return steps
-
-    def made(
-        self, rule: Rule, proof: Proof, steps: Steps, proof_range: ProofRange, rests: int
-    ) -> Change | None:
+    def written(
+        self, rule: Rule, proof: Proof, found: Answer, proof_range: ProofRange, rests: int
+    ) -> Written | None:
         """The change of a proof into other steps; None where it would rest on what it didn't, or
         isn't shorter where that is wanted."""
-        labels, letters = self.writer.words(rule, proof, steps)
+        steps = found.steps
+        old = self.text.data[proof_range.start : proof_range.end]
+        room = self.width - len(beginning(old)[1])
+        labels, letters = self.writer.words(rule, proof, steps, room)
         numbers = [self.numbers[label] for label in labels if label in self.numbers]
         new = self.resting(numbers)
         if new & ~(rests | self.may_gain):
             return None
-        old = self.text.data[proof_range.start : proof_range.end]
         written = laid_out(labels, letters, old, self.width)
         change = Change(rule.label, (), written, len(old))
         formulas = used(proof, steps)
         for tree in formulas:
-            step, was = steps[tree], proof.steps.get(tree, {})
-            if step is not None and step not in was:
+            step = steps[tree]
+            was = proof.steps.get(found.instead.get(tree, tree), {})
+            if step is None or step in was:
+                continue
+            if tree not in found.instead or all(each.rule != step.rule for each in was):
                 change.replaced.append(self.replaced(tree, step, was))
         if self.wanted.is_shorter:
             left = sum(steps[tree] is not None for tree in formulas)
             has_other_steps = change.replaced or left < len(proof.steps)
             if not has_other_steps or len(written) >= len(old):
                 return None
-        self.state.rest(rule.number, new)
-        return change
+        return Written(change, new)
 
     def replaced(self, tree: int, step: Step, was: dict[Step, None]) -> Replaced:
         """What stands in place of the steps by which a formula was proved."""

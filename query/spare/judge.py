@@ -44,6 +44,7 @@ def judge_changes(
     compare_texts(database.text, new.text, by_label)
     compare_marks(database.prepared, prepared, by_label, may_gain)
     compare_citations(database, new, changes)
+    compare_reasons(database, prepared, by_label)
 
 
 def compare_texts(old: Text, new: Text, changes: dict[str, Change]) -> None:
@@ -107,6 +108,28 @@ def compare_citations(old: Database, new: Database, changes: Sequence[Change]) -
         for replaced in change.replaced:
             if replaced.new not in cited or not was.issuperset(replaced.old):
                 fail(f"{change.theorem} doesn't cite what is said")
+
+
+def compare_reasons(old: Database, new: Prepared, changes: dict[str, Change]) -> None:
+    """Compares what is said of the theorems by which others lose axioms, and of those at which
+    faults lie."""
+    assert new.marks is not None
+    rows = {label: row for row, label in enumerate(new.theorems)}
+    bits = {label: bit(len(new.columns), column) for column, label in enumerate(new.columns)}
+    graph, by_label = old.graph(), old.text.by_label
+    for change in changes.values():
+        one = by_label[change.theorem]
+        for label in change.sources:
+            other = changes.get(label)
+            if change.proof is not None or other is None or other.proof is None:
+                fail(f"{change.theorem} doesn't lose by the proof of {label}")
+            if by_label[label].number > one.number:
+                fail(f"{change.theorem} stands before {label}")
+        cited = {graph.labels[each] for each in graph.cites[graph.index[change.theorem]]}
+        lost = sum(bits[axiom] for axiom in {*change.loses})
+        for label in change.faults:
+            if label not in cited or not new.marks.row(rows[label]) & lost:
+                fail(f"{label} isn't at fault for {change.theorem}")
 
 
 def rewritten(text: Text, changes: Sequence[Change]) -> bytes:

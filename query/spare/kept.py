@@ -9,7 +9,7 @@ from typing import Any
 
 from query import cache
 
-FORM = 3
+FORM = 4
 """Counts the forms in which changes are kept, and the ways in which they are sought."""
 
 
@@ -35,6 +35,10 @@ class Change:
     replaced: list[Replaced] = field(default_factory=list)
     is_given_up: bool = False
     gains: tuple[str, ...] = ()
+    sources: tuple[str, ...] = ()
+    """Of one that keeps its proof the first theorems by whose new proofs it loses axioms."""
+    faults: tuple[str, ...] = ()
+    """The theorems that a new proof proves once more, since their own proofs are at fault."""
 
     def labels(self) -> list[str]:
         """The labels in brackets of the new proof."""

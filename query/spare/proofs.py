@@ -33,12 +33,15 @@ class Step:
 @dataclass(slots=True)
 class Proof:
     """A proof. `steps` has for each formula how it is proved, in the order of the proof; `given`
-    are the trees of the `$e` hypotheses with their labels; `root` is what is proved."""
+    are the trees of the `$e` hypotheses with their labels; `root` is what is proved. `built` has
+    for trees of the syntax the rule that builds them first, and `words` is what the proof says."""
 
     scope: Scope
     given: dict[int, str]
     root: int = -1
     steps: dict[int, dict[Step, None]] = field(default_factory=dict)
+    built: dict[int, int] = field(default_factory=dict)
+    words: Sequence[str] = ()
 
 
 class Machine:
@@ -65,6 +68,7 @@ class Machine:
     def run(self, theorem: Rule, words: Sequence[str]) -> Proof:
         """Carries out the words of a proof."""
         self.left += STEPS_OF_LETTER * sum(map(len, words))
+        self.proof.words = words
         if words[0] == "(":
             end = words.index(")")
             labels = [each.label for each in theorem.given] + list(words[1:end])
@@ -121,9 +125,11 @@ class Machine:
             raise Unfit
         trees, form = self.rules.trees, meant.form
         if form is not None:
-            stack.append(trees.made((form, *entries)))
+            tree = trees.made((form, *entries))
         else:
-            stack.append(trees.instance(self.rules.code(meant), entries))
+            tree = trees.instance(self.rules.code(meant), entries)
+        self.proof.built.setdefault(tree, meant.number)
+        stack.append(tree)
 
     def cited(self, rule: Rule, entries: list[int]) -> int:
         """The formula that a citation proves."""

@@ -10,7 +10,7 @@ theorem rests on all of its axioms anyway, so nothing is gained; or where it may
 from __future__ import annotations
 
 from collections import defaultdict
-from collections.abc import Sequence
+from collections.abc import Callable, Iterable, Mapping, Sequence
 from dataclasses import dataclass
 
 from query.spare.conventions import Conventions
@@ -220,16 +220,18 @@ class Search:
         self.tried: dict[int, int] = {}
         self.free = Free(self.trees)
         self.left = 0
-        self.flags, self.wanted_closed = "", 0
+        self.asked = (0, 0)
+        self.wanted, self.flags, self.wanted_closed = 0, "", 0
         self.new: dict[int, bool] = {}
 
     def without(self, axioms: int, rests: int) -> Steps | None:
         """A proof that does without these axioms, and rests on no others than `rests`; None where
         none is found."""
         may_be = self.may_be
+        self.asked = (axioms, rests)
         if self.closed:
             may_be = self.shelf.conventions.allowed(self.theorem.number)
-        wanted = may_be & ~self.state.blocked(rests & ~axioms)
+        self.wanted = wanted = may_be & ~self.state.blocked(rests & ~axioms)
         self.flags = flags = f"{wanted:0{self.theorem.number}b}"[::-1]
         self.wanted_closed = wanted & self.closed
         self.candidates, self.tried, self.new = {}, {}, {}
@@ -386,12 +388,7 @@ class Search:
         if not citable.pairs:
             return True
         apart = self.proof.scope.apart()
-        variables = self.trees.variables
-        for one, other in citable.pairs:
-            some, others = variables(binding[one]), variables(binding[other])
-            if some & others or any(others & ~apart.get(first, 0) for first in bits_of(some)):
-                return False
-        return True
+        return distinct(self.trees, citable.pairs, binding, lambda each: apart.get(each, 0))
 
 
 class AllSteps(Search):
@@ -455,6 +452,26 @@ class AllSteps(Search):
                             count[tree], found[tree] = size, step
                             is_changed = True
         return found
+
+
+def closed_of(shelf: Shelf) -> int:
+    """The statements without hypotheses, as bits."""
+    return joined(number for number, one in shelf.citable.items() if not one.premises)
+
+
+def distinct(
+    trees: Trees,
+    pairs: Iterable[tuple[int, int]],
+    binding: Mapping[int, int],
+    apart: Callable[[int], int],
+) -> bool:
+    """Whether what stands for these pairs of variables has no variable in common, and each variable
+    of the one is apart from each of the other. `apart` has the bits of those from which one is."""
+    for one, other in pairs:
+        some, others = trees.variables(binding[one]), trees.variables(binding[other])
+        if some & others or any(others & ~apart(first) for first in bits_of(some)):
+            return False
+    return True
 
 
 def step_of(citable: Citable, binding: Binding, premises: list[int]) -> Step:

@@ -4,10 +4,11 @@ from __future__ import annotations
 
 import re
 from collections import Counter
-from collections.abc import Iterable, Mapping
+from collections.abc import Iterable, Mapping, Sequence
 from dataclasses import dataclass, field
 
-from query.letters import letters_of
+from query.letters import NUMBER, letters_of, number_of
+from query.spare.labels import saved_order
 from query.spare.rules import Rule, Rules
 from query.spare.proofs import Proof, Step
 from query.spare.search import Steps
@@ -39,9 +40,10 @@ class Writer:
                 if head >= 0 and len(several) < MOST_ALIKE:
                     several.append(rule)
 
-    def words(self, theorem: Rule, proof: Proof, steps: Steps) -> tuple[list[str], str]:
-        """The labels in brackets and the letters of a proof."""
-        return Writing(self, theorem, proof, steps).words()
+    def words(self, theorem: Rule, proof: Proof, steps: Steps, room: int) -> tuple[list[str], str]:
+        """The labels in brackets and the letters of a proof, of which a line has room for so many
+        characters."""
+        return Writing(self, theorem, proof, steps, room).words()
 
 
 @dataclass(slots=True)
@@ -62,16 +64,36 @@ class Writing:
     theorem: Rule
     proof: Proof
     steps: Steps
+    room: int
     nodes: dict[Item, Made] = field(default_factory=dict)
 
     def words(self) -> tuple[list[str], str]:
         """The labels and the letters."""
         root = ~self.proof.root
-        numbers = {each.label: place for place, each in enumerate(self.theorem.given)}
-        mandatory = len(numbers)
+        given = [each.label for each in self.theorem.given]
+        uses = dict.fromkeys(given, 0)
         for item in self.ordered(root):
-            numbers.setdefault(self.nodes[item].label, len(numbers))
-        return list(numbers)[mandatory:], letters_in(self.nodes, root, numbers)
+            node = self.nodes[item]
+            uses[node.label] = uses.get(node.label, 0) + (1 if node.parts else node.uses)
+        labels = self.in_order(list(uses)[len(given) :], uses)
+        numbers = {label: place for place, label in enumerate([*given, *labels])}
+        return labels, letters_in(self.nodes, root, numbers)
+
+    def in_order(self, labels: list[str], uses: Mapping[str, int]) -> list[str]:
+        """The labels, given in the order of their first use, as metamath.exe orders them; but where
+        it would have ordered those of the old proof otherwise, these as they were, and then the
+        others."""
+        old, old_uses = named(self.proof.words, len(self.theorem.given))
+        if not old or self.saved(list(old_uses), old_uses) == old:
+            return self.saved(labels, uses)
+        kept = [label for label in old if label in uses]
+        return list(dict.fromkeys([*kept, *labels]))
+
+    def saved(self, labels: list[str], uses: Mapping[str, int]) -> list[str]:
+        """The labels as metamath.exe orders them."""
+        floating = self.writer.rules.floating
+        labels = sorted(labels, key=lambda label: label not in floating)
+        return saved_order(labels, uses, len(self.theorem.given), self.room)
 
     def ordered(self, root: Item) -> list[Item]:
         """All items, parts before what is made of them, and how often each is used."""
@@ -101,9 +123,11 @@ class Writing:
         head = rules.trees.heads[item]
         if head < 0:
             return Made(self.proof.scope.labels[~head], [])
-        for rule in self.writer.abbreviations.get(head, ()):
+        own = self.proof.built.get(item)
+        ways = self.writer.abbreviations.get(head, ()) if own is None else (rules[own],)
+        for rule in ways:
             binding: dict[int, int] = {}
-            if rule.number < self.theorem.number:
+            if rule.form is None and rule.number < self.theorem.number:
                 if rules.trees.match(rule.tree, item, binding) is not None:
                     return Made(rule.label, [binding[slot] for slot in rule.slots])
         label = rules.grammar.forms[head].label
@@ -115,6 +139,22 @@ class Writing:
         rule = self.writer.rules[step.rule]
         parts = [tree if one.is_floating else ~tree for one, tree in zip(rule.given, step.trees)]
         return Made(rule.label, parts)
+
+
+def named(words: Sequence[str], first: int) -> tuple[list[str], dict[str, int]]:
+    """The labels in brackets of a compressed proof, and of those that it uses how often each is, in
+    the order of their first use; nothing of one that isn't compressed. `first` is the number of the
+    first label."""
+    if words[0] != "(":
+        return [], {}
+    end = words.index(")")
+    labels = [*words[1:end]]
+    uses: dict[str, int] = {}
+    for number in map(number_of, NUMBER.findall("".join(words[end + 1 :]))):
+        if first <= number < first + len(labels):
+            label = labels[number - first]
+            uses[label] = uses.get(label, 0) + 1
+    return labels, uses
 
 
 def letters_in(nodes: Mapping[Item, Made], root: Item, numbers: Mapping[str, int]) -> str:
@@ -151,12 +191,17 @@ def line_width(proofs: Iterable[bytes]) -> int:
     return common[0][0] if common else WIDTH
 
 
+def beginning(old: bytes) -> tuple[bytes, bytes]:
+    """The end of line with which a proof begins, and its indent."""
+    match = START.match(old) or SECOND.match(old)
+    return (match["end"], match["indent"]) if match else (b"\n", INDENT)
+
+
 def laid_out(labels: list[str], letters: str, old: bytes, width: int) -> bytes:
     """A proof as it stands between `$=` and `$.`, begun as the old one is."""
-    match = START.match(old) or SECOND.match(old)
-    end, indent = (match["end"], match["indent"]) if match else (b"\n", INDENT)
+    end, indent = beginning(old)
     lines = [bytearray(indent)]
-    for word in ["(", *labels, ")"]:
+    for word in ["(", *(labels or [""]), ")"]:
         line = lines[-1]
         if len(line) > len(indent):
             if len(line) + 1 + len(word) > width:

@@ -53,10 +53,11 @@ ${{ $d p q $. t3 $p |- ( ( p -> ( q -> p ) ) -> ( p -> ( p -> p ) ) ) $=
 )
 NEW = SPARE.replace("( wi i bad both ) AACBBCADBEF", "( wi i both ) AACBBCADBDE")
 ROWS = [
-    ["direct", "t1", "bad", "bad", "i", "|- ( q -> q )", "-4", "0.1", ""],
-    ["cascade", "t2", "bad", "", "", "", "", "0.1", ""],
+    ["direct", "t1", "bad", "bad", "i", "|- ( q -> q )", "-4", "0.1", "", "", ""],
+    ["cascade", "t2", "bad", "", "", "", "", "0.1", "", "t1", ""],
 ]
 NAMES = ["how", "theorem", "loses", "replaced", "by", "step", "bytes", "chapter", "gains"]
+NAMES += ["with", "fault"]
 
 
 class Spare(World):
@@ -78,8 +79,9 @@ class Spare(World):
         self.assertEqual(self.rows("db.mm", "bad"), ROWS)
         self.assertEqual(self.rows("db.mm", "bad", "--theorem", "t1"), ROWS)
         self.assertEqual(self.rows("db.mm", "--theorem", "t1"), ROWS)
-        other = ["direct", "t3", "far", "far", "near", "|- ( p -> ( q -> p ) )", "-21", "0.1", ""]
-        self.assertEqual(self.rows("db.mm", "--all"), [*ROWS, other])
+        other = ["direct", "t3", "far", "far", "near", "|- ( p -> ( q -> p ) )", "-21", "0.1"]
+        other += ["", "", ""]
+        self.assertEqual(self.rows("db.mm", "--all"), [other, *ROWS])
         self.assertEqual(self.rows("db.mm", "near", "bad"), ROWS)
         self.assertEqual(self.rows("db.mm", "bad", "--theorem", "t2"), [])
         done = self.query("spare", "db.mm", "near")
@@ -99,8 +101,8 @@ class Spare(World):
         self.assertEqual(self.rows("gain.mm", "bad"), ROWS)
         step = ["bad", "i", "|- ( q -> q )"]
         gained = [
-            ["direct", "only", "bad", *step, "", "0.1", "i"],
-            ["cascade", "over", "bad", "", "", "", "", "0.1", "i"],
+            ["direct", "only", "bad", *step, "", "0.1", "i", "", ""],
+            ["cascade", "over", "bad", "", "", "", "", "0.1", "i", "only", ""],
         ]
         for jobs in ("1", "3"):
             words = ("gain.mm", "bad", "--may-gain", "i", f"--jobs={jobs}")
@@ -118,9 +120,9 @@ class Spare(World):
             (said,) = asked(self.folder / "new.mm", ["verify proof *"])
             self.assertIn("All proofs in the database were verified", said)
         lines = self.query("spare", "gain.mm", "bad", "--may-gain", "i").lines()
-        self.assertTrue(lines[0].endswith("chapter  gains"))
+        self.assertTrue(lines[0].endswith("chapter  gains  with"))
         all_rows = self.rows("gain.mm", "--all", "--may-gain", "i", "--no-cache")
-        self.assertEqual([row[1] for row in all_rows], ["t1", "t2", "t3", "only", "over"])
+        self.assertEqual([row[1] for row in all_rows], ["only", "over", "t1", "t2", "t3"])
         self.refuses("spare", "gain.mm", "bad", "--may-gain=bad", why="can't be lost and gained")
         self.refuses("spare", "gain.mm", "bad", "--may-gain=t1", why="has no axiom")
 
