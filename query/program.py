@@ -96,9 +96,8 @@ class Running:
     @property
     def most_output(self) -> int:
         """How many bytes are read of what it writes."""
-        if self.allowed is None:
-            return MOST_OUTPUT_BYTES
-        return min(self.allowed.memory, self.allowed.output)
+        most = MOST_OUTPUT_BYTES if self.allowed is None else self.allowed.output
+        return min(most, MOST_OUTPUT_BYTES)
 
     def exceeded(self, status: int, said: int) -> str:
         """Which limit ended it, in words; "" where none did. `said` is how many bytes it wrote."""
@@ -137,17 +136,19 @@ class Allowed:
     seconds: int
     memory: int
     is_node: bool
-    output: int = MOST_OUTPUT_BYTES
+    output: int
 
     def limiting(self) -> Callable[[], None] | None:
         """What limits a process before the program begins in it."""
         return system.limiting(self.seconds, None if self.is_node else self.memory)
 
 
-def allowed_for(size: int, is_node: bool, output: int = MOST_OUTPUT_BYTES) -> Allowed:
-    """What a run over so many bytes may take."""
+def allowed_for(size: int, is_node: bool, output: int | None = None) -> Allowed:
+    """What a run over so many bytes may take, and how many bytes are read of it at the most."""
     chosen = limits.chosen()
-    return Allowed(chosen.seconds_for(size), chosen.bytes_for(size), is_node, output)
+    memory = chosen.bytes_for(size)
+    most = memory if output is None else min(memory, output)
+    return Allowed(chosen.seconds_for(size), memory, is_node, most)
 
 
 @dataclass(frozen=True)
@@ -169,7 +170,7 @@ class Program:
         is_kept: bool,
         size: int | None = None,
         passed: Sequence[int] = (),
-        output: int = MOST_OUTPUT_BYTES,
+        output: int | None = None,
     ) -> Running:
         """The program while it runs with these words, and an open file as standard input; None for
         an empty one. It gets the open files `passed` besides. Where it reads so many bytes, by
@@ -256,9 +257,7 @@ def ready() -> Program:
     return program
 
 
-def report(
-    program: Program, source: Source, words: list[str], output: int = MOST_OUTPUT_BYTES
-) -> bytes:
+def report(program: Program, source: Source, words: list[str], output: int | None = None) -> bytes:
     """The report that the program writes over a source with these options. Refused where it refuses
     the source, NoAnswer where it has no answer, or one of more bytes than `output`."""
     running = over(program, source, words, output)
@@ -268,9 +267,7 @@ def report(
         running.stop()
 
 
-def over(
-    program: Program, source: Source, words: list[str], output: int = MOST_OUTPUT_BYTES
-) -> Running:
+def over(program: Program, source: Source, words: list[str], output: int | None = None) -> Running:
     """The program running over a source."""
     descriptor = source.opened()
     try:
