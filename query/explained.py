@@ -8,7 +8,7 @@ something is in the way, there is no explanation, and the refusal stands as it i
 
 from __future__ import annotations
 
-from collections.abc import Iterator, Mapping, Sequence
+from collections.abc import Iterable, Iterator, Mapping, Sequence
 from dataclasses import replace
 from functools import cached_property
 
@@ -39,7 +39,7 @@ MOST_SYMBOLS = 1_048_576
 """A formula of a proof that has more is the fault E39."""
 LAST_ENTRIES = 5
 """Of so many entries of the stack it is told which step pushed them."""
-IN_THE_WAY = (LookupError, ValueError, NoAnswer, MemoryError)
+IN_THE_WAY = (LookupError, ValueError, NoAnswer, MemoryError, OSError)
 
 
 def explanations(refusals: Sequence[Refused]) -> Iterator[Explanation | None]:
@@ -113,7 +113,7 @@ class Known:
             if begun.cited is None:
                 code, found = at_end(replay, rule)
             else:
-                apart = Apart(theorem.distinct, self.outline.variables, self.budget)
+                apart = Apart(theorem.distinct(), self.outline.variables, self.budget)
                 code, found = at_step(replay, begun, begun.cited, apart)
         except TooLong:
             return replace(begun, is_too_long=True)
@@ -196,7 +196,7 @@ class Apart:
     """Which variables are distinct at a theorem, by the words of the `$d` that are active there."""
 
     def __init__(
-        self, distinct: Sequence[bytes], variables: frozenset[str], budget: Budget
+        self, distinct: Iterable[bytes], variables: frozenset[str], budget: Budget
     ) -> None:
         self.distinct = distinct
         self.variables = variables

@@ -17,7 +17,6 @@ from query.excerpts import cut, cut_both
 from query.output import Value
 from query.proof import Entry, Formula, Step
 
-COLUMNS = ("step", "cited", "hypothesis", "distinct", "first", "second", "lacking", "steps")
 SHOWN_FORMULA = 300
 """How many characters of a formula are shown."""
 SHOWN_NAME = 100
@@ -134,7 +133,8 @@ class Explanation:
         return text_of(self.proved), text_of(self.says)
 
     def fields(self) -> list[Value]:
-        """The values of the columns, for a program."""
+        """The step, what it cites, the label of the hypothesis, the two variables, what stands for
+        each, the variables that are lacking, and the steps before, for a program."""
         label = None if self.mismatch is None else self.mismatch.hypothesis.label
         steps = [
             f"{each.number} {each.label} {in_words(each.formula, SHOWN_FORMULA)}"

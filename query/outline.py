@@ -9,9 +9,10 @@ and judges statements in file order. It is a text without its comments, as `quer
 from __future__ import annotations
 
 import re
-from collections.abc import Collection, Sequence
+from collections.abc import Collection, Iterator, Sequence
 from dataclasses import dataclass
 from functools import cached_property
+from typing import NamedTuple
 
 STATEMENT = re.compile(
     rb"\$(?:(?P<block>[{}])|(?P<kind>[cvdfeap])(?P<words>[^$]*+)(?P<proof>\$=[^$]*+)?\$\.)"
@@ -19,13 +20,27 @@ STATEMENT = re.compile(
 OPEN = b"$= ? $."
 
 
+class Distinct(NamedTuple):
+    """The words of a `$d`, and the one before it that is active where it is; None where there is
+    none. Theorems share what is before both."""
+
+    words: bytes
+    before: Distinct | None
+
+
 @dataclass(frozen=True)
 class Theorem:
-    """A theorem whose proof has a place: its label, and the words of each `$d` that is active
-    there."""
+    """A theorem whose proof has a place: its label, and the last `$d` that is active there."""
 
     label: str
-    distinct: list[bytes]
+    last: Distinct | None
+
+    def distinct(self) -> Iterator[bytes]:
+        """The words of each `$d` that is active there, the last one first."""
+        one = self.last
+        while one is not None:
+            yield one.words
+            one = one.before
 
 
 class Outline:
@@ -40,7 +55,8 @@ class Outline:
         """For each place the theorem."""
         self.floating: dict[str, list[str]] = {}
         """The typecode and the variable of each `$f`, by its label."""
-        self._blocks: list[list[bytes]] = [[]]
+        self._blocks: list[Distinct | None] = []
+        self._last: Distinct | None = None
         self._pieces: list[bytes] = []
         self._copied = self._read = 0
         for match in STATEMENT.finditer(bare_text):
@@ -58,13 +74,11 @@ class Outline:
     def _see(self, match: re.Match[bytes]) -> None:
         """Reads a statement, which follows the one before."""
         if match["block"] == b"{":
-            self._blocks.append([])
+            self._blocks.append(self._last)
         elif match["block"] == b"}":
-            if len(self._blocks) == 1:
-                raise ValueError
-            self._blocks.pop()
+            self._last = self._blocks.pop()
         elif match["kind"] == b"d":
-            self._blocks[-1].append(match["words"])
+            self._last = Distinct(match["words"], self._last)
         elif match["kind"] == b"f":
             words = match["words"].decode("latin-1").split()
             self.floating[self._label(match).decode("latin-1")] = words
@@ -87,8 +101,7 @@ class Outline:
             if place < match.start():
                 raise ValueError
             is_refused = True
-            active = [words for block in self._blocks for words in block]
-            self.theorems.append(Theorem(label.decode("latin-1"), active))
+            self.theorems.append(Theorem(label.decode("latin-1"), self._last))
         if is_refused or label in self.cited:
             end = match.start("proof") if match["proof"] else match.end()
             self._pieces.append(self.bare_text[self._copied : end])
@@ -100,4 +113,4 @@ class Outline:
     def text(self) -> bytes:
         """The text of the assertions that are cited or refused, in which proofs are left open and
         blocks are closed."""
-        return b"".join(self._pieces) + b" $}" * (len(self._blocks) - 1)
+        return b"".join(self._pieces) + b" $}" * len(self._blocks)

@@ -183,7 +183,7 @@ def judged(comparison: Comparison, asked: Asked, tells_all: bool) -> Iterator[Fi
 
 def refusal_of(refused: Refused) -> Finding:
     """The finding that the database is refused."""
-    # It takes 12 milliseconds, and most databases have no fault.
+    # It takes 15 milliseconds, and most databases have no fault.
     from query.explained import explanations
 
     said = f"{refused.said()}; {refused.advice}"

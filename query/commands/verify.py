@@ -3,18 +3,21 @@
 import argparse
 from collections.abc import Iterator
 from functools import cached_property
+from typing import TYPE_CHECKING
 
-from query import explanation, program, progress
+from query import program, progress
 from query.bare import declared_at, leave_open, without_comments
 from query.commands import Command
 from query.context import Context
 from query.database import Database
-from query.explanation import Explanation
 from query.faults import Refused
 from query.includes import misleading
 from query.options import Parser, add_choice_of_citations, add_database, positive, options_of
 from query.output import Value
 from query.source import Source
+
+if TYPE_CHECKING:
+    from query.explanation import Explanation
 
 PAGE = """
 Tells whether every proof is valid (status 0), or the first fault (status 1) as compilers write it:
@@ -54,7 +57,8 @@ NOTHING = ["--report=citations", "--only="]
 SHOWN_WORD = 1000
 """Bytes of a word that are shown."""
 FIELDS = ["line", "column", "code", "statement", "meaning", "advice"]
-FIELDS += ["proved", "wanted", "word", "declared", *explanation.COLUMNS]
+FIELDS += ["proved", "wanted", "word", "declared"]
+FIELDS += ["step", "cited", "hypothesis", "distinct", "first", "second", "lacking", "steps"]
 COLUMNS = ["valid", "axioms", "theorems", *FIELDS]
 
 
@@ -121,8 +125,9 @@ def others(database: Database, first: Refused, most: int) -> Iterator[Refused]:
 
 def put_refusals(context: Context, refusals: list[Refused]) -> None:
     """Answers with faults of one database."""
-    # It takes 12 milliseconds, and most databases have no fault.
+    # It takes 15 milliseconds, and most databases have no fault.
     from query.explained import explanations
+    from query.explanation import Explanation
 
     words = Words(refusals[0].source)
     known = zip(refusals, explanations(refusals))
@@ -139,7 +144,7 @@ def put_refusals(context: Context, refusals: list[Refused]) -> None:
     context.out.table(COLUMNS, rows)
 
 
-def put_lines(context: Context, refusal: Refused, words: "Words", why: Explanation) -> None:
+def put_lines(context: Context, refusal: Refused, words: "Words", why: "Explanation") -> None:
     """Answers with a fault, for a person."""
     at = f"{refusal.source.name}:{refusal.line}:{refusal.column}"
     context.out.line(f"{at}: {refusal.said()}")

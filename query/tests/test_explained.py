@@ -373,9 +373,9 @@ class Outlines(World):
     def test_what_is_active(self) -> None:
         places = [self.TEXT.index(word) for word in (b"b $.", b"B $.", b"c $.")]
         outline = Outline(self.TEXT, places, {b"a"})
-        told = [(one.label, [each.split() for each in one.distinct]) for one in outline.theorems]
+        told = [(one.label, [each.split() for each in one.distinct()]) for one in outline.theorems]
         both, one = [b"p", b"q"], [b"p", b"r"]
-        self.assertEqual(told, [("t", [both, one, one]), ("u", [both, one]), ("v", [both, one])])
+        self.assertEqual(told, [("t", [one, one, both]), ("u", [one, both]), ("v", [one, both])])
         self.assertEqual(outline.variables, {"p", "q", "r"})
         self.assertEqual(outline.floating["wr2"], ["wff", "r"])
 
@@ -396,6 +396,16 @@ class Outlines(World):
             with self.assertRaises((IndexError, ValueError), msg=text):
                 Outline(text, [len(text) - 4], set())
         self.assertEqual(Outline(b"x $p |- p", [3], set()).theorems, [])
+
+    def test_many_restrictions(self) -> None:
+        """A million that are active at each of many theorems take no more than once."""
+        many = b"$d p q $. " * 1_000_000
+        theorems = b"".join(b"t%d $p |- p $= a $. " % number for number in range(10_000))
+        text = b"${ " + many + theorems
+        places = [match.end() for match in re.finditer(rb"\$= ", text)]
+        outline = Outline(text, places, set())
+        self.assertEqual(len(outline.theorems), 10_000)
+        self.assertEqual(sum(1 for _ in outline.theorems[-1].distinct()), 1_000_000)
 
 
 class Apart(Explained):
