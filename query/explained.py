@@ -21,6 +21,7 @@ from query.faults import Refused
 from query.one_run import statements_of
 from query.outline import Outline
 from query.proof import (
+    COST_OF_STEP,
     Budget,
     Entry,
     Formula,
@@ -193,7 +194,8 @@ def clashes(rule: Rule, values: Mapping[str, Formula], apart: Apart) -> Iterator
 
 
 class Apart:
-    """Which variables are distinct at a theorem, by the words of the `$d` that are active there."""
+    """Which variables are distinct at a theorem, by the words of the `$d` that are active there. To
+    look at a pair counts for as many symbols as a step."""
 
     def __init__(
         self, distinct: Iterable[bytes], variables: frozenset[str], budget: Budget
@@ -221,6 +223,7 @@ class Apart:
     def lacking(self, one: Formula, other: Formula) -> tuple[str, ...]:
         """A variable that both have, or else a pair of which no `$d` has both; () where there is
         none."""
+        self.budget.take(COST_OF_STEP)
         left, right = self.of(one), self.of(other)
         common = {*left} & {*right}
         if common:
