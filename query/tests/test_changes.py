@@ -53,19 +53,41 @@ Known = dict[str, object]
 
 
 def told(comparison: Comparison | old_changes.Comparison) -> Known:
-    """What is known of two databases."""
+    """What is known of two databases. What only one of both statements of a theorem rests on that
+    was changed counted as gained or lost before, and stands apart now."""
     axioms, theorems = comparison.axioms, comparison.theorems
     chosen, chosen_before = (side.dependence.axioms for side in (comparison.new, comparison.old))
+    gained = {each: found for each in chosen if (found := comparison.gained(each))}
+    lost = {each: found for each in chosen_before if (found := comparison.lost(each))}
+    apart = {}
+    if isinstance(comparison, Comparison):
+        apart = {label: comparison.shift(label, label) for label in comparison.restated}
+    else:
+        apart = {label: (taken(gained, label), taken(lost, label)) for label in theorems.changed}
     return {
         "to_old": comparison.to_old,
         "renamed": axioms.renamed | theorems.renamed,
         "changed": [*axioms.changed, *theorems.changed],
         "new": [*axioms.new, *theorems.new],
         "gone": [*axioms.gone, *theorems.gone],
-        "gained": {each: found for each in chosen if (found := comparison.gained(each))},
-        "lost": {each: found for each in chosen_before if (found := comparison.lost(each))},
+        "gained": gained,
+        "lost": lost,
+        "apart": {
+            label: (sorted(came), sorted(went))
+            for label, (came, went) in apart.items()
+            if came or went
+        },
         "moved": comparison.moved,
     }
+
+
+def taken(shifts: dict[str, list[str]], theorem: str) -> list[str]:
+    """The axioms that have a theorem in their lists. It is taken out of these."""
+    axioms = [axiom for axiom, theorems in shifts.items() if theorem in theorems]
+    for axiom in axioms:
+        left = [each for each in shifts.pop(axiom) if each != theorem]
+        shifts |= {axiom: left} if left else {}
+    return axioms
 
 
 def both(folder: Path, old: str, new: str, options: Options) -> tuple[Known, Known]:
@@ -124,6 +146,7 @@ class Agreement(World):
             self.assertEqual(now, before, pair)
             seen.update(name for name, found in now.items() if found)
         names = {"renamed", "changed", "new", "gone", "gained", "lost", "to_old", "refused"}
+        names.add("apart")
         self.assertLessEqual(names, set(seen))
 
     def test_what_is_meant_to_differ(self) -> None:
