@@ -37,8 +37,8 @@ bytes     of a direct one, how much longer its proof is
 chapter   the number of the header under which it stands
 gains     with --may-gain the axioms on which it comes to rest
 with      of a cascade the first of the theorems whose new proofs it loses them with
-fault     of a direct one the theorems at which the fault lies: they rest on the axiom, its old proof
-          cites them, and its new one proves once more what they say
+fault     of a direct one the theorems at which the fault lies: they rest on the axiom, its old
+          proof cites them, and its new one proves once more what they say
 
 A theorem at which a fault lies is mended first, by the same steps or by others, also by new steps;
 then those that cite it lose the axiom with it, and keep their proofs. So what is told as a fault
@@ -50,6 +50,13 @@ on any rule of syntax, where no proof is found that gains nothing; and so may al
 such as lose nothing. A definition has to be named as well.
 
 With --shorter these are the proofs that get shorter by that, whatever axioms they lose.
+
+The rows are in the order in which a maintainer would rather merge them. First come the new proofs
+that leave their theorem on fewer of the AXIOMs; of equal ones those that newly cite fewer
+statements whose new usage is discouraged; then those that gain fewer definitions which aren't known
+to be sound, since such a one may hide an axiom; then those that get shorter by more bytes; and then
+the order of the file. A cascade stands behind the first new proof that its column `with` names. By
+the same rule one of several proofs of a theorem is taken.
 
 Several AXIOMs are tried together, and one after the other in this order where a proof can't do
 without all of them. The answer is judged before it is given: the program verifies the database with
@@ -136,18 +143,18 @@ def wanted_of(database: Database, arguments: argparse.Namespace) -> Wanted:
         raise NoAnswer("--shorter and an AXIOM, --all or --new-steps exclude one another")
     if not axioms and not arguments.all and not theorems and not arguments.shorter:
         raise NoAnswer("an AXIOM is wanted, or --theorem T, or --all, or --shorter")
+    if not axioms and not arguments.shorter:
+        axioms = [each for each in reversed(dependence.axioms) if each not in gained]
     return Wanted(
         typecode=arguments.only,
-        axioms=tuple(
-            axioms or (each for each in reversed(dependence.axioms) if each not in gained)
-        ),
+        axioms=tuple(axioms),
         theorems=frozenset(theorems) or None,
         cites_discouraged=arguments.cite_discouraged,
         cites_old=arguments.cite_old,
         cites_mathboxes=arguments.cite_mathboxes,
         changes_discouraged=arguments.change_discouraged,
         has_new_steps=arguments.new_steps,
-        is_all=arguments.all,
+        is_all=not arguments.axiom and not theorems,
         is_shorter=arguments.shorter,
         may_gain=frozenset(gained),
     )

@@ -4,8 +4,9 @@ order, each with what those before it lost."""
 from __future__ import annotations
 
 import time
-from collections.abc import Iterator, Sequence
-from dataclasses import KW_ONLY, asdict, dataclass
+from collections.abc import Callable, Iterator, Sequence
+from dataclasses import KW_ONLY, asdict, dataclass, replace
+from functools import cached_property
 
 from query import progress
 from query.bare import without_comments
@@ -17,10 +18,11 @@ from query.spare.conventions import conventions_of
 from query.spare.kept import Change, Replaced
 from query.spare.ranking import Rank, Ranking
 from query.spare.index import GivenUp
-from query.spare.rules import Rule, bits_of, rules_of
+from query.spare.rules import Rule, bits_of, joined, rules_of
 from query.spare.proofs import Proof, Step, Unfit, run
 from query.spare.search import AllSteps, Shelf, Steps, State, closed_of
 from query.spare.seeking import Answer, Seeker
+from query.spare.shorter import Shorter
 from query.spare.sharing import number_at_once, searched
 from query.spare.writing import Writer, beginning, laid_out, line_width
 
@@ -120,6 +122,7 @@ class Changer:
             Active(self.text.data),
             [self.bit_of[label] for label in wanted.axioms],
             self.closed,
+            self.discouraged(),
             wanted.has_new_steps and not wanted.is_all,
         )
         self.may_gain = 0  # those on which they may come to rest, as bits
@@ -137,6 +140,22 @@ class Changer:
             for cited in self.cites[number]:
                 found[number] |= found[cited]
         return found
+
+    def discouraged(self) -> int:
+        """The statements whose new usage is discouraged, as bits, if they may be cited."""
+        if not self.wanted.cites_discouraged:
+            return 0
+        return joined(one.number for one in self.text.assertions if is_discouraged(self.text, one))
+
+    @cached_property
+    def hiding(self) -> int:
+        """Of the axioms on which theorems may come to rest the definitions that may hide another
+        one."""
+        hiding = 0
+        for label in self.gainable:
+            if self.ranking.is_hiding(label):
+                hiding |= self.bit_of[label]
+        return hiding
 
     def syntax(self) -> list[int]:
         """The theorems of the syntax that any proof may cite."""
@@ -303,21 +322,14 @@ class Changer:
             return None
         proof_range = ProofRange(self.text.data, one.place, one.end)
         first = len(self.rules.trees)
-        found: Answer | None = None
         try:
             if proof_range.has_comment:
                 return None
             proof = self.proof(number)
-            allowed = rests | self.may_gain
-            if self.wanted.is_shorter:
-                steps = AllSteps(self.shelf, self.state, rule, proof, allowed).shortest()
-                found = Answer(steps)
-            elif self.needs(proof, wanted):
-                found = self.seeker.best(rule, proof, wanted & rests, rests)
-                if found is None and allowed != rests:
-                    found = self.seeker.best(rule, proof, wanted & rests, allowed)
+            found = self.sought(rule, proof, wanted, rests)
             if found is None:
                 return None
+            found = self.shortened(rule, proof, found, proof_range)
             written = self.written(rule, proof, found, proof_range, rests)
             if written is None:
                 return None
@@ -327,6 +339,43 @@ class Changer:
             return None
         finally:
             self.rules.trees.forget(first)
+
+    def sought(self, rule: Rule, proof: Proof, wanted: int, rests: int) -> Answer | None:
+        """Another proof: the old one, where it is to get shorter. One that gains less is sought
+        first."""
+        if self.wanted.is_shorter:
+            steps: Steps = dict.fromkeys(proof.given)
+            steps.update({tree: next(iter(ways)) for tree, ways in proof.steps.items()})
+            return Answer(steps, rests | self.may_gain)
+        if not self.needs(proof, wanted):
+            return None
+        for gained in dict.fromkeys([0, self.may_gain & ~self.hiding, self.may_gain]):
+            found = self.seeker.best(rule, proof, wanted & rests, rests | gained)
+            if found is not None:
+                return found
+        return None
+
+    def shortened(self, rule: Rule, proof: Proof, found: Answer, proof_range: ProofRange) -> Answer:
+        """A proof that ranks before another one by other steps for the same formulas: for those
+        that have another step than in the old proof, or for all, where it is to get shorter."""
+        is_all = self.wanted.is_shorter
+        only = [
+            tree
+            for tree in used(proof, found.steps)
+            if tree in proof.steps and (is_all or found.steps[tree] not in proof.steps[tree])
+        ]
+        allowed, barred = found.rests & ~found.lost, self.seeker.barred(proof)
+        try:
+            steps = AllSteps(self.shelf, self.state, rule, proof, allowed, barred, only)
+            starts = [found.steps, steps.shortest()] if is_all else [found.steps]
+            rank = self.rank_of(rule, proof, proof_range)
+            shorter = Shorter(proof.root, steps.doing_without(found.lost), rank, steps.budget)
+            best = min(map(shorter.steps, starts), key=lambda each: each[1])
+        except GivenUp:
+            if is_all:
+                raise
+            return found
+        return replace(found, steps=best[0])
 
     def may_change(self, number: int) -> bool:
         """Whether the proof of a theorem may be changed."""
@@ -340,21 +389,36 @@ class Changer:
         rests = self.state.rests
         return any(rests[step.rule] & wanted for steps in proof.steps.values() for step in steps)
 
+    def text_of(
+        self, rule: Rule, proof: Proof, steps: Steps, proof_range: ProofRange
+    ) -> tuple[bytes, int]:
+        """What stands in place of an old proof, and the axioms on which the theorem rests then."""
+        old = self.text.data[proof_range.start : proof_range.end]
+        room = self.width - len(beginning(old)[1])
+        labels, letters = self.writer.words(rule, proof, steps, room)
+        numbers = [self.numbers[label] for label in labels if label in self.numbers]
+        return laid_out(labels, letters, old, self.width), self.resting(numbers)
+
+    def rank_of(self, rule: Rule, proof: Proof, proof_range: ProofRange) -> Callable[[Steps], Rank]:
+        """How the proof by some steps ranks."""
+
+        def rank(steps: Steps) -> Rank:
+            text, rests = self.text_of(rule, proof, steps, proof_range)
+            change = Change(rule.label, (), text, proof_range.end - proof_range.start)
+            return self.rank(self.finished(change, rests), rests)
+
+        return rank
+
     def written(
         self, rule: Rule, proof: Proof, found: Answer, proof_range: ProofRange, rests: int
     ) -> Written | None:
         """The change of a proof into other steps; None where it would rest on what it didn't, or
         isn't shorter where that is wanted."""
         steps = found.steps
-        old = self.text.data[proof_range.start : proof_range.end]
-        room = self.width - len(beginning(old)[1])
-        labels, letters = self.writer.words(rule, proof, steps, room)
-        numbers = [self.numbers[label] for label in labels if label in self.numbers]
-        new = self.resting(numbers)
+        text, new = self.text_of(rule, proof, steps, proof_range)
         if new & ~(rests | self.may_gain):
             return None
-        written = laid_out(labels, letters, old, self.width)
-        change = Change(rule.label, (), written, len(old))
+        change = Change(rule.label, (), text, proof_range.end - proof_range.start)
         formulas = used(proof, steps)
         for tree in formulas:
             step = steps[tree]
@@ -366,7 +430,7 @@ class Changer:
         if self.wanted.is_shorter:
             left = sum(steps[tree] is not None for tree in formulas)
             has_other_steps = change.replaced or left < len(proof.steps)
-            if not has_other_steps or len(written) >= len(old):
+            if not has_other_steps or len(text) >= change.old_length:
                 return None
         return Written(change, new)
 

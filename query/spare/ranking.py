@@ -42,8 +42,11 @@ class Ranking:
 
     def hiding(self, change: Change) -> int:
         """How many definitions are gained that aren't known to be sound."""
-        gained = [label for label in change.gains if label.startswith(BEGINNING)]
-        return sum(label not in self.sound for label in gained)
+        return sum(map(self.is_hiding, change.gains))
+
+    def is_hiding(self, label: str) -> bool:
+        """Whether an axiom is a definition that may hide another axiom."""
+        return label.startswith(BEGINNING) and label not in self.sound
 
     @cached_property
     def sound(self) -> frozenset[str]:

@@ -125,7 +125,7 @@ class Roots:
         shape.original.clear()  # the variables of another theorem
         variables = Variables(self.rules, below, own.scope, self.changer.seeker.active)
         steps = shape.filled(dict.fromkeys(given), variables)
-        return None if steps is None else Answer(steps)
+        return None if steps is None else Answer(steps, 0)
 
     def is_mended(self, number: int, proof: Proof, answer: Answer, lost: int) -> bool:
         """Whether a theorem loses what one above it lost; notes its new proof."""

@@ -10,7 +10,7 @@ theorem rests on all of its axioms anyway, so nothing is gained; or where it may
 from __future__ import annotations
 
 from collections import defaultdict
-from collections.abc import Callable, Iterable, Mapping, Sequence
+from collections.abc import Callable, Collection, Iterable, Mapping, Sequence
 from dataclasses import dataclass
 
 from query.spare.conventions import Conventions
@@ -202,11 +202,13 @@ class Free:
 
 class Search:
     """The search in one proof. With `closed`, the statements without hypotheses of which instances
-    may be new steps."""
+    may be new steps. None of those in `barred` is cited but where the proof does already."""
 
     closed = 0
 
-    def __init__(self, shelf: Shelf, state: State, theorem: Rule, proof: Proof) -> None:
+    def __init__(
+        self, shelf: Shelf, state: State, theorem: Rule, proof: Proof, barred: int = 0
+    ) -> None:
         self.shelf = shelf
         self.state = state
         self.theorem = theorem
@@ -215,7 +217,8 @@ class Search:
         self.keys = {tree: keys_for(self.trees, tree) for tree in (*proof.given, *proof.steps)}
         self.budget = Budget(STEPS + STEPS_OF_FORMULA * len(self.keys))
         lacking = shelf.lacking(set[Key]().union(*self.keys.values()))
-        self.may_be = shelf.conventions.allowed(theorem.number) & ~lacking
+        self.allowed = shelf.conventions.allowed(theorem.number) & ~barred
+        self.may_be = self.allowed & ~lacking
         self.candidates: dict[int, list[tuple[Citable, tuple[int, ...]]]] = {}
         self.tried: dict[int, int] = {}
         self.free = Free(self.trees)
@@ -227,10 +230,8 @@ class Search:
     def without(self, axioms: int, rests: int) -> Steps | None:
         """A proof that does without these axioms, and rests on no others than `rests`; None where
         none is found."""
-        may_be = self.may_be
+        may_be = self.allowed if self.closed else self.may_be
         self.asked = (axioms, rests)
-        if self.closed:
-            may_be = self.shelf.conventions.allowed(self.theorem.number)
         self.wanted = wanted = may_be & ~self.state.blocked(rests & ~axioms)
         self.flags = flags = f"{wanted:0{self.theorem.number}b}"[::-1]
         self.wanted_closed = wanted & self.closed
@@ -392,10 +393,20 @@ class Search:
 
 
 class AllSteps(Search):
-    """All steps by which the formulas of a proof follow from one another, its own and others."""
+    """All steps by which the formulas of a proof follow from one another, its own and others; or
+    some of its formulas, if it is said which."""
 
-    def __init__(self, shelf: Shelf, state: State, theorem: Rule, proof: Proof, rests: int) -> None:
-        super().__init__(shelf, state, theorem, proof)
+    def __init__(
+        self,
+        shelf: Shelf,
+        state: State,
+        theorem: Rule,
+        proof: Proof,
+        rests: int,
+        barred: int = 0,
+        only: Collection[int] | None = None,
+    ) -> None:
+        super().__init__(shelf, state, theorem, proof, barred)
         self.rests = rests
         self.steps: dict[int, dict[Step, None]] = {}
         for tree in self.keys:
@@ -403,7 +414,7 @@ class AllSteps(Search):
         self.tree = -1
         wanted = self.may_be & ~state.blocked(rests)
         flags = f"{wanted:0{theorem.number}b}"[::-1]
-        for self.tree in proof.steps:
+        for self.tree in proof.steps if only is None else only:
             self.steps[self.tree] = dict(proof.steps[self.tree])
             for number, bound in shelf.index.find(self.tree, wanted, flags, self.budget):
                 self.cited(shelf.citable[number], bound)
@@ -413,6 +424,14 @@ class AllSteps(Search):
         if self.tree not in premises:
             self.steps[self.tree][step_of(citable, binding, premises)] = None
         return False
+
+    def doing_without(self, axioms: int) -> dict[int, dict[Step, None]]:
+        """The steps that don't cite what rests on these axioms."""
+        rests = self.state.rests
+        return {
+            tree: {step: None for step in steps if not rests[step.rule] & axioms}
+            for tree, steps in self.steps.items()
+        }
 
     def losable(self) -> int:
         """The axioms that the theorem can do without, each of them alone."""

@@ -2,6 +2,7 @@
 that stay as they are."""
 
 import random
+import re
 import shutil
 import subprocess
 import unittest
@@ -144,6 +145,80 @@ class BesideMetamath(World):
             again = saved(self.folder / "new.mm", labels)
             self.assertEqual(words_and_lines(again), words_and_lines(new), name)
             (self.folder / "new.mm").unlink()
+
+
+@needs_metamath
+class Minimized(World):
+    """Proofs that metamath.exe makes shorter by `minimize_with`."""
+
+    FOUND = {"mss": "snex", "elxp5": "eqvisset", "oprabid": "opex"}
+    """Theorems of iset.mm, each with the statement by which it gets shorter. Of 61 that were chosen
+    by chance these three were all that `minimize_with * /no_new_axioms_from *` made shorter."""
+
+    def test_they_get_as_short(self) -> None:
+        path = DATABASES / "iset.mm"
+        (self.folder / "iset.mm").symlink_to(path)
+        commands = ['read "iset.mm"']
+        for label, other in self.FOUND.items():
+            save = "save new_proof /compressed"
+            commands += [f"prove {label}", f"minimize_with {other}", save, "exit"]
+        commands += ['write source "minimized.mm"', "exit"]
+        told = "\n".join(["set scroll continuous", *commands, ""])
+        self.ran("metamath", given=told.encode())
+        names = [word for label in self.FOUND for word in ("--theorem", label)]
+        self.answers("spare", str(path), "--shorter", *names, "--write", "new.mm")
+        lengths = [
+            {label: proof_in(self.folder / name, label) for label in self.FOUND}
+            for name in ("iset.mm", "minimized.mm", "new.mm")
+        ]
+        old, minimized, new = lengths
+        for label in self.FOUND:
+            self.assertLess(len(minimized[label]), len(old[label]), label)
+            self.assertLessEqual(len(new[label]), len(minimized[label]), label)
+        self.assertEqual(new["mss"], minimized["mss"])
+
+
+def proof_in(path: Path, label: str) -> bytes:
+    """The proof of a theorem as it stands in a file."""
+    data = without_comments(path.read_bytes())
+    found = re.search(rb"\s%b\s+\$p[^$]*\$=([^$]*)\$\." % re.escape(label.encode()), data)
+    assert found is not None
+    return found[1]
+
+
+class FewSteps(World):
+    """What has fewer steps, and what is shorter."""
+
+    TEXT = """$c ( ) -> |- wff $.
+$v p q r $.
+wp $f wff p $. wq $f wff q $. wr $f wff r $.
+wi $a wff ( p -> q ) $.
+two $a |- ( p -> p ) $.
+${ b.1 $e |- p $. b.2 $e |- q $. both $a |- ( p -> q ) $. $}
+${ l.1 $e |- ( p -> q ) $.
+long.label.for.one.step $p |- ( ( p -> p ) -> ( p -> q ) ) $=
+  wp wp wi wp wq wi wp two l.1 both $. $}
+${ s.1 $e |- ( q -> p ) $. s $p |- ( ( p -> p ) -> ( q -> p ) ) $=
+  wp wp wi wq wp wi wp two s.1 both $. $}
+${ t.1 $e |- ( p -> r ) $.
+t $p |- ( ( ( p -> p ) -> ( p -> r ) ) -> ( ( r -> r ) -> ( p -> r ) ) ) $=
+  ( wi two both ) AADZABDZDBBDZHDGHAECFIHBECFF $. $}
+"""
+
+    def test_each_step_by_itself(self) -> None:
+        """Two statements take a step less each. With both of them the proof would be longer, since
+        one has a long label. So only the other one is cited."""
+        self.write("db.mm", self.TEXT)
+        words = ("spare", "db.mm", "--shorter", "--theorem", "t")
+        rows = [line.split("\t") for line in self.answers(*words, "--format", "tsv")[1:]]
+        self.assertEqual(
+            [row[3:7] for row in rows], [["both", "s", "|- ( ( r -> r ) -> ( p -> r ) )", "-1"]]
+        )
+        lines = self.answers(*words, "--proof", "t")
+        self.assertEqual(lines[-1], "  ( wi two both s ) AADZABDZDBBDIDHIAECFBACGF $.")
+        self.write("db.mm", self.TEXT.replace("long.label.for.one.step", "l"))
+        rows = [line.split("\t") for line in self.answers(*words, "--format", "tsv")[1:]]
+        self.assertEqual([row[4] for row in rows], ["l", "s"])
 
 
 class Order(World):
