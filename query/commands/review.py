@@ -144,9 +144,7 @@ def changes_of(comparison: Comparison, most: int) -> list[Outcome]:
     }
     moved = out_of_order((label, before.number) for label, before in origin.items())
     found: dict[str, Outcome] = {}
-    for one in new.assertions:
-        if one.kind != "p":
-            continue
+    for one in filter(lambda one: one.kind == "p", new.assertions):
         change = Outcome(one.label, bytes=one.end - one.place)
         if one.label in fresh:
             change.status = ["new"]

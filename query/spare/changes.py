@@ -4,13 +4,14 @@ order, each with what those before it lost."""
 from __future__ import annotations
 
 import time
-from collections.abc import Callable, Iterator, Sequence
+from collections.abc import Callable, Collection, Iterator, Sequence
 from dataclasses import KW_ONLY, asdict, dataclass, replace
 from functools import cached_property
 
 from query import progress
 from query.bare import without_comments
 from query.database import Database, result_key
+from query.prepared import Prepared
 from query.rules import is_discouraged, is_proof_discouraged
 from query.spare import kept as kept_changes
 from query.spare.active import Active
@@ -91,14 +92,9 @@ class Changer:
         self.numbers = {rule.label: rule.number for rule in self.rules}
         self.names = [rule.label for rule in self.rules]
         prepared = database.prepared
-        assert prepared.marks is not None and prepared.cites is not None
+        assert prepared.marks is not None
         self.columns = prepared.columns
-        nodes = prepared.theorems + prepared.columns
-        cites = prepared.cites
-        self.cites = {
-            self.numbers[label]: [self.numbers[nodes[node]] for node in cites[row]]
-            for row, label in enumerate(prepared.theorems)
-        }
+        self.cites = cites_by_number(prepared, self.numbers)
         self.bit_of = {label: 1 << bit for bit, label in enumerate(self.columns)}
         self.state = State(self.rests(prepared.theorems))
         self.old_rests = list(self.state.rests)
@@ -111,9 +107,7 @@ class Changer:
         self.closed = 0  # the statements that may be new steps, as bits
         if wanted.has_new_steps:
             self.closed = closed_of(self.shelf)
-        self.axioms = 0  # those that proofs shall do without, as bits
-        for label in wanted.axioms:
-            self.axioms |= self.bit_of[label]
+        self.axioms = self.bits(wanted.axioms)  # those that proofs shall do without
         self.gainable = gainable(database, wanted)
         self.seeker = Seeker(
             self.shelf,
@@ -125,12 +119,17 @@ class Changer:
             self.discouraged(),
             wanted.has_new_steps and not wanted.is_all,
         )
-        self.may_gain = 0  # those on which they may come to rest, as bits
-        for label in self.gainable:
-            self.may_gain |= self.bit_of[label]
+        self.may_gain = self.bits(self.gainable)  # those on which they may come to rest
         fields = [f"{name} {value}" for name, value in sorted(wanted.fields().items())]
         key = result_key(kept_changes.FORM, "changes", database.key, *fields)
         self.key = key if database.uses_cache else None
+
+    def bits(self, axioms: Collection[str]) -> int:
+        """The axioms of these labels as bits."""
+        found = 0
+        for label in axioms:
+            found |= self.bit_of[label]
+        return found
 
     def rests(self, theorems: list[str]) -> list[int]:
         """For each assertion the axioms on which it rests."""
@@ -440,6 +439,17 @@ class Changer:
         formula = " ".join([self.wanted.typecode, *symbols])
         labels = dict.fromkeys(self.names[each.rule] for each in was)
         return Replaced(tuple(labels), self.names[step.rule], formula)
+
+
+def cites_by_number(prepared: Prepared, numbers: dict[str, int]) -> dict[int, list[int]]:
+    """What each theorem cites, by the numbers of both."""
+    cites = prepared.cites
+    assert cites is not None
+    nodes = prepared.theorems + prepared.columns
+    return {
+        numbers[label]: [numbers[nodes[node]] for node in cites[row]]
+        for row, label in enumerate(prepared.theorems)
+    }
 
 
 def gainable(database: Database, wanted: Wanted) -> frozenset[str]:
