@@ -7,7 +7,7 @@ from __future__ import annotations
 
 import os
 import signal
-from collections.abc import Callable
+from collections.abc import Callable, Sequence
 from typing import NoReturn, Protocol
 
 from query import signals, system
@@ -28,6 +28,9 @@ class Task(Protocol):
     def stop(self) -> None:
         """Ends the work, where its result isn't wanted any more."""
 
+    def pipe(self) -> int | None:
+        """Where the result comes from when it is there; None where this process does the work."""
+
 
 def begun(work: Callable[[], bytes], size: int = LARGE) -> Task:
     """Begins work in a copy of this process, or leaves it for later where there are no copies, or
@@ -35,6 +38,15 @@ def begun(work: Callable[[], bytes], size: int = LARGE) -> Task:
     if size >= LARGE and system.can_fork():
         return Copy(work)
     return Later(work)
+
+
+def ended(tasks: Sequence[Task], waits: bool = True) -> list[int]:
+    """Which of some tasks have their result, as indices, or need this process for it; unless it
+    isn't to wait, at least one."""
+    pipes = [task.pipe() for task in tasks]
+    copies = [pipe for pipe in pipes if pipe is not None]
+    found = {*signals.first_of(copies, waits and None not in pipes)} if copies else set()
+    return [place for place, pipe in enumerate(pipes) if pipe is None or pipe in found]
 
 
 class Later:
@@ -49,6 +61,10 @@ class Later:
 
     def stop(self) -> None:
         """Does nothing: the work was done, or never begun."""
+
+    def pipe(self) -> int | None:
+        """None."""
+        return None
 
 
 class Copy:
@@ -87,6 +103,10 @@ class Copy:
         if data[:1] == WITHOUT_ANSWER:
             raise NoAnswer(data[1:].decode("utf-8", "surrogateescape"))
         raise NoAnswer("out of memory" if status else "a process that helps ended too early")
+
+    def pipe(self) -> int | None:
+        """The pipe to which the copy writes its result."""
+        return self.reading
 
     def kill(self) -> None:
         """Lets a signal end the work, where it isn't over."""

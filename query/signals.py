@@ -6,7 +6,7 @@ by `at_stop`. Nothing of an answer was written then, or not all of it.
 
 import os
 import signal
-from collections.abc import Callable, Iterator
+from collections.abc import Callable, Iterator, Sequence
 from contextlib import contextmanager, suppress
 from itertools import count
 from types import FrameType
@@ -95,11 +95,24 @@ def listen() -> None:
 
 
 def read(pipe: int, size: int) -> bytes:
-    """The next bytes of a pipe, at most so many; b"" at its end.
+    """The next bytes of a pipe, at most so many; b"" at its end."""
+    if _waiting.waking is not None:
+        first_of([pipe])
+    return os.read(pipe, size)
+
+
+def first_of(pipes: Sequence[int], waits: bool = True) -> list[int]:
+    """Those of some pipes that have something to read, or have ended; unless it isn't to wait,
+    at least one.
 
     Python looks whether a signal has come, and then begins to wait. One that comes between the two
     is answered at once all the same, since it has written to the other pipe.
     """
-    while _waiting.waking is not None and pipe not in system.first_of(pipe, _waiting.waking):
-        os.read(_waiting.waking, MOST_AT_ONCE)
-    return os.read(pipe, size)
+    others = [] if _waiting.waking is None else [_waiting.waking]
+    while True:
+        found = system.first_of(*pipes, *others, waits=waits)
+        if _waiting.waking is not None and _waiting.waking in found:
+            os.read(_waiting.waking, MOST_AT_ONCE)
+            found.remove(_waiting.waking)
+        if found or not waits:
+            return found

@@ -168,12 +168,13 @@ def waking() -> int | None:
     return reading
 
 
-def first_of(*pipes: int) -> list[int]:
-    """Waits until one of some pipes has something to read, or has ended. Returns which do."""
+def first_of(*pipes: int, waits: bool = True) -> list[int]:
+    """Waits until one of some pipes has something to read, or has ended. Returns which do; without
+    waiting perhaps none."""
     poll = select.poll()
     for pipe in pipes:
         poll.register(pipe, select.POLLIN)
-    return [pipe for pipe, _ in poll.poll()]
+    return [pipe for pipe, _ in poll.poll(None if waits else 0)]
 
 
 def let_in(signals: Sequence[int]) -> None:

@@ -18,13 +18,14 @@ from query.spare.active import Active
 from query.spare.conventions import conventions_of
 from query.spare.kept import Change, Replaced
 from query.spare.ranking import Rank, Ranking
-from query.spare.index import GivenUp
+from query.spare.index import GivenUp, keys_for
 from query.spare.rules import Rule, bits_of, joined, rules_of
 from query.spare.proofs import Proof, Step, Unfit, run
-from query.spare.search import AllSteps, Shelf, Steps, State, closed_of
+from query.spare.search import AllSteps, Citable, Shelf, Steps, State, closed_of
 from query.spare.seeking import Answer, Seeker
 from query.spare.shorter import Shorter
 from query.spare.sharing import number_at_once, searched
+from query.spare.trees import Trees
 from query.spare.writing import Writer, beginning, laid_out, line_width
 
 SECONDS = 60
@@ -233,19 +234,19 @@ class Changer:
             return True
         if not self.is_sought(number):
             return False
-        allowed = self.shelf.conventions.allowed(number)
-        trees = [self.rules[other].tree for other in others if allowed >> other & 1]
-        if not trees:
+        allowed, rests = self.shelf.conventions.allowed(number), self.resting(self.cites[number])
+        citable = [
+            self.shelf.citable[other]
+            for other in others
+            if allowed >> other & 1 and (self.may_gain or not self.state.rests[other] & ~rests)
+        ]
+        if not citable:
             return False
-        if self.closed and any(self.closed >> other & 1 for other in others):
+        if self.closed and any(not each.premises for each in citable):
             return True
         first = len(self.rules.trees)
-        match = self.rules.trees.match
         try:
-            formulas = self.proof(number).steps
-            return any(
-                match(pattern, formula, {}) is not None for formula in formulas for pattern in trees
-            )
+            return may_cite(self.rules.trees, self.proof(number), citable, bool(self.closed))
         except Unfit:
             return False
         finally:
@@ -460,6 +461,21 @@ def gainable(database: Database, wanted: Wanted) -> frozenset[str]:
     found = database.prepared
     pairs = zip(found.columns, found.typecodes)
     return wanted.may_gain | {label for label, kind in pairs if kind != wanted.typecode}
+
+
+def may_cite(trees: Trees, proof: Proof, citable: Sequence[Citable], has_new_steps: bool) -> bool:
+    """Whether one of some statements becomes a formula of a proof, and has no hypothesis that none
+    of its formulas can be, as far as keys tell; with new steps one more may be it."""
+    fit = [
+        each
+        for each in citable
+        if any(trees.match(each.rule.tree, formula, {}) is not None for formula in proof.steps)
+    ]
+    if has_new_steps:
+        return bool(fit)
+    formulas = (*proof.given, *proof.steps) if fit else ()
+    keys = {None, *(key for formula in formulas for key in keys_for(trees, formula))}
+    return any(keys.issuperset(each.keys) for each in fit)
 
 
 def used(proof: Proof, steps: Steps) -> list[int]:

@@ -9,7 +9,7 @@ from typing import Any
 
 from query import cache
 
-FORM = 4
+FORM = 5
 """Counts the forms in which changes are kept, and the ways in which they are sought."""
 
 

@@ -13,6 +13,7 @@ from collections.abc import Iterable
 from dataclasses import replace
 from functools import cached_property
 
+from query import progress
 from query.spare.changes import Changer, ProofRange
 from query.spare.index import GivenUp
 from query.spare.kept import Change
@@ -53,9 +54,10 @@ class Roots:
         for _ in range(MOST_ROUNDS):
             before = len(self.mended)
             self.faults = {}
-            for number in sorted(self.changes):
-                if self.changes[number].proof is not None:
-                    self.look_below(number)
+            new = [number for number in sorted(self.changes) if self.changes[number].proof]
+            for place, number in enumerate(new):
+                progress.now(f"looking below new proofs, {place} of {len(new)} are done")
+                self.look_below(number)
             if len(self.mended) == before:
                 break
             self.follow()
@@ -139,7 +141,8 @@ class Roots:
         rests = changer.resting(changer.cites[number])
         answers: list[Answer] = []
         try:
-            seeker = replace(changer.seeker, closed=self.closed, is_general=True)
+            is_general = not changer.wanted.is_all
+            seeker = replace(changer.seeker, closed=self.closed, is_general=is_general)
             found = seeker.best(rule, proof, lost & rests, rests)
             answers += [] if found is None else [found]
         except GivenUp:

@@ -9,13 +9,13 @@ from __future__ import annotations
 
 import json
 from collections import deque
-from collections.abc import Iterator, Sequence
+from collections.abc import Iterable, Iterator, Sequence
 from dataclasses import dataclass
 from functools import partial
 from typing import Protocol
 
 from query import system
-from query.parallel import Task, begun
+from query.parallel import Task, begun, ended
 from query.spare.kept import Change, to_fields, from_fields
 from query.spare.search import State
 
@@ -23,6 +23,9 @@ STRETCH = 50
 """So many theorems that are searched are one piece of work."""
 MOST_AT_ONCE = 4
 """So many processes search where no number is asked for, if there are processors and memory."""
+AHEAD = 4
+"""So many times as many stretches as there are processes are searched, or wait to be taken. The
+others don't wait while one takes long."""
 GROWTH = 2
 """A process that searches may take so many times the memory that it takes when it begins."""
 
@@ -55,11 +58,12 @@ class Searching(Protocol):
 @dataclass(slots=True)
 class Stretch:
     """Theorems, and the work of a process on them, where there is one. `before` is how many
-    assertions had changed when that began."""
+    assertions had changed when that began, and `is_ended` whether no process works on them."""
 
     numbers: Sequence[int]
     task: Task | None = None
     before: int = 0
+    is_ended: bool = False
 
 
 def stretches(search: Searching, numbers: Sequence[int]) -> Iterator[Stretch]:
@@ -83,15 +87,35 @@ def searched(search: Searching, numbers: Sequence[int], at_once: int) -> Iterato
     running: deque[Stretch] = deque()
     try:
         while waiting or running:
-            while waiting and len(running) < at_once:
-                running.append(waiting.popleft())
-                start(search, running[-1])
-            yield from taken(search, running[0])
+            fill(search, waiting, running, at_once)
+            if not running[0].is_ended:
+                note_ended(running)
+                continue
+            for change in taken(search, running[0]):
+                yield change
+                fill(search, waiting, running, at_once)
             running.popleft()
     finally:
         for stretch in running:
             if stretch.task is not None:
                 stretch.task.stop()
+
+
+def fill(search: Searching, waiting: deque[Stretch], running: deque[Stretch], at_once: int) -> None:
+    """Lets processes search, as many as there may be."""
+    note_ended(running, waits=False)
+    busy = sum(not stretch.is_ended for stretch in running)
+    while waiting and busy < at_once and len(running) < AHEAD * at_once:
+        running.append(waiting.popleft())
+        start(search, running[-1])
+        busy += 1
+
+
+def note_ended(running: Iterable[Stretch], waits: bool = True) -> None:
+    """Notes which stretches aren't searched any more; unless it isn't to wait, at least one."""
+    left = [stretch for stretch in running if not stretch.is_ended]
+    for place in ended([stretch.task for stretch in left if stretch.task is not None], waits):
+        left[place].is_ended = True
 
 
 def start(search: Searching, stretch: Stretch) -> None:
@@ -100,7 +124,7 @@ def start(search: Searching, stretch: Stretch) -> None:
     try:
         stretch.task = begun(partial(to_json, search, stretch.numbers))
     except OSError:
-        stretch.task = None
+        stretch.is_ended = True
 
 
 def to_json(search: Searching, numbers: Sequence[int]) -> bytes:

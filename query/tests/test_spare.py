@@ -16,7 +16,7 @@ from query.letters import letters_of
 from query.options import Options
 from query.output import Output
 from query.commands.spare import GIVEN_UP, rows_of
-from query.spare import changes, judge, proofs, rules, search, writing
+from query.spare import changes, judge, kept, proofs, rules, search, writing
 from query.spare.changes import Changer, Wanted
 from query.spare.kept import Change, Replaced
 from query.tests import shapes
@@ -536,6 +536,24 @@ class Kept(World):
         self.assertEqual(len(tried), 6, tried)
         self.assertEqual([each.theorem for each in found], ["t1", "t2"])
         judge.judge_changes(database, judge.rewritten(database.text, found), found)
+
+    def test_what_another_kept_is_not_believed(self) -> None:
+        """Somebody else keeps in the user's folder that all is searched, and nothing found; with
+        the user's own secret that would be the answer."""
+        path = str(self.folder / self.write("db.mm", SPARE))
+        names = {"XDG_CACHE_HOME": str(self.cache), "XDG_CONFIG_HOME": str(self.config)}
+        other = self.folder.parent / "other"
+        other.mkdir()
+        for config, is_believed in ((other, False), (self.config, True)):
+            with mock.patch.dict(os.environ, {**names, "XDG_CONFIG_HOME": str(config)}):
+                changer = Changer(Context().database(path, Options()), Wanted("|-", ("bad",)))
+                assert changer.key is not None
+                kept.store(changer.key, len(changer.cites), [])
+                self.assertEqual(kept.load(changer.key), (3, {}))
+            with mock.patch.dict(os.environ, names):
+                changer = Changer(Context().database(path, Options()), Wanted("|-", ("bad",)))
+                found = [change.theorem for change in changer.changes()]
+            self.assertEqual(found, [] if is_believed else ["t1", "t2"])
 
 
 @unittest.skipUnless(

@@ -4,6 +4,7 @@ import os
 import signal
 import subprocess
 import time
+import unittest
 from functools import partial
 from pathlib import Path
 from unittest import mock
@@ -15,6 +16,7 @@ from query.options import Options
 from query.spare import sharing
 from query.spare.changes import Changer, Wanted
 from query.spare.kept import Change
+from query.spare.search import State
 from query.tests.test_spare import SPARE
 from query.tests.test_spare_search import Maker
 from query.tests.test_statuses import has_ended, wait_for
@@ -71,6 +73,57 @@ class ByChance(World):
             self.assertEqual(found(path, wanted, 3), found(path, wanted, 1))
             with mock.patch.object(Changer, "may_differ", lambda *_: False):
                 self.assertNotEqual(found(path, wanted, 3), found(path, wanted, 1))
+
+
+class Slow:
+    """Theorems of which the first takes long. What is found says when."""
+
+    def __init__(self) -> None:
+        self.old_rests = [0] * 1000
+        self.state = State(self.old_rests)
+
+    def is_sought(self, number: int) -> bool:
+        """All are."""
+        return True
+
+    def change(self, number: int) -> Change | None:
+        """What becomes of a theorem."""
+        if number == 0:
+            time.sleep(3)
+        return Change(str(time.monotonic()), ())
+
+    def may_differ(self, number: int, others: set[int]) -> bool:
+        """None does."""
+        return False
+
+
+class Waiting(unittest.TestCase):
+    """One stretch that takes long."""
+
+    def test_others_go_on(self) -> None:
+        """They are searched meanwhile, but not all: who knows what they find."""
+        with mock.patch.object(sharing, "STRETCH", 1):
+            changes = [*sharing.searched(Slow(), range(100), 2)]
+        times = [float(change.theorem) for change in changes if change is not None]
+        self.assertEqual(len(times), 100)
+        ahead = sum(each < times[0] for each in times[1:])
+        self.assertEqual(ahead, 2 * sharing.AHEAD - 1)
+
+    def test_what_is_ended(self) -> None:
+        """Copies that have their result, and work that this process does."""
+
+        def sleep() -> bytes:
+            time.sleep(60)
+            return b"2"
+
+        quick, slow = parallel.Copy(lambda: b"1"), parallel.Copy(sleep)
+        self.assertEqual(parallel.ended([slow, quick]), [1])
+        later = parallel.Later(lambda: b"3")
+        self.assertEqual(parallel.ended([slow, later]), [1])
+        self.assertEqual(parallel.ended([slow], waits=False), [])
+        self.assertEqual(parallel.ended([], waits=False), [])
+        self.assertEqual(quick.result(), b"1")
+        slow.stop()
 
 
 class Processes(World):
