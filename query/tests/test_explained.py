@@ -471,6 +471,7 @@ TOO_MANY = re.compile(r"the RPN stack contains (\d+) entries")
 
 
 @unittest.skipUnless(shutil.which("metamath"), "metamath isn't installed")
+@unittest.skipUnless((DATABASES / "ql.mm").exists(), "Debian's databases aren't installed")
 class Metamath(Explained):
     """Against what metamath.exe says of the same proofs."""
 
