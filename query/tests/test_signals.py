@@ -33,9 +33,9 @@ class Poll:
         self.poll_of_pipes = real()
         self.register = self.poll_of_pipes.register
 
-    def poll(self):
+    def poll(self, limit):
         # Python doesn't look for signals between the two, as it would between two lines.
-        return list(map(operator.call, (kill, self.poll_of_pipes.poll)))[1]
+        return list(map(operator.call, (kill, partial(self.poll_of_pipes.poll, limit))))[1]
 
 signals.listen()
 if sys.argv[1] == "woken":
