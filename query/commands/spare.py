@@ -17,7 +17,7 @@ from query.spare.rules import UNREAD
 
 COLUMNS = (
     *("how", "theorem", "loses", "replaced", "by", "step", "bytes", "chapter", "gains", "with"),
-    "fault",
+    *("fault", "hides"),
 )
 
 PAGE = """
@@ -39,11 +39,13 @@ gains     with --may-gain the axioms on which it comes to rest
 with      of a cascade the first of the theorems whose new proofs it loses them with
 fault     of a direct one the theorems at which the fault lies: they rest on the axiom, its old
           proof cites them, and its new one proves once more what they say
+hides     of a direct one the definitions that may hide an axiom: they aren't known to be sound, and
+          a step rests on them that did without them before
 
 A theorem at which a fault lies is mended first, by the same steps or by others, also by new steps;
 then those that cite it lose the axiom with it, and keep their proofs. So what is told as a fault
 couldn't be mended there, or isn't to be: it isn't asked about, or it would have to cite what is
-discouraged, or what stands after it, or would rest on something else by that.
+discouraged, or what stands after it, or would rest on another rule of syntax.
 
 With --may-gain AXIOM, which may be given several times, a theorem may come to rest on that one and
 on any rule of syntax, where no proof is found that gains nothing; and so may all that cite it, also
@@ -53,10 +55,10 @@ With --shorter these are the proofs that get shorter by that, whatever axioms th
 
 The rows are in the order in which a maintainer would rather merge them. First come the new proofs
 that leave their theorem on fewer of the AXIOMs; of equal ones those that newly cite fewer
-statements whose new usage is discouraged; then those that gain fewer definitions which aren't known
-to be sound, since such a one may hide an axiom; then those that get shorter by more bytes; and then
-the order of the file. A cascade stands behind the first new proof that its column `with` names. By
-the same rule one of several proofs of a theorem is taken.
+statements whose new usage is discouraged; then those with fewer definitions in the column `hides`,
+since an axiom may be lost for what such a one says; then those that get shorter by more bytes; and
+then the order of the file. A cascade stands behind the first new proof that its column `with`
+names. By the same rule one of several proofs of a theorem is taken.
 
 Several AXIOMs are tried together, and one after the other in this order where a proof can't do
 without all of them. The answer is judged before it is given: the program verifies the database with
@@ -85,7 +87,7 @@ theorem to the end.
 """
 
 
-ASIDE = ("gains", "with", "fault")
+ASIDE = ("gains", "with", "fault", "hides")
 """The columns that the form text leaves out where they say nothing."""
 FLAGS = {
     "--all": "every axiom, the last one first",
@@ -200,7 +202,7 @@ def rows_of(database: Database, changes: list[Change]) -> list[list[Value]]:
         if change.proof is None and not change.loses and not gains:
             continue
         chapter = database.text.chapter_number(database.text.by_label[label])
-        sources, faults = list(change.sources) or None, list(change.faults) or None
+        reasons = [list(each) or None for each in (change.sources, change.faults, change.hides)]
         if change.proof is None:
             steps: list[list[Value]] = [[None, None, None]]
             how, longer = "cascade", None
@@ -208,7 +210,7 @@ def rows_of(database: Database, changes: list[Change]) -> list[list[Value]]:
             steps = [[list(each.old) or None, each.new, each.formula] for each in change.replaced]
             how, longer = "direct", len(change.proof) - change.old_length
         for step in steps or [[None, None, None]]:
-            rows.append([how, label, loses, *step, longer, chapter, gains, sources, faults])
+            rows.append([how, label, loses, *step, longer, chapter, gains, *reasons])
     return rows
 
 

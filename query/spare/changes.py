@@ -11,6 +11,7 @@ from functools import cached_property
 from query import progress
 from query.bare import without_comments
 from query.database import Database, result_key
+from query.grounds import BEGINNING
 from query.prepared import Prepared
 from query.rules import is_discouraged, is_proof_discouraged
 from query.spare import kept as kept_changes
@@ -18,14 +19,14 @@ from query.spare.active import Active
 from query.spare.conventions import conventions_of
 from query.spare.kept import Change, Replaced
 from query.spare.ranking import Rank, Ranking
-from query.spare.index import GivenUp, keys_for
+from query.spare.index import GivenUp
 from query.spare.rules import Rule, bits_of, joined, rules_of
 from query.spare.proofs import Proof, Step, Unfit, run
-from query.spare.search import AllSteps, Citable, Shelf, Steps, State, closed_of
+from query.spare.search import AllSteps, Shelf, Steps, State, closed_of
 from query.spare.seeking import Answer, Seeker
 from query.spare.shorter import Shorter
 from query.spare.sharing import number_at_once, searched
-from query.spare.trees import Trees
+from query.spare.steps import first_steps, may_cite, other_steps, resting_by, used
 from query.spare.writing import Writer, beginning, laid_out, line_width
 
 SECONDS = 60
@@ -94,7 +95,7 @@ class Changer:
         self.names = [rule.label for rule in self.rules]
         prepared = database.prepared
         assert prepared.marks is not None
-        self.columns = prepared.columns
+        self.columns, self.typecodes = prepared.columns, prepared.typecodes
         self.cites = cites_by_number(prepared, self.numbers)
         self.bit_of = {label: 1 << bit for bit, label in enumerate(self.columns)}
         self.state = State(self.rests(prepared.theorems))
@@ -148,14 +149,25 @@ class Changer:
         return joined(one.number for one in self.text.assertions if is_discouraged(self.text, one))
 
     @cached_property
+    def definitions(self) -> int:
+        """The axioms that are called definitions, as bits."""
+        return self.bits([label for label in self.columns if label.startswith(BEGINNING)])
+
+    @cached_property
     def hiding(self) -> int:
-        """Of the axioms on which theorems may come to rest the definitions that may hide another
-        one."""
-        hiding = 0
-        for label in self.gainable:
-            if self.ranking.is_hiding(label):
-                hiding |= self.bit_of[label]
-        return hiding
+        """The definitions that may hide an axiom, as bits."""
+        return self.bits(list(filter(self.ranking.is_hiding, self.columns)))
+
+    def hides(self, proof: Proof, steps: Steps, replaced: Collection[int]) -> tuple[str, ...]:
+        """The definitions that may hide an axiom on which formulas rest by steps that are replaced,
+        and didn't in the old proof."""
+        old = resting_by(first_steps(proof), replaced, self.old_rests)
+        new = resting_by(steps, replaced, self.state.rests)
+        more = 0
+        for tree in replaced:
+            more |= new[tree] & ~old[tree]
+        more &= self.definitions
+        return tuple(self.columns[bit] for bit in bits_of(more and more & self.hiding))
 
     def syntax(self) -> list[int]:
         """The theorems of the syntax that any proof may cite."""
@@ -344,9 +356,7 @@ class Changer:
         """Another proof: the old one, where it is to get shorter. One that gains less is sought
         first."""
         if self.wanted.is_shorter:
-            steps: Steps = dict.fromkeys(proof.given)
-            steps.update({tree: next(iter(ways)) for tree, ways in proof.steps.items()})
-            return Answer(steps, rests | self.may_gain)
+            return Answer(first_steps(proof), rests | self.may_gain)
         if not self.needs(proof, wanted):
             return None
         for gained in dict.fromkeys([0, self.may_gain & ~self.hiding, self.may_gain]):
@@ -359,11 +369,7 @@ class Changer:
         """A proof that ranks before another one by other steps for the same formulas: for those
         that have another step than in the old proof, or for all, where it is to get shorter."""
         is_all = self.wanted.is_shorter
-        only = [
-            tree
-            for tree in used(proof, found.steps)
-            if tree in proof.steps and (is_all or found.steps[tree] not in proof.steps[tree])
-        ]
+        only = list(proof.steps) if is_all else other_steps(proof, found.steps)
         allowed, barred = found.rests & ~found.lost, self.seeker.barred(proof)
         try:
             steps = AllSteps(self.shelf, self.state, rule, proof, allowed, barred, only)
@@ -405,6 +411,7 @@ class Changer:
         def rank(steps: Steps) -> Rank:
             text, rests = self.text_of(rule, proof, steps, proof_range)
             change = Change(rule.label, (), text, proof_range.end - proof_range.start)
+            change.hides = self.hides(proof, steps, other_steps(proof, steps))
             return self.rank(self.finished(change, rests), rests)
 
         return rank
@@ -419,6 +426,7 @@ class Changer:
         if new & ~(rests | self.may_gain):
             return None
         change = Change(rule.label, (), text, proof_range.end - proof_range.start)
+        change.hides = self.hides(proof, steps, other_steps(proof, steps))
         formulas = used(proof, steps)
         for tree in formulas:
             step = steps[tree]
@@ -461,33 +469,3 @@ def gainable(database: Database, wanted: Wanted) -> frozenset[str]:
     found = database.prepared
     pairs = zip(found.columns, found.typecodes)
     return wanted.may_gain | {label for label, kind in pairs if kind != wanted.typecode}
-
-
-def may_cite(trees: Trees, proof: Proof, citable: Sequence[Citable], has_new_steps: bool) -> bool:
-    """Whether one of some statements becomes a formula of a proof, and has no hypothesis that none
-    of its formulas can be, as far as keys tell; with new steps one more may be it."""
-    fit = [
-        each
-        for each in citable
-        if any(trees.match(each.rule.tree, formula, {}) is not None for formula in proof.steps)
-    ]
-    if has_new_steps:
-        return bool(fit)
-    formulas = (*proof.given, *proof.steps) if fit else ()
-    keys = {None, *(key for formula in formulas for key in keys_for(trees, formula))}
-    return any(keys.issuperset(each.keys) for each in fit)
-
-
-def used(proof: Proof, steps: Steps) -> list[int]:
-    """The formulas that a proof has by these steps, in the order in which they were found."""
-    seen: set[int] = set()
-    left = [proof.root]
-    while left:
-        tree = left.pop()
-        if tree in seen:
-            continue
-        seen.add(tree)
-        step = steps[tree]
-        if step is not None:
-            left += step.premises
-    return [tree for tree in steps if tree in seen]

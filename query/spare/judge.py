@@ -127,6 +127,10 @@ def compare_reasons(old: Database, new: Prepared, changes: dict[str, Change]) ->
                 fail(f"{change.theorem} stands before {label}")
         cited = {graph.labels[each] for each in graph.cites[graph.index[change.theorem]]}
         lost = sum(bits[axiom] for axiom in {*change.loses})
+        resting = new.marks.row(rows[change.theorem])
+        for label in change.hides:
+            if not bits.get(label, 0) & resting:
+                fail(f"{change.theorem} doesn't rest on {label}")
         for label in change.faults:
             if label not in cited or not new.marks.row(rows[label]) & lost:
                 fail(f"{label} isn't at fault for {change.theorem}")

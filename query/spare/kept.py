@@ -9,7 +9,7 @@ from typing import Any
 
 from query import cache
 
-FORM = 5
+FORM = 6
 """Counts the forms in which changes are kept, and the ways in which they are sought."""
 
 
@@ -35,6 +35,9 @@ class Change:
     replaced: list[Replaced] = field(default_factory=list)
     is_given_up: bool = False
     gains: tuple[str, ...] = ()
+    hides: tuple[str, ...] = ()
+    """The definitions that aren't known to be sound on which a formula rests by new steps, and
+    didn't by the old ones."""
     sources: tuple[str, ...] = ()
     """Of one that keeps its proof the first theorems by whose new proofs it loses axioms."""
     faults: tuple[str, ...] = ()
@@ -68,6 +71,7 @@ def from_fields(fields: dict[str, Any]) -> Change:
         replaced,
         fields["is_given_up"],
         tuple(fields["gains"]),
+        tuple(fields["hides"]),
     )
 
 

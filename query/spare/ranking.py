@@ -1,8 +1,9 @@
 """Which new proofs a maintainer would rather take, as a number for each; the least is the best.
 
 First comes what leaves the theorem on fewer of the axioms that are asked about; of equal ones what
-newly cites fewer statements whose new usage is discouraged; then what gains fewer definitions that
-may hide an axiom, since they aren't known to be sound; and then the shorter one.
+newly cites fewer statements whose new usage is discouraged; then what has fewer definitions in
+place of axioms that aren't known to be sound, since these may hide an axiom; and then the shorter
+one.
 """
 
 from __future__ import annotations
@@ -17,7 +18,7 @@ from query.spare.kept import Change
 
 Rank = tuple[int, int, int, int]
 """How many axioms of those asked about are left, statements newly cited whose new usage is
-discouraged, definitions gained that aren't known to be sound, and bytes more."""
+discouraged, definitions that may hide an axiom, and bytes more."""
 
 
 class Ranking:
@@ -30,7 +31,7 @@ class Ranking:
     def rank(self, change: Change, left: int) -> Rank:
         """The rank of a new proof, with so many axioms left."""
         longer = 0 if change.proof is None else len(change.proof) - change.old_length
-        return left, self.discouraged(change), self.hiding(change), longer
+        return left, self.discouraged(change), len(change.hides), longer
 
     def discouraged(self, change: Change) -> int:
         """How many statements a new proof cites whose new usage is discouraged, and which the old
@@ -39,10 +40,6 @@ class Ranking:
         cited = {graph.labels[each] for each in graph.cites[graph.index[change.theorem]]}
         new = [self.text.by_label.get(each) for each in {*change.labels()} - cited]
         return sum(one is not None and is_discouraged(self.text, one) for one in new)
-
-    def hiding(self, change: Change) -> int:
-        """How many definitions are gained that aren't known to be sound."""
-        return sum(map(self.is_hiding, change.gains))
 
     def is_hiding(self, label: str) -> bool:
         """Whether an axiom is a definition that may hide another axiom."""

@@ -80,7 +80,9 @@ class Roots:
             for each in below:
                 own = changer.proof(each)
                 answer = self.donated(own, self.rules[each], old, new)
-                if answer is not None and not self.is_mended(each, own, answer, lost):
+                if answer is None or self.gains(each, answer):
+                    continue
+                if not self.is_mended(each, own, answer, lost):
                     self.faults.setdefault(number, []).append(each)
         except Unfit:
             return
@@ -128,6 +130,21 @@ class Roots:
         variables = Variables(self.rules, below, own.scope, self.changer.seeker.active)
         steps = shape.filled(dict.fromkeys(given), variables)
         return None if steps is None else Answer(steps, 0)
+
+    def gains(self, number: int, answer: Answer) -> int:
+        """The axioms that a theorem would gain by a proof, but for rules of syntax and what it may
+        gain: with one of them it isn't its proof that is at fault."""
+        changer = self.changer
+        steps = [step.rule for step in answer.steps.values() if step is not None]
+        gained = changer.resting(steps) & ~changer.state.rests[number] & ~changer.may_gain
+        return gained & self.logical
+
+    @cached_property
+    def logical(self) -> int:
+        """The axioms of what is proved, as bits."""
+        changer = self.changer
+        pairs = zip(changer.columns, changer.typecodes, strict=True)
+        return changer.bits([label for label, kind in pairs if kind == changer.wanted.typecode])
 
     def is_mended(self, number: int, proof: Proof, answer: Answer, lost: int) -> bool:
         """Whether a theorem loses what one above it lost; notes its new proof."""

@@ -19,6 +19,7 @@ from query.commands.spare import GIVEN_UP, rows_of
 from query.spare import changes, judge, kept, proofs, rules, search, writing
 from query.spare.changes import Changer, Wanted
 from query.spare.kept import Change, Replaced
+from query.spare.roots import Roots
 from query.tests import shapes
 from query.tests.metamath import asked
 from query.tests.world import DATABASES, World, built_program
@@ -53,11 +54,11 @@ ${{ $d p q $. t3 $p |- ( ( p -> ( q -> p ) ) -> ( p -> ( p -> p ) ) ) $=
 )
 NEW = SPARE.replace("( wi i bad both ) AACBBCADBEF", "( wi i both ) AACBBCADBDE")
 ROWS = [
-    ["direct", "t1", "bad", "bad", "i", "|- ( q -> q )", "-4", "0.1", "", "", ""],
-    ["cascade", "t2", "bad", "", "", "", "", "0.1", "", "t1", ""],
+    ["direct", "t1", "bad", "bad", "i", "|- ( q -> q )", "-4", "0.1", *4 * [""]],
+    ["cascade", "t2", "bad", "", "", "", "", "0.1", "", "t1", "", ""],
 ]
 NAMES = ["how", "theorem", "loses", "replaced", "by", "step", "bytes", "chapter", "gains"]
-NAMES += ["with", "fault"]
+NAMES += ["with", "fault", "hides"]
 
 
 class Spare(World):
@@ -80,7 +81,7 @@ class Spare(World):
         self.assertEqual(self.rows("db.mm", "bad", "--theorem", "t1"), ROWS)
         self.assertEqual(self.rows("db.mm", "--theorem", "t1"), ROWS)
         other = ["direct", "t3", "far", "far", "near", "|- ( p -> ( q -> p ) )", "-21", "0.1"]
-        other += ["", "", ""]
+        other += 4 * [""]
         self.assertEqual(self.rows("db.mm", "--all"), [other, *ROWS])
         self.assertEqual(self.rows("db.mm", "near", "bad"), ROWS)
         self.assertEqual(self.rows("db.mm", "bad", "--theorem", "t2"), [])
@@ -101,8 +102,8 @@ class Spare(World):
         self.assertEqual(self.rows("gain.mm", "bad"), ROWS)
         step = ["bad", "i", "|- ( q -> q )"]
         gained = [
-            ["direct", "only", "bad", *step, "", "0.1", "i", "", ""],
-            ["cascade", "over", "bad", "", "", "", "", "0.1", "i", "only", ""],
+            ["direct", "only", "bad", *step, "", "0.1", "i", "", "", ""],
+            ["cascade", "over", "bad", "", "", "", "", "0.1", "i", "only", "", ""],
         ]
         for jobs in ("1", "3"):
             words = ("gain.mm", "bad", "--may-gain", "i", f"--jobs={jobs}")
@@ -400,6 +401,28 @@ WAYS: dict[str, tuple[str, Any]] = {
             ),
         ),
     ),
+}
+
+
+def settled_with(label: str, **fields: Any) -> Any:
+    """A patch by which the change of a theorem says something else when all are settled."""
+
+    def settled(self: Roots) -> list[Change]:
+        found = REAL_SETTLED(self)
+        return [edited(each, **fields) if each.theorem == label else each for each in found]
+
+    return broken(Roots, "settled", settled)
+
+
+REAL_SETTLED = Roots.settled
+WAYS |= {
+    "what stands after it": ("bad", settled_with("t2", sources=("t3",))),
+    "what keeps its proof": ("bad", settled_with("t2", sources=("t2",))),
+    "a source of a new proof": ("bad", settled_with("t1", sources=("t1",))),
+    "a fault that rests on nothing lost": ("bad", settled_with("t1", faults=("t1",))),
+    "a fault that isn't cited": ("bad", settled_with("t1", faults=("t3",))),
+    "a definition that it doesn't rest on": ("bad", settled_with("t1", hides=("near",))),
+    "no definition": ("bad", settled_with("t1", hides=("t2",))),
 }
 
 

@@ -1,5 +1,6 @@
 """Which new proofs come first, and which of several for one theorem is taken."""
 
+import json
 import random
 import re
 
@@ -79,6 +80,28 @@ class OfSeveral(World):
         for labels in (("long.label", "s"), ("s", "long.label")):
             both = "".join(map(by_two, labels))
             self.assertEqual(self.taken(text + both + T, "one"), ["s"])
+
+    def test_an_axiom_that_a_definition_hides(self) -> None:
+        """What rests on a definition that isn't known to be sound, where the old step didn't, is
+        told, and comes after a longer proof without it."""
+        text = HEAD + "df-p $a |- ( p -> p ) $.\n" + TWO.replace(USE, "")
+        hiding = "h $p |- ( p -> p ) $= wp df-p $.\n"
+        for cited, others, by, hides in (
+            ("wp df-p wp df-p", "", "df-p", ["df-p"]),
+            ("wp df-p wp df-p", hiding, "h", ["df-p"]),
+            ("wp df-p wp two", hiding + by_two("longer.label"), "two", None),
+        ):
+            pair = PAIR.replace("wp two wp two", cited)
+            self.write("db.mm", text + pair + others + T)
+            words = ("spare", "db.mm", "one", "--theorem", "t", "--format", "json")
+            (row,) = json.loads("\n".join(self.answers(*words)))
+            self.assertEqual((row["by"], row["hides"]), (by, hides))
+        keep = "${ k.1 $e |- p $. k.2 $e |- p $. keep $a |- p $. $}\n"
+        keep += "mixed $p |- ( p -> p ) $= wp wp wi wp one wp df-p keep $.\n"
+        pair = PAIR.replace("wp two wp two", "wp df-p wp df-p")
+        self.write("db.mm", text + keep + pair + hiding + T.replace("wp one", "wp mixed"))
+        (row,) = json.loads("\n".join(self.answers(*words)))
+        self.assertEqual((row["replaced"], row["by"], row["hides"]), (["mixed"], "h", None))
 
     def test_definitions_that_may_hide_an_axiom(self) -> None:
         """They are only gained where nothing else does."""

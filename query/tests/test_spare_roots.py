@@ -15,6 +15,7 @@ from query.spare.judge import judge_changes, rewritten
 from query.spare.kept import Change
 from query.spare.proofs import Proof
 from query.spare.roots import Roots
+from query.spare.rules import Rule
 from query.spare.seeking import Answer
 from query.tests.test_spare_search import Maker
 from query.tests.world import World
@@ -108,16 +109,26 @@ class AtTheRoot(Asked):
 
     def test_what_has_more_conditions_is_no_proof(self) -> None:
         """The theorem above has a condition of distinct variables which the one below hasn't."""
-        text = HEAD + "${ $d p q $. far $a |- ( p -> ( q -> p ) ) $. $}\n"
-        text += "low $p |- ( p -> ( q -> p ) ) $= wp wq wp wi wi worse $.\n"
-        text += "${ $d p q $. $d r q $.\n"
-        text += "high $p |- ( ( p -> ( q -> p ) ) & ( r -> ( q -> r ) ) ) $=\n"
-        text += "wp wq wp wi wi wr wq wr wi wi wp wq low wr wq far both $. $}\n"
-        wanted = ["direct", "high", "low", "far", ""]
-        self.assertEqual(self.rows(text, "worse"), [[*wanted, ""]])
-        other = text.replace("low $p", "${ $d p q $. low $p").replace("worse $.\n", "worse $. $}\n")
-        other = other.replace("$}\n${ $d p q $. $d r q $.", "$}\n${ $d p q $. $d r q $.")
-        self.assertEqual(self.rows(other, "worse", "--theorem", "high"), [[*wanted, "low"]])
+        text = HEAD + "${ $d p q $. far $a |- ( p -> ( q -> p ) ) $.\n"
+        text += "lf $p |- ( ( p -> ( q -> p ) ) & ( p -> ( q -> p ) ) ) $=\n"
+        text += "wp wq wp wi wi wp wq wp wi wi wp wq far wp wq far both $. $}\n"
+        said, other = "wp wq wp wi wi", "wr wq wr wi wi wr wq wr wi wi wa"
+        proof = f"{said} {other} {said} {other} {said} worse wr wq lf both left"
+        high = "high $p |- ( ( p -> ( q -> p ) ) & ( r -> ( q -> r ) ) ) $=\n"
+        high += "wp wq wp wi wi wr wq wr wi wi wp wq low wr wq far both $. $}\n"
+        for more, fault in (("", ""), ("$d p q $. ", "low")):
+            low = f"${{ $d q r $. {more}low $p |- ( p -> ( q -> p ) ) $= {proof} $. $}}\n"
+            rows = self.rows(
+                f"{text}{low}${{ $d p q $. $d r q $. {high}", "worse", "--theorem=high"
+            )
+            self.assertEqual(rows, [["direct", "high", "low", "far", "", fault]])
+
+    def test_what_would_gain_an_axiom_is_not_at_fault(self) -> None:
+        """What is below would rest on another axiom by the steps of the one above."""
+        text = HEAD + "id $a |- ( p -> p ) $. low $p |- ( p -> p ) $= wp wp wi worse $.\n"
+        text += "high $p |- ( ( p -> p ) & ( q -> q ) ) $=\n"
+        text += "wp wp wi wq wq wi wp low wq id both $.\n"
+        self.assertEqual(self.rows(text, "worse"), [["direct", "high", "low", "id", "", ""]])
 
     def test_with_hypotheses(self) -> None:
         """The steps have what the theorem below has as hypotheses."""
@@ -230,33 +241,36 @@ class ByChance(World):
     def test_steps_that_are_donated(self) -> None:
         """The program verifies that they prove what the theorem below says, also where it may not
         be mended so, and that they do without the axiom."""
-        real = Roots.is_mended
-        counts = {"mended": 0, "told": 0, "sources": 0}
+        real = Roots.donated
+        counts = {"mended": 0, "donated": 0, "sources": 0}
         for seed, axiom in product(range(40), ("bad", "five")):
             text = self.text(seed)
             path = str(self.folder / self.write("chance.mm", text))
-            donated: list[Donated] = []
+            found: list[Donated] = []
 
-            def is_mended(
-                self: Roots, number: int, proof: Proof, answer: Answer, lost: int
-            ) -> bool:
-                rule, writer = self.rules[number], self.changer.writer
-                labels, letters = writer.words(rule, proof, answer.steps, 70)
-                words = f"( {' '.join(labels)} ) {letters}"
-                donated.append(Donated(rule.label, words))
-                is_so = real(self, number, proof, answer, lost)
-                counts["mended" if is_so else "told"] += 1
-                return is_so
+            def donated(
+                self: Roots, own: Proof, below: Rule, old: Proof, new: Proof
+            ) -> Answer | None:
+                answer = real(self, own, below, old, new)
+                if answer is not None:
+                    writer = self.changer.writer
+                    labels, letters = writer.words(below, own, answer.steps, 70)
+                    found.append(Donated(below.label, f"( {' '.join(labels)} ) {letters}"))
+                return answer
 
             database = Context(uses_cache=False).database(path, Options())
-            with mock.patch.object(Roots, "is_mended", is_mended):
-                found = self.settled(database, axiom)
-            counts["sources"] += self.see_sources(database, found)
-            told = {label for change in found for label in change.faults}
-            self.assertLessEqual(told, {each.theorem for each in donated})
-            self.see_donated(text, axiom, donated)
+            with mock.patch.object(Roots, "donated", donated):
+                changes = self.settled(database, axiom)
+            counts["sources"] += self.see_sources(database, changes)
+            counts["donated"] += len(found)
+            names = {each.theorem for each in found}
+            counts["mended"] += sum(
+                each.proof is not None and each.theorem in names for each in changes
+            )
+            self.assertLessEqual({label for each in changes for label in each.faults}, names)
+            self.see_donated(text, axiom, found)
         self.assertGreater(counts["mended"], 0)
-        self.assertGreater(min(counts["told"], counts["sources"]), 10, counts)
+        self.assertGreater(min(counts["donated"], counts["sources"]), 10, counts)
 
     def see_donated(self, text: str, axiom: str, donated: list[Donated]) -> None:
         """Adds each donated proof at the end of the text, and asks on what it rests."""
