@@ -5,10 +5,10 @@ _mmquery() {
     if [ "$word" = = ]; then word=; elif [ "$before" = = ]; then
         before=${COMP_WORDS[COMP_CWORD - 2]}; fi
     if [ "$COMP_CWORD" -eq 1 ]; then
-        words='verify rests falls cites cited-by uncited why way-out frees spare repeats top sets within same compare review history gate chapters proofs order unfinished discouraged mathboxes definitions equivalents search needs move graph picture page set-proof export cache --help --version'
+        words='verify rests falls cites cited-by uncited why way-out frees spare repeats unneeded top sets within same compare review history gate chapters proofs order unfinished discouraged mathboxes definitions equivalents search needs move graph picture page set-proof export cache --help --version'
     else
         case ${COMP_WORDS[1]}:$before in
-            verify:--format | rests:--format | falls:--format | cites:--format | cited-by:--format | uncited:--format | why:--format | way-out:--format | frees:--format | spare:--format | repeats:--format | top:--format | sets:--format | within:--format | same:--format | compare:--format | history:--format | chapters:--format | proofs:--format | order:--format | unfinished:--format | discouraged:--format | mathboxes:--format | equivalents:--format | search:--format | needs:--format | move:--format | export:--format | cache:--format) words='text tsv csv json' ;;
+            verify:--format | rests:--format | falls:--format | cites:--format | cited-by:--format | uncited:--format | why:--format | way-out:--format | frees:--format | spare:--format | repeats:--format | unneeded:--format | top:--format | sets:--format | within:--format | same:--format | compare:--format | history:--format | chapters:--format | proofs:--format | order:--format | unfinished:--format | discouraged:--format | mathboxes:--format | equivalents:--format | search:--format | needs:--format | move:--format | export:--format | cache:--format) words='text tsv csv json' ;;
             review:--format) words='text tsv csv json markdown' ;;
             gate:--format) words='text log json github markdown' ;;
             definitions:--format) words='text tsv csv json github' ;;
@@ -28,6 +28,7 @@ _mmquery() {
                     frees:-*) words='--most --plan --given --keep --keep-wrappers --essential --open --format --before --main --mathbox --under --like --not --among --no-cache --limit-time --limit-memory -h --help' ;;
                     spare:-*) words='--all --shorter --new-steps --theorem --may-gain --write --proof --only --open --jobs --cite-discouraged --cite-old --cite-mathboxes --change-discouraged --format --no-cache --limit-time --limit-memory -h --help' ;;
                     repeats:-*) words='--only --open --kept --format --before --main --mathbox --under --like --not --among --no-cache --limit-time --limit-memory -h --help' ;;
+                    unneeded:-*) words='--hypotheses --disjoint --symbols --open --format --before --main --mathbox --under --like --not --among --no-cache --limit-time --limit-memory -h --help' ;;
                     top:-*) words='--theorems --below --against --only --all --axioms --ignore-definitions --essential --open --format --before --main --mathbox --under --like --not --among --no-cache --limit-time --limit-memory -h --help' ;;
                     sets:-*) words='--only --all --axioms --ignore-definitions --essential --open --format --before --main --mathbox --under --like --not --among --no-cache --limit-time --limit-memory -h --help' ;;
                     within:-*) words='--list --only --all --axioms --ignore-definitions --essential --open --format --before --main --mathbox --under --like --not --among --no-cache --limit-time --limit-memory -h --help' ;;

@@ -8,6 +8,7 @@ from typing import Any
 from proving import toolchain
 from proving.edits import Edit
 from proving.tree import Crate, Tree
+from proving.verdicts import NAMES
 
 # What `rt` says of an edit that is refused for a reason that it can name.
 FOR_A_REASON = re.compile(r"refused, as it must be: (.*)", re.DOTALL)
@@ -58,10 +59,11 @@ def judge(edit: Edit, kind: str, said: str) -> None:
     names what the edit took away, or only by a limit of the prover, doesn't count."""
     rt = toolchain.rt()
     found = FOR_A_REASON.search(said)
-    if kind == rt.REFUSED and found:
+    by_names = "(only" in said or (found and NAMES.search(found[1]))
+    if kind == rt.REFUSED and found and not by_names:
         edit.refused = found[1]
     elif kind == rt.REFUSED:
-        why = "only because a proof names what it took away" if "(only" in said else "for no reason"
+        why = "only because a proof names what it took away" if by_names else "for no reason"
         edit.failed = f"refused {why}, which says nothing of the contract"
     else:
         edit.failed = said.partition(": ")[2] or said

@@ -12,7 +12,7 @@ from dataclasses import dataclass
 from proving.edits import Edit
 from proving.functions import Function, copied_proofs
 from proving.tree import Crate
-from proving.verdicts import Span
+from proving.verdicts import Message, Span
 
 
 @dataclass
@@ -29,17 +29,30 @@ class Copy:
         """Its name below the crate, as a check prints it."""
         return "::".join((*self.function.path[:-1], self.name))
 
+    @property
+    def is_itself(self) -> bool:
+        """Whether it isn't a copy, but the function itself."""
+        return self.name == self.function.name
 
-def named_copies(owners: Iterable[tuple[Edit, Function]]) -> list[Copy]:
-    """A copy for each edit, and one as it stands for each function that an edit changes."""
+    def has(self, message: Message) -> bool:
+        """Whether a message of a check is about its text."""
+        return self.span.has(message.file, message.line)
+
+
+def named_copies(crate: Crate, owners: Iterable[tuple[Edit, Function]]) -> list[Copy]:
+    """A copy for each edit, and one as it stands for each function that an edit changes.
+
+    Of a function without proof files that is the function itself. A copy would differ from it by
+    its name alone, and mostly the check proves it in any case, since another function calls it.
+    """
     copies: list[Copy] = []
     right: dict[tuple[str, int], Copy] = {}
     for number, (edit, function) in enumerate(owners):
         copies.append(Copy(function, edit, f"{function.name}_wrong_{number}"))
-        right.setdefault(
-            (function.file, function.start),
-            Copy(function, None, f"{function.name}_right_{number}"),
-        )
+        name = f"{function.name}_right_{number}"
+        if not copied_proofs(crate, function, name):
+            name = function.name
+        right.setdefault((function.file, function.start), Copy(function, None, name))
     return [*copies, *right.values()]
 
 
@@ -62,6 +75,8 @@ def texts_with(crate: Crate, copies: list[Copy]) -> dict[str, bytes]:
     texts: dict[str, bytes] = {}
     by_file: dict[str, list[Copy]] = defaultdict(list)
     for copy in copies:
+        if copy.is_itself:
+            continue
         by_file[copy.function.file].append(copy)
         for path, proof in copied_proofs(crate, copy.function, copy.name).items():
             texts[path] = proof.encode()

@@ -16,7 +16,7 @@ from proving.tree import Tree
 
 
 # The modules that judge an edit.
-JUDGES = ("alone", "copies", "edits", "functions", "toolchain", "tree", "trial", "verdicts")
+JUDGES = ("alone", "copies", "edits", "functions", "laws", "toolchain", "tree", "trial", "verdicts")
 
 
 @functools.cache

@@ -5,16 +5,20 @@ import shutil
 import signal
 import subprocess
 import tempfile
-from collections.abc import Callable
+from collections.abc import Callable, Sequence
 from dataclasses import dataclass, field
 from pathlib import Path
+from typing import TypeVar
 
 from proving import toolchain
 from proving.copies import Copy, named_copies, texts_with
 from proving.edits import Edit
 from proving.functions import Function, can_be_copied, functions_of, owner_of
+from proving.laws import RIGHT, LawCopy, Modules, Reach, law_copies
 from proving.tree import Crate
-from proving.verdicts import PLACE, Said, Span, is_part, is_proved, reason
+from proving.verdicts import Said, Span, is_part, is_proved, reason, reason_of_laws
+
+T = TypeVar("T")
 
 
 @dataclass
@@ -33,36 +37,41 @@ class Trial:
     odd: list[str] = field(default_factory=list)
 
     def join(self) -> None:
-        """Tries what one check can have together, and then each edit that has to stand in the
-        function's own place. Leaves the others, and what wasn't clearly refused, as unclear."""
+        """Tries what one check can have together: copies of functions, and then copies of laws; and
+        at last each edit that has to stand in the function's own place. Leaves the others, and what
+        wasn't clearly refused, as unclear."""
         functions = functions_of(self.crate)
         owners: list[tuple[Edit, Function]] = []
         in_place: list[tuple[Edit, Function]] = []
+        others: list[Edit] = []
         fits: dict[Function, bool] = {}
         for edit in self.edits:
-            if edit.refused or edit.change is None:
+            if edit.refused or not edit.texts:
                 continue
-            function = owner_of(functions, edit.change)
+            function = owner_of(functions, edit.change) if edit.change else None
             if function is None:
-                edit.unclear = "it isn't in the body of one function"
+                edit.unclear = edit.unclear or "it isn't in the body of one function"
+                others.append(edit)
                 continue
             if function not in fits:
                 fits[function] = can_be_copied(self.crate, function)
             (owners if fits[function] else in_place).append((edit, function))
-        left = [owners] if owners else []
-        while left:
-            left += self.try_copies(left.pop())
+        in_groups(owners, self.try_copies)
+        if others:
+            modules = Modules(self.crate, functions)
+            reached = [(it, reach) for it in others for reach in [modules.reached(it)] if reach]
+            in_groups(reached, lambda group: self.try_laws(modules, group))
         for edit, function in in_place:
             self.try_in_place(edit, function)
 
     def try_copies(self, owners: list[tuple[Edit, Function]]) -> list[list[tuple[Edit, Function]]]:
         """Tries edits in one check. Returns what is still to be tried, in groups, if the check
         didn't come to its end."""
-        copies = named_copies(owners)
+        copies = named_copies(self.crate, owners)
         texts = texts_with(self.crate, copies)
         said = self.check(texts, [copy.symbol for copy in copies])
         if not said.has_ended:
-            return self.groups_after(said, owners, copies)
+            return self.groups_after(said, owners, stopped_at(said, copies))
         self.see_the_right_ones(said, copies)
         files = {*texts}
         for copy in copies:
@@ -75,10 +84,7 @@ class Trial:
     def see_the_right_ones(self, said: Said, copies: list[Copy]) -> None:
         """Each function that is no wrong copy has to be proved. Where a right copy isn't, no copy
         of its function says anything."""
-        wrong = {f"{self.crate.name}::{copy.symbol}" for copy in copies if copy.edit}
-        for symbol, verdict in said.verdicts.items():
-            if not is_proved(verdict) and not any(is_part(symbol, it) for it in wrong):
-                self.odd.append(f"{symbol} isn't proved, though no edit is in it: {verdict[:120]}")
+        self.see_the_others(said, {copy.symbol for copy in copies if copy.edit})
         for copy in copies:
             verdict = said.verdicts.get(f"{self.crate.name}::{copy.symbol}", "")
             if copy.edit is None and not is_proved(verdict):
@@ -87,32 +93,60 @@ class Trial:
                     if other.edit is not None and other.function is copy.function:
                         other.edit.unclear = "a right copy of its function isn't proved"
 
+    def see_the_others(self, said: Said, wrong: set[str]) -> None:
+        """Each function has to be proved but for these, which an edit makes wrong."""
+        for symbol, verdict in said.verdicts.items():
+            if not is_proved(verdict):
+                if not any(is_part(symbol, f"{self.crate.name}::{it}") for it in wrong):
+                    self.odd.append(
+                        f"{symbol} isn't proved, though no edit is in it: {verdict[:120]}"
+                    )
+
+    def try_laws(
+        self, modules: Modules, reached: list[tuple[Edit, Reach]]
+    ) -> list[list[tuple[Edit, Reach]]]:
+        """Tries edits of what laws say in one check, as copies of the laws. Returns what is still
+        to be tried, as `try_copies` does."""
+        copies = law_copies(reached)
+        said = self.check(
+            modules.texts_with(copies), [it for copy in copies for it in copy.symbols]
+        )
+        if not said.has_ended:
+            return self.groups_after(said, reached, stopped_at(said, copies))
+        self.see_the_others(said, {it for copy in copies if copy.edit for it in copy.symbols})
+        for copy in copies:
+            if copy.edit is None:
+                continue
+            right = LawCopy(None, copy.reach, RIGHT).symbols
+            if not all(
+                is_proved(said.verdicts.get(f"{self.crate.name}::{it}", "")) for it in right
+            ):
+                copy.edit.unclear = "a right copy of its laws isn't proved"
+                self.odd.append(f"a right copy of {' or '.join(right)} isn't proved")
+                continue
+            symbols = [f"{self.crate.name}::{it}" for it in copy.symbols]
+            copy.edit.refused, copy.edit.unclear = reason_of_laws(said, symbols, copy.has)
+            copy.edit.way = "joined"
+        return []
+
     def groups_after(
-        self, said: Said, owners: list[tuple[Edit, Function]], copies: list[Copy]
-    ) -> list[list[tuple[Edit, Function]]]:
+        self, said: Said, tried: list[tuple[Edit, T]], stopped: set[Path]
+    ) -> list[list[tuple[Edit, T]]]:
         """What is to be tried after a check that stopped: all but the edits at which it stopped,
         or else two halves."""
-        stopped = {
-            copy.edit.path
-            for line in said.lines
-            for found in [PLACE.match(line)]
-            if found and ": error" in line
-            for copy in copies
-            if copy.edit is not None and copy.span.has(found[1], int(found[2]))
-        }
         why = f"the check ended with status {said.status}: {said.lines[-1][:80]}"
         if said.status == 1 and stopped:
-            for edit, _ in owners:
+            for edit, _ in tried:
                 if edit.path in stopped:
                     edit.unclear = "the check stopped at it"
-            left = [it for it in owners if it[0].path not in stopped]
+            left = [it for it in tried if it[0].path not in stopped]
             return [left] if left else []
-        if len(owners) == 1:
-            owners[0][0].unclear = why
+        if len(tried) == 1:
+            tried[0][0].unclear = why
             return []
         self.tell(f"{self.crate.name}: {why}; again in two halves")
-        half = len(owners) // 2
-        return [owners[:half], owners[half:]]
+        half = len(tried) // 2
+        return [tried[:half], tried[half:]]
 
     def try_in_place(self, edit: Edit, function: Function) -> None:
         """Tries an edit in the place of its function, with what the function calls."""
@@ -144,6 +178,24 @@ class Trial:
             name = f"{self.crate.name}-{self.checks}.txt"
             (self.keep / name).write_text(said.text, "utf-8", errors="replace")
         return said
+
+
+def in_groups(first: list[T], attempt: Callable[[list[T]], list[list[T]]]) -> None:
+    """Tries these together, and then in the groups that each attempt leaves."""
+    left = [first] if first else []
+    while left:
+        left += attempt(left.pop())
+
+
+def stopped_at(said: Said, copies: Sequence[Copy | LawCopy]) -> set[Path]:
+    """The edits with an error in their copies."""
+    return {
+        copy.edit.path
+        for message in said.messages
+        if ": error" in message.text
+        for copy in copies
+        if copy.edit is not None and copy.has(message)
+    }
 
 
 def symbol_of(crate: Crate, function: Function, said: Said) -> str | None:

@@ -1,6 +1,7 @@
 """What a check says of a function: whether it refuses it, and for what reason."""
 
 import re
+from collections.abc import Callable
 from dataclasses import dataclass
 
 from proving import toolchain
@@ -13,7 +14,7 @@ PLACE = re.compile(r"(?:note: |warning: )?(?:\./)?((?:src|specs|proofs)/\S+?):(\
 OPEN_GOAL = re.compile(r"note: \S+ (?:it is not proved that|`\w+` found no proof)")
 # A proof names what isn't there any more, or cites what was refused. That says nothing of what
 # the function does: a right body with other names is refused so too.
-NAMES = re.compile(r"has no field|is not in scope|has no `|not admitted")
+NAMES = re.compile(r"has no field|is not a field of|is not in scope|has no `|not admitted")
 # The prover refuses a function since it calls one that isn't proved.
 FOR_ANOTHER = re.compile(r"(?:it calls|it passes|a call of|rests on|depends on|waits? for).*")
 NAMED = re.compile(r"`([^`]*::[^`]*)`")
@@ -112,10 +113,34 @@ def reason(said: Said, symbol: str, span: Span, files: set[str]) -> tuple[str | 
         return None, f"it isn't proved for the sake of another function: {above[0][:100]}"
     if any(span.has(it.file, it.line) for it in said.unread(files)):
         return None, "antt can't read it"
-    own = [it.text for it in own_messages(said, symbol, span)]
-    told = [text for text in own if ": error" in text or OPEN_GOAL.match(text)]
+    return first_reason(own_messages(said, symbol, span))
+
+
+def first_reason(own: list[Message]) -> tuple[str | None, str]:
+    """The first of these messages that says why something is refused, or else why none does."""
+    told = [it.text for it in own if ": error" in it.text or OPEN_GOAL.match(it.text)]
     reasons = [text for text in told if not NAMES.search(text)]
     if not reasons:
         names = "its proof names what the edit took away" if told else "no message says why"
         return None, f"the check refuses it, but {names}"
     return reasons[0][:REASON_LENGTH], ""
+
+
+def reason_of_laws(
+    said: Said, symbols: list[str], is_own: Callable[[Message], bool]
+) -> tuple[str | None, str]:
+    """Why the check refuses one of these laws, or else why it can't be told from this check.
+    `is_own` says of a message whether it is about a file of theirs, which nothing else reads.
+
+    A law is refused if the check came to its end, says of the law that it isn't proved, could read
+    all of their sources and definitions, and a message in their proofs is an error or an open goal.
+    """
+    if not said.has_ended:
+        return None, f"the check ended with status {said.status}: {said.lines[-1][:80]}"
+    verdicts = [said.verdicts.get(symbol, "") for symbol in symbols]
+    if not all(verdicts) or not any(it.startswith(NOT_PROVED) for it in verdicts):
+        return None, f"the check says '{verdicts[0][:80]}' of {symbols[0]}"
+    own = [it for it in said.messages if is_own(it)]
+    if any(": error" in it.text and not it.file.startswith("proofs/") for it in own):
+        return None, "antt can't read it"
+    return first_reason(own)

@@ -12,7 +12,8 @@ from collections.abc import Iterable, Iterator
 from dataclasses import dataclass, field
 
 from query.changes import Comparison
-from query.config import Config, is_meant
+from query.config import Config
+from query.resting import Resting
 
 
 @dataclass(frozen=True)
@@ -53,10 +54,7 @@ class Arrivals:
         self.new = self.comparison.new.dependence
         self.watched = self.bits(self.axioms)
         self.allowed = {
-            rule: [
-                (theorems, self.bits(label for label in self.axioms if is_meant(word, label)))
-                for word, theorems in lists.items()
-            ]
+            rule: Resting(lists, self.axioms, self.bits)
             for rule, lists in self.config.resting.items()
         }
 
@@ -88,9 +86,8 @@ class Arrivals:
             if was_there != (rule == "newly"):
                 continue
             bits = self.came(row)
-            for theorems, mask in self.allowed.get(rule, ()) if bits else ():
-                if theorem in theorems:
-                    bits &= ~mask
+            if bits and rule in self.allowed:
+                bits &= ~self.allowed[rule].allowed(theorem)
             if bits:
                 yield Arrival(row, theorem, self.new.columns_of(bits), was_there)
 

@@ -175,12 +175,14 @@ def most_after(size: int) -> int:
     return min(MOST_DATABASE_BYTES, 2 * size + FREE_GROWTH)
 
 
-def see_growth(branch: Branch, objects: Objects, old: str) -> None:
-    """NoAnswer where the file of the working tree is too long, before git looks at it."""
+def seen_size(branch: Branch, objects: Objects, old: str) -> int:
+    """How long the database is in OLD; 0 where it has none. NoAnswer where the file of the working
+    tree is too long beside that, before git looks at it."""
     data, entry = branch.files.get(branch.path), objects.entry(old, branch.path)
+    size = 0 if entry is None else objects.size("blob", entry.name, branch.path)
     if data is not None and entry is not None:
-        most = most_after(objects.size("blob", entry.name, branch.path))
-        see_length(branch.path, len(data), most)
+        see_length(branch.path, len(data), most_after(size))
+    return size
 
 
 def of_attributes(
@@ -212,7 +214,7 @@ def places_of(branch: Branch, objects: Objects, base: str, wish: Wish) -> tuple[
     """From where files are taken, and notes on that."""
     tip = branch.repository.commit(base)
     common = objects.merge_base(tip, branch.commit)
-    see_growth(branch, objects, common if wish.is_merge_base else tip)
+    size = seen_size(branch, objects, common if wish.is_merge_base else tip)
     head = branch.head(objects)
     notes = []
     if common == branch.commit:
@@ -223,7 +225,7 @@ def places_of(branch: Branch, objects: Objects, base: str, wish: Wish) -> tuple[
     if wish.is_merge_base:
         said = f"the merge base with {base}, {short(common)}"
         return Places(common, head, tip, head, said), notes
-    new = objects.merged(tip, head) if common != tip else head
+    new = objects.merged(tip, head, size) if common != tip else head
     return Places(tip, new, tip, head, f"{base}, {short(tip)}"), notes
 
 

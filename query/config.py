@@ -11,11 +11,11 @@ import re
 import tomllib
 from collections.abc import Mapping
 from dataclasses import dataclass, field
-from functools import cached_property
 from pathlib import Path
 from typing import Any
 
 from query.errors import NoAnswer, shown
+from query.labels import Labels
 from query.limits import MOST_GIVEN, Limits
 
 FILE_NAME = "mmdepend.toml"
@@ -98,23 +98,6 @@ class Claim:
 
 
 @dataclass(frozen=True)
-class Labels:
-    """Labels, some of them given by their beginning and a `*`."""
-
-    words: tuple[str, ...] = ()
-
-    @cached_property
-    def _known(self) -> tuple[frozenset[str], tuple[str, ...]]:
-        """The words that are whole labels, and the beginnings of others."""
-        beginnings = tuple(word[:-1] for word in self.words if word.endswith("*"))
-        return frozenset(self.words), beginnings
-
-    def __contains__(self, label: str) -> bool:
-        whole, beginnings = self._known
-        return label in whole or label.startswith(beginnings)
-
-
-@dataclass(frozen=True)
 class Config:
     """What the file says. `name` is how messages call the file, "" if there is none."""
 
@@ -137,18 +120,6 @@ class Config:
     def allows(self, rule: str, label: str) -> bool:
         """Whether a rule lets this label be."""
         return label in self.allowed.get(rule, Labels())
-
-    def may_rest(self, rule: str, theorem: str, axiom: str) -> bool:
-        """Whether the rule `newly` or `new` lets a theorem rest on a watched axiom."""
-        return any(
-            is_meant(word, axiom) and theorem in labels
-            for word, labels in self.resting.get(rule, {}).items()
-        )
-
-
-def is_meant(word: str, label: str) -> bool:
-    """Whether a word of the file means a label: it is that, or its beginning with `*` after it."""
-    return label.startswith(word[:-1]) if word.endswith("*") else label == word
 
 
 def find_config(folder: Path) -> Path | None:

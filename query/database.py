@@ -26,6 +26,7 @@ if TYPE_CHECKING:
 
 # Counts the forms in which results are kept. A change of what they hold has to change it.
 FORM = 2
+NOTHING = "has neither axioms nor theorems"
 NO_CITATIONS = "the report has no section 'citations'"
 
 
@@ -265,7 +266,7 @@ class Database:
         """The graph of what was found."""
         labels = found.theorems + found.columns + found.others
         if not found.theorems and not found.columns:
-            raise NoAnswer(f"{self.name}: has neither axioms nor theorems")
+            raise NoAnswer(f"{self.name}: {NOTHING}")
         return Graph(self.name, labels, len(found.theorems), cites)
 
     def dependence(self) -> Dependence:

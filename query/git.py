@@ -12,14 +12,15 @@ from __future__ import annotations
 import os
 import re
 import subprocess
-from collections.abc import Mapping
+from collections.abc import Mapping, Sequence
 from contextlib import suppress
 from dataclasses import dataclass
 from functools import partial
 from pathlib import Path
 
-from query import signals
+from query import signals, system
 from query.errors import NoAnswer, shown
+from query.limits import BYTES_FOR_BYTE, MEGABYTE
 from query.program import wanted
 
 NO_COMMIT = "0" * 40
@@ -33,6 +34,11 @@ NOWHERE = "/dev/null"
 
 MOST_SECONDS = 100
 """By the clock, for each call of git. A merge can be made to take hours."""
+FREE_BYTES = 1 << 30
+"""Of memory, for each call of git, besides what the length of a database adds. A few bytes in git
+can be gigabytes, and a merge reads each file that both sides changed."""
+OUT_OF_MEMORY = re.compile(rb"out of memory", re.IGNORECASE)
+"""What git says at a limit of memory."""
 
 SETTINGS = (
     "safe.bareRepository=explicit",
@@ -191,17 +197,18 @@ def said(done: subprocess.CompletedProcess[bytes]) -> str:
 
 
 def call(
-    *words: str, folder: Path, given: bytes = b"", more: Mapping[str, str] | None = None
+    *words: str,
+    folder: Path,
+    given: bytes = b"",
+    more: Mapping[str, str] | None = None,
+    size: int = 0,
 ) -> subprocess.CompletedProcess[bytes]:
-    """Runs git in a folder. No variable of git's reaches it but ours. NoAnswer where git isn't
-    there."""
-    surroundings = {
-        name: value
-        for name, value in os.environ.items()
-        if not name.startswith("GIT_") and name != "LANGUAGE"
-    }
+    """Runs git in a folder. No variable of git's reaches it but ours. `size` is how long the
+    database is, where git reads or merges it. NoAnswer where git isn't there, or needs more time or
+    memory than it gets."""
     settings = [word for each in SETTINGS for word in ("-c", each)]
     line = [wanted("git", "git isn't installed"), *settings, *words]
+    memory = FREE_BYTES + BYTES_FOR_BYTE * size
     with signals.held():
         try:
             process = subprocess.Popen(
@@ -210,21 +217,38 @@ def call(
                 stdin=subprocess.PIPE,
                 stdout=subprocess.PIPE,
                 stderr=subprocess.PIPE,
-                env={**surroundings, **SURROUNDINGS, **(more or {})},
+                env={**surroundings(), **SURROUNDINGS, **(more or {})},
+                preexec_fn=system.limiting_own(memory),
             )
         except OSError as error:
             raise NoAnswer(f"git can't be run: {error.strerror}") from None
         number = signals.at_stop(partial(end, process))
     with process:
         try:
-            return ended(process, given)
+            done = ended(process, given)
         except subprocess.TimeoutExpired:
             end(process)
-            asked = next((word for word in words if not word.startswith("-")), "")
-            why = f"not judged: git {asked} needs more than {MOST_SECONDS} seconds"
-            raise NoAnswer(why) from None
+            raise too_much(words, f"{MOST_SECONDS} seconds") from None
         finally:
             signals.forget(number)
+    if done.returncode and OUT_OF_MEMORY.search(done.stderr):
+        raise too_much(words, f"{memory // MEGABYTE} MB of memory")
+    return done
+
+
+def surroundings() -> dict[str, str]:
+    """Our own variables, but for those of git."""
+    return {
+        name: value
+        for name, value in os.environ.items()
+        if not name.startswith("GIT_") and name != "LANGUAGE"
+    }
+
+
+def too_much(words: Sequence[str], limit: str) -> NoAnswer:
+    """What is said where a call of git comes to a limit, for `raise`."""
+    asked = next((word for word in words if not word.startswith("-")), "")
+    return NoAnswer(f"not judged: git {asked} needs more than {limit}")
 
 
 def ended(process: subprocess.Popen[bytes], given: bytes) -> subprocess.CompletedProcess[bytes]:

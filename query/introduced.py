@@ -12,9 +12,10 @@ from functools import cached_property, lru_cache
 
 from query.assertions import Assertion
 from query.changes import Comparison, Side
-from query.config import Config, Labels
+from query.config import Config
 from query.definitions import NO, TRUST, UNKNOWN, YES, Definitions, Verdict, rests_by
 from query.grounds import BEGINNING
+from query.labels import Labels
 
 WORDS = {NO: "isn't sound", UNKNOWN: "isn't judged", TRUST: "would be on trust"}
 
@@ -70,7 +71,9 @@ class Introduced:
         """Why a definition isn't let in."""
         verdict = self.judged.verdicts.get(one.label)
         if verdict is None:
-            return f"called a definition, but of typecode {one.typecode} (condition `form`)"
+            return (
+                f"called a definition, but isn't of typecode |- (condition `form`): {one.typecode}"
+            )
         word = "changed" if one.label in self.comparison.axioms.changed else "new"
         condition = f" (condition `{verdict.condition}`)" if verdict.condition else ""
         why = f": {verdict.why}" if verdict.why else ""
@@ -113,7 +116,7 @@ def is_called(one: Assertion) -> bool:
 
 def names(config: Config, label: str) -> bool:
     """Whether `allow.axioms` has a whole label; a pattern lets no definition in."""
-    return label in config.allowed.get("axioms", Labels()).words
+    return label in config.allowed.get("axioms", Labels()).whole
 
 
 @lru_cache(maxsize=1)

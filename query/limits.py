@@ -10,6 +10,9 @@ FREE_SECONDS, SECONDS_FOR_MEGABYTE = 10, 5
 FREE_BYTES, BYTES_FOR_BYTE = 256 * MEGABYTE, 64
 MOST_GIVEN = 999_999
 """The largest number that an option or a file may give."""
+SHARE = 4
+"""The part of what two texts get that one of them may take by itself. So what is compared with it
+later has the same room twice."""
 EXPLAINED_PROOF = MEGABYTE
 """A proof of more bytes up to its fault isn't carried out to say what is wrong with it."""
 EXPLAINED_SYMBOLS = 10_000_000
@@ -39,6 +42,11 @@ class Limits:
         if self.megabytes is not None:
             return self.megabytes * MEGABYTE
         return FREE_BYTES + BYTES_FOR_BYTE * size
+
+    def share(self, size: int) -> Limits:
+        """What one of two texts, which have so many bytes together, may take by itself."""
+        memory = self.bytes_for(size) // MEGABYTE
+        return Limits(max(1, self.seconds_for(size) // SHARE), max(1, memory // SHARE))
 
     def or_else(self, other: Limits) -> Limits:
         """These, and where nothing is given those."""

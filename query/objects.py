@@ -44,6 +44,7 @@ def call_apart(
     folder: Path | None = None,
     given: bytes = b"",
     more: Mapping[str, str] | None = None,
+    size: int = 0,
 ) -> subprocess.CompletedProcess[bytes]:
     """Runs git on a repository that we made, in another folder where that is given. No file of
     settings but its own is read."""
@@ -54,7 +55,8 @@ def call_apart(
         "GIT_CONFIG_NOSYSTEM": "1",
         **(more or {}),
     }
-    return call(f"--git-dir={own}", *words, folder=folder or own, given=given, more=apart)
+    where = folder or own
+    return call(f"--git-dir={own}", *words, folder=where, given=given, more=apart, size=size)
 
 
 def make_empty(folder: Path) -> None:
@@ -107,14 +109,16 @@ class Objects:
         )
         (self.folder / "config").write_text(settings + "\n")
 
-    def ask(self, *words: str, given: bytes = b"") -> subprocess.CompletedProcess[bytes]:
-        """Runs git on the repository of our own."""
+    def ask(
+        self, *words: str, given: bytes = b"", size: int = 0
+    ) -> subprocess.CompletedProcess[bytes]:
+        """Runs git on the repository of our own. `size` is how long what it reads may be."""
         more = {"GIT_INDEX_FILE": str(self.folder / "index"), **NOBODY}
-        return call_apart(self.folder, *words, given=given, more=more)
+        return call_apart(self.folder, *words, given=given, more=more, size=size)
 
-    def must(self, *words: str, given: bytes = b"") -> bytes:
+    def must(self, *words: str, given: bytes = b"", size: int = 0) -> bytes:
         """What git answers. NoAnswer where it fails."""
-        done = self.ask(*words, given=given)
+        done = self.ask(*words, given=given, size=size)
         if done.returncode != 0:
             raise NoAnswer(said(done))
         return done.stdout
@@ -142,10 +146,10 @@ class Objects:
             raise NoAnswer(f"{short(first)} and {short(second)} have no common history")
         return done.stdout.decode("ascii").split()[0]
 
-    def merged(self, tip: str, head: str) -> str:
-        """The tree that a merge of a commit into another one gives. NoAnswer where they are in
-        conflict."""
-        done = self.ask("merge-tree", "--write-tree", tip, head)
+    def merged(self, tip: str, head: str, size: int = 0) -> str:
+        """The tree that a merge of a commit into another one gives. `size` is how long the database
+        is. NoAnswer where they are in conflict."""
+        done = self.ask("merge-tree", "--write-tree", tip, head, size=size)
         lines = done.stdout.split(b"\n")
         if done.returncode == 0:
             return lines[0].decode("ascii")
@@ -165,7 +169,8 @@ class Objects:
         for path, data in files.items():
             line = b"0 " + b"0" * len(commit)
             if data is not None:
-                line = b"100644 " + self.must("hash-object", "-w", "--stdin", given=data).strip()
+                words = ("hash-object", "-w", "--stdin")
+                line = b"100644 " + self.must(*words, given=data, size=len(data)).strip()
             line += b"\t" + os.fsencode(path) + b"\0"
             self.must("update-index", "-z", "--index-info", given=line)
         tree = self.must("write-tree").decode("ascii").strip()
@@ -186,8 +191,9 @@ class Objects:
     def read(self, kind: str, name: str, most: int, path: str) -> bytes:
         """Its bytes. NoAnswer where there are more than `most`: an object of a few bytes can be
         made to unpack to gigabytes."""
-        see_length(path, self.size(kind, name, path), most)
-        return self.must("cat-file", kind, name)
+        size = self.size(kind, name, path)
+        see_length(path, size, most)
+        return self.must("cat-file", kind, name, size=size)
 
     def listing(self, tree: str, path: str) -> dict[bytes, Entry]:
         """What stands in a folder on the way to a path, given by the full id of its tree. NoAnswer

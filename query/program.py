@@ -68,6 +68,8 @@ class Running:
                 raise NoAnswer(f"{shown(path)} can't be run: {reason(error)}") from None
             self.number = signals.at_stop(self.process.kill)
         self.clock = None if allowed is None or limit is not None else self.watched(allowed)
+        self.taken: tuple[float, int] | None = None
+        """Seconds and memory, once it has ended, where the system tells them."""
 
     def watched(self, allowed: Allowed) -> Clock:
         """Where the system has no limits, the clock that ends the program after the seconds."""
@@ -87,7 +89,7 @@ class Running:
                 self.process.kill()
                 break
         self.process.stdout.close()
-        self.process.wait()
+        self.taken = system.waited(self.process)
         signals.forget(self.number)
         if self.clock is not None:
             self.clock.stop()
@@ -111,6 +113,13 @@ class Running:
         if status == NO_MEMORY:
             return f"{memory // limits.MEGABYTE} MB of memory (--limit-memory), or than there are"
         return ""
+
+    def may_be_more_than(self, part: int) -> bool:
+        """Whether it may have taken more than such a part of what it was allowed."""
+        if self.allowed is None or self.taken is None:
+            return self.allowed is not None
+        seconds, memory = self.taken
+        return part * seconds > self.allowed.seconds or part * memory > self.allowed.memory
 
     def said(self) -> bytes:
         """What it wrote to standard error, where that is kept."""

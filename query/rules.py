@@ -16,11 +16,12 @@ from query.arrivals import Arrivals
 from query.assertions import Assertion
 from query.boxes import exposed
 from query.changes import Comparison, Side
-from query.config import RULES, Claim, Config, Labels, is_meant
+from query.config import LABEL, RULES, Claim, Config
 from query.excerpts import SHOWN_FORMULA, cut
 from query.graph import Graph
 from query.includes import OPENING, new_includes
 from query.introduced import introduced
+from query.labels import Labels, meant
 from query.remarks import tokens
 from query.restated import change_of
 from query.standing import NewText, OldText, words_of_proof
@@ -28,8 +29,11 @@ from query.text import HEADING_START, Text
 
 DISCOURAGED = re.compile(r"\(New\s+usage\s+is\s+discouraged\.\)")
 DISCOURAGED_PROOF = re.compile(r"\(Proof\s+modification\s+is\s+discouraged\.\)")
+LEFT_OUT, SPACES = re.compile(r"[\r\n\f]+"), re.compile(r"[ \t]+")
+"""What metamath.exe leaves out of a description before it looks for marks, and then takes for one
+space."""
 MARKED = re.compile(rb"\$\(\s+\$j(?=\s)")
-TOKEN = re.compile(r"'([^']*)'|\"([^\"]*)\"|(;)|([^\s;'\"]+)")
+TOKEN = re.compile(r"'([^']*)'|\"([^\"]*)\"|(;)|([^\s;'\"]+)|(['\"])")
 QUOTED = "'"
 """Stands for a quoted word: no other word has this sign."""
 MOST_REASONS = 1_000_000
@@ -90,6 +94,11 @@ class Case:
         return self.config.typecode in (None, typecode)
 
     @cached_property
+    def sorted_axioms(self) -> list[str]:
+        """The labels of the axioms of NEW, sorted."""
+        return sorted(one.label for one in self.text.assertions if one.kind == "a")
+
+    @cached_property
     def arrivals(self) -> Arrivals:
         """What came to rest on watched axioms."""
         return Arrivals(self.comparison, watched_axioms(self), self.config)
@@ -111,8 +120,9 @@ class Case:
         told, watch, was = self.comparison.differences, self.config.watch, self.comparison.to_old
         if any(one.kind == "p" and one.label in told.gone for one in told.new.values()):
             return bool(watch)
-        meant = Labels(watch)
-        return any(each in meant or was.get(each, "") in meant for each in self.comparison.gaining)
+        labels = Labels(watch)
+        gaining = self.comparison.gaining
+        return any(each in labels or was.get(each, "") in labels for each in gaining)
 
 
 def axioms(case: Case) -> Iterator[Finding]:
@@ -205,7 +215,7 @@ def watched(case: Case) -> Iterator[Finding]:
     for label, one in case.comparison.differences.gone.items():
         now = case.comparison.to_new.get(label, label)
         if one.letter != "p" and now != label and label in watch and now not in watch:
-            if label not in case.config.watch:
+            if label not in watch.whole:
                 reason = f"a watched axiom whose statement has the label {now}, which isn't watched"
                 yield Finding("watched", case.config.name, line, label, label, reason)
 
@@ -214,10 +224,7 @@ def reason_of_watched(case: Case, word: str) -> str:
     """What became of the axiom that a word of `watch` names; "" where it is there."""
     after = case.text.find(word)
     if word.endswith("*"):
-        is_there = any(
-            one.kind == "a" and is_meant(word, one.label) for one in case.text.assertions
-        )
-        return "" if is_there else "a watched axiom that is missing"
+        return "" if meant(word, case.sorted_axioms) else "a watched axiom that is missing"
     reason = "a watched axiom that is missing"
     if after is not None and after.kind == "a":
         before = case.old_text.find(word)
@@ -312,78 +319,92 @@ def avoids(case: Case) -> Iterator[Finding]:
         else:
             reason = "a comment `$j usage` that isn't understood"
             yield Finding("avoids", case.new.name, usage.line, usage.theorem, "", reason)
-    for theorem, axiom in promises_gone(case):
+    for theorem, axiom, what in promises_gone(case):
         if not case.config.allows("avoids", theorem):
-            reason = f"the comment `$j usage` which says that it avoids {axiom} is gone"
+            reason = f"the comment `$j usage` which says that it avoids {axiom} {what}"
             yield case.finding("avoids", theorem, reason, axiom)
 
 
-def promises(text: Text) -> list[tuple[str, str]]:
-    """Each theorem with each axiom that a comment of a text says it avoids."""
-    return [
-        (usage.claim.theorem, axiom)
-        for usage in usages(text)
-        if usage.claim is not None
-        for axiom in usage.claim.axioms
-    ]
+def promises(text: Text) -> dict[tuple[str, str], bool]:
+    """Each theorem with each axiom that a comment of a text says it avoids, and whether a comment
+    between statements does. Other programs pass over those within statements."""
+    found: dict[tuple[str, str], bool] = {}
+    for usage in usages(text):
+        for axiom in () if usage.claim is None else usage.claim.axioms:
+            labels = (usage.theorem, axiom)
+            found[labels] = found.get(labels, False) or not usage.is_within
+    return found
 
 
-def promises_gone(case: Case) -> Iterator[tuple[str, str]]:
+def promises_gone(case: Case) -> Iterator[tuple[str, str, str]]:
     """The theorems and axioms of NEW of which a comment of OLD rightly said that the one avoids the
-    other, and none of NEW does."""
+    other, and none of NEW does; and what became of the comment."""
     same, gone = case.comparison, case.comparison.differences.gone
-    before = dict.fromkeys(promises(case.old_text))
+    before = promises(case.old_text)
     rows, columns = (case.new.dependence.rows, case.new.dependence.columns) if before else ({}, {})
-    kept = set(promises(case.text)) if before else set()
-    for labels in before:
+    kept = promises(case.text) if before else {}
+    for labels, was_seen in before.items():
         now = (same.to_new.get(labels[0], ""), same.to_new.get(labels[1], ""))
-        if now in kept or not now[0] or now[1] not in columns:
+        is_kept = now in kept and (kept[now] or not was_seen)
+        if is_kept or not now[0] or now[1] not in columns:
             continue
         is_theorem, is_proved = (
             gone[label].letter == "p" if label in gone else label in rows for label in labels
         )
         bit = case.new.dependence.mask_of([columns[now[1]]])
         if is_theorem and not is_proved and not same.row_before(labels[0]) & bit:
-            yield now
+            yield *now, "stands within a statement now" if now in kept else "is gone"
 
 
 @dataclass(frozen=True)
 class Usage:
-    """A statement `usage` of a `$j` comment; `claim` is None where it isn't understood."""
+    """A statement `usage` of a `$j` comment; `claim` is None where it isn't understood.
+    `is_within` is whether the comment stands within a statement."""
 
     line: int
     theorem: str
     claim: Claim | None
+    is_within: bool
+
+
+Word = tuple[int, str, bool]
+"""A word of a `$j` comment: its place, the word, and whether it was quoted."""
 
 
 def usages(text: Text) -> Iterator[Usage]:
     """Each statement `usage` of the `$j` comments, also of those that stand within a statement."""
-    for opening in MARKED.finditer(text.data):
+    for opening, _, is_within in text.comments(MARKED):
         start = opening.end()
         body = text.data[start : text.data.index(b"$)", start)].decode("latin-1")
         if "usage" not in body:
             continue
-        words: list[tuple[int, str, bool]] = []
+        words: list[Word] = []
+        is_whole = True
         for token in tokens(TOKEN, body):
+            # Behind a remark or a quote that isn't closed other programs read nothing.
+            is_whole = is_whole and not token[0].startswith("/*") and token.lastindex != 5
             if token[3]:
-                yield from usage_in(text, words, is_ended=True)
+                yield from usage_in(text, words, is_within, is_whole)
                 words = []
             elif token.lastindex:
                 is_quoted = token.lastindex < 3
                 words.append((start + token.start(), token[token.lastindex], is_quoted))
-        yield from usage_in(text, words, is_ended=False)
+        yield from usage_in(text, words, is_within, False)
 
 
-def usage_in(text: Text, words: list[tuple[int, str, bool]], *, is_ended: bool) -> Iterator[Usage]:
-    """The statement that these words are, where it is a `usage`: place, word, whether quoted."""
+def usage_in(text: Text, words: list[Word], is_within: bool, is_whole: bool) -> Iterator[Usage]:
+    """The statement that these words are, where it is a `usage`. `is_whole` is whether it has its
+    end, and other programs read as far."""
     if not words or words[0][1] != "usage" or words[0][2]:
         return
     line = text.line(words[0][0])
-    labels = [word.strip() for _, word, is_quoted in words if is_quoted]
-    theorem = labels[0] if labels else ""
+    labels = [word for _, word, is_quoted in words if is_quoted]
+    theorem = labels[0].strip() if labels else ""
     shape = [QUOTED if is_quoted else word for _, word, is_quoted in words]
-    is_right = shape[1:4] == [QUOTED, "avoids", QUOTED] and set(shape[3:]) == {QUOTED} and is_ended
-    yield Usage(line, theorem, Claim(theorem, tuple(labels[1:]), line) if is_right else None)
+    is_right = shape[1:4] == [QUOTED, "avoids", QUOTED] and set(shape[3:]) == {QUOTED}
+    is_right = is_right and is_whole and all(map(LABEL.match, labels))
+    claim = Claim(theorem, tuple(labels[1:]), line) if is_right else None
+    yield Usage(line, theorem, claim, is_within)
 
 
 class Judge:
@@ -587,13 +608,10 @@ def discouraged(case: Case) -> Iterator[Finding]:
             reason = "its comment no longer says `(New usage is discouraged.)`"
             yield case.finding("discouraged", now.label, reason)
     for one in same.touched:
-        for mark in hidden_marks(text, one):
+        for mark, reason in hidden_marks(text, one).items():
             before = old.find(same.was(one.label))
             was_hidden = before is not None and mark in hidden_marks(old, before)
             if not was_hidden and not case.config.allows("discouraged", one.label):
-                reason = (
-                    f"another comment stands behind that with `{mark}`, so metamath.exe misses it"
-                )
                 yield case.finding("discouraged", one.label, reason)
 
 
@@ -618,13 +636,21 @@ def citations_of_discouraged(case: Case) -> list[tuple[str, str]]:
     return sorted(found, key=lambda pair: (numbers[pair[1]], numbers[pair[0]]))
 
 
-def hidden_marks(text: Text, one: Assertion) -> list[str]:
-    """The marks that stand in the comment of an assertion, and not in the one right before it,
-    which alone metamath.exe reads."""
-    nearest = text.nearest_comment(one)
-    marks = (mark for mark in (DISCOURAGED, DISCOURAGED_PROOF) if not mark.search(nearest))
-    found = (mark.search(text.comment(one)) for mark in marks)
-    return [" ".join(match[0].split()) for match in found if match]
+def hidden_marks(text: Text, one: Assertion) -> dict[str, str]:
+    """The marks that stand in the comment of an assertion and that metamath.exe misses, each with
+    the reason."""
+    comment, description = text.comment(one), text.description(one)
+    read = SPACES.sub(" ", LEFT_OUT.sub("", description))
+    found = {}
+    for mark in (DISCOURAGED, DISCOURAGED_PROOF):
+        match = mark.search(comment)
+        words = " ".join(match[0].split()) if match else ""
+        if words not in read:
+            is_broken = mark.search(description)
+            why = f"a line ends within `{words}`, with no space before or after"
+            why = why if is_broken else f"another comment stands behind that with `{words}`"
+            found[words] = f"{why}, so metamath.exe misses it"
+    return found
 
 
 def plain(case: Case) -> Iterator[Finding]:

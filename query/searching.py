@@ -9,25 +9,34 @@ syntax axioms; of one that can't be read only variables are parts.
 from __future__ import annotations
 
 import re
+from collections import Counter
 from collections.abc import Iterable, Iterator, Mapping, Sequence
 from dataclasses import dataclass
-from itertools import groupby
+from functools import cached_property
+from itertools import groupby, takewhile
+from typing import NamedTuple
 
 from query import progress
 from query.assertions import Assertion
-from query.definitions import parts_within, read_as, syntax_of
-from query.equality import PROVABLE
+from query.brackets import Level, Reader
+from query.definitions import syntax_of
+from query.descent import OF_TYPECODE
 from query.errors import NoAnswer, nearest, shown
-from query.grammar import Grammar, NotRead, Unbuilt
 from query.spare.rules import floating_of
 from query.text import Text
 
 QUOTED = re.compile(r'\s*"\s*([^"]*?)\s*"\s*')
-MOST_TRIED = 100_000
-"""So many ways of putting parts in place of variables are tried for one formula."""
+MOST_TRIED, MOST_OF_SYMBOL = 100_000, 100
+"""So many symbols of patterns, and so many for each symbol of a formula, are compared with it."""
 
-Parts = Mapping[tuple[str, int], Sequence[int]]
-"""For a typecode and the place where parts of it begin the places where these end."""
+
+class Step(NamedTuple):
+    """A symbol of a pattern: a constant, or a variable of a typecode. `is_repeated` is whether it
+    is a variable that stands in the pattern more than once."""
+
+    symbol: str
+    typecode: str | None
+    is_repeated: bool
 
 
 @dataclass(frozen=True)
@@ -37,10 +46,31 @@ class Pattern:
     symbols: tuple[str, ...]
     kinds: Mapping[str, str]
 
+    @cached_property
     def runs(self) -> list[str]:
         """The stretches of constants, in order, each between spaces."""
         groups = groupby(self.symbols, lambda symbol: symbol in self.kinds)
         return [f" {' '.join(symbols)} " for is_variable, symbols in groups if not is_variable]
+
+    @cached_property
+    def steps(self) -> list[Step]:
+        """Its symbols, one for each step of comparing it."""
+        counts, kinds = Counter(self.symbols), self.kinds
+        return [
+            Step(symbol, kinds.get(symbol), symbol in kinds and counts[symbol] > 1)
+            for symbol in self.symbols
+        ]
+
+    def near(self, reader: Reader) -> list[str]:
+        """The tokens that a level has in which the pattern begins: those of its constants up to
+        the first with which it may go on in another level."""
+        first, *others = self.symbols
+        others = [each for each in others if each not in self.kinds]
+        if first in reader.ends:
+            others = []
+        constants = [first] if first not in self.kinds else []
+        constants += takewhile(lambda symbol: symbol not in reader.edges, others)
+        return [reader.tokens.get(each, each) for each in dict.fromkeys(constants)]
 
 
 def may_have(text: str, runs: Sequence[str]) -> bool:
@@ -58,19 +88,34 @@ def pattern_of(text: Text, name: str, word: str) -> Pattern:
     """The pattern that a word is. NoAnswer where it has a symbol that the database hasn't."""
     quoted = QUOTED.fullmatch(word)
     symbols = tuple((word if quoted is None else quoted[1]).split())
-    kinds: dict[str, str] = {}
-    for typecode, variable in floating_of(text.data).values():
-        kinds.setdefault(variable, typecode)
-    known = {symbol for one in text.assertions for symbol in one.formula.split(" ")}
-    for symbol in symbols:
-        if symbol not in known and symbol not in kinds:
-            meant = nearest(symbol, known)
-            raise NoAnswer(f"{name}: no statement has the symbol '{shown(symbol)}'{meant}")
     if not symbols:
         raise NoAnswer("a PATTERN wants at least one symbol")
-    return Pattern(
-        symbols, {} if quoted else {each: kinds[each] for each in symbols if each in kinds}
-    )
+    kinds = {}
+    for symbol in dict.fromkeys(symbols):
+        typecode = typecode_of_symbol(text, name, symbol)
+        if typecode is not None:
+            kinds[symbol] = typecode
+    return Pattern(symbols, {} if quoted else kinds)
+
+
+def typecode_of_symbol(text: Text, name: str, symbol: str) -> str | None:
+    """The typecode of a symbol that is a variable, None for a constant. NoAnswer where no statement
+    has it."""
+    between = f" {symbol} "
+    for one in text.assertions:
+        if between in f"{one.said} ":
+            given = one.frame().hypotheses()
+            floating = dict(each.formula.split(" ")[::-1] for each in given if each.kind == "f")
+            if symbol in floating:
+                return floating[symbol]
+            formulas = [one.formula, *(each.formula for each in given if each.kind == "e")]
+            if any(between in f" {formula} " for formula in formulas):
+                return None
+    for typecode, variable in floating_of(text.data).values():
+        if variable == symbol:
+            return typecode
+    known = {each for one in text.assertions for each in one.formula.split(" ")}
+    raise NoAnswer(f"{name}: no statement has the symbol '{shown(symbol)}'{nearest(symbol, known)}")
 
 
 @dataclass(frozen=True)
@@ -82,109 +127,184 @@ class Hit:
     formula: str
 
 
+class TooMany(Exception):
+    """There are too many ways to put parts in place of variables."""
+
+
+class Answer(NamedTuple):
+    """What is known of a formula: whether it has all patterns, whether it has a tree or needs none,
+    and whether it takes too long to say."""
+
+    has: bool
+    is_read: bool = True
+    is_too_long: bool = False
+
+
 class Searcher:
     """Finds patterns in the formulas of some statements of a database, which has `every` one."""
 
     def __init__(self, assertions: Sequence[Assertion], every: Sequence[Assertion]) -> None:
         self.assertions = assertions
-        self.grammar: Grammar = syntax_of(every)
-        self.typecodes = list(dict.fromkeys(self.grammar.typecodes.values()))
+        self.reader = Reader(syntax_of(every))
         self.unread: list[str] = []
         """The statements with a formula that has no tree."""
         self.given_up: list[str] = []
         """Those of which it takes too long to say whether they have the pattern."""
+        self._answers: dict[str, Answer] = {}
+        """Of formulas that were looked at."""
+        self._declared: set[str] = set()
+        """The `$f` whose variables are declared. In a database that was verified a variable has one
+        typecode wherever it stands, so that equal formulas are the same."""
+        self._near: list[tuple[Pattern, list[str]]] = []
+        """The patterns that are looked for and have variables. The others are text."""
 
     def hits(self, patterns: Sequence[Pattern]) -> Iterator[Hit]:
         """The formulas that have all patterns, in file order, a statement before its `$e`."""
-        all_runs = [pattern.runs() for pattern in patterns]
+        self._answers.clear()
+        self._near = [(each, each.near(self.reader)) for each in patterns if each.kinds]
         for number, one in enumerate(self.assertions):
             if number % 1000 == 0:
                 progress.now(f"searching, {number} of {len(self.assertions)} are done")
-            if not all(may_have(f"{one.said} ", runs) for runs in all_runs):
+            if not all(may_have(f"{one.said} ", pattern.runs) for pattern in patterns):
                 continue
-            for given, formula in formulas_of(one):
-                if all(may_have(f" {formula} ", runs) for runs in all_runs):
-                    if self.has(one, formula.split(" "), patterns):
-                        yield Hit(one, given, formula)
+            for given, formula in self.formulas_of(one):
+                answer = self._answers.get(formula)
+                if answer is None:
+                    answer = self._answers[formula] = self.answer(formula, patterns)
+                if answer.has:
+                    yield Hit(one, given, formula)
+                if not answer.is_read:
+                    self.unread.append(one.label)
+                if answer.is_too_long:
+                    self.given_up.append(one.label)
 
-    def has(self, one: Assertion, symbols: Sequence[str], patterns: Sequence[Pattern]) -> bool:
-        """Whether a formula has all patterns."""
-        parts: Parts = {}
-        if any(pattern.kinds for pattern in patterns):
-            parts = self.parts(one, symbols)
-        try:
-            return all(Match(symbols, parts).find(pattern) for pattern in patterns)
-        except TooMany:
-            self.given_up.append(one.label)
-            return False
-
-    def parts(self, one: Assertion, symbols: Sequence[str]) -> Parts:
-        """The parts of a formula. Its first symbol is a typecode."""
-        _, kinds = read_as(one)
-        found: dict[tuple[str, int], list[int]] = {}
-        for place, symbol in enumerate(symbols):
-            if place and symbol in kinds:
-                found[kinds[symbol], place] = [place + 1]
-        typecodes = [symbols[0]] if symbols[0] in self.typecodes else self.typecodes
-        for typecode in typecodes:
-            try:
-                tree = self.grammar.tree(typecode, symbols[1:], kinds)
-            except Unbuilt:
-                continue
-            except NotRead:
-                break
-            for part in parts_within(tree, tree.root):
-                found.setdefault((part.typecode, part.start + 1), []).append(part.end + 1)
-            if symbols[0] == PROVABLE and typecode != self.typecodes[0]:
-                self.typecodes.remove(typecode)  # the next formula is likely of this one, too
-                self.typecodes.insert(0, typecode)
-            return found
-        self.unread.append(one.label)
+    def formulas_of(self, one: Assertion) -> Iterable[tuple[str | None, str]]:
+        """The formula of a statement, and those of its `$e` by their labels. Declares its
+        variables."""
+        found: list[tuple[str | None, str]] = [(None, one.formula)]
+        for part in one.frame().given.split(" $")[1:]:
+            if part.startswith("e "):
+                _, label, formula = part.split(" ", 2)
+                found.append((label, formula))
+            elif part not in self._declared:
+                _, _, typecode, variable = part.split(" ")
+                self.reader.declare(variable, typecode)
+                self._declared.add(part)
         return found
 
+    def answer(self, formula: str, patterns: Sequence[Pattern]) -> Answer:
+        """Whether a formula has all patterns."""
+        if not all(may_have(f" {formula} ", pattern.runs) for pattern in patterns):
+            return Answer(False)
+        if not self._near:
+            return Answer(True)
+        symbols = formula.split(" ")
+        level, is_read = self.reader.level(symbols)
+        try:
+            match = Match(symbols, level)
+            return Answer(all(match.has(*each) for each in self._near), is_read)
+        except TooMany:
+            return Answer(False, is_read, True)
 
-class TooMany(Exception):
-    """There are too many ways to put parts in place of variables."""
+
+Above = tuple[Level, int, "Above"] | None
+"""The token that stands for a level in the one above it: that one, its index, and what is above."""
+Bound = dict[str, tuple[int, int]]
+"""The part that stands in place of a variable, from its first symbol to the one behind it, of those
+that a pattern has more than once."""
+State = tuple[int, Level, int, Above, Bound]
+"""How far a pattern was compared: the number of the next step, the level and the index of the next
+token, what is above, and what is bound."""
+NONE: Mapping[int, Sequence[int]] = {}
 
 
 class Match:
     """Looks for patterns in one formula."""
 
-    def __init__(self, symbols: Sequence[str], parts: Parts) -> None:
+    def __init__(self, symbols: Sequence[str], whole: Level) -> None:
         self.symbols = symbols
-        self.parts = parts
-        self.left = MOST_TRIED
+        self.whole = whole
+        self.left = MOST_TRIED + MOST_OF_SYMBOL * len(symbols)
 
-    def find(self, pattern: Pattern) -> bool:
-        """Whether the formula has a pattern somewhere."""
-        return any(self.is_at(pattern, start) for start in range(len(self.symbols)))
-
-    def is_at(self, pattern: Pattern, start: int) -> bool:
-        """Whether a pattern is at a place."""
-        bound: dict[str, tuple[str, ...]] = {}
-        left: list[tuple[int, int, dict[str, tuple[str, ...]]]] = [(0, start, bound)]
+    def has(self, pattern: Pattern, near: Sequence[str]) -> bool:
+        """Whether the formula has a pattern somewhere, which begins in a level that has these
+        tokens."""
+        left: list[tuple[Level, Above]] = [(self.whole, None)]
         while left:
-            number, place, bound = left.pop()
-            self.left -= 1
-            if self.left < 0:
-                raise TooMany
-            if number == len(pattern.symbols):
-                return True
-            symbol = pattern.symbols[number]
-            kind = pattern.kinds.get(symbol)
-            if kind is None:
-                if place < len(self.symbols) and self.symbols[place] == symbol:
-                    left.append((number + 1, place + 1, bound))
-                continue
-            known = bound.get(symbol)
-            for end in self.parts.get((kind, place), ()):
-                said = tuple(self.symbols[place:end])
-                if known is None or known == said:
-                    left.append((number + 1, end, {**bound, symbol: said}))
+            level, above = left.pop()
+            is_near = all(map(level.tokens.__contains__, near))
+            for index in self.starts(level, above, pattern.steps[0], is_near):
+                if self.is_at(pattern.steps, (0, level, index, above, {})):
+                    return True
+            for index, below in level.below.items():
+                left.append((below, (level, index, above)))
         return False
 
+    def starts(self, level: Level, above: Above, first: Step, is_near: bool) -> Iterable[int]:
+        """The tokens of a level at which a pattern with this first step may begin."""
+        symbol, typecode, _ = first
+        if typecode is None:
+            places = enumerate(level.places[:-1] if is_near else ())
+            return [index for index, place in places if self.symbols[place] == symbol]
+        starts = level.starts.get(typecode, NONE)
+        if above is None or 0 not in starts:
+            return starts if is_near else ()
+        # The level itself begins here, and what comes behind it is in the one above. That has a
+        # token for it, unless the level is of several typecodes.
+        is_above = above[0].tokens[above[1]] == OF_TYPECODE + typecode
+        return [index for index in starts if (is_near if index else not is_above)]
 
-def formulas_of(one: Assertion) -> Iterable[tuple[str | None, str]]:
-    """The formula of a statement, and those of its `$e` by their labels."""
-    given = ((each.label, each.formula) for each in one.frame().hypotheses() if each.kind == "e")
-    return ((None, one.formula), *given)
+    def is_at(self, steps: Sequence[Step], state: State) -> bool:
+        """Whether a pattern is at a token."""
+        left = [state]
+        while left:
+            state = left.pop()
+            first, level, index, above, bound = state
+            number = first
+            for number in range(first, len(steps)):
+                symbol, typecode, is_repeated = steps[number]
+                while index == len(level.tokens) and above is not None:
+                    level, index, above = above
+                    index += 1
+                while index in level.below:
+                    level, index, above = level.below[index], 0, (level, index, above)
+                if typecode is None:
+                    places = level.places
+                    if index == len(level.tokens) or self.symbols[places[index]] != symbol:
+                        break
+                    index += 1
+                    continue
+                ends = level.starts.get(typecode, NONE).get(index, ())
+                while not ends and index == 0 and above is not None:
+                    level, index, above = above
+                    ends = level.starts.get(typecode, NONE).get(index, ())
+                if len(ends) != 1:
+                    left += self.branches(steps[number], (number, level, index, above, bound), ends)
+                    break
+                end = ends[0]
+                if is_repeated and not self.binds(bound, symbol, level, index, end):
+                    break
+                index = end
+            else:
+                return True
+            self.left -= number - first + 1
+            if self.left < 0:
+                raise TooMany
+        return False
+
+    def branches(self, step: Step, state: State, ends: Sequence[int]) -> Iterator[State]:
+        """What may follow where a variable stands for one of several parts, or for none."""
+        number, level, index, above, bound = state
+        for end in ends:
+            self.left -= len(bound)
+            own = {**bound}
+            if not step.is_repeated or self.binds(own, step.symbol, level, index, end):
+                yield number + 1, level, end, above, own
+
+    def binds(self, bound: Bound, variable: str, level: Level, index: int, end: int) -> bool:
+        """Binds a variable to a part, where it isn't bound to another one."""
+        start, behind = level.places[index], level.places[end]
+        first, last = bound.setdefault(variable, (start, behind))
+        if start == first or behind - start != last - first:
+            return behind == last
+        return self.symbols[start:behind] == self.symbols[first:last]

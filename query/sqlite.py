@@ -9,7 +9,7 @@ from collections.abc import Iterable, Iterator
 from dataclasses import dataclass
 from itertools import chain, islice
 
-from query import system
+from query import progress, system
 from query.contributed import contributed
 from query.database import Dependence
 from query.errors import NoAnswer, shown
@@ -104,6 +104,8 @@ ANALYZE;
 Row = tuple[object, ...]
 MOST_VALUES = 999
 """How many values a statement may have, whatever the version of SQLite."""
+ROWS_TOLD = 10_000
+"""After so many rows of a table a terminal is told how many there are."""
 
 
 @dataclass(frozen=True)
@@ -227,8 +229,11 @@ def insert(connection: sqlite3.Connection, table: str, rows: Iterator[Row]) -> i
     """Inserts rows, many by one statement, which takes a third of the time. Says how many."""
     width = len(connection.execute(f"PRAGMA table_info({table})").fetchall())
     values = f"({', '.join('?' * width)})"
-    count = 0
+    count = told = 0
     while block := list(islice(rows, MOST_VALUES // width)):
+        if count >= told:
+            progress.now(f"writing the table {table}, {count} rows are done")
+            told += ROWS_TOLD
         many = ", ".join([values] * len(block))
         connection.execute(f"INSERT INTO {table} VALUES {many}", list(chain.from_iterable(block)))
         count += len(block)
@@ -248,6 +253,7 @@ def fill_tables(content: Content, path: str) -> list[tuple[str, int]]:
         for table, rows in content.tables():
             counts.append((table, insert(connection, table, iter(rows))))
         connection.commit()
+        progress.now("making the indices of the tables")
         connection.executescript(INDICES + VIEWS)
         connection.commit()
     finally:

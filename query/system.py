@@ -11,9 +11,14 @@ import os
 import select
 import signal
 import stat
+import sys
 from collections.abc import Callable, Sequence
 from contextlib import suppress
 from types import FrameType
+from typing import TYPE_CHECKING
+
+if TYPE_CHECKING:
+    import subprocess
 
 BINARY = getattr(os, "O_BINARY", 0)
 """Without it Windows changes the ends of lines."""
@@ -21,6 +26,9 @@ READING = os.O_RDONLY | BINARY
 """For `os.open`: a file that is read. It stays with this process, as all that Python opens."""
 MAKING = os.O_WRONLY | os.O_CREAT | os.O_EXCL | BINARY
 """For `os.open`: a file that isn't there yet, and is written."""
+
+BYTES_OF_UNIT = 1 if sys.platform == "darwin" else 1024
+"""How the system counts the most memory of a process."""
 
 GRACE = 5
 """Seconds after its limit at which a process is killed that wasn't ended by the limit."""
@@ -94,19 +102,52 @@ def limiting(seconds: int, memory: int | None) -> Callable[[], None] | None:
         # Windows has no such module.
         import resource
 
-        def lower(what: int, soft: int, hard: int) -> None:
-            most = resource.getrlimit(what)[1]
-            within = (hard,) if most == resource.RLIM_INFINITY else (hard, most)
-            # macOS refuses some limits of memory.
-            with suppress(ValueError, OSError):
-                resource.setrlimit(what, (min(soft, *within), min(within)))
-
         def limit() -> None:
             lower(resource.RLIMIT_CPU, seconds, seconds + GRACE)
             if memory is not None:
                 lower(resource.RLIMIT_AS, memory, memory)
 
         return limit
+    return None
+
+
+def limiting_own(memory: int) -> Callable[[], None] | None:
+    """The same for the memory that a process has for itself: files that it reads as if they were
+    memory don't count, as packs of git, which may be very long."""
+    with suppress(ImportError):
+        # See limiting.
+        import resource
+
+        return lambda: lower(resource.RLIMIT_DATA, memory, memory)
+    return None
+
+
+def lower(what: int, soft: int, hard: int) -> None:
+    """Lowers a limit of this process."""
+    # See limiting.
+    import resource
+
+    most = resource.getrlimit(what)[1]
+    within = (hard,) if most == resource.RLIM_INFINITY else (hard, most)
+    # macOS refuses some limits of memory.
+    with suppress(ValueError, OSError):
+        resource.setrlimit(what, (min(soft, *within), min(within)))
+
+
+def waited(process: subprocess.Popen[bytes]) -> tuple[float, int] | None:
+    """Waits until a process has ended. Returns the seconds of the processor that it took and its
+    most memory in bytes, but no less than this process had when it began; None where the system
+    doesn't say so."""
+    # It may have been waited for already, where it was killed, also meanwhile.
+    with suppress(ImportError, ChildProcessError):
+        # See limiting. `os.wait4` takes its result from there.
+        import resource
+
+        usage: resource.struct_rusage
+        _, status, usage = os.wait4(process.pid, 0)
+        process.returncode = os.waitstatus_to_exitcode(status)
+        return usage.ru_utime + usage.ru_stime, usage.ru_maxrss * BYTES_OF_UNIT
+    process.wait()
     return None
 
 

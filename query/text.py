@@ -36,6 +36,7 @@ HEADING = re.compile(
     r"[ \t]*(?P=line)[#*=.\-]*[ \t\r]*(?:\n|$)"
 )
 HEADING_START = re.compile(rb"\$\(\s*+(?:####|#\*#\*|=-=-|-\.-\.)")
+OPENING = re.compile(rb"\s*\$\(")
 SPECIAL = re.compile(rb"\s*\$[jt]\s")
 MATHBOX = re.compile(r"Mathbox for (.*)")
 ENDS = (b"$.", b"${", b"$}")
@@ -73,10 +74,15 @@ class Text:
         said = body.decode("latin-1")
         return "" if HEADING.match(said) else said
 
-    def nearest_comment(self, assertion: Assertion) -> str:
-        """The comment right before an assertion, be it one of `$j`: what metamath.exe takes for
-        its description. "" if there is none."""
-        return next(self._comments(assertion), b"").decode("latin-1")
+    def description(self, assertion: Assertion) -> str:
+        """What metamath.exe takes for the description of an assertion: the last comment before its
+        keyword, be it one of `$j` or one behind the label. "" if there is none."""
+        place = assertion.place + len(assertion.label)
+        inside = b""
+        while opening := OPENING.match(self.data, place):
+            place = self.data.index(b"$)", opening.end()) + 2
+            inside = self.data[opening.end() : place - 2]
+        return (inside or next(self._comments(assertion), b"")).decode("latin-1")
 
     def _comments(self, assertion: Assertion) -> Iterator[bytes]:
         """The comments between the statement before and an assertion, the last one first."""
@@ -159,12 +165,22 @@ class Text:
     def _headings(self) -> Iterator[tuple[int, str]]:
         """The comments that begin as a heading and are in no statement, each with the number of the
         first assertion after it."""
+        for match, first, is_within in self.comments(HEADING_START):
+            if not is_within:
+                start = match.start() + 2
+                end = self.data.index(b"$)", start)
+                yield first, self.data[start:end].decode("latin-1")
+
+    def comments(self, opening: re.Pattern[bytes]) -> Iterator[tuple[re.Match[bytes], int, bool]]:
+        """The comments that begin so, each with the number of the first assertion after its
+        beginning, and whether it stands within a statement, be it an assertion or another one."""
         since, is_within = 0, False
-        for match in HEADING_START.finditer(self.data):
+        for match in opening.finditer(self.data):
             place = match.start()
             first = bisect_right(self.places, place)
             end = self.assertions[first - 1].end if first else 0
             if place < end:
+                yield match, first, True
                 continue
             if end > since:
                 since, is_within = end, False
@@ -172,8 +188,7 @@ class Text:
             if last:
                 is_within = not last.endswith(ENDS)
             since = self.data.index(b"$)", place) + 2
-            if not is_within:
-                yield first, self.data[place + 2 : since - 2].decode("latin-1")
+            yield match, first, is_within
 
     @cached_property
     def _firsts(self) -> list[int]:

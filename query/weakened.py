@@ -3,11 +3,12 @@ itself."""
 
 from __future__ import annotations
 
-from collections.abc import Iterable, Iterator
+from collections.abc import Iterator
 from dataclasses import replace
 
 from query.changes import Comparison, Side
-from query.config import CHOSEN, RULES, Claim, Config, Labels
+from query.config import CHOSEN, RULES, Claim, Config
+from query.labels import Labels
 from query.rules import Case, Finding, Judge, reason_of_watched
 
 
@@ -29,9 +30,9 @@ def losses(old: Config, new: Config) -> Iterator[Finding]:
             place = line(new, "rules", rule) or line(new, "rules", "newly")
             place = line(new, CHOSEN) if rule == CHOSEN else place
             yield Finding("config", new.name, place, "", "", f"the rule `{rule}` is switched off")
-    watched = Cover(new.watch)
+    watched = Labels(new.watch)
     for word in old.watch:
-        if not watched.has(word):
+        if not watched.covers(word):
             reason = f"'{word}' isn't watched any more"
             yield Finding("config", new.name, line(new, "watch"), word, word, reason)
     yield from lost_claims(old, new)
@@ -57,7 +58,8 @@ def mended(config: Config, brought: Config, side: Side) -> Config:
     breaks nothing."""
     case = Case(Comparison.within(side), config)
     judge = Judge(case)
-    kept = {claim.theorem: claim.axioms for claim in brought.claims}
+    kept = {claim.theorem: frozenset(claim.axioms) for claim in brought.claims}
+    watched = Labels(brought.watch).whole
     claims = []
     for claim in config.claims:
         axioms = tuple(
@@ -71,9 +73,7 @@ def mended(config: Config, brought: Config, side: Side) -> Config:
     watch = tuple(
         word
         for word in config.watch
-        if "watched" not in config.rules
-        or word in brought.watch
-        or not reason_of_watched(case, word)
+        if "watched" not in config.rules or word in watched or not reason_of_watched(case, word)
     )
     return replace(config, claims=tuple(claims), watch=watch)
 
@@ -83,25 +83,14 @@ def line(config: Config, *path: str) -> int:
     return config.lines.get(path, 0)
 
 
-class Cover:
-    """What words of a file mean, to tell whether they mean all that another one does."""
-
-    def __init__(self, words: Iterable[str]) -> None:
-        self.words = frozenset(words)
-        self.beginnings = tuple(word[:-1] for word in self.words if word.endswith("*"))
-
-    def has(self, word: str) -> bool:
-        """Whether all that a word means is meant: by the same one, or by a beginning of it."""
-        return word in self.words or word.removesuffix("*").startswith(self.beginnings)
-
-
 def lost_claims(old: Config, new: Config) -> Iterator[Finding]:
     """The claims that are dropped."""
     kept = {claim.theorem: claim for claim in new.claims}
     for claim in old.claims:
         now = kept.get(claim.theorem)
+        axioms = frozenset(now.axioms if now else ())
         for axiom in claim.axioms:
-            if now is None or axiom not in now.axioms:
+            if axiom not in axioms:
                 reason = f"the claim that {claim.theorem} avoids {axiom} is dropped"
                 yield Finding(
                     "config", new.name, now.line if now else 0, claim.theorem, axiom, reason
@@ -111,20 +100,19 @@ def lost_claims(old: Config, new: Config) -> Iterator[Finding]:
 def allowances(old: Config, new: Config) -> Iterator[Finding]:
     """What is allowed, and wasn't."""
     for rule, labels in new.allowed.items():
-        before = Cover(old.allowed.get(rule, Labels()).words)
+        before = old.allowed.get(rule, Labels())
         for word in labels.words:
-            if not before.has(word):
+            if not before.covers(word):
                 reason = f"`allow.{rule}` has '{word}' now"
                 yield Finding("config", new.name, line(new, "allow", rule), word, "", reason)
     for rule, lists in new.resting.items():
         known = [
-            (Cover([axiom]), Cover(labels.words))
-            for axiom, labels in old.resting.get(rule, {}).items()
+            (Labels((axiom,)), theorems) for axiom, theorems in old.resting.get(rule, {}).items()
         ]
         for axiom, labels in lists.items():
             place = line(new, "allow", rule, axiom) or line(new, "allow", "newly", axiom)
-            covers = [theorems for axioms, theorems in known if axioms.has(axiom)]
+            covers = [theorems for axioms, theorems in known if axioms.covers(axiom)]
             for word in labels.words:
-                if not any(theorems.has(word) for theorems in covers):
+                if not any(theorems.covers(word) for theorems in covers):
                     reason = f"`allow.{rule}` lets '{word}' rest on '{axiom}' now"
                     yield Finding("config", new.name, place, word, axiom, reason)

@@ -157,7 +157,7 @@ def working_in(folder: Path) -> list[str]:
     return found
 
 
-def wait_for(is_so: "object", seconds: float = 60) -> None:
+def wait_for(is_so: "object", seconds: float = 600) -> None:
     """Waits until something is so."""
     assert callable(is_so)
     end = time.monotonic() + seconds

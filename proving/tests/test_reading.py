@@ -7,10 +7,11 @@ from pathlib import Path
 from types import SimpleNamespace
 
 from proving.alone import judge
-from proving.copies import named_copies, texts_with
+from proving.copies import Copy, named_copies, texts_with
 from proving.edits import Edit, edits_of
 from proving.functions import can_be_copied, functions_of, owner_of
 from proving.tests.repositories import EDITS, LOW, edit
+from proving.trial import Trial
 from proving.verdicts import Said, Span, is_part, is_proved, reason
 
 SOURCE = """#![tactic(auto)]
@@ -144,10 +145,13 @@ class Read(unittest.TestCase):
             function = owner_of(functions, each.change)
             assert function is not None
             owners.append((each, function))
-        copies = named_copies(owners)
-        names = ("left_wrong_0", "one_wrong_1", "one_wrong_2", "left_right_0", "one_right_1")
+        copies = named_copies(self.crate, owners)
+        # A function without proof files is its own right copy.
+        names = ("left_wrong_0", "one_wrong_1", "one_wrong_2", "left_right_0", "one")
         self.assertEqual(tuple(it.name for it in copies), names)
+        self.right_ones(copies)
         texts = texts_with(self.crate, copies)
+        copies = [copy for copy in copies if not copy.is_itself]
         source = texts["src/lib.rt"].decode()
         lines = source.split("\n")
         for copy in copies:
@@ -155,6 +159,7 @@ class Read(unittest.TestCase):
             self.assertIn(f"pub fn {copy.name}(", shown[0])
             self.assertEqual(shown[-1].strip(), "}")
         self.assertEqual(source.count("pub fn left"), 3)
+        self.assertEqual(source.count("pub fn one("), 1)
         self.assertIn("    pub fn left(&self) -> u32", source)
         # Without the copies it is the text as it was.
         for copy in sorted(copies, key=lambda it: -it.span.first):
@@ -162,6 +167,23 @@ class Read(unittest.TestCase):
         self.assertEqual("\n".join(lines), LOW)
         proof = texts["proofs/Pair/left_wrong_0/Answers.antt"].decode()
         self.assertEqual(proof, own.replace("left.Goals", "left_wrong_0.Goals"))
+
+    def right_ones(self, copies: list[Copy]) -> None:
+        """Where the right one isn't proved, no copy of its function says anything."""
+        edits = [copy.edit for copy in copies if copy.edit]
+        proved = "fn low::Pair::left_right_0: proved\nfn low::one: proved\n"
+        for said, unclear in (
+            (proved, set()),
+            (proved.replace("one: proved", "one: not proved"), {"two", "three"}),
+            (proved.replace("fn low::one: proved\n", ""), {"two", "three"}),
+            (proved.replace("left_right_0: proved", "left_right_0: no proof"), {"right"}),
+        ):
+            trial = Trial(self.crate, edits)
+            trial.see_the_right_ones(Said(1, said, 0), copies)
+            self.assertEqual({it.path.stem for it in edits if it.unclear}, unclear)
+            self.assertEqual(bool(trial.odd), bool(unclear))
+            for each in edits:
+                each.unclear = ""
 
 
 class Verdicts(unittest.TestCase):

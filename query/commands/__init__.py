@@ -46,6 +46,7 @@ INDEX: dict[str, tuple[str, str]] = {
     "frees": ("chains", "what new proofs of THEOREMs free of ON, or which would free most"),
     "spare": ("spare", "theorems that can do without AXIOMs, with new proofs of them"),
     "repeats": ("repeats", "theorems that say what an earlier statement says"),
+    "unneeded": ("unneeded", "hypotheses, $d conditions and symbols that nothing needs"),
     "top": ("ranking", "which axioms are used most, or least"),
     "sets": ("ranking", "how many theorems rest on each set of axioms"),
     "within": ("ranking", "which theorems rest on no more than the LABELs"),

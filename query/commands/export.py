@@ -15,10 +15,22 @@ PAGE = """
 Writes statements, citations and marks as tables of SQLite into FILE. One that `export` wrote before
 is replaced, another file isn't. docs/SQL.md describes the columns, with ten queries.
 
-table  its name: about, chapter, statement, hypothesis, disjoint, proof, citation, mark
+table  its name
 rows   how many rows it has
 
+  about       the database and the options
+  chapter     the headers
+  statement   axioms and theorems: label, kind, typecode, formula, line, chapter, mathbox, whether
+              new usage and modification are discouraged, comment, contributor and day
+  hypothesis  the $e of a statement
+  disjoint    the pairs of its variables that must be distinct
+  proof       steps, depth and bytes of a theorem's proof
+  citation    what the proof of a theorem cites
+  mark        the axioms on which a theorem rests
+
   $ mmquery export --sqlite set.db set.mm
+  $ sqlite3 set.db "SELECT count(*) FROM statement JOIN mark_label ON theorem = label
+                    WHERE contributor = 'NM' AND axiom = 'ax-13'"
 """
 
 

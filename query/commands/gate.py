@@ -18,6 +18,7 @@ from query.excerpts import SHOWN_FORMULA
 from query.faults import Refused
 from query.findings import FORMS, Verdict, as_summary
 from query.git import short
+from query.one_run import COUNTS
 from query.options import Options, Parser, add_database
 from query.output import reason
 from query.rules import Case, Finding, judge
@@ -158,7 +159,35 @@ def found_in(request: Request, tells_all: bool) -> Iterator[Finding]:
             raise
         yield refusal_of(refused)
         return
+    if comparison.differences.is_costly:
+        see_share(request)
     yield from judged(comparison, request.asked, tells_all)
+
+
+def see_share(request: Request) -> None:
+    """NoAnswer where NEW by itself takes more than its share of what it and OLD get, and OLD
+    doesn't: what is compared with it later might have no answer, whatever it brings."""
+    old, new = request.old, request.new
+    share = limits.chosen().share(len(old.data()) + len(new.data()))
+    if not is_within(new, share) and is_within(old, share):
+        raise NoAnswer(
+            f"{new.name}: not judged: by itself the text needs more than {share.seconds} seconds of"
+            f" the processor or {share.megabytes} MB of memory, a quarter of what it and"
+            f" {old.name} get, so later comparisons with it might have no answer"
+        )
+
+
+def is_within(database: Database, some: limits.Limits) -> bool:
+    """Whether a database that was accepted can be verified within some limits."""
+    chosen = limits.chosen()
+    limits.choose(some)
+    try:
+        database.said(COUNTS)
+        return True
+    except NoAnswer:
+        return False
+    finally:
+        limits.choose(chosen)
 
 
 def judged(comparison: Comparison, asked: Asked, tells_all: bool) -> Iterator[Finding]:

@@ -33,6 +33,7 @@ WORDS: dict[str, tuple[str, ...]] = {
     "frees": ("DB", "ax-1"),
     "spare": ("DB", "ax-1"),
     "repeats": ("DB",),
+    "unneeded": ("DB",),
     "top": ("DB",),
     "sets": ("DB",),
     "within": ("DB", "ax-1"),
@@ -67,6 +68,7 @@ OF_GIT = {"history"}
 # Those that write to standard output only where there is something to say.
 MAY_BE_SILENT = {
     *("spare", "unfinished", "definitions", "export", "mathboxes", "gate", "same", "uncited"),
+    "unneeded",
 }
 
 

@@ -266,6 +266,18 @@ def watched_axioms(count: int) -> Files:
     return two(theorems(count), axioms(count) + new, 'watch = ["a*"]\n')
 
 
+def patterns(count: int) -> Files:
+    """New axioms and theorems, and as many words with `*` that watch them, allow others, and allow
+    each theorem what it rests on."""
+    new = axioms(count) + "".join(theorem(f"t{number}", f"a{number}") for number in range(count))
+    watched, allowed = (
+        ", ".join(f'"{letter}{number}*"' for number in range(count)) for letter in "ab"
+    )
+    resting = "".join(f'"a{number}*" = ["t{number}*"]\n' for number in range(count))
+    config = f"watch = [{watched}]\n[allow]\naxioms = [{allowed}]\n[allow.new]\n{resting}"
+    return two("", new, config)
+
+
 def equal_distinct(count: int) -> Files:
     """Equal `$d` of many variables, a hypothesis with all of them, and axioms behind empty
     blocks."""
@@ -477,6 +489,20 @@ def lists(count: int) -> Files:
     return one("\n".join(lines) + "\n" + theorems(count))
 
 
+def brackets(count: int) -> Files:
+    """Formulas deep in brackets, also such as are no part or have no tree."""
+    return one(
+        f"""$c A! x& [ ] $. wx $a wff A! [ p -> q ] $. wy $a wff [ q -> p ] $.
+wz $a wff x& p $.
+left $a |- {"( " * count}p{" -> q )" * count} $.
+right $a |- {"( p -> " * count}q{" )" * count} $.
+none $a |- {"[ " * count}p{" ]" * count} $.
+opened $a |- {"A! [ " * count}p{" -> p ]" * count} $.
+signs $a |- {"x& " * count}p $.
+"""
+    )
+
+
 def new_proofs(count: int) -> Files:
     """Theorems of which each can do without an axiom, and cites the one before."""
     lines = [
@@ -527,6 +553,7 @@ SHAPES = [
     Shape("axioms in other order", axioms_in_other_order, 20_000, 20_000,
           ("compare a.mm b.mm", "gate a.mm b.mm")),
     Shape("watched axioms", watched_axioms, 2_000, 3_000, ("compare a.mm b.mm", "gate a.mm b.mm")),
+    Shape("words with `*`", patterns, 5_000, 10_000, ("gate a.mm b.mm",)),
     Shape("theorems on all watched axioms", resting_on_all, 300, 600,
           ("gate a.mm b.mm", "gate --all a.mm b.mm"), is_answer=True),
     Shape("theorems by one proof", one_proof, 40_000, 20_000,
@@ -556,6 +583,8 @@ SHAPES = [
           ("verify a.mm",), is_answer=True, is_limited=True),
     Shape("hypotheses in any order", premises, 400, 60, ("repeats a.mm", "spare a.mm ax")),
     Shape("hypotheses of many forms", keys, 3_000, 1_000, ("repeats a.mm", "spare a.mm ax")),
+    Shape("brackets", brackets, 4_000, 4_000,
+          ("search a.mm '( p -> p )'", "search a.mm 'q -> ( p -> ( q'", "search a.mm 'p p'")),
     Shape("lists", lists, 1_000, 400, ("spare a.mm ax", "definitions a.mm")),
     Shape("new proofs", new_proofs, 2_000, 1_000, ("repeats a.mm", "spare a.mm ax")),
 ]  # fmt: skip

@@ -18,13 +18,46 @@ ENDS_IN_A_CHEAT = ("$= df-4 $.", "$= ax-cheat $.")
 
 
 ACTION = TOP / "action.yml"
+FILES = {"job": JOB, "action": ACTION, "script": SCRIPT}
 GATE = (TOP / "docs" / "GATE.md").read_text()
+ROWS = re.compile(r"^\| (.*) \| ((?:job|action|script)[^|]*) \| .* \|$", re.MULTILINE)
+PLAIN = re.compile(
+    r"\s*(?:#.*|(?:- )?(?:name|description|default): .*|(?:on|jobs|axioms|steps|with|inputs|runs):"
+    r"|(?:database|base|config|packed|sha256|PACKED|SHA256):.*|using: composite|- if: always\(\)"
+    r"|path: \||echo .*|else|fi|esac|;;|(?:: |\"\$\{[A-Z0-9]+:=[\w./]*\}\" ?)+"
+    r"|if \[ -[nz] \"\$UNPACKED\" \]; then)?"
+)
+"""Lines that stand against nothing: names, descriptions, what is chosen where nothing is said, and
+parts of what others say."""
 BLOCKS = re.compile(r"^( +)run: \|\n((?:\1  .*\n)+)", re.MULTILINE)
 
 
 def commands(path: Path) -> list[str]:
     """What the steps of a job or an action run."""
     return [re.sub(r"(?m)^ +", "", block) for _, block in BLOCKS.findall(path.read_text())]
+
+
+def named_in_table() -> list[tuple[str, bool, list[str]]]:
+    """What the table of GATE names, whether it says that it is there, and in which files."""
+    return [
+        (named.replace(r"\|", "|"), not no, where.split(", "))
+        for line, where in ROWS.findall(GATE)
+        for no, named in re.findall(r"(\bno )?`([^`]+)`", line)
+    ]
+
+
+def pattern_of(named: str) -> str:
+    """Finds words of the table in a file, in their order and on neighbouring lines."""
+    words = (
+        r"\S+" if word in ("NAME@COMMIT", "..") else re.escape(word)
+        for word in named.replace("+COMMIT", "COMMIT").split()
+    )
+    return r"[^\n]*\n?[^\n]*".join(words)
+
+
+def line_of(text: str, place: int) -> int:
+    """The number of the line of a place, from 0."""
+    return text.count("\n", 0, place)
 
 
 class Lines(unittest.TestCase):
@@ -61,20 +94,31 @@ class Lines(unittest.TestCase):
     def test_what_each_line_stands_against(self) -> None:
         """The table of GATE: what it names stands in the files that it names, word by word and in
         this order, or where it says `no` doesn't."""
-        files = {"job": JOB, "action": ACTION, "script": SCRIPT}
-        rows = re.findall(r"^\| (.*) \| ((?:job|action|script)[^|]*) \| .* \|$", GATE, re.MULTILINE)
-        self.assertGreater(len(rows), 20)
-        for line, where in rows:
-            texts = [files[name].read_text() for name in where.split(", ")]
-            for no, named in re.findall(r"(\bno )?`([^`]+)`", line):
-                words = (
-                    r"\S+" if word in ("NAME@COMMIT", "..") else re.escape(word)
-                    for word in named.replace("+COMMIT", "COMMIT").split()
-                )
-                pattern = r"[^\n]*\n?[^\n]*".join(words)
-                found = [bool(re.search(pattern, text)) for text in texts]
-                wanted = not no
-                self.assertEqual(any(found), wanted, f"{line}: {named}")
+        rows = named_in_table()
+        self.assertGreater(len(rows), 40)
+        for named, is_there, places in rows:
+            found = [bool(re.search(pattern_of(named), FILES[each].read_text())) for each in places]
+            self.assertEqual(any(found), is_there, f"{named}: {places}")
+
+    def test_each_line_stands_in_the_table(self) -> None:
+        """Each line of the three files, but for those that only name or explain something."""
+        for name, path in FILES.items():
+            text = path.read_text()
+            patterns = [
+                pattern_of(named) for named, is_there, places in named_in_table() if name in places
+            ]
+            told = {
+                number
+                for pattern in patterns
+                for match in re.finditer(pattern, text)
+                for number in range(line_of(text, match.start()), line_of(text, match.end()) + 1)
+            }
+            lines = {
+                number: line
+                for number, line in enumerate(text.splitlines())
+                if number not in told and not PLAIN.fullmatch(line)
+            }
+            self.assertEqual(lines, {}, name)
 
     def test_limits(self) -> None:
         self.assertIn("\n    timeout-minutes: 30\n", JOB.read_text())

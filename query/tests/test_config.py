@@ -12,12 +12,13 @@ from query.config import (
     SHAPE,
     Claim,
     Config,
-    Labels,
     Shape,
     find_config,
     read_config,
 )
 from query.errors import NoAnswer
+from query.labels import Labels
+from query.resting import Resting
 from query.tests.world import TOP
 
 GUIDE = (TOP / "docs" / "GATE.md").read_text()
@@ -79,6 +80,11 @@ WRONG = (
 )
 
 
+def may_rest(config: Config, rule: str, theorem: str, axiom: str) -> bool:
+    """Whether a rule lets a theorem rest on a watched axiom."""
+    return bool(Resting(config.resting[rule], [axiom], len).allowed(theorem))
+
+
 def keys(shape: Shape, above: str = "") -> set[str]:
     """The keys of a shape, with those above them."""
     found = set()
@@ -100,8 +106,8 @@ class Reading(unittest.TestCase):
         self.assertTrue(config.allows("open", "o") and not config.allows("mathboxes", "o"))
         for rule in ("newly", "new"):
             for theorem, axiom in (("a", "ax-ac2"), ("b.1", "ax-ac2"), ("c", "ax-reg")):
-                self.assertTrue(config.may_rest(rule, theorem, axiom))
-            self.assertFalse(config.may_rest(rule, "c", "ax-ac2"))
+                self.assertTrue(may_rest(config, rule, theorem, axiom))
+            self.assertFalse(may_rest(config, rule, "c", "ax-ac2"))
         self.assertEqual(
             config.claims,
             (
@@ -176,5 +182,5 @@ class Guide(unittest.TestCase):
         self.assertEqual(len(example), 1)
         config = read_config(example[0].encode(), "m.toml")
         self.assertEqual(config.rules, frozenset(RULES) - {"discouraged"})
-        self.assertTrue(config.may_rest("newly", "zorn2", "ax-ac2"))
+        self.assertTrue(may_rest(config, "newly", "zorn2", "ax-ac2"))
         self.assertEqual(config.claims[0].theorem, "2p2e4")

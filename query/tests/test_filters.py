@@ -19,6 +19,7 @@ LISTS: dict[str, list[str]] = {
     "way-out": ["ax-2"],
     "frees": ["ax-2"],
     "repeats": [],
+    "unneeded": [],
     "top": [],
     "within": ["ax-1"],
     "same": ["five"],
@@ -38,6 +39,8 @@ COLUMNS = {"rests": "axiom", "cites": "cited", "top": "axiom", "order": "label"}
 COLUMNS |= {"discouraged": "label", "definitions": "definition", "way-out": "of"}
 COLUMNS |= {"needs": "form", "search": "label"}
 """The column to which the filters apply, where it isn't `theorem`."""
+DATABASES = {"definitions": "definitions.mm", "unneeded": "unneeded.mm"}
+"""The file of which a command has something to list, where it isn't `db.mm`."""
 
 EARLY = {"wi", "ax-1", "one", "two", "ax-2"}
 TESTS: list[tuple[list[str], Test]] = [
@@ -53,6 +56,13 @@ class Filtered(World):
         super().setUp()
         self.write("db.mm", PARTS)
         self.write("definitions.mm", PARTS + "df-x $a |- p $.\ndf-o $a |- p $.\n")
+        unneeded = PARTS.replace("two $p", "${ two.1 $e |- q $. two $p").replace(
+            "one $.", "one $. $}"
+        )
+        unneeded = unneeded.replace("six $p", "${ $d p q $. six $p").replace(
+            "todo $.", "todo $. $}"
+        )
+        self.write("unneeded.mm", unneeded)
         self.write("few", "two six  # and no other\nfour\n")
 
     def uncited(self, *filters: str) -> list[str]:
@@ -100,7 +110,7 @@ class Filtered(World):
         self.assertEqual({name for name in names() if command(name).lists}, {*LISTS, *COUNTING})
         for name, words in LISTS.items():
             flags = [] if name == "unfinished" else ["--open"]
-            database = "definitions.mm" if name == "definitions" else "db.mm"
+            database = DATABASES.get(name, "db.mm")
             asked = [name, "--format", "json", *flags, database, *words]
             column = COLUMNS.get(name, "theorem")
             whole = self.query(*asked).rows()

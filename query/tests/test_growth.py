@@ -1,6 +1,7 @@
 """Texts that are made to hurt take no more time and memory than a reader needs that passes each
 stretch once. How much they take, and how it grows, says `bench/hostile-query`."""
 
+import shlex
 import unittest
 from pathlib import Path
 
@@ -23,7 +24,8 @@ class Shapes(World):
                 (self.folder / name).write_bytes(data)
             for line in dict.fromkeys((shape.commands[0], shape.commands[-1])):
                 with self.subTest(f"{shape.name}: {line}"):
-                    took = shapes.ran(line.split(), self.folder, SECONDS, self.surroundings())
+                    words = shlex.split(line)
+                    took = shapes.ran(words, self.folder, SECONDS, self.surroundings())
                     if shape.is_limited and took.status == 2:
                         self.assertIn(": not judged: the text needs more than ", took.said)
                     else:

@@ -258,6 +258,55 @@ class TheTwelve(Hostile):
         self.commit((BASE + said).replace("free", "freed").replace("'freed'", "'zorn'"))
         self.assertEqual(self.rules(), ["avoids"] * 3)
 
+    def test_9_a_comment_usage_that_others_pass_over(self) -> None:
+        """Within a statement."""
+        said = "$( $j usage 'free' avoids 'ax-ac2'; $)"
+        self.asks("", before=f"{BASE}{said}\n")
+        within = "free: the comment `$j usage` which says that it avoids ax-ac2 stands within a"
+        for text in (
+            changed(BASE, ("free $p", f"free {said} $p")),
+            changed(BASE, ("free $p", f"free $p {said}")),
+            changed(BASE, ("$c wff", f"$c {said} wff")),
+            changed(BASE, ("$v p", f"$v {said} p")),
+            changed(BASE, ("wp $f", f"wp {said} $f")),
+            f"{BASE}${{ $d p q {said} $. $}}\n",
+            f"{BASE}${{ h $e |- p {said} $. $}}\n",
+        ):
+            self.commit(text)
+            found = self.findings()
+            self.assertEqual([within in each for each in found], [True], text)
+        base = self.commit(changed(BASE, ("free $p", f"free $p {said}")))
+        self.commit(changed(BASE, ("zorn $p", f"zorn {said} $p")))
+        self.assertEqual(self.findings("--base", base, "db.mm", status=0), [])
+
+    def test_9_a_comment_usage_that_is_broken(self) -> None:
+        """Behind a remark or a quote that isn't closed, and with what is no label."""
+        said = "$( $j usage 'free' avoids 'ax-ac2'; $)"
+        self.asks("", before=f"{BASE}{said}\n")
+        gone = "free: the comment `$j usage` which says that it avoids ax-ac2 is gone"
+        for comment in (
+            said.replace("$j", "$j x; /* y;"),
+            said.replace("$j", '$j x ";'),
+            said.replace("ax-ac2'", "ax-ac2' '"),
+            said.replace("'free'", "'free '"),
+            said.replace("'ax-ac2'", "'ax-ac2\n'"),
+        ):
+            self.commit(f"{BASE}{comment}\n")
+            found = self.findings()
+            unclear = "a comment `$j usage` that isn't understood [avoids]"
+            self.assertIn(unclear, found[0], comment)
+            self.assertIn(gone, found[-1], comment)
+        for text in (
+            f"{said}\n{BASE}",
+            f"{BASE}{said.replace('$j', '$j x; /* y; */')}\n",
+            f"{BASE}{said.replace('; $)', '; /* It is so. $)')}\n",
+            changed(BASE, ("free $p", f"{said} free $p")),
+            f"{BASE}${{ {said} $d p q $. $}}\n",
+            f"{BASE}{said}\n${{ h $e |- p {said} $. $}}\n",
+        ):
+            self.commit(text)
+            self.assertEqual(self.findings(status=0), [], text)
+
     def test_9_a_comment_usage_that_may_go(self) -> None:
         said = "$( $j usage 'free' avoids 'ax-ac2'; usage 'zorn' avoids 'ax-ac2'; $)\n"
         self.asks('[allow]\navoids = ["free"]\n', before=BASE + said)
@@ -831,7 +880,7 @@ class Merges(Hostile):
                 tips.append(self.committed(mine, base))
             with Objects(Repository(self.folder, self.folder / ".git")) as objects:
                 try:
-                    merged = objects.merged(*tips)
+                    merged = objects.merged(tips[0], tips[1])
                 except NoAnswer as why:
                     self.assertIn("can't be merged: CONFLICT", why.sentence())
                     counts["conflict"] += 1

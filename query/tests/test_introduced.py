@@ -126,7 +126,7 @@ class Attacks(Judged):
             ("df-foo $a |== Foo $.", "|=="),
         ):
             text = BASE + f"$c Foo |== $. {axiom}\n"
-            why = f"called a definition, but of typecode {typecode} (condition `form`)"
+            why = f"called a definition, but isn't of typecode |- (condition `form`): {typecode}"
             self.assertEqual(self.found(BASE, text, BY_PATTERN), [("definitions", "df-foo", why)])
         twice = RIGHT + "cfoo2 $a class Foo $. df-foo2 $a |- Foo = _V $.\n"
         found = self.found(BASE, BASE + twice)
@@ -179,6 +179,17 @@ class Reviewed(World):
         done = self.query("review", old, self.write("new.mm", BASE + many), "--format=markdown")
         self.assertEqual(sum(line.startswith("- `df-") for line in done.lines()), 60)
         self.assertIn("- 10 more definitions", done.lines())
+
+    def test_a_typecode_that_markdown_means(self) -> None:
+        """It may be any symbol, and no word of the comment is a link or a mention by it."""
+        old = self.write("old.mm", BASE)
+        for typecode in ("www.evil.example", "@everyone", "<img/src=x>", "[x](y)"):
+            text = f"{BASE}$c Foo {typecode} $. df-foo $a {typecode} Foo $.\n"
+            words = ("review", old, self.write("new.mm", text), "--format=markdown")
+            lines = self.query(*words).lines()
+            told = "- `df-foo` is called a definition, but isn't of typecode |- (condition `form`)"
+            self.assertIn(told, lines)
+            self.assertFalse([line for line in lines if typecode in line], typecode)
 
 
 class Brought(Repositories):

@@ -5,10 +5,13 @@ import ctypes
 import importlib.util
 import mmap
 import os
+import shutil
 import subprocess
 import sys
+import tempfile
 import unittest
 from collections.abc import Callable
+from pathlib import Path
 from types import ModuleType
 from unittest import mock
 
@@ -173,6 +176,37 @@ class Texts(unittest.TestCase):
         with self.assertRaises(self.module.Refused) as caught:
             self.module.against(text, Longer(b"$c wff"))
         self.assertEqual(caught.exception.side, "new")
+
+
+@unittest.skipUnless(shutil.which("pkg-config"), "there is no pkg-config")
+class Config(unittest.TestCase):
+    """What pkg-config says of the library for C, by the file that lies beside it."""
+
+    def words(self, folder: Path) -> list[str]:
+        """The words that a shell makes of it, as the command of docs/LIBRARY.md has it."""
+        line = (
+            'eval set -- "$(pkg-config --cflags --libs mmdepend)"; for each; do echo "$each"; done'
+        )
+        done = subprocess.run(
+            ["sh", "-c", line],
+            env={**os.environ, "PKG_CONFIG_PATH": str(folder / "lib/pkgconfig")},
+            capture_output=True,
+            text=True,
+            check=True,
+        )
+        return done.stdout.splitlines()
+
+    def test_a_path_with_spaces(self) -> None:
+        made = (TOP / "library" / "mmdepend.pc.in").read_text().replace("@VERSION@", "0")
+        for name in ("plain", "with two spaces"):
+            with tempfile.TemporaryDirectory(prefix=f"{name} ") as outer:
+                folder = Path(outer) / name
+                (folder / "lib/pkgconfig").mkdir(parents=True)
+                (folder / "lib/pkgconfig/mmdepend.pc").write_text(made)
+                cflags, *libs = self.words(folder)
+                self.assertEqual(Path(cflags.removeprefix("-I")).resolve(), folder / "include")
+                self.assertEqual(Path(libs[0].removeprefix("-L")).resolve(), folder / "lib")
+                self.assertEqual(libs[1:], ["-lmmdepend"])
 
 
 @unittest.skipUnless((TOP / "out/web/index.js").exists(), "web/build wasn't run")

@@ -183,14 +183,73 @@ class InGit(Repositories):
         script = '#!/bin/sh\ncase " $* " in *" merge-tree "*) exec sleep 99;; esac\n'
         (slow / "git").write_text(script + f'exec {git_path()} "$@"\n')
         (slow / "git").chmod(0o755)
-        words = ["gate", "--base", "main", "db.mm"]
-        top = str(Path(__file__).resolve().parents[2])
-        line = f"import sys; sys.path.insert(0, {top!r}); from query import cli, git; "
-        line += f"git.MOST_SECONDS = 1; cli.main({words!r})"
         path = f"{slow}:{self.surroundings()['PATH']}"
-        done = self.ran("python3", "-c", line, PATH=path)
+        done = self.gate_with("git.MOST_SECONDS = 1", path)
         self.assertEqual((done.status, done.out), (2, ""), done)
         self.assertIn("not judged: git merge-tree needs more than 1 seconds", done.err)
+
+    def gate_with(self, change: str, path: str = "") -> Done:
+        """What the gate says where a constant is another one, and PATH perhaps too."""
+        words = ["gate", "--base", "main", "HEAD:db.mm"]
+        top = str(Path(__file__).resolve().parents[2])
+        line = f"import sys; sys.path.insert(0, {top!r}); from query import cli, git; "
+        line += f"{change}; cli.main({words!r})"
+        return self.ran("python3", "-c", line, PATH=path or self.surroundings()["PATH"])
+
+    def test_a_merge_of_few_bytes_that_are_many(self) -> None:
+        """A file that both sides changed, which isn't the database: 200 MB, in git a thousandth."""
+        self.commit("a\n", "other")
+        self.branch()
+        with open(self.folder / "other", "wb") as file:
+            file.truncate(200 * MEGABYTE)
+        self.git("-c", "core.bigFileThreshold=1m", "add", "other")
+        self.git("commit", "--quiet", "--message", "zeros")
+        (self.folder / "other").unlink()
+        self.git("update-index", "--assume-unchanged", "other")
+        self.git("checkout", "--quiet", "--force", "main")
+        self.commit("b\n", "other")
+        self.git("symbolic-ref", "HEAD", "refs/heads/work")
+        self.assertIn("can't be merged: CONFLICT", self.gate_with("pass").err)
+        done = self.gate_with("git.FREE_BYTES = 99_000_000")
+        self.assertEqual((done.status, done.out), (2, ""), done)
+        self.assertIn("not judged: git merge-tree needs more than 99 MB of memory", done.err)
+        self.git("update-ref", "refs/heads/work", "main")
+        self.assertEqual(self.gate_with("git.FREE_BYTES = 99_000_000").status, 0)
+
+    def worst(self, count: int) -> str:
+        """Axioms with half a million pairs of distinct variables each."""
+        bench = str(TOP / "bench" / "hostile")
+        words = ("--only", "disjoints-of-their-own", "--count", str(count), "--write", "worst.mm")
+        self.assertEqual(self.ran(sys.executable, bench, *words), Done("", "", 0))
+        text = (self.folder / "worst.mm").read_text()
+        (self.folder / "worst.mm").unlink()
+        return text
+
+    def test_a_text_that_leaves_no_room(self) -> None:
+        """Beside a small one it is within the limits, and two of it may not be: a comparison with
+        it may have no answer. Where the base has it, nobody is blamed, and who takes it away
+        passes."""
+        self.ask('[allow]\naxioms = ["*"]\n')
+        small, large = self.worst(1), self.worst(7)
+        self.commit(small)
+        self.branch()
+        self.commit(self.worst(3))
+        self.assertEqual(self.gate(status=0), [])
+        self.commit(large)
+        words = ("gate", "--base", "main", "db.mm")
+        why = (
+            "db.mm: not judged: by itself the text needs more than 2 seconds of the processor or 6"
+        )
+        for _ in range(2):  # the second time what the program says was kept
+            self.refuses(*words, why=why)
+        self.assertEqual(self.query("verify", "db.mm").status, 0)
+        self.git("checkout", "--quiet", "main")
+        self.commit(large)
+        self.git("checkout", "--quiet", "-B", "work")
+        self.commit(large + "$( A remark. $)\n")  # two such texts are near the limit
+        self.assertNotIn("by itself", self.query(*words).err)
+        self.commit(small)
+        self.assertEqual(self.gate(status=0), [])
 
     def test_a_database_that_is_much_longer(self) -> None:
         self.branch()

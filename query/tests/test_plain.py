@@ -15,9 +15,10 @@ from collections.abc import Callable
 from io import BytesIO
 
 from query.includes import new_includes
+from query.rules import hidden_marks, is_discouraged
 from query.tests.repositories import ADDED, BASE, changed
 from query.tests.test_hostile import CHEAT, CHEAT_FOUND, Hostile
-from query.tests.world import built_program
+from query.tests.world import built_program, database_text
 
 EVIL = "$c evil $.\nax-evil $a |- 2 $.\n"
 NOTE = "$( A remark. $)\n"
@@ -546,3 +547,62 @@ class HiddenMarks(Hostile):
             self.assertEqual(self.findings(status=0), [])
             self.git("checkout", "--quiet", "main")
             self.git("branch", "--delete", "--force", "--quiet", "work")
+
+    def discouraged(self) -> set[str]:
+        """The labels of which metamath.exe says that new usage is discouraged."""
+        words = ("metamath", "read db.mm", "show discouraged", "exit")
+        done = subprocess.run(words, cwd=self.folder, capture_output=True, check=False)
+        told = done.stdout.decode("latin-1")
+        return set(re.findall(r'New usage of "(.*?)" is discouraged', told))
+
+    def test_where_metamath_misses_a_mark(self) -> None:
+        """A comment behind the label is the description; and ends of lines are left out."""
+        for mark in (self.USAGE, self.PROOF):
+            line = f"$( A. {mark} $)\naxac3 $p"
+            marked = changed(BASE, ("axac3 $p", line))
+            self.asks("", before=marked)
+            broken = mark.replace(" is ", " is\n")
+            for more, told in (
+                (line.replace(" $p", " $( x $) $p"), "another comment stands behind that with"),
+                (line.replace(" $p", "\n$( $j x; $) $( y $) $p"), "another comment stands behind"),
+                (line.replace(mark, broken), "a line ends within"),
+                (line.replace(mark, broken.replace("\n", "\r\n")), "a line ends within"),
+                (line.replace(mark, broken.replace("\n", "\f")), "a line ends within"),
+                (line.replace(mark, broken.replace("\n", "\n  ")), ""),
+                (line.replace(mark, broken.replace("\n", " \r\n")), ""),
+                (line.replace(mark, broken.replace("\n", "\t")), ""),
+                (line.replace(" $p", " $p $( x $)"), ""),
+            ):
+                self.commit(changed(BASE, ("axac3 $p", more)))
+                found = self.findings(status=1 if told else 0)
+                self.assertEqual([told in each for each in found], [True] * bool(told), more)
+                self.assertTrue(all(f"`{mark}`" in each for each in found))
+                if shutil.which("metamath") and mark == self.USAGE:
+                    self.assertEqual(self.discouraged(), set() if told else {"axac3"}, more)
+            self.git("checkout", "--quiet", "main")
+            self.git("branch", "--delete", "--force", "--quiet", "work")
+
+    @unittest.skipUnless(shutil.which("metamath"), "there is no metamath.exe")
+    def test_at_random(self) -> None:
+        """What is taken for a mark, and isn't told to be hidden, metamath.exe sees."""
+        chance = random.Random(8)
+        parts = (*[""] * 5, "$( x $)", "$( $j x; $)", "$v r $.", "${", "$( #### $)")
+        counts = {True: 0, False: 0}
+        for _ in range(300):
+            gaps = chance.choices((*"     ", "\n", "\n ", " \n", "\f", "\r\n", "\t"), k=3)
+            mark = "(New" + gaps[0] + "usage" + gaps[1] + "is" + gaps[2] + "discouraged.)"
+            words = [f"$( A. {mark} $)", "ax-x", "$a |- 2 $."]
+            for place in (2, 1, 0):
+                words.insert(place, chance.choice(parts if place < 2 else parts[:7]))
+            words += ["$}"] * words.count("${") + ["u $p |- 2 $= ax-x $."]
+            self.write("db.mm", BASE + "\n".join(words) + "\n")
+            try:
+                text = database_text((self.folder / "db.mm").read_bytes())
+            except subprocess.CalledProcessError:  # it is refused
+                continue
+            one = text.by_label["ax-x"]
+            is_marked = is_discouraged(text, one) and not hidden_marks(text, one)
+            is_seen = self.discouraged() == {"ax-x"}
+            self.assertTrue(is_seen or not is_marked, words)
+            counts[is_seen] += 1
+        self.assertGreater(min(counts.values()), 20)

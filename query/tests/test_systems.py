@@ -264,6 +264,7 @@ class EndsOfLines(World):
 ALIKE = (
     *("verify", "rests", "falls", "cites", "why", "way-out", "frees", "top", "same", "uncited"),
     *("chapters", "order", "unfinished", "discouraged", "mathboxes", "definitions", "repeats"),
+    "unneeded",
 )
 """Commands that answer nothing of the bytes of the text."""
 

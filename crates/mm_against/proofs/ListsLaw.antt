@@ -11,9 +11,11 @@ use Rattle.mm_spec.specs.Derivation.{is_member}
 use Rattle.mm_spec.specs.Citation.{is_assertion}
 use Rattle.mm_spec.specs.Output.{theorems, is_column}
 use Rattle.mm_spec.proofs.ListLaw.{element_is_member}
-use Rattle.mm_spec.proofs.FindsLaw.{member_filter}
+use Rattle.mm_spec.proofs.FindsLaw.{member_filter, passing_statement, got_lt_length}
+use Rattle.mm_spec.specs.Assertion.{is_told}
+use Rattle.mm_report.proofs.AssertionLaw.{told_have_dummies}
 use Rattle.mm_tell.specs.Dummies.{DummyLists}
-use Rattle.mm_spec.specs.Comparison.{is_only_in}
+use Rattle.mm_spec.specs.Comparison.{is_only_in, only_in}
 use Rattle.mm_compare.proofs.BoundsLaw.{column_is_assertion}
 use Rattle.mm_shifts.specs.Resting.{Resting, side_in}
 use Rattle.mm_report.specs.CitingRows.{AreAssertions}
@@ -34,13 +36,23 @@ pub lists_may_be_written : (r other : Resting) (only : Option Bytes) (own : List
 lists_may_be_written r other only own dummy_lists shifts few are_lists =
     let db = r.contents.statements in
     let count_is = are_lists.are_shifted.count_is in
+    let own_assertions = only_in (side_in r) only (side_in other) in
     record {
       own_are_assertions = rw are_lists.own_is
           (members_are_assertions db _ (λ a is_one.
           (and_parts (list_any is_assertion (statement_at db a)) _
           (and_parts _ _ (member_filter (is_only_in (side_in r) only (side_in other))
           (range_with_len 0 (length db)) a is_one).0).0).0));
-      are_dummies = are_lists.are_dummies;
+      have_dummies = rw are_lists.own_is (λ i d i_lt_length.
+          let a = get_or own_assertions i d in
+          let is_own = member_filter (is_only_in (side_in r) only (side_in other))
+          (range_with_len 0 (length db)) a
+          (element_is_member own_assertions i d i_lt_length) in
+          let told = (and_parts (is_told db only a) _ is_own.0).0 in
+          let found = passing_statement db is_assertion a
+          (and_parts (list_any is_assertion (statement_at db a)) _ told).0 in
+          told_have_dummies db only dummy_lists a are_lists.are_dummies
+          (got_lt_length db a found.0 found.1) told);
       as_many_lists = count_is;
       few_lists = omega (arith, count_is, few);
       shifts_are_assertions = λ i i_lt_count. members_are_assertions db (get_or shifts i []) (λ a

@@ -11,5 +11,5 @@ pub record AreListsOf (r other : Resting) (only : Option Bytes) (own : List ℕ)
     (dummy_lists : DummyLists) (shifts : List (List ℕ)) : Type 0 where
   pub own_is : own ≡ only_in (side_in r) only (side_in other)
   pub are_dummies : dummy_lists
-      ≡ dummies_before r.contents.statements (length r.contents.statements)
+      ≡ dummies_before r.contents.statements only (length r.contents.statements)
   pub are_shifted : AreAllShifted r other only (theorems r.contents.statements) shifts

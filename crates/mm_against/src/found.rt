@@ -12,7 +12,7 @@ use mm_tell::Dummies;
 use std::alloc::{AllocError, Allocator};
 
 /// What one database has and another one hasn't: its own assertions, and for each theorem the
-/// axioms on which it rests there alone; and the dummy variables of its statements.
+/// axioms on which it rests there alone; and the dummy variables of its own assertions.
 pub struct Found<A: Allocator> {
     pub own: Vec<u32, A>,
     pub dummy_lists: Dummies<A>,
@@ -43,7 +43,7 @@ pub fn find_differences<A: Allocator + Copy, D: Allocator, E: Allocator>(
         f.shifts) }
 {
     let own = list_only_in(alloc, this.database(), only, other.database())?;
-    let dummy_lists = Dummies::new(alloc, this.database())?;
+    let dummy_lists = Dummies::new(alloc, this.database(), only)?;
     let shifts = list_shifts(alloc, this, only, other)?;
     Ok(Found {
         own,

@@ -14,7 +14,7 @@ use Rattle.mm_spec.specs.Statement.{Statement, constants, axiomatic, provable}
 use Rattle.mm_spec.specs.Opened.{is_open_proof, is_open_theorem, as_axiom, open_as_axioms}
 use Rattle.mm_spec.specs.Scope.{statement_at}
 use Rattle.mm_spec.specs.Citation.{is_theorem, is_assertion}
-use Rattle.mm_spec.specs.Frame.{is_essential, is_floating, is_disjoint_statement}
+use Rattle.mm_spec.specs.Frame.{is_floating, is_disjoint_statement}
 use Rattle.mm_spec.specs.Output.{is_column, theorems, columns}
 use Rattle.mm_spec.specs.declared.Word.{Word}
 use Rattle.mm_spec.proofs.ActivityLaw.{range_with_one_more}
@@ -25,7 +25,7 @@ use Rattle.mm_outline.specs.declared.parts.Kind.{Kind}
 use Rattle.mm_outline.specs.declared.parts.Kind.TheVariants as kind
 use Rattle.mm_outline.specs.declared.parts.Outline.{Outline}
 use Rattle.mm_database.specs.Kinds.{counted_as, kind_of, is_theorem_kind, is_axiom_kind, numbers_of}
-use Rattle.mm_database.specs.Kinds.{is_assertion_kind, is_essential_kind, is_floating_kind}
+use Rattle.mm_database.specs.Kinds.{is_assertion_kind, is_floating_kind}
 use Rattle.mm_database.specs.Kinds.{is_disjoint_kind}
 
 -- ---- the numbers that pass a test
@@ -206,11 +206,6 @@ pub assertion_kind : (s : Statement) → is_assertion_kind (kind_of s)
     ≡ list_any is_assertion (s ∷ [])
 assertion_kind (constants k xs d) = refl
 assertion_kind _ = refl
-
-pub essential_kind : (s : Statement) → is_essential_kind (kind_of s)
-    ≡ list_any is_essential (s ∷ [])
-essential_kind (constants k xs d) = refl
-essential_kind _ = refl
 
 pub floating_kind : (s : Statement) → is_floating_kind (kind_of s) ≡ list_any is_floating (s ∷ [])
 floating_kind (constants k xs d) = refl

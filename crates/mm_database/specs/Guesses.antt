@@ -28,8 +28,8 @@ abbrev pub first_place : List ℕ → ℕ → ℕ
 first_place w count =
     if nat_eq (length w) 1 then slice_index w 0 else
     (let ends = ends_of w in
-    (((ends.0 * 2654435761 % 2 ^ 32 + ends.1 * 2246822507 % 2 ^ 32) % 2 ^ 32
-    + length w % 2 ^ 32 * 668265263 % 2 ^ 32) % 2 ^ 32 * count) % 2 ^ 64 / 2 ^ 32)
+    256 + (((ends.0 * 2654435761 % 2 ^ 32 + ends.1 * 2246822507 % 2 ^ 32) % 2 ^ 32
+    + length w % 2 ^ 32 * 668265263 % 2 ^ 32) % 2 ^ 32 * (count - 256)) % 2 ^ 64 / 2 ^ 32)
 
 -- before a free place of a name's guess stands the guess that is its index
 abbrev pub IsGuessed : List ℕ → List ℕ → ℕ → Type 0

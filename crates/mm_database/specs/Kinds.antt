@@ -37,10 +37,6 @@ is_assertion_kind kind.Axiom = true
 is_assertion_kind kind.Theorem = true
 is_assertion_kind _ = false
 
-abbrev pub is_essential_kind : Kind → Bool
-is_essential_kind kind.Essential = true
-is_essential_kind _ = false
-
 abbrev pub is_floating_kind : Kind → Bool
 is_floating_kind kind.Floating = true
 is_floating_kind _ = false

@@ -18,9 +18,11 @@ use std::marker::Model;
 /// Stands for a guess that hasn't been made.
 const NO_GUESS: u32 = 4_294_967_295;
 
-/// The number of places for guesses at first, one for each byte. There are twice as many once there
-/// are half as many names.
-const FIRST_GUESSES: usize = 256;
+/// The number of places for the guesses of names of one byte, one for each byte.
+const ONE_BYTE_PLACES: usize = 256;
+
+/// The number of places for the guesses of longer names at first.
+const FIRST_PLACES: usize = 256;
 
 /// How many places the guess for a name can have, one after the other.
 const WINDOW: usize = 4;
@@ -84,14 +86,14 @@ fn ends_of(word: &[u8]) -> (u32, u32)
 }
 
 /// Returns the first place of the guess for a name among so many. For a name of one byte, as most
-/// symbols of a formula are, it is that byte. For others it goes by the upper bits of a sum of
-/// products, since a product's upper bits depend on more bits of its factors than its lower bits
-/// do. The factors are odd numbers whose bits look random, as hash functions have them (xxHash and
-/// MurmurHash3).
+/// symbols of a formula are, it is that byte. For others it is behind these places, so that no
+/// longer name stands in the place of a byte. It goes by the upper bits of a sum of products, since
+/// a product's upper bits depend on more bits of its factors than its lower bits do. The factors
+/// are odd numbers whose bits look random, as hash functions have them (xxHash and MurmurHash3).
 #[inline(always)]
 fn first_place(word: &[u8], count: usize) -> usize
     ensures is_first_place { result ≡ first_place word.now count }
-    ensures is_small { result < 2 ^ 32 }
+    ensures is_small { result < 2 ^ 33 }
 {
     if word.len() == 1 {
         return word[0] as usize;
@@ -102,7 +104,21 @@ fn first_place(word: &[u8], count: usize) -> usize
         .wrapping_mul(0x9E37_79B1)
         .wrapping_add(last.wrapping_mul(0x85EB_CA6B))
         .wrapping_add(len.wrapping_mul(0x27D4_EB2F));
-    (sum as usize).wrapping_mul(count) / 0x1_0000_0000
+    let longer = count.saturating_sub(ONE_BYTE_PLACES);
+    ONE_BYTE_PLACES + (sum as usize).wrapping_mul(longer) / 0x1_0000_0000
+}
+
+/// Whether a name is the word. Names of one byte, as most symbols of a formula are, are compared
+/// without a call.
+#[inline(always)]
+fn is_word(name: &[u8], word: &[u8]) -> bool
+    ensures { result ≡ bytes_eq name.now word.now }
+{
+    if name.len() == 1 && word.len() == 1 {
+        name[0] == word[0]
+    } else {
+        name == word
+    }
 }
 
 /// Returns the guess at a place, if there is such a place.
@@ -144,15 +160,17 @@ fn set_guess<A: Allocator>(guesses: &mut Vec<u32, A>, word: &[u8], index: usize)
     }
 }
 
-/// Makes four times as many places for guesses as there are names, and sets the guess for each.
-/// Without memory for them there are no guesses, and names are found by their hashes.
+/// Makes four times as many places for guesses as there is room for names, behind those for names
+/// of one byte, and sets the guess for each name. Without memory for them there are no guesses, and
+/// names are found by their hashes.
 fn renew_guesses<'a, V: Copy, A: Allocator>(
     entries: &IndexMap<Name<'a>, V, TextKeyed, A>,
     guesses: &mut Vec<u32, A>,
 )
     ensures { AreGuessed (names_of entries.now.entries) guesses.new.items }
 {
-    let count = entries.len().saturating_mul(4).max(FIRST_GUESSES);
+    let longer = entries.capacity().saturating_mul(4).max(FIRST_PLACES);
+    let count = longer.saturating_add(ONE_BYTE_PLACES);
     guesses.clear();
     if guesses.resize(count, NO_GUESS).is_err() {
         return;
@@ -216,7 +234,7 @@ impl<'a, V: Copy, A: Allocator> NameMap<'a, V, A> {
             (slice_get (names_of self.now) index ≢ Some word.now) }
     {
         let (name, value) = self.entries.get_index(index)?;
-        if name.bytes == word {
+        if is_word(name.bytes, word) {
             Some(value)
         } else {
             None
@@ -281,6 +299,16 @@ impl<'a, V: Copy, A: Allocator + Copy> NameMap<'a, V, A> {
             entries: IndexMap::with_hasher(alloc, keys),
             guesses: Vec::new(alloc),
         }
+    }
+
+    /// No names, with room for so many.
+    pub fn with_capacity(alloc: A, keys: TextKeyed, names: usize) -> Result<Self, AllocError>
+        ensures { IfOk result (λ m. m ≡ []) }
+    {
+        Ok(NameMap {
+            entries: IndexMap::with_capacity_and_hasher(alloc, names, keys)?,
+            guesses: Vec::new(alloc),
+        })
     }
 
     /// Sets the value of a name, and returns whether the name was there before. A new name gets the

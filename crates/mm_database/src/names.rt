@@ -47,14 +47,19 @@ impl<'a, A: Allocator> Model for NameTable<'a, A> {
     ghost view = { λ t. known_names t.symbols t.labels };
 }
 
-/// Returns a table without symbols and labels, whose maps hash with these keys.
-pub fn no_names<'a, A: Allocator + Copy>(alloc: A, keys: TextKeyed) -> NameTable<'a, A>
-    ensures { result ≡ known_names [] [] }
+/// Returns a table without symbols and labels, whose maps hash with these keys. There is room for
+/// so many labels.
+pub fn no_names<'a, A: Allocator + Copy>(
+    alloc: A,
+    keys: TextKeyed,
+    labels: usize,
+) -> Result<NameTable<'a, A>, AllocError>
+    ensures { IfOk result (λ t. t ≡ known_names [] []) }
 {
-    NameTable {
+    Ok(NameTable {
         symbols: NameMap::new(alloc, keys),
-        labels: NameMap::new(alloc, keys),
-    }
+        labels: NameMap::with_capacity(alloc, keys, labels)?,
+    })
 }
 
 impl<'a, A: Allocator> NameTable<'a, A> {

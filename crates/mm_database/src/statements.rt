@@ -7,11 +7,11 @@ ghost use Rattle.std.specs.Option.{option_map};
 ghost use Rattle.mm_spec.specs.Lexed.{tokens_of};
 ghost use Rattle.mm_spec.specs.Scope.{statement_at, is_block_open, active_at};
 ghost use Rattle.mm_spec.specs.Frame.{symbol_names, is_variable_number, is_disjoint_statement};
-ghost use Rattle.mm_spec.specs.Frame.{is_essential, is_floating, formula_at};
+ghost use Rattle.mm_spec.specs.Frame.{is_floating, formula_at};
 ghost use Rattle.mm_spec.specs.Citation.{is_assertion};
 ghost use Rattle.mm_outline.specs.Blocks.{IsBlocks};
 ghost use Rattle.mm_outline.specs.Statements.{statements, is_active_kind};
-ghost use Rattle.mm_database.specs.Kinds.{kind_of, is_essential_kind, is_floating_kind};
+ghost use Rattle.mm_database.specs.Kinds.{kind_of, is_floating_kind};
 ghost use Rattle.mm_database.specs.Kinds.{is_disjoint_kind, is_assertion_kind};
 ghost use Rattle.mm_database.specs.ParsedStatements.{parsed_statements, AreParsedStatements};
 ghost use Rattle.mm_database.specs.ParsedStatements.{IsSound, typed_variable_at};
@@ -132,15 +132,6 @@ impl<'a, A: Allocator> Statements<'a, A> {
         self.outlines[statement as usize].kind
     }
 
-    /// Whether a statement is a `$e`.
-    #[inline(always)]
-    pub fn is_essential(&self, statement: u32) -> bool
-        requires { statement < length self.now.list }
-        ensures { result ≡ list_any is_essential (statement_at self.now.list statement) }
-    {
-        is_essential_kind(self.kind(statement))
-    }
-
     /// Whether a statement is a `$d`.
     #[inline(always)]
     pub fn is_disjoint(&self, statement: u32) -> bool
@@ -220,15 +211,6 @@ impl<'a, A: Allocator> Statements<'a, A> {
     {
         let kind = self.outlines[statement as usize].kind;
         statement < at && is_active_kind(kind, self.blocks.is_block_open(statement, at))
-    }
-}
-
-fn is_essential_kind(kind: Kind) -> bool
-    ensures { result ≡ is_essential_kind kind }
-{
-    match kind {
-        Kind::Essential => true,
-        _ => false,
     }
 }
 

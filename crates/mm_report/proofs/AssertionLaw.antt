@@ -16,8 +16,10 @@ use Rattle.std.proofs.lemmas.List.Elements.{filter-append}
 use Rattle.mm_spec.specs.Derivation.{Pair, pair}
 use Rattle.mm_spec.specs.Frame.{pairs_below}
 use Rattle.mm_spec.specs.Statement.{Statement}
-use Rattle.mm_spec.specs.Assertion.{symbols_text, dummies_text, dummies, dummy_pairs}
-use Rattle.mm_tell.specs.Dummies.{DummyLists, dummies_before}
+use Rattle.mm_spec.specs.Assertion.{symbols_text, dummies_text, is_told}
+use Rattle.mm_spec.specs.Text.{Bytes}
+use Rattle.mm_tell.specs.Dummies.{DummyLists, HaveDummies, dummies_before}
+use Rattle.mm_tell.specs.Dummies.{told_dummies, told_dummy_pairs}
 
 -- after the texts of the first i elements that of the next was sent
 pub sent_next : {X : Type 0} {a b c : Option (List ℕ)} {r s t : Pending} {i : ℕ}
@@ -62,30 +64,21 @@ pub some_dummies_text : (db : List Statement) (xs : List ℕ) → (length xs == 
     → (32 ∷ codes "$v") ++ symbols_text db xs ≡ dummies_text db xs
 some_dummies_text db xs h1 = grind (arith, common_steps, true≢false)
 
--- something was found of each statement
-pub lists_of_each : (db : List Statement) (k : ℕ) (dummy_lists : DummyLists)
-    → dummy_lists ≡ dummies_before db (length db) → k < length db
-    → (k < length dummy_lists.variables) × (k < length dummy_lists.pairs)
-lists_of_each db k dummy_lists are_dummies k_lt_length = search (
-  rules,
-  arith,
-  length-map-range_with_len,
-)
-
--- what was found of a statement are its dummy variables
-pub variables_are_dummies : (db : List Statement) (k : ℕ) (dummy_lists : DummyLists)
-    → dummy_lists ≡ dummies_before db (length db) → k < length db
-    → slice_index_or dummy_lists.variables k [] ≡ dummies db k
-variables_are_dummies db k dummy_lists are_dummies k_lt_length =
-    rw are_dummies
-    (get_or-map-range_with_len (dummies db) 0 (length db) k k [] k_lt_length (zero-add k))
-
--- and its pairs with these
-pub pairs_are_dummy_pairs : (db : List Statement) (k : ℕ) (dummy_lists : DummyLists)
-    → dummy_lists ≡ dummies_before db (length db) → k < length db
-    → slice_index_or dummy_lists.pairs k [] ≡ dummy_pairs db k
-pairs_are_dummy_pairs db k dummy_lists are_dummies k_lt_length =
-    grind (arith, common_steps, get_or-map-range_with_len, zero-add)
+-- the lists of the statements that are told have the dummy variables of each of these
+pub told_have_dummies : (db : List Statement) (only : Option Bytes) (lists : DummyLists) (k : ℕ)
+    → lists ≡ dummies_before db only (length db) → k < length db → is_told db only k ≡ true
+    → HaveDummies db lists k
+told_have_dummies db only lists k are_dummies k_lt_length k_is_told =
+    let of_variables = get_or-map-range_with_len (told_dummies db only) 0 (length db) k k []
+    k_lt_length (zero-add k) in
+    let of_pairs = get_or-map-range_with_len (told_dummy_pairs db only) 0 (length db) k k []
+    k_lt_length (zero-add k) in
+    rw are_dummies (record {
+      variables_listed = rw length-map-range_with_len k_lt_length;
+      pairs_listed = rw length-map-range_with_len k_lt_length;
+      variables_are = of_variables ∙ rw k_is_told refl;
+      pairs_are = of_pairs ∙ rw k_is_told refl;
+    })
 
 -- ---- numbers of symbols
 

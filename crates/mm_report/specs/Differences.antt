@@ -1,6 +1,6 @@
 -- What is written of two databases that were compared.
 use Rattle.std.specs.Prelude.{◌≡◌, ℕ, ◌<◌, ◌^◌, List, [], ◌++◌, map, length, flat_map}
-use Rattle.std.specs.Prelude.{slice_index_or}
+use Rattle.std.specs.Prelude.{slice_index_or, All}
 use Rattle.std.specs.List.{range_with_len}
 use Rattle.mm_spec.specs.Text.{Bytes}
 use Rattle.mm_spec.specs.Statement.{Statement}
@@ -8,7 +8,7 @@ use Rattle.mm_spec.specs.Report.{CitingRow, line}
 use Rattle.mm_spec.specs.Assertion.{label_at, assertion_line}
 use Rattle.mm_spec.specs.Output.{is_open_at, theorems}
 use Rattle.mm_database.specs.Database.{Contents}
-use Rattle.mm_tell.specs.Dummies.{DummyLists, dummies_before}
+use Rattle.mm_tell.specs.Dummies.{DummyLists, HaveDummies}
 use Rattle.mm_spec.specs.Comparison.{shift_line}
 use Rattle.mm_report.specs.CitingRows.{AreAssertions}
 
@@ -46,7 +46,7 @@ shift_section name d lists = line name ++ shift_lines d lists
 pub record IsDifference (d : Contents) (own : List ℕ) (dummy_lists : DummyLists)
     (shifts : List (List ℕ)) : Type 0 where
   pub own_are_assertions : AreAssertions d.statements own
-  pub are_dummies : dummy_lists ≡ dummies_before d.statements (length d.statements)
+  pub have_dummies : All (HaveDummies d.statements dummy_lists) own
   pub as_many_lists : length shifts ≡ length (theorems d.statements)
   pub few_lists : length shifts < 2 ^ 31
   pub shifts_are_assertions : (i : ℕ) → i < length shifts

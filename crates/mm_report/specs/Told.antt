@@ -18,7 +18,7 @@ told_of d only = statement_lines d.statements (is_open_at d.read d.with_open) on
 abbrev pub AreDummiesFor : Request → Contents → DummyLists → Type 0
 AreDummiesFor request d dummy_lists =
     request.sections.statements ≡ true
-    → dummy_lists ≡ dummies_before d.statements (length d.statements)
+    → dummy_lists ≡ dummies_before d.statements request.only (length d.statements)
 
 -- the pairs are of symbols of the database
 abbrev pub ArePairsOf : List Statement → List Pair → Type 0

@@ -6,7 +6,7 @@ ghost use Rattle.mm_spec.specs.Scope.{statement_at};
 ghost use Rattle.mm_spec.specs.Citation.{is_assertion};
 ghost use Rattle.mm_spec.specs.Assertion.{kind_letter, kind_keyword, is_axiom_at, start_place};
 ghost use Rattle.mm_spec.specs.Assertion.{end_place, front_text, formula_text, assertion_line};
-ghost use Rattle.mm_tell.specs.Dummies.{DummyLists, dummies_before};
+ghost use Rattle.mm_tell.specs.Dummies.{DummyLists, HaveDummies};
 ghost use Rattle.mm_report.specs.Sent.{Sent};
 
 use crate::conditions::send_conditions;
@@ -116,8 +116,7 @@ fn send_formula<W: Write, D: Allocator>(
     sink.send_byte(to, b'\n');
 }
 
-/// Sends the line of an assertion. `dummy_lists` are the dummy variables of the database's
-/// statements.
+/// Sends the line of an assertion. `dummy_lists` have its dummy variables.
 pub(crate) fn send_assertion<W: Write, D: Allocator, V: Allocator>(
     sink: &mut Sink,
     to: &mut W,
@@ -129,8 +128,7 @@ pub(crate) fn send_assertion<W: Write, D: Allocator, V: Allocator>(
     requires assertion_lt_length { assertion < length database.now.statements }
     requires is_assertion { list_any is_assertion (statement_at database.now.statements assertion)
         ≡ true }
-    requires are_dummies { dummy_lists.now
-        ≡ dummies_before database.now.statements (length database.now.statements) }
+    requires have_dummies { HaveDummies database.now.statements dummy_lists.now assertion }
     ensures { Sent (W.contents to.old) (W.contents to.new) sink.old sink.new
         (assertion_line database.now.statements is_open assertion) }
 {

@@ -11,7 +11,7 @@ ghost use Rattle.mm_spec.specs.Frame.{symbol_names, mandatory_hypotheses, mandat
 ghost use Rattle.mm_spec.specs.Assertion.{symbols_text, hypothesis_keyword, hypothesis_text};
 ghost use Rattle.mm_spec.specs.Assertion.{pair_text, dummies_text, dummies, dummy_pairs};
 ghost use Rattle.mm_spec.specs.Assertion.{conditions_text};
-ghost use Rattle.mm_tell.specs.Dummies.{DummyLists, dummies_before};
+ghost use Rattle.mm_tell.specs.Dummies.{DummyLists, HaveDummies};
 ghost use Rattle.mm_report.specs.Sent.{Sent};
 ghost use Rattle.mm_report.specs.Told.{ArePairsOf};
 
@@ -167,8 +167,7 @@ pub(crate) fn send_conditions<W: Write, D: Allocator, V: Allocator>(
     requires assertion_lt_length { assertion < length database.now.statements }
     requires is_assertion { list_any is_assertion (statement_at database.now.statements assertion)
         ≡ true }
-    requires are_dummies { dummy_lists.now
-        ≡ dummies_before database.now.statements (length database.now.statements) }
+    requires have_dummies { HaveDummies database.now.statements dummy_lists.now assertion }
     ensures { Sent (W.contents to.old) (W.contents to.new) sink.old sink.new
         (conditions_text database.now.statements assertion) }
 {

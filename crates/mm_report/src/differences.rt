@@ -1,11 +1,11 @@
 //! The differences between two databases.
 
 ghost use Rattle.std.specs.Prelude.{◌≡◌, ◌<◌, ◌^◌, ℕ, [], length, map, take, flat_map};
-ghost use Rattle.std.specs.Prelude.{slice_index_or, OnOk, OnErr};
+ghost use Rattle.std.specs.Prelude.{slice_index_or, All, OnOk, OnErr};
 ghost use Rattle.std.specs.Io.KnownBytes.{Appends};
 ghost use Rattle.mm_spec.specs.Assertion.{label_at};
 ghost use Rattle.mm_spec.specs.Output.{theorems};
-ghost use Rattle.mm_tell.specs.Dummies.{DummyLists, dummies_before};
+ghost use Rattle.mm_tell.specs.Dummies.{DummyLists, HaveDummies};
 ghost use Rattle.mm_spec.specs.Comparison.{shift_line, differences};
 ghost use Rattle.mm_report.specs.CitingRows.{AreAssertions};
 ghost use Rattle.mm_report.specs.Differences.{lines_of, shift_rows, shift_lines, IsDifference};
@@ -29,7 +29,7 @@ pub struct Difference<'s, 'a, D: Allocator, A: Allocator> {
     pub database: &'s Database<'a, D>,
     /// The assertions that the other hasn't, in file order.
     pub own: &'s [u32],
-    /// The dummy variables of the database's statements.
+    /// The dummy variables of these assertions.
     pub dummy_lists: &'s Dummies<A>,
     /// For each theorem the axioms on which it rests, and in the other doesn't.
     pub shifts: &'s Lists<u32, A>,
@@ -44,8 +44,8 @@ fn send_assertions<W: Write, D: Allocator, V: Allocator>(
     assertions: &[u32],
 )
     requires are_assertions { AreAssertions database.now.statements assertions.now }
-    requires are_dummies { dummy_lists.now
-        ≡ dummies_before database.now.statements (length database.now.statements) }
+    requires have_dummies { All (HaveDummies database.now.statements dummy_lists.now)
+        assertions.now }
     ensures { Sent (W.contents to.old) (W.contents to.new) sink.old sink.new
         (lines_of database.now assertions.now) }
 {

@@ -53,7 +53,8 @@ fn send_if_told<W: Write, D: Allocator, V: Allocator>(
 )
     requires statement_lt_length { statement < length database.now.statements }
     requires are_dummies { dummy_lists.now
-        ≡ dummies_before database.now.statements (length database.now.statements) }
+        ≡ dummies_before database.now.statements (option_copied only)
+        (length database.now.statements) }
     ensures { Sent (W.contents to.old) (W.contents to.new) sink.old sink.new
         (flat_map (λ k. assertion_line database.now.statements
         (is_open_at database.now.read database.now.with_open k) k)
@@ -74,7 +75,8 @@ fn send_statement_lines<W: Write, D: Allocator, V: Allocator>(
     only: Option<&[u8]>,
 )
     requires { dummy_lists.now
-        ≡ dummies_before database.now.statements (length database.now.statements) }
+        ≡ dummies_before database.now.statements (option_copied only)
+        (length database.now.statements) }
     ensures { Sent (W.contents to.old) (W.contents to.new) sink.old sink.new
         (told_of database.now (option_copied only.entry)) }
 {

@@ -186,7 +186,7 @@ fn dummies_for<'a, A: Allocator + Copy>(
     ensures { IfOk result (AreDummiesFor request.now database.now) }
 {
     if request.sections.statements {
-        Dummies::new(alloc, database)
+        Dummies::new(alloc, database, request.only)
     } else {
         Ok(Dummies::none(alloc))
     }

@@ -1,5 +1,6 @@
--- The loop of `outline_statements` keeps two things: `IsReadTo` (the lawful statements lead to
--- `token_index`) and `IsReadSoFar` (names, blocks and numbers are theirs). `scope_knows_names`
+-- The loop of `outline_statements` keeps three things: `IsReadTo` (the lawful statements lead to the
+-- token `from`), `AreOutlinesFrom` (the outlines that are left are found from there on;
+-- `OutlinesLaw.antt`) and `IsReadSoFar` (names, blocks and numbers are theirs). `scope_knows_names`
 -- (`KnowsLaw.antt`) says that what has been read is what the judge needs.
 -- `lesser_of_least_is_least` and `at_each_between_push` (`JudgeLaw.antt`) show that the code's
 -- fault is the least one, rule by rule and symbol by symbol. `knows_after_statement`
@@ -16,5 +17,6 @@ pub mod LabelsLaw
 pub mod LatestLaw
 pub mod NumberedLaw
 pub mod OpenLaw
+pub mod OutlinesLaw
 pub mod ReadLaw
 pub mod TypedLaw

@@ -135,6 +135,21 @@ module _ {text : List ℕ} {ws : List Word} {len : ℕ} {lexical : Option Fault}
       ∙ fault_at_end_is_end_fault_of len text ws lexical open_blocks part (length ws) lexical ∙ sym
       f_is_end_fault)
 
+-- before the first statement
+pub nothing_is_read : (text : List ℕ) (ws : List Word) → IsReadTo text ws [] 0 0
+nothing_is_read text ws = record {
+  leads = record {
+    statements = refl;
+    fault_stays = refl;
+    progress_stays = refl;
+  };
+  index_le_length = omega arith;
+  length_db_le_index = omega arith;
+  open_blocks_le_index = omega arith;
+  open_blocks_is_depth = refl;
+  lawful = λ k k_lt_length. absurd (omega (arith, k_lt_length));
+}
+
 -- a statement that closes a block stands in one
 pub closing_is_inside_block : {text : List ℕ} {ws : List Word} {db : List Statement}
     {open_blocks token_index : ℕ}
@@ -157,7 +172,7 @@ closing_is_inside_block {text = text} {ws = ws} {db = db} is_read_to {s = s} {d 
     not_both _ s_is_closing = refl
 
 -- the depth after a statement is at most the number of tokens up to its end
-depth_after_le : (k : Kind) (d token_index end : ℕ) → d ≤ token_index → token_index ≤ end
+pub depth_after_le : (k : Kind) (d token_index end : ℕ) → d ≤ token_index → token_index ≤ end
     → depth_after k d ≤ end + 1
 depth_after_le k d token_index end h1 h2 = grind (arith, common_steps)
 

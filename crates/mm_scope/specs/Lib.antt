@@ -3,3 +3,4 @@ pub mod ReadSoFar
 pub mod Knows
 pub mod Scopes
 pub mod WordEntry
+pub mod Outlines

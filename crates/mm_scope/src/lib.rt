@@ -1,12 +1,13 @@
-//! What is lawful. This layer knows labels, symbols and their scope: it goes over the tokens once,
-//! judges each statement by the names before it, and keeps the statements up to the first malformed
-//! or unlawful one, with their blocks, their labels and their symbols by number. It promises that
-//! these are the statements that the definition of reading gives, with the fault after them
-//! (`Rattle.mm_spec.specs.Output.IsRead`).
+//! What is lawful. This layer knows labels, symbols and their scope: it goes over the tokens once
+//! to find the statements by their shapes, judges each by the names before it, and keeps the
+//! statements up to the first malformed or unlawful one, with their blocks, their labels and their
+//! symbols by number. It promises that these are the statements that the definition of reading
+//! gives, with the fault after them (`Rattle.mm_spec.specs.Output.IsRead`).
 #![tactic(auto)]
 
 pub mod formulas;
 pub mod judge;
 mod keys;
+mod outlines;
 pub mod reading;
 pub mod scope;

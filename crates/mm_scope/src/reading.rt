@@ -5,7 +5,7 @@ ghost use Rattle.mm_spec.specs.Output.{IsRead};
 ghost use Rattle.mm_spec.specs.Lexed.{tokens_of};
 ghost use Rattle.mm_lists.specs.Lists.{AreBounds};
 ghost use Rattle.mm_database.specs.ParsedStatements.{AreParsedStatements};
-ghost use Rattle.mm_outline.specs.Parts.{AreWithin, IsOutline, depth_after, statement_of};
+ghost use Rattle.mm_outline.specs.Parts.{AreWithin, IsOutline, statement_of};
 ghost use Rattle.mm_outline.specs.Tokens.{AreTokens};
 ghost use Rattle.mm_outline.specs.Statements.{end_fault_of, lexed, statements};
 ghost use Rattle.mm_scope.specs.Scopes.{IsAmong, IsScopeAfter, names_in};
@@ -13,6 +13,7 @@ ghost use Rattle.mm_scope.specs.ReadSoFar.{HasReadNext, IsReadSoFar, MayTake, fo
 ghost use Rattle.mm_scope.specs.ReadSoFar.{read_so_far, reading_of};
 
 use crate::keys::keys_of;
+use crate::outlines::{Rest, depth_after, label_count, outlines_of};
 use crate::scope::Scope;
 use mm_database::names::no_names;
 use mm_database::reading::Reading;
@@ -20,7 +21,7 @@ use mm_database::statements::Statements;
 use mm_database::text_keyed::TextKeyed;
 use mm_lists::{Lists, end_list};
 use mm_outline::blocks::no_blocks;
-use mm_outline::parts::{Kind, NextStatement, Outline, Part, next_statement};
+use mm_outline::parts::{Outline, Part};
 use mm_outline::symbol::Sym;
 use mm_spec::{Code, Fault, Word};
 use std::alloc::{AllocError, Allocator};
@@ -76,27 +77,19 @@ impl<'a, A: Allocator> Outlined<'a, A> {
     }
 }
 
-/// Returns the number of blocks that are open after a statement.
-fn depth_after(kind: Kind, depth: u32) -> u32
-    requires { depth < 2 ^ 31 }
-    ensures { result ≡ depth_after kind depth }
-{
-    match kind {
-        Kind::Open => depth + 1,
-        Kind::Close => { if depth == 0 { 0 } else { depth - 1 } }
-        _ => depth,
-    }
-}
-
-/// Returns the names and blocks before the first statement: none.
-fn no_scope<'a, A: Allocator + Copy>(alloc: A, keys: TextKeyed) -> Result<Scope<'a, A>, AllocError>
+/// Returns the names and blocks before the first statement: none. There is room for so many labels.
+fn no_scope<'a, A: Allocator + Copy>(
+    alloc: A,
+    keys: TextKeyed,
+    labels: usize,
+) -> Result<Scope<'a, A>, AllocError>
     ensures is_scope_after_none { IfOk result
         (λ s. IsScopeAfter [] s) }
     ensures has_no_names { IfOk result (λ s. names_in s ≡ []) }
 {
     let blocks = no_blocks(alloc)?;
     Ok(Scope {
-        names: no_names(alloc, keys),
+        names: no_names(alloc, keys, labels)?,
         blocks,
     })
 }
@@ -127,15 +120,16 @@ fn end_fault(lexical: Option<Fault>, text: &[u8], part: Part, depth: u32) -> Opt
     }
 }
 
-/// Returns what there is before the first statement is read.
+/// Returns what there is before the first statement is read, with room for so many labels.
 fn nothing_read<'a, A: Allocator + Copy>(
     alloc: A,
     keys: TextKeyed,
+    labels: usize,
 ) -> Result<Outlined<'a, A>, AllocError>
     ensures { IfOk result
         (λ r. (r.outlines.items ≡ []) × (r.fault ≡ None) × IsReadSoFar [] (read_so_far r)) }
 {
-    let scope = no_scope(alloc, keys)?;
+    let scope = no_scope(alloc, keys, labels)?;
     Ok(Outlined {
         outlines: Vec::new(alloc),
         scope,
@@ -202,27 +196,25 @@ pub fn outline_statements<'a, A: Allocator + Copy>(
         (λ d. IsRead (length text.now) (lexed text.now tokens.now lexical)
         (statements text.now tokens.now d.outlines.items) d.fault) }
 {
-    let mut read = nothing_read(alloc, keys_of(text, tokens))?;
+    let (outlines, rest) = outlines_of(alloc, text, tokens)?;
+    let keys = keys_of(text, tokens, &outlines);
+    let mut read = nothing_read(alloc, keys, label_count(&outlines))?;
     let mut depth = 0;
-    let mut token_index = 0;
-    'statements: loop {
-        match next_statement(text, tokens, depth, token_index) {
-            NextStatement::Whole(outline) => {
-                read.add_if_lawful(alloc, text, tokens, depth, outline)?;
-                if read.fault.is_some() {
-                    return Ok(read);
-                }
-                depth = depth_after(outline.kind, depth);
-                token_index = outline.end + 1;
-            }
-            NextStatement::Stopped(fault) => {
-                read.fault = Some(fault);
-                return Ok(read);
-            }
-            NextStatement::Ended(part) => {
-                read.fault = end_fault(lexical, text, part, depth);
-                return Ok(read);
-            }
+    for outline in &outlines {
+        read.add_if_lawful(alloc, text, tokens, depth, *outline)?;
+        if read.fault.is_some() {
+            return Ok(read);
+        }
+        depth = depth_after(outline.kind, depth);
+    }
+    match rest {
+        Rest::Stopped(fault) => {
+            read.fault = Some(fault);
+            Ok(read)
+        }
+        Rest::Ended(part) => {
+            read.fault = end_fault(lexical, text, part, depth);
+            Ok(read)
         }
     }
 }

@@ -4,9 +4,9 @@
 //! nearly every other crate depends on it. The types that go with the definitions are declared
 //! here. There is no code except the numbers of codes, the bytes of a word, some sets of sections
 //! and the request without options. What a reader has to believe of this crate are these types and
-//! the folder `specs/` without `specs/Laws`, which has definitions on which no output depends: laws,
-//! proofs and contracts of other crates use them. The laws that the definitions obey are in the
-//! crate `mm_laws`.
+//! the folder `specs/` without `specs/Laws`, which has definitions on which no output depends:
+//! laws, proofs and contracts of other crates use them. The laws that the definitions obey are in
+//! the crate `mm_laws`.
 #![tactic(auto)]
 
 ghost use Rattle.std.specs.Prelude.{◌≡◌};

@@ -6,7 +6,7 @@ use Rattle.std.proofs.Common.{◌≡◌, ◌∙◌, ℕ, Bool, true, false, ◌&
 use Rattle.std.proofs.Common.{sym, arith, true≢false, eq-eqb, ◌++◌, length, Some, option_map}
 use Rattle.std.proofs.Common.{slice_get}
 use Rattle.std.proofs.lemmas.Bool.{ne_eqb}
-use Rattle.std.specs.Prelude.{not, flat_map}
+use Rattle.std.specs.Prelude.{not, flat_map, Option, if◌then◌else◌}
 use Rattle.std.specs.List.{list_any, filter, range_with_len}
 use Rattle.std.proofs.lemmas.Grind.{common_steps}
 use Rattle.mm_spec.specs.Text.{Bytes}
@@ -20,7 +20,8 @@ use Rattle.mm_outline.specs.declared.parts.Kind.{Kind}
 use Rattle.mm_outline.specs.declared.parts.Kind.TheVariants.{Theorem}
 use Rattle.mm_spec.specs.Assertion.{has_label, variable_of, is_named_in, dummy_floats}
 use Rattle.mm_spec.specs.Assertion.{is_variable_of, proof_labels, proof_at, is_used, dummies}
-use Rattle.mm_spec.specs.Assertion.{dummy_pairs, is_dummy_pair}
+use Rattle.mm_spec.specs.Assertion.{dummy_pairs, is_dummy_pair, is_told}
+use Rattle.mm_tell.specs.Dummies.{told_dummies, told_dummy_pairs}
 use Rattle.mm_spec.proofs.MemberLaw.{member_flat, member_filter, member_range}
 use Rattle.mm_spec.proofs.FindsLaw.{any_filter}
 use Rattle.mm_tell.specs.Named.{names_dummy, float_variable}
@@ -160,3 +161,22 @@ no_dummies db k no_proof =
 pub no_proof_unless_theorem : (db : List Statement) (k : ℕ) (x : Kind)
     → option_map kind_of (slice_get db k) ≡ Some x → (x ≡ Theorem → ⊥) → proof_at db k ≡ []
 no_proof_unless_theorem db k x kind_is not_theorem = grind (arith, nat_tests, slice_get, option_map)
+
+-- a statement of which no dummy variable is told has no pairs that are told
+pub no_told_pairs : (db : List Statement) (only : Option Bytes) (k : ℕ)
+    → told_dummies db only k ≡ [] → told_dummy_pairs db only k ≡ []
+no_told_pairs db only k = by_test (is_told db only k)
+  where
+    by_test : (b : Bool) → (if b then dummies db k else []) ≡ []
+        → (if b then dummy_pairs db k else []) ≡ []
+    by_test true none = no_pairs db k none
+    by_test false none = refl
+
+-- nothing is told of the dummy variables of a statement that has none
+pub no_told_dummies : (db : List Statement) (only : Option Bytes) (k : ℕ) → dummies db k ≡ []
+    → told_dummies db only k ≡ []
+no_told_dummies db only k none = by_test (is_told db only k)
+  where
+    by_test : (b : Bool) → (if b then dummies db k else []) ≡ []
+    by_test true = none
+    by_test false = refl

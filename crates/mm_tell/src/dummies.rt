@@ -1,25 +1,28 @@
-//! The dummy variables of all theorems.
+//! The dummy variables of theorems.
 
 ghost use Rattle.std.specs.Prelude.{◌≡◌, ◌<◌, ◌+◌, ℕ, IfOk, OnOk, length, map, slice_index_or, []};
-ghost use Rattle.std.specs.Prelude.{true};
+ghost use Rattle.std.specs.Prelude.{None, false, true};
 ghost use Rattle.std.specs.List.{list_any};
 ghost use Rattle.mm_spec.specs.Scope.{statement_at};
 ghost use Rattle.mm_spec.specs.Citation.{is_assertion};
 ghost use Rattle.mm_spec.specs.Derivation.{pair};
-ghost use Rattle.mm_spec.specs.Assertion.{dummies, dummy_pairs};
+ghost use Rattle.mm_spec.specs.Assertion.{dummies, dummy_pairs, is_told};
+ghost use Rattle.std.specs.Option.{option_copied};
 ghost use Rattle.mm_tell.specs.Dummies.{DummyLists, dummies_before};
+ghost use Rattle.mm_tell.specs.Dummies.{told_dummies, told_dummy_pairs};
 
 use crate::pairs::list_pairs;
 use crate::variables::{list_dummies, list_used};
-use mm_database::Database;
+use mm_database::{Database, has_chosen_typecode};
 use mm_lists::Lists;
 use mm_outline::parts::Kind;
 use mm_outline::symbol::Sym;
 use std::alloc::{AllocError, Allocator};
 use std::marker::Model;
 
-/// For each statement of a database its dummy variables, and the pairs of variables, one of which
-/// is a dummy, that an active `$d` has. Only a theorem has some.
+/// For each statement of a database that is told its dummy variables, and the pairs of variables,
+/// one of which is a dummy, that an active `$d` has. Only a theorem has some. Where a typecode is
+/// chosen, theorems with another one aren't told, and nothing is listed for them.
 pub struct Dummies<A: Allocator> {
     variables: Lists<u32, A>,
     pairs: Lists<(Sym, Sym), A>,
@@ -46,6 +49,24 @@ impl<A: Allocator> Model for Dummies<A> {
       variables = d.variables;
       pairs = map (map (λ p. pair p.0 p.1)) d.pairs;
     } };
+}
+
+/// Whether a statement is a theorem that is told.
+fn is_told_theorem<D: Allocator>(
+    database: &Database<'_, D>,
+    only: Option<&[u8]>,
+    statement: u32,
+) -> bool
+    requires { statement < length database.now.statements }
+    ensures is_told_if_true { result ≡ true
+        → is_told database.now.statements (option_copied only.entry) statement ≡ true }
+    ensures has_none_if_false { result ≡ false
+        → told_dummies database.now.statements (option_copied only.entry) statement ≡ [] }
+{
+    match database.kind(statement) {
+        Kind::Theorem => has_chosen_typecode(database, only, statement),
+        _ => false,
+    }
 }
 
 /// Lists that are kept from one theorem to the next, so that their memory is reused.
@@ -96,34 +117,35 @@ impl<A: Allocator> Scratch<A> {
         )
     }
 
-    /// Lists the dummy variables of a statement, and the pairs with these. Only a theorem has some.
+    /// Lists the dummy variables of a statement, and the pairs with these, if it is a theorem that
+    /// is told.
     fn list<D: Allocator>(
         &mut self,
         database: &Database<'_, D>,
+        only: Option<&[u8]>,
         statement: u32,
     ) -> Result<(), AllocError>
         requires { statement < length database.now.statements }
         ensures dummies_are { OnOk result
-            (self.new.dummies.items ≡ dummies database.now.statements statement) }
+            (self.new.dummies.items
+            ≡ told_dummies database.now.statements (option_copied only.entry) statement) }
         ensures pairs_are { OnOk result
             (map (λ p. pair p.0 p.1) self.new.pairs.items
-            ≡ dummy_pairs database.now.statements statement) }
+            ≡ told_dummy_pairs database.now.statements (option_copied only.entry) statement) }
     {
-        match database.kind(statement) {
-            Kind::Theorem => self.list_theorem(database, statement),
-            _ => {
-                self.dummies.clear();
-                self.pairs.clear();
-                Ok(())
-            }
+        if is_told_theorem(database, only, statement) {
+            return self.list_theorem(database, statement);
         }
+        self.dummies.clear();
+        self.pairs.clear();
+        Ok(())
     }
 }
 
 impl<A: Allocator + Copy> Dummies<A> {
     /// Those of no statement.
     pub fn none(alloc: A) -> Dummies<A>
-        ensures { result ≡ dummies_before [] 0 }
+        ensures { result ≡ dummies_before [] None 0 }
     {
         Dummies {
             variables: Lists::new(alloc),
@@ -131,11 +153,17 @@ impl<A: Allocator + Copy> Dummies<A> {
         }
     }
 
-    /// Finds the dummy variables of all statements of a database, and the pairs with these. Fails
-    /// only if out of memory, or if there are 2^32 of them or more.
-    pub fn new<D: Allocator>(alloc: A, database: &Database<'_, D>) -> Result<Dummies<A>, AllocError>
+    /// Finds the dummy variables of all statements of a database that are told, and the pairs with
+    /// these; `only` is the typecode that is chosen, if one is. Fails only if out of memory, or if
+    /// there are 2^32 of them or more.
+    pub fn new<D: Allocator>(
+        alloc: A,
+        database: &Database<'_, D>,
+        only: Option<&[u8]>,
+    ) -> Result<Dummies<A>, AllocError>
         ensures { IfOk result (λ d. d
-            ≡ dummies_before database.now.statements (length database.now.statements)) }
+            ≡ dummies_before database.now.statements (option_copied only.entry)
+            (length database.now.statements)) }
     {
         let mut dummies = Dummies {
             variables: Lists::new(alloc),
@@ -147,7 +175,7 @@ impl<A: Allocator + Copy> Dummies<A> {
             pairs: Vec::new(alloc),
         };
         for statement in 0..database.len() {
-            scratch.list(database, statement)?;
+            scratch.list(database, only, statement)?;
             dummies.variables.push(&scratch.dummies)?;
             dummies.pairs.push(&scratch.pairs)?;
         }

@@ -22,6 +22,11 @@ pub send_assertion-requires-clause-is_assertion :
 send_assertion-requires-clause-is_assertion g c =
     c.requires.are_assertions c.loop-statement.statement-index 0 c.loop-statement-test.true
 
+pub send_assertion-requires-clause-have_dummies :
+    goal.send_assertion-requires-clause-have_dummies
+send_assertion-requires-clause-have_dummies g c =
+    c.requires.have_dummies c.loop-statement.statement-index 0 c.loop-statement-test.true
+
 pub loop-statement-init : goal.loop-statement-init
 loop-statement-init g c = sent_nothing
 

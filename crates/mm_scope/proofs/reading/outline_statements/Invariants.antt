@@ -1,19 +1,20 @@
-use Rattle.std.proofs.Common.{◌≡◌, ◌-◌, ◌<◌, length, All, None}
+use Rattle.std.proofs.Common.{◌≡◌, ◌<◌, ℕ, length, drop, All, None}
 use Rattle.mm_outline.specs.Parts.{IsOutline}
 use Rattle.mm_outline.specs.Statements.{statements}
+use Rattle.mm_scope.specs.Outlines.{AreOutlinesFrom}
 use Rattle.mm_scope.specs.ReadSoFar.{IsReadSoFar, read_so_far}
 use Rattle.mm_scope.proofs.ReadLaw.{IsReadTo}
 use Rattle.mm_scope.proofs.reading.outline_statements.Given as goal
 
-abbrev pub invariant-statements : goal.invariant-statements
-invariant-statements g l = record {
+abbrev pub invariant-loop-outline : goal.invariant-loop-outline
+invariant-loop-outline g l = record {
   outlines : All (λ o. IsOutline o × (o.end < length l.tokens)) l.read.outlines.items;
+  from : ℕ;
   reading : IsReadTo l.text l.tokens
-      (statements l.text l.tokens l.read.outlines.items) l.depth l.token_index;
+      (statements l.text l.tokens l.read.outlines.items) l.depth from;
+  left : AreOutlinesFrom l.text l.tokens l.depth from
+      (drop l.outline-index l.outline-items) l.rest;
   is_read_so_far : IsReadSoFar (statements l.text l.tokens l.read.outlines.items)
       (read_so_far l.read);
   no_fault : l.read.fault ≡ None;
 }
-
-abbrev pub decreases-statements : goal.decreases-statements
-decreases-statements g l = length l.tokens - l.token_index
