@@ -134,12 +134,16 @@ class Repository(unittest.TestCase):
         path.write_text(text, "utf-8")
 
     def started(self, *words: str, under: str = "") -> "subprocess.Popen[str]":
-        """A command of the package that is running, in a shell after the line `under`."""
+        """A command of the package that is running, in a shell after the line `under`.
+
+        Where `CI` is set, `rt ci` with names is refused, since that isn't the gate.
+        """
         line = f'{under} exec "$@"'
+        environment = {name: value for name, value in os.environ.items() if name != "CI"}
         return subprocess.Popen(
             ["bash", "-c", line, "", sys.executable, "-B", "-m", "proving", *words],
             cwd=self.top,
-            env={**os.environ, "TMPDIR": str(self.temporary), "RT_JOBS": "2"},
+            env={**environment, "TMPDIR": str(self.temporary), "RT_JOBS": "2"},
             stdin=subprocess.DEVNULL,
             stdout=subprocess.PIPE,
             stderr=subprocess.STDOUT,
