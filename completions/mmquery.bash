@@ -45,7 +45,7 @@ _mmquery() {
                     mathboxes:-*) words='--essential --open --format --before --main --mathbox --under --like --not --among --no-cache --limit-time --limit-memory -h --help' ;;
                     definitions:-*) words='--trust --equality --basis --expand --without --essential --open --format --before --main --mathbox --under --like --not --among --no-cache --limit-time --limit-memory -h --help' ;;
                     equivalents:-*) words='--only --all --axioms --ignore-definitions --essential --open --format --no-cache --limit-time --limit-memory -h --help' ;;
-                    search:-*) words='--open --format --before --main --mathbox --under --like --not --among --no-cache --limit-time --limit-memory -h --help' ;;
+                    search:-*) words='--given --open --format --before --main --mathbox --under --like --not --among --no-cache --limit-time --limit-memory -h --help' ;;
                     needs:-*) words='--tree --open --format --before --main --mathbox --under --like --not --among --no-cache --limit-time --limit-memory -h --help' ;;
                     move:-*) words='--to --format --no-cache --limit-time --limit-memory -h --help' ;;
                     graph:-*) words='--as --depth --through --landmarks --essential --open --no-cache --limit-time --limit-memory -h --help' ;;

@@ -462,6 +462,7 @@ complete -c mmquery -n '__fish_seen_subcommand_from equivalents' -l no-cache -d 
 complete -c mmquery -n '__fish_seen_subcommand_from equivalents' -l limit-time -r -d 'of the processor, for verifying a text (else: 10, and 5 for each MB)'
 complete -c mmquery -n '__fish_seen_subcommand_from equivalents' -l limit-memory -r -d 'for verifying a text (else: 256, and 64 for each MB)'
 complete -c mmquery -n '__fish_seen_subcommand_from equivalents' -s h -l help -d 'show this page'
+complete -c mmquery -n '__fish_seen_subcommand_from search' -l given -r -d 'only where a $e has PATTERN; may be given several times'
 complete -c mmquery -n '__fish_seen_subcommand_from search' -l open -d 'a theorem whose proof is ? counts as an axiom'
 complete -c mmquery -n '__fish_seen_subcommand_from search' -l format -x -a 'text tsv csv json' -d 'the form of the answer (else: text)'
 complete -c mmquery -n '__fish_seen_subcommand_from search' -l before -r -d 'only what stands before T'

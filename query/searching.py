@@ -11,7 +11,7 @@ from __future__ import annotations
 import re
 from collections import Counter
 from collections.abc import Iterable, Iterator, Mapping, Sequence
-from dataclasses import dataclass
+from dataclasses import dataclass, replace
 from functools import cached_property
 from itertools import groupby, takewhile
 from typing import NamedTuple
@@ -28,23 +28,27 @@ from query.text import Text
 QUOTED = re.compile(r'\s*"\s*([^"]*?)\s*"\s*')
 MOST_TRIED, MOST_OF_SYMBOL = 100_000, 100
 """So many symbols of patterns, and so many for each symbol of a formula, are compared with it."""
+MOST_AGREED = 10_000
+"""In so many ways in which formulas have patterns it is looked whether they agree."""
 
 
 class Step(NamedTuple):
-    """A symbol of a pattern: a constant, or a variable of a typecode. `is_repeated` is whether it
-    is a variable that stands in the pattern more than once."""
+    """A symbol of a pattern: a constant, or a variable of a typecode. `is_bound` is whether it is a
+    variable that stands in the pattern more than once, or in another pattern too."""
 
     symbol: str
     typecode: str | None
-    is_repeated: bool
+    is_bound: bool
 
 
 @dataclass(frozen=True)
 class Pattern:
-    """What is looked for: symbols, of which those in `kinds` stand for parts of these typecodes."""
+    """What is looked for: symbols, of which those in `kinds` stand for parts of these typecodes.
+    Other patterns have those that are `shared` too."""
 
     symbols: tuple[str, ...]
     kinds: Mapping[str, str]
+    shared: frozenset[str] = frozenset()
 
     @cached_property
     def runs(self) -> list[str]:
@@ -56,10 +60,8 @@ class Pattern:
     def steps(self) -> list[Step]:
         """Its symbols, one for each step of comparing it."""
         counts, kinds = Counter(self.symbols), self.kinds
-        return [
-            Step(symbol, kinds.get(symbol), symbol in kinds and counts[symbol] > 1)
-            for symbol in self.symbols
-        ]
+        bound = {each for each in kinds if counts[each] > 1 or each in self.shared}
+        return [Step(symbol, kinds.get(symbol), symbol in bound) for symbol in self.symbols]
 
     def near(self, reader: Reader) -> list[str]:
         """The tokens that a level has in which the pattern begins: those of its constants up to
@@ -71,6 +73,15 @@ class Pattern:
         constants = [first] if first not in self.kinds else []
         constants += takewhile(lambda symbol: symbol not in reader.edges, others)
         return [reader.tokens.get(each, each) for each in dict.fromkeys(constants)]
+
+
+def sharing(patterns: Sequence[Pattern]) -> list[Pattern]:
+    """The same patterns, of which each knows the variables that others have too."""
+    counts = Counter(variable for each in patterns for variable in each.kinds)
+    return [
+        replace(each, shared=frozenset(name for name in each.kinds if counts[name] > 1))
+        for each in patterns
+    ]
 
 
 def may_have(text: str, runs: Sequence[str]) -> bool:
@@ -131,13 +142,51 @@ class TooMany(Exception):
     """There are too many ways to put parts in place of variables."""
 
 
-class Answer(NamedTuple):
-    """What is known of a formula: whether it has all patterns, whether it has a tree or needs none,
-    and whether it takes too long to say."""
+Way = dict[str, str]
+"""What stands in place of the variables of a pattern that other patterns have too."""
 
-    has: bool
+
+class Ways(NamedTuple):
+    """What is known of a formula: the ways in which it has a pattern, whether it has a tree or
+    needs none, and whether it takes too long to say."""
+
+    found: Sequence[Way]
     is_read: bool = True
     is_too_long: bool = False
+
+
+class Sought:
+    """A pattern, and what is known of formulas that were looked at. In a database that was verified
+    a variable has one typecode wherever it stands, so that equal formulas are the same."""
+
+    def __init__(self, pattern: Pattern, reader: Reader) -> None:
+        self.pattern = pattern
+        self.reader = reader
+        self.near = pattern.near(reader) if pattern.kinds else []
+        self.known: dict[str, Ways] = {}
+
+    def ways(self, formula: str) -> Ways:
+        """The ways in which a formula has it."""
+        known = self.known.get(formula)
+        if known is None:
+            known = self.known[formula] = self._ways(formula)
+        return known
+
+    def _ways(self, formula: str) -> Ways:
+        if not may_have(f" {formula} ", self.pattern.runs):
+            return Ways(())
+        if not self.pattern.kinds:
+            return Ways([{}])
+        symbols = formula.split(" ")
+        level, is_read = self.reader.level(symbols)
+        try:
+            return Ways(Match(symbols, level).ways(self.pattern, self.near), is_read)
+        except TooMany:
+            return Ways((), is_read, True)
+
+
+Wanted = Sequence[tuple[Sought, Sequence[str]]]
+"""For each pattern the formulas of which one has to have it."""
 
 
 class Searcher:
@@ -146,39 +195,46 @@ class Searcher:
     def __init__(self, assertions: Sequence[Assertion], every: Sequence[Assertion]) -> None:
         self.assertions = assertions
         self.reader = Reader(syntax_of(every))
-        self.unread: list[str] = []
-        """The statements with a formula that has no tree."""
-        self.given_up: list[str] = []
-        """Those of which it takes too long to say whether they have the pattern."""
-        self._answers: dict[str, Answer] = {}
-        """Of formulas that were looked at."""
+        self.unread: dict[tuple[str, str], None] = {}
+        """The formulas that have no tree, each with the label of its statement."""
+        self.given_up: dict[tuple[str, str], None] = {}
+        """Those of which it takes too long to say whether they have a pattern."""
         self._declared: set[str] = set()
-        """The `$f` whose variables are declared. In a database that was verified a variable has one
-        typecode wherever it stands, so that equal formulas are the same."""
-        self._near: list[tuple[Pattern, list[str]]] = []
-        """The patterns that are looked for and have variables. The others are text."""
+        """The `$f` whose variables are declared."""
 
-    def hits(self, patterns: Sequence[Pattern]) -> Iterator[Hit]:
-        """The formulas that have all patterns, in file order, a statement before its `$e`."""
-        self._answers.clear()
-        self._near = [(each, each.near(self.reader)) for each in patterns if each.kinds]
+    def hits(self, patterns: Sequence[Pattern], given: Sequence[Pattern] = ()) -> Iterator[Hit]:
+        """The formulas that have all patterns, in file order, a statement before its `$e`; only of
+        statements that have a `$e` with each of those in `given`."""
+        sought = [Sought(each, self.reader) for each in sharing([*patterns, *given])]
+        own, conditions = sought[: len(patterns)], sought[len(patterns) :]
         for number, one in enumerate(self.assertions):
             if number % 1000 == 0:
                 progress.now(f"searching, {number} of {len(self.assertions)} are done")
-            if not all(may_have(f"{one.said} ", pattern.runs) for pattern in patterns):
+            if not all(may_have(f"{one.said} ", each.pattern.runs) for each in sought):
                 continue
-            for given, formula in self.formulas_of(one):
-                answer = self._answers.get(formula)
-                if answer is None:
-                    answer = self._answers[formula] = self.answer(formula, patterns)
-                if answer.has:
-                    yield Hit(one, given, formula)
-                if not answer.is_read:
-                    self.unread.append(one.label)
-                if answer.is_too_long:
-                    self.given_up.append(one.label)
+            formulas = self.formulas_of(one)
+            others = [formula for _, formula in formulas[1:]]
+            for label, formula in formulas:
+                if not all(may_have(f" {formula} ", each.pattern.runs) for each in own):
+                    continue
+                wanted: Wanted = [
+                    *((each, others) for each in conditions),
+                    *((each, [formula]) for each in own),
+                ]
+                try:
+                    if Agreement(self, one.label).holds(wanted, {}):
+                        yield Hit(one, label, formula)
+                except TooMany:
+                    self.given_up[one.label, formula] = None
 
-    def formulas_of(self, one: Assertion) -> Iterable[tuple[str | None, str]]:
+    def note(self, label: str, formula: str, ways: Ways) -> None:
+        """Notes what isn't known of a formula."""
+        if not ways.is_read:
+            self.unread[label, formula] = None
+        if ways.is_too_long:
+            self.given_up[label, formula] = None
+
+    def formulas_of(self, one: Assertion) -> list[tuple[str | None, str]]:
         """The formula of a statement, and those of its `$e` by their labels. Declares its
         variables."""
         found: list[tuple[str | None, str]] = [(None, one.formula)]
@@ -192,26 +248,39 @@ class Searcher:
                 self._declared.add(part)
         return found
 
-    def answer(self, formula: str, patterns: Sequence[Pattern]) -> Answer:
-        """Whether a formula has all patterns."""
-        if not all(may_have(f" {formula} ", pattern.runs) for pattern in patterns):
-            return Answer(False)
-        if not self._near:
-            return Answer(True)
-        symbols = formula.split(" ")
-        level, is_read = self.reader.level(symbols)
-        try:
-            match = Match(symbols, level)
-            return Answer(all(match.has(*each) for each in self._near), is_read)
-        except TooMany:
-            return Answer(False, is_read, True)
+
+class Agreement:
+    """Whether the formulas of a statement have several patterns, with the same in place of each
+    variable."""
+
+    def __init__(self, searcher: Searcher, label: str) -> None:
+        self.searcher = searcher
+        self.label = label
+        self.left = MOST_AGREED
+
+    def holds(self, wanted: Wanted, bound: Way) -> bool:
+        """Whether they have these, with what is bound. TooMany where that takes too long to say."""
+        if not wanted:
+            return True
+        sought, formulas = wanted[0]
+        for formula in formulas:
+            ways = sought.ways(formula)
+            self.searcher.note(self.label, formula, ways)
+            for way in ways.found:
+                self.left -= 1
+                if self.left < 0:
+                    raise TooMany
+                agrees = all(bound.get(variable, part) == part for variable, part in way.items())
+                if agrees and self.holds(wanted[1:], {**bound, **way}):
+                    return True
+        return False
 
 
 Above = tuple[Level, int, "Above"] | None
 """The token that stands for a level in the one above it: that one, its index, and what is above."""
 Bound = dict[str, tuple[int, int]]
 """The part that stands in place of a variable, from its first symbol to the one behind it, of those
-that a pattern has more than once."""
+that a pattern has more than once, or shares."""
 State = tuple[int, Level, int, Above, Bound]
 """How far a pattern was compared: the number of the next step, the level and the index of the next
 token, what is above, and what is bound."""
@@ -226,19 +295,31 @@ class Match:
         self.whole = whole
         self.left = MOST_TRIED + MOST_OF_SYMBOL * len(symbols)
 
-    def has(self, pattern: Pattern, near: Sequence[str]) -> bool:
-        """Whether the formula has a pattern somewhere, which begins in a level that has these
-        tokens."""
+    def ways(self, pattern: Pattern, near: Sequence[str]) -> list[Way]:
+        """The ways in which the formula has a pattern somewhere, which begins in a level that has
+        these tokens; of a pattern that shares no variable one of them."""
+        found: dict[tuple[str, ...], Way] = {}
+        for bound in self.places(pattern, near):
+            parts = {name: self.symbols[slice(*bound[name])] for name in pattern.shared}
+            self.left -= sum(map(len, parts.values()))
+            if self.left < 0:
+                raise TooMany
+            way = {name: " ".join(part) for name, part in parts.items()}
+            found[tuple(way.values())] = way
+            if not way:
+                break
+        return [*found.values()]
+
+    def places(self, pattern: Pattern, near: Sequence[str]) -> Iterator[Bound]:
+        """What is bound at each place where the formula has a pattern."""
         left: list[tuple[Level, Above]] = [(self.whole, None)]
         while left:
             level, above = left.pop()
             is_near = all(map(level.tokens.__contains__, near))
             for index in self.starts(level, above, pattern.steps[0], is_near):
-                if self.is_at(pattern.steps, (0, level, index, above, {})):
-                    return True
+                yield from self.at(pattern.steps, (0, level, index, above, {}))
             for index, below in level.below.items():
                 left.append((below, (level, index, above)))
-        return False
 
     def starts(self, level: Level, above: Above, first: Step, is_near: bool) -> Iterable[int]:
         """The tokens of a level at which a pattern with this first step may begin."""
@@ -254,15 +335,15 @@ class Match:
         is_above = above[0].tokens[above[1]] == OF_TYPECODE + typecode
         return [index for index in starts if (is_near if index else not is_above)]
 
-    def is_at(self, steps: Sequence[Step], state: State) -> bool:
-        """Whether a pattern is at a token."""
+    def at(self, steps: Sequence[Step], state: State) -> Iterator[Bound]:
+        """What is bound in each way in which a pattern is at a token."""
         left = [state]
         while left:
             state = left.pop()
             first, level, index, above, bound = state
             number = first
             for number in range(first, len(steps)):
-                symbol, typecode, is_repeated = steps[number]
+                symbol, typecode, is_bound = steps[number]
                 while index == len(level.tokens) and above is not None:
                     level, index, above = above
                     index += 1
@@ -282,15 +363,14 @@ class Match:
                     left += self.branches(steps[number], (number, level, index, above, bound), ends)
                     break
                 end = ends[0]
-                if is_repeated and not self.binds(bound, symbol, level, index, end):
+                if is_bound and not self.binds(bound, symbol, level, index, end):
                     break
                 index = end
             else:
-                return True
+                yield bound
             self.left -= number - first + 1
             if self.left < 0:
                 raise TooMany
-        return False
 
     def branches(self, step: Step, state: State, ends: Sequence[int]) -> Iterator[State]:
         """What may follow where a variable stands for one of several parts, or for none."""
@@ -298,7 +378,7 @@ class Match:
         for end in ends:
             self.left -= len(bound)
             own = {**bound}
-            if not step.is_repeated or self.binds(own, step.symbol, level, index, end):
+            if not step.is_bound or self.binds(own, step.symbol, level, index, end):
                 yield number + 1, level, end, above, own
 
     def binds(self, bound: Bound, variable: str, level: Level, index: int, end: int) -> bool:

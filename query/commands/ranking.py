@@ -50,11 +50,13 @@ The filters choose which theorems are counted.
 
 WITHIN_PAGE = """
 Lists in file order the theorems that rest on no more axioms than the LABELs: on these, on some of
-these, or on none. Only axioms of typecode |- count, unless --all or --only T is given.
+these, or on none. Only axioms of typecode |- count, unless --all or --only T is given. Definitions
+are such axioms; with --ignore-definitions they don't count.
 
 theorem  the label of the theorem
 
   $ mmquery within set.mm ax-mp ax-1 ax-2
+  $ mmquery within set.mm ax-mp ax-1 ax-2 ax-3 --ignore-definitions
 """
 
 SAME_PAGE = """

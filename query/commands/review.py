@@ -2,9 +2,10 @@
 
 import argparse
 import re
-from collections.abc import Callable, Iterable, Sequence
+from collections.abc import Callable, Iterable, Iterator, Sequence
 from dataclasses import dataclass, field
 
+from query.causes import Causes
 from query.changes import Comparison
 from query.commands import TABLE_FORMATS, Command
 from query.commands.compare import compared, reordered, why_empty
@@ -47,12 +48,16 @@ bytes    how much longer its text is, from the label to the end; of a new one ho
 differ   of a changed one in what its statements differ, in words
 old, new both statements of a changed one, as `compare` tells them
 
-Only what this change touches itself is listed: `compare` lists all theorems that came to rest on an
-axiom. Standard error says how many axioms of any typecode are new, changed, renamed and gone, and
-of each new or changed definition what it defines, or why it isn't sound. With --format markdown it
-is a comment for the pull request, which says first which axioms these are, then the same of
-definitions, and then has at most 60 theorems, and both statements of at most 60 that were changed,
-axioms included.
+As text the edits that let axioms in stand first: which proof newly cites what, and how many
+theorems of both came to rest on each axiom by that. Where a theorem became an axiom, that is the
+edit.
+
+The table has only what this change touches itself: `compare` lists all theorems that came to rest
+on an axiom. Standard error says how many axioms of any typecode are new, changed, renamed and gone,
+and of each new or changed definition what it defines, or why it isn't sound. With --format markdown
+it is a comment for the pull request, which says first which axioms these are, then at most 60 edits
+that let axioms in, then what new and changed definitions define, and then has at most 60 theorems,
+and both statements of at most 60 that were changed, axioms included.
 
   $ mmquery review v1:set.mm set.mm
   $ mmquery review v1:set.mm set.mm --format markdown
@@ -96,12 +101,13 @@ def configure(parser: Parser) -> None:
 def run(context: Context, arguments: argparse.Namespace) -> int:
     """Answers."""
     comparison = compared(context, arguments)
-    changes = changes_of(comparison, most_of(context.out.format))
+    causes = Causes(comparison)
+    changes = changes_of(comparison, most_of(context.out.format), causes)
     empty = why_empty(
         arguments, comparison, "have the same theorems, with the same proofs, in one order"
     )
     if context.out.format == "markdown":
-        context.out.text(comment(comparison, changes))
+        context.out.text(comment(comparison, changes, causes))
         return 0
     axioms = changed_axioms(comparison)
     counts = ", ".join(f"{len(labels)} {word}" for word, labels in axioms.items() if labels)
@@ -111,6 +117,8 @@ def run(context: Context, arguments: argparse.Namespace) -> int:
     told = f"; axioms: {counts}" if counts else ""
     remarks = reordered(comparison.theorems, comparison.axioms)
     rows = [each.row() for each in changes]
+    if context.out.format == "text" and causes.found:
+        context.out.text("".join(f"{each}\n" for each in (*causes_in_words(causes, cut), "")))
     context.table(COLUMNS, rows, empty + told, aside=BOTH, remarks=remarks)
     if context.out.format == "text":
         for line in lines_of(each.change for each in changes if each.change is not None):
@@ -130,9 +138,9 @@ def changed_axioms(comparison: Comparison) -> dict[str, list[str]]:
     }
 
 
-def changes_of(comparison: Comparison, most: int) -> list[Outcome]:
-    """What became of each theorem that the change is about, with so many characters of the
-    statements of changed ones at the most."""
+def changes_of(comparison: Comparison, most: int, causes: Causes) -> list[Outcome]:
+    """What became of each theorem that the change is about, with at most so many characters of the
+    statements of changed ones. What let axioms in is added to `causes`."""
     old, new = comparison.old_text, comparison.text
     pairing = comparison.theorems
     fresh = set(pairing.new)
@@ -167,7 +175,7 @@ def changes_of(comparison: Comparison, most: int) -> list[Outcome]:
         found[label].axioms = number_of_axioms(comparison, label)
     for each in both_statements(comparison, "theorem", most):
         found[each.label].change = each
-    add_shifts(comparison, found)
+    add_shifts(comparison, found, causes)
     gone = [Outcome(label, ["gone"], bytes=-length(old, label)) for label in pairing.gone]
     return [*found.values(), *gone]
 
@@ -184,10 +192,11 @@ def length(text: Text, label: str) -> int:
     return one.end - one.place
 
 
-def add_shifts(comparison: Comparison, found: dict[str, Outcome]) -> None:
-    """Adds which axioms the theorems gained and lost."""
+def add_shifts(comparison: Comparison, found: dict[str, Outcome], causes: Causes) -> None:
+    """Adds which axioms the theorems gained and lost, and the causes of the gains."""
     for axiom in comparison.new.dependence.axioms:
         for shift in comparison.shifts(axiom):
+            causes.add(shift)
             change = found.get(shift.theorem)
             if change is not None:
                 change.gained.append(axiom)
@@ -214,12 +223,16 @@ def out_of_order(numbered: Iterable[tuple[str, int]]) -> set[str]:
     return {label for place, (label, _) in enumerate(pairs) if place not in stayed}
 
 
-def comment(comparison: Comparison, changes: Sequence[Outcome]) -> str:
+def comment(comparison: Comparison, changes: Sequence[Outcome], causes: Causes) -> str:
     """The comment for a pull request. What comes from a database stands as code, in which nothing
     is a link or a mention, and labels have no sign that would end it."""
     counts = {word: sum(word in each.status for each in changes) for word in STATUSES}
     parts = [f"{count} {STATUSES[word]}" for word, count in counts.items() if count]
     lines = [f"**Axioms**: {axioms_in_words(comparison)}.", ""]
+    if causes.found:
+        edits = [f"- {each}." for each in causes_in_words(causes, code)]
+        left = [f"- {len(edits) - SHOWN_ROWS} more edits."] if len(edits) > SHOWN_ROWS else []
+        lines += ["**Edits that let axioms in**:", "", *edits[:SHOWN_ROWS], *left, ""]
     if definitions := definitions_in_words(comparison, code):
         lines += ["**Definitions**:", "", *(f"- {each}" for each in definitions), ""]
     lines += [f"**Theorems**: {', '.join(parts) if parts else 'no change'}."]
@@ -262,6 +275,18 @@ def axioms_in_words(comparison: Comparison) -> str:
         named = [code(label) + (f" from {code(was[label])}" if was else "") for label in labels]
         parts += [f"{len(named)} {word} ({listed(named)})"] if named else []
     return ", ".join(parts) if parts else "no change"
+
+
+def causes_in_words(causes: Causes, shown: Callable[[str], str]) -> Iterator[str]:
+    """Each edit that let an axiom in, and then how many theorems followed. `shown` says how a label
+    is."""
+    for each in causes.in_order():
+        counts = [f"{shown(axiom)} ({count})" for axiom, count in each.axioms.items()]
+        if each.citing is None:
+            edit = f"{shown(each.cited)} is new among the axioms"
+        else:
+            edit = f"{shown(each.citing)} newly cites {shown(each.cited)}"
+        yield f"{edit}, by which theorems came to rest on {listed(counts)}"
 
 
 def definitions_in_words(comparison: Comparison, shown: Callable[[str], str]) -> list[str]:

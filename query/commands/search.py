@@ -15,12 +15,16 @@ in its place, the same wherever it stands: `A ~~ B ->` finds `( ( A u. B ) ~~ C 
 quotes, as in '"A ~~ B ->"', a variable stands for itself, too. One that begins with - goes behind
 --, after which nothing is an option.
 
+With --given PATTERN only those of statements that have a $e with that pattern too; with several, a
+$e for each. In all patterns together a variable stands for the same.
+
 label    that of the axiom or theorem
 given    the label of the $e whose formula it is; nothing where it is that of the statement
 formula  the formula
 
   $ mmquery search set.mm 'A ~~ B ->' --main
   $ mmquery search set.mm '"|- -. -. ph"'
+  $ mmquery search set.mm '|- A = B' --given 'A C_ B' --given 'B C_ A'
   $ mmquery search -- set.mm '-. A = B'
 """
 UNREAD = "{} formulas aren't read by the syntax axioms, so less may be found; the first is of {}"
@@ -32,6 +36,7 @@ def configure(parser: Parser) -> None:
     """Adds the words and options."""
     add_database(parser)
     parser.add_argument("patterns", metavar="PATTERN", nargs="+")
+    parser.values("--given", "PATTERN", "only where a $e has PATTERN; may be given several times")
     add_open(parser)
 
 
@@ -39,14 +44,20 @@ def run(context: Context, arguments: argparse.Namespace) -> int:
     """Answers."""
     database = context.database(arguments.database, Options(open=arguments.open))
     text = database.text
-    patterns = [pattern_of(text, database.name, word) for word in arguments.patterns]
+    patterns, given = (
+        [pattern_of(text, database.name, word) for word in words]
+        for words in (arguments.patterns, arguments.given)
+    )
     passes = context.test()
     searcher = Searcher([one for one in text.assertions if passes(one.label)], text.assertions)
     rows: list[list[Value]] = []
-    for hit in searcher.hits(patterns):
+    for hit in searcher.hits(patterns, given):
         rows.append([hit.one.label, hit.given, hit.formula])
     why = f"{database.name}: no formula has that"
-    remarks = {UNREAD: searcher.unread, GIVEN_UP: searcher.given_up}
+    remarks = {
+        told: [label for label, _ in places]
+        for told, places in ((UNREAD, searcher.unread), (GIVEN_UP, searcher.given_up))
+    }
     context.table(COLUMNS, rows, why, remarks=remarks)
     return 0
 

@@ -503,6 +503,38 @@ signs $a |- {"x& " * count}p $.
     )
 
 
+def needless(count: int) -> Files:
+    """A `$d` of many variables around many theorems of two, each with a hypothesis, of which none
+    is needed; and symbols that are in no formula."""
+    made, found = variables(count)
+    lines = [f"{made}$d {' '.join(found)} $."]
+    for number, name in enumerate(found[1:]):
+        lines.append(f"$c c{number} $. $v v{number} $. wv{number} $f wff v{number} $.")
+        theorem = f"y{number} $p |- ( x0 -> {name} ) $= wx0 w{name} wi ax $."
+        lines.append(f"${{ h{number} $e |- p $. {theorem} $}}")
+    return one("\n".join(lines) + "\n")
+
+
+def asked_again(count: int) -> Files:
+    """A proof whose steps ask again and again that many variables be distinct from many others. All
+    have other pairs too, for which no step asks."""
+    made, found = variables(count)
+    middle = count // 2
+    halves = (range(middle), range(middle, count))
+    formulas = [
+        "( " * (len(half) - 1) + found[half[0]] + "".join(f" -> {found[k]} )" for k in half[1:])
+        for half in halves
+    ]
+    wi, apart, two, first, second, whole = (letters(count + number) for number in range(1, 7))
+    builds = [[letters(half[0] + 1), *(letters(k + 1) + wi for k in half[1:])] for half in halves]
+    steps = ["".join(each) for each in builds]
+    item, again = first + second + apart, 8 * count
+    steps += [wi, whole * (again - 1) + item + f"{item}{two}" * again]
+    theorem = f"x $p |- ( {' -> '.join(formulas)} ) $= ( wi apart two ) {'Z'.join(steps)} $."
+    rule = "${ $d p q $. apart $a |- ( p -> q ) $. $}"
+    return one(f"{made}{rule}\n$d {' '.join(found)} $.\n{theorem}\n")
+
+
 def new_proofs(count: int) -> Files:
     """Theorems of which each can do without an axiom, and cites the one before."""
     lines = [
@@ -587,4 +619,7 @@ SHAPES = [
           ("search a.mm '( p -> p )'", "search a.mm 'q -> ( p -> ( q'", "search a.mm 'p p'")),
     Shape("lists", lists, 1_000, 400, ("spare a.mm ax", "definitions a.mm")),
     Shape("new proofs", new_proofs, 2_000, 1_000, ("repeats a.mm", "spare a.mm ax")),
+    Shape("what nothing needs", needless, 4_000, 2_000, ("unneeded a.mm",)),
+    Shape("pairs that are asked for again and again", asked_again, 400, 400, ("unneeded a.mm",),
+          is_answer=True, is_limited=True),
 ]  # fmt: skip

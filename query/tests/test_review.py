@@ -2,10 +2,13 @@
 
 import os
 import random
+import re
+from collections import Counter
 from unittest import mock
 
 from query.commands.review import SHOWN_ROWS, out_of_order
-from query.tests.world import SMALL, World, asked, built_program, invented
+from query.tests.shapes import HEAD, theorem
+from query.tests.world import SMALL, World, answered, asked, built_program, invented
 
 A2 = "a2 $p |- ( q -> ( q -> p ) ) $= wq wp wi wq wp wq g a1i a1i $. $}\n"
 
@@ -126,6 +129,130 @@ class Reviewed(World):
             left = [number for label, number in pairs if label not in moved]
             self.assertEqual(left, sorted(left))
             self.assertEqual(len(left), most_rising(numbers))
+
+
+EDIT = re.compile(r"(?:- )?(\S+) newly cites (\S+), by which theorems came to rest on (.*?)\.?")
+HEADING = "**Edits that let axioms in**:"
+Cites = dict[str, list[str]]
+
+
+class Edits(World):
+    """What let an axiom in, as text and in Markdown."""
+
+    def setUp(self) -> None:
+        super().setUp()
+        patch = mock.patch.dict(os.environ, {"MMDEPEND": built_program()})
+        patch.start()
+        self.addCleanup(patch.stop)
+
+    def both(self, old: str, new: str) -> tuple[list[str], list[str]]:
+        """The lines of both forms. In a comment labels stand as code."""
+        paths = [str(self.folder / self.write(*each)) for each in (("a.mm", old), ("b.mm", new))]
+        text, markdown = (
+            answered(form, "review", *paths).decode().replace("`", "").splitlines()
+            for form in ("text", "markdown")
+        )
+        return text, markdown
+
+    def test_edits_stand_first(self) -> None:
+        """Which proof newly cites what, and then how many theorems followed; the theorems are
+        listed behind that."""
+        old = SMALL.replace("${ h $e", "all $a |- p $.\n${ h $e")
+        old += "${ k $e |- p $. a3 $p |- ( q -> ( q -> p ) ) $= wp wq k a2 $. $}\n"
+        proof = "wp wq wp wi h wp wq ax-1 ax-mp $."
+        new = old.replace(proof, "wq wp wi all $.")
+        text, markdown = self.both(old, new)
+        said = "a1i newly cites all, by which theorems came to rest on all (3)"
+        self.assertEqual(text[:2], [said, ""])
+        self.assertEqual([line.split()[0] for line in text[2:]], ["theorem", "a1i"])
+        self.assertEqual(markdown[2:6], [HEADING, "", f"- {said}.", ""])
+        self.assertEqual(markdown[6], "**Theorems**: 1 with another proof.")
+
+    def test_an_edit_that_lets_nothing_in(self) -> None:
+        """Another proof by the same axioms, or by fewer, isn't told as such an edit."""
+        by_ax1 = SMALL.replace("h wp wq ax-1 ax-mp $.", "h wp wq ax1 ax-mp $.")
+        fewer = [HEAD + theorem("t", *cited) for cited in (("ax", "other"), ("ax",))]
+        for before, after, label in ((SMALL, by_ax1, "a1i"), (*fewer, "t")):
+            text, markdown = self.both(before, after)
+            self.assertEqual([line.split()[0] for line in text], ["theorem", label])
+            self.assertEqual(markdown[2], "**Theorems**: 1 with another proof.")
+            self.assertNotIn(HEADING, markdown)
+            self.assertFalse([line for line in markdown if "newly cites" in line])
+
+    def test_a_theorem_becomes_an_axiom(self) -> None:
+        """No proof is another one: it is the axiom that is told."""
+        proved = "ax1 $p |- ( p -> ( q -> p ) ) $= wp wq ax-1 $.\n"
+        old = SMALL + "both $p |- ( p -> ( q -> p ) ) $= wp wq ax1 $.\n"
+        old += "again $p |- ( p -> ( p -> p ) ) $= wp wp ax1 $.\n"
+        axiom = "ax1 $a |- ( p -> ( q -> p ) ) $.\n"
+        text, markdown = self.both(old, old.replace(proved, axiom))
+        said = "ax1 is new among the axioms, by which theorems came to rest on ax1 (2)"
+        self.assertEqual(text[0], said)
+        self.assertIn(f"- {said}.", markdown)
+
+    def test_by_chance(self) -> None:
+        """Each edit is a new citation of what rests on the axiom, and together they are the reason
+        for all that came to rest on it; these are counted by trying everything."""
+        told = 0
+        for seed in range(12):
+            chance = random.Random(seed)
+            old = cites_by_chance(chance)
+            new = old | {
+                label: cited_by_chance(chance, label) for label in chance.sample([*old], 3)
+            }
+            text, markdown = self.both(*map(text_of, (old, new)))
+            edits = [match for line in text if (match := EDIT.fullmatch(line))]
+            self.assertEqual(
+                [match.groups() for match in edits],
+                [match.groups() for line in markdown if (match := EDIT.fullmatch(line))],
+            )
+            counts: Counter[str] = Counter()
+            for citing, cited, axioms in (match.groups() for match in edits):
+                self.assertIn(cited, new[citing])
+                self.assertNotIn(cited, old[citing])
+                for axiom, count in re.findall(r"(\S+) \((\d+)\)", axioms):
+                    self.assertIn(axiom, resting(new, cited))
+                    came = came_to_rest(old, new, axiom)
+                    followed = [each for each in came if citing in resting(new, each)]
+                    self.assertTrue(0 < int(count) <= len(followed), (seed, citing, axiom))
+                    counts[axiom] += int(count)
+                    told += 1
+            wanted = {axiom: len(came_to_rest(old, new, axiom)) for axiom in AXIOMS}
+            self.assertEqual(dict(counts), {axiom: n for axiom, n in wanted.items() if n}, seed)
+        self.assertGreater(told, 12)
+
+
+AXIOMS = ["ax", "other", "a0", "a1"]
+THEOREMS = [f"t{number}" for number in range(14)]
+
+
+def cited_by_chance(chance: random.Random, label: str) -> list[str]:
+    """What the proof of a theorem cites."""
+    before = AXIOMS + THEOREMS[: THEOREMS.index(label)]
+    return chance.sample(before[-6:] if chance.random() < 0.8 else before, 2)
+
+
+def cites_by_chance(chance: random.Random) -> Cites:
+    """What the proofs of theorems cite."""
+    return {label: cited_by_chance(chance, label) for label in THEOREMS}
+
+
+def text_of(cites: Cites) -> str:
+    """The database with these proofs."""
+    lines = "".join(theorem(label, *cited) for label, cited in cites.items())
+    return f"{HEAD}a0 $a |- p $.\na1 $a |- p $.\n{lines}"
+
+
+def resting(cites: Cites, label: str) -> set[str]:
+    """On what an assertion rests, itself included."""
+    return {label}.union(*(resting(cites, each) for each in cites.get(label, ())))
+
+
+def came_to_rest(old: Cites, new: Cites, axiom: str) -> list[str]:
+    """The theorems that rest on an axiom by the new proofs, and not by the old ones."""
+    return [
+        each for each in THEOREMS if axiom in resting(new, each) and axiom not in resting(old, each)
+    ]
 
 
 def most_rising(numbers: list[int]) -> int:

@@ -5,7 +5,8 @@ import random
 import re
 import shutil
 import unittest
-from collections.abc import Iterator, Sequence
+from collections.abc import Iterator, Mapping, Sequence
+from types import MappingProxyType
 
 from query.tests import metamath
 from query.tests.test_equivalents import BASE, NAMES
@@ -73,6 +74,44 @@ def has(pattern: Sequence[str], words: Sequence[str]) -> bool:
     return any(any(ways(pattern, words[start:end])) for start, end in stretches)
 
 
+def formulas_with_hypotheses(
+    chance: random.Random,
+) -> tuple[dict[str, str], dict[str, dict[str, str]]]:
+    """What statements say, and their `$e`, which have parts in common."""
+    said, given = {}, {}
+    for label in (f"t{number}" for number in range(12)):
+        one, two, three = (formula(chance, chance.choice([0, 0, 1])) for _ in range(3))
+        said[label] = f"( {one} -> {chance.choice([one, two, three])} )"
+        other = f"( {two} <-> {chance.choice([one, two, three])} )"
+        given[label] = {f"{label}.1": chance.choice([one, two, three]), f"{label}.2": other}
+    return said, given
+
+
+def stretch(chance: random.Random, formulas: dict[str, str]) -> list[str]:
+    """Some symbols of one of these formulas."""
+    words = ["|-", *chance.choice([*formulas.values()]).split()]
+    start = chance.randrange(len(words))
+    return words[start : start + chance.randint(1, 6)]
+
+
+def agree(
+    wanted: Sequence[tuple[Sequence[str], Sequence[str]]],
+    bound: Mapping[str, tuple[str, ...]] = MappingProxyType({}),
+) -> bool:
+    """Whether each pattern is in one of its formulas, with the same in place of each variable, by
+    trying all ways."""
+    if not wanted:
+        return True
+    pattern, formulas = wanted[0]
+    for words in (["|-", *each.split()] for each in formulas):
+        for start, end in itertools.combinations(range(len(words) + 1), 2):
+            for way in ways(pattern, words[start:end]):
+                is_same = all(bound.get(name, part) == part for name, part in way.items())
+                if is_same and agree(wanted[1:], {**bound, **way}):
+                    return True
+    return False
+
+
 class Searched(World):
     """What is found."""
 
@@ -117,6 +156,38 @@ class Searched(World):
                 self.assertEqual(self.found("db.mm", f'"{text}"', "--like=t*"), wanted)
         self.assertGreater(tried, 12)
 
+    def test_several_by_chance(self) -> None:
+        """Several patterns, also of `$e`: a variable stands for the same in all of them."""
+        tried = 0
+        for seed in range(4):
+            chance = random.Random(seed)
+            said, given = formulas_with_hypotheses(chance)
+            lines = [BASE]
+            for label, each in said.items():
+                before = [f"{which} $e |- {one} $." for which, one in given[label].items()]
+                lines.append(f"${{ {' '.join(before)} {label} $a |- {each} $. $}}\n")
+            self.write("db.mm", "".join(lines))
+            for _ in range(12):
+                patterns = [stretch(chance, said) for _ in range(chance.randint(1, 2))]
+                conditions = [
+                    stretch(chance, chance.choice([*given.values()]))
+                    for _ in range(chance.randint(0, 2))
+                ]
+                wanted = [
+                    (label, which)
+                    for label in said
+                    for which, each in ((None, said[label]), *given[label].items())
+                    if agree(
+                        [*((one, [each]) for one in patterns)]
+                        + [(one, [*given[label].values()]) for one in conditions]
+                    )
+                ]
+                options = [f"--given={' '.join(each)}" for each in conditions]
+                words = [*options, "--like=t*", "--", "db.mm", *map(" ".join, patterns)]
+                self.assertEqual(self.found(*words), wanted, words)
+                tried += 0 < len(wanted) < len(said)
+        self.assertGreater(tried, 12)
+
     def test_by_hand(self) -> None:
         self.write("small.mm", SMALL)
         self.assertEqual(self.found("small.mm", "( p -> q ) )"), [("ax-1", None), ("wi2", None),
@@ -128,6 +199,9 @@ class Searched(World):
         self.assertEqual(self.found("small.mm", "( p -> ( p ->"), [("a2", None)])
         self.assertEqual(self.found("small.mm", "( p -> ( p -> ( p"), [])
         self.assertEqual(self.found("small.mm", "wff q"), [("wi", None), ("wi2", None)])
+        given = ("small.mm", "|- q", "--given=|- p", "--given=|- ( p -> q )")
+        self.assertEqual(self.found(*given), [("ax-mp", None)])
+        self.refuses("search", "small.mm", "p", "--given=x", why="no statement has the symbol 'x'")
         self.refuses("search", "small.mm", "-> p", why="there is no option")
         self.assertIn(("a1i", None), self.found("--", "small.mm", "-> p"))
         self.refuses("search", "small.mm", "( p <-> q )", why="no statement has the symbol '<->'")
