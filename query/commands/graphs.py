@@ -38,11 +38,12 @@ nothing cites aren't in it.
 --as graphml  for NetworkX and Gephi; the data `kind` of a node is `axiom` or `theorem`
 --as edges    a line for each citation: the theorem, a space, and what it cites
 
-Of THEOREM's graph, --depth N has what at most N citations lead to, and --through LABEL only the
-chains that lead through LABEL. --landmarks N has only THEOREM, ON and the N theorems in which most
-of it comes together: those to whose proofs alone most is due, counted where chains part. An arrow
-then stands for chains through none of the others, and there is none beside a longer way. As DOT it
-is dashed where it is no citation, and each node says in which chapter it stands.
+Of THEOREM's graph, --depth N has what at most N citations lead to, with all citations between
+these, and --through LABEL only the chains that lead through LABEL. --landmarks N has only THEOREM,
+ON and the N theorems in which most of it comes together: those to whose proofs alone most is due,
+counted where chains part. An arrow then stands for chains through none of the others, and there is
+none beside a longer way. As DOT it is dashed where it is no citation, and each node says in which
+chapter it stands.
 
   $ mmquery graph set.mm zorn ax-ac2 --as dot
   $ mmquery graph set.mm stirling --landmarks 25 | dot -Tsvg > stirling.svg
