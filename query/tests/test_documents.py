@@ -124,7 +124,7 @@ wp $f wff p $.
 wq $f wff q $.
 wi $a wff ( p -> q ) $.
 $c class ~~ $. $v A B X Y $. cA $f class A $. cB $f class B $. cX $f class X $. cY $f class Y $.
-wen $a wff A ~~ B $.
+wen $a wff A ~~ B $. $c = C_ $. wceq $a wff A = B $. wss $a wff A C_ B $.
 ${ min $e |- p $. maj $e |- ( p -> q ) $. ax-mp $a |- q $. $}
 id $p |- ( p -> ( p -> p ) ) $= wp wp ax-0 $.
 """
@@ -170,7 +170,7 @@ class Commands(World):
 
     def test_the_stand_in(self) -> None:
         """It is a database of which the page's first example is true."""
-        self.assertIn("set.mm: valid, 17 axioms", self.query("verify", "set.mm").out)
+        self.assertIn("set.mm: valid, 19 axioms", self.query("verify", "set.mm").out)
         chain = "zorn numth3 cardeqv axac3 ax-ac2".split()
         self.assertEqual(self.answers("why", "set.mm", "zorn", "ax-ac2"), chain)
 
