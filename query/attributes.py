@@ -3,6 +3,8 @@ that a commit has. The files `.gitattributes` of a tree say them, and git reads 
 
 from __future__ import annotations
 
+import re
+from collections import Counter
 from collections.abc import Iterator, Mapping, Sequence
 from dataclasses import dataclass
 from pathlib import Path
@@ -21,7 +23,7 @@ NAMES = (
 )
 MOST_BYTES, MOST_LINE = 1 << 20, 2000
 """How long such a file may be, and a line of it. Some versions of git pass over what is longer."""
-SUBSTITUTED = b"$Format:"
+SUBSTITUTED = re.compile(rb"\$Format:[^$]*\$")
 """What is replaced in archives, where the file has `export-subst`."""
 
 Values = Mapping[str, str]
@@ -115,6 +117,6 @@ def given_newly(old: list[Text], new: list[Text]) -> Iterator[str]:
         if (name, value) not in before:
             yield f"{told}, so others may get another text than this one"
         elif name == "export-subst":
-            counts = [texts[0].data.count(SUBSTITUTED) for texts in (old, new)]
-            if counts[0] < counts[1]:
-                yield f"{told}, and a new `{SUBSTITUTED.decode()}` makes another text of archives"
+            found = [Counter(SUBSTITUTED.findall(texts[0].data)) for texts in (old, new)]
+            if not found[1] <= found[0]:
+                yield f"{told}, and a new `$Format:` makes another text of archives"

@@ -226,7 +226,25 @@ def places_of(branch: Branch, objects: Objects, base: str, wish: Wish) -> tuple[
         said = f"the merge base with {base}, {short(common)}"
         return Places(common, head, tip, head, said), notes
     new = objects.merged(tip, head, size) if common != tip else head
+    if common != tip and objects.has_several_bases(tip, head):
+        see_one_merge(objects, branch.path, (tip, head), new, size)
     return Places(tip, new, tip, head, f"{base}, {short(tip)}"), notes
+
+
+def see_one_merge(
+    objects: Objects, path: str, commits: tuple[str, str], tree: str, size: int
+) -> None:
+    """NoAnswer where a merge that looks for renamed files has other files than one that doesn't.
+    With one merge base that is a conflict; several are merged first, whatever conflicts they have,
+    and where that looks for renamed files, what comes of it is another base."""
+    other = objects.merged(*commits, size, has_renames=True)
+    for each in dict.fromkeys((path, FILE_NAME, *attributes.places(path))):
+        if objects.entry(tree, each) != objects.entry(other, each):
+            raise NoAnswer(
+                f"not judged: there are several merge bases of {short(commits[1])} and"
+                f" {short(commits[0])}, and {shown(each)} differs by how these are merged; merge"
+                " the base into the branch first"
+            )
 
 
 def outside(branch: Branch, objects: Objects, wish: Wish) -> Config | None:

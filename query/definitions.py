@@ -10,7 +10,7 @@ which it follows, which are those of `CONDITIONS`, and the proof.
 from __future__ import annotations
 
 from bisect import bisect_right
-from collections.abc import Collection, Iterable, Iterator, Mapping, Sequence
+from collections.abc import Collection, Container, Iterable, Iterator, Mapping, Sequence
 from dataclasses import dataclass, field, replace
 
 from query.ambiguity import Ambiguity, ambiguity
@@ -246,28 +246,33 @@ class Definitions:
 
     def read(self, one: Assertion) -> None:
         """Reads an axiom and its `$e`, and notes which forms it has."""
-        symbols, variables = read_as(one)
         try:
-            tree = self.tree(one.typecode, symbols, variables)
-            trees = [tree]
-            for each in one.frame().hypotheses():
-                if each.kind == "e":
-                    typecode, *given = each.formula.split(" ")
-                    trees.append(self.tree(typecode, given, variables))
+            trees = self.trees(one)
         except NotRead as why:
             condition = "grammar" if isinstance(why, Twofold) else "read"
             broken = Broken(condition, f"{one.label} can't be read: {why}", True)
             self.broken.append(broken)
             self.found.append((one, broken))
             return
-        self.found.append((one, tree))
-        for each_tree in trees:
-            for form in each_tree.rules.values():
+        self.found.append((one, trees[0]))
+        for tree in trees:
+            for form in tree.rules.values():
                 self.first.setdefault(form, one)
+        variables = read_as(one)[1]
         for name, other in one.frame().pairs() if self.pair is None else ():
             if SETVAR not in (variables[name], variables[other]):
                 self.pair = f"{one.label} has a $d of {name} and {other}"
                 break
+
+    def trees(self, one: Assertion) -> list[Tree]:
+        """The trees of an axiom and of its `$e`. NotRead where one has none."""
+        symbols, variables = read_as(one)
+        found = [self.tree(one.typecode, symbols, variables)]
+        for each in one.frame().hypotheses():
+            if each.kind == "e":
+                typecode, *given = each.formula.split(" ")
+                found.append(self.tree(typecode, given, variables))
+        return found
 
     def tree(self, typecode: str, symbols: Sequence[str], variables: Mapping[str, str]) -> Tree:
         """The tree of a formula: of `|-` as a wff, of a typecode that no variable has as what it
@@ -357,6 +362,32 @@ class Definitions:
         parts = (each.symbols[part.start : part.end] for part in (left, each.right))
         one, other = (" ".join(part) for part in parts)
         return one, other
+
+    def spoken_of(self, passed_over: Container[str], opened: Iterable[Assertion]) -> dict[str, str]:
+        """For each form that the axioms have, themselves or unfolded by what is sound, the first
+        such axiom. Theorems that are left open are among them, sound definitions aren't, and what
+        is passed over doesn't count."""
+        found: dict[str, str] = {}
+        for one in (*(one for one, _ in self.found if not self.is_sound(one.label)), *opened):
+            left = [] if one.label in passed_over else self.forms_of(one)
+            while left:
+                form = left.pop()
+                if form not in found:
+                    found[form] = one.label
+                    definer = self.definers.get(form, "")
+                    left += self.definitions[definer].forms() if self.is_sound(definer) else ()
+        return found
+
+    def forms_of(self, one: Assertion) -> list[str]:
+        """The forms of an assertion and of its `$e`; none where it can't be read."""
+        try:
+            return [form for each in self.trees(one) for form in each.rules.values()]
+        except NotRead:
+            return []
+
+    def is_sound(self, label: str) -> bool:
+        """Whether a label is that of a definition which is sound."""
+        return label in self.verdicts and self.verdicts[label].sound == YES
 
     def no_equation(self) -> str:
         """That a formula is no equation, in words."""

@@ -18,34 +18,36 @@ from query.assertions import LABEL, Assertion, Damaged, assertions_of
 from query.database import Database, result_key
 from query.errors import NoAnswer
 from query.handing import handed
-from query.limits import SHARE
 from query.one_run import ascii_text
 
-FORM = "differences 2"
+FORM = "differences 3"
 """Counts the forms in which they are kept."""
 HEADINGS = (b"mmdepend-differences 1\n", b"new\n", b"gone\n", b"gained\n", b"lost\n", b"end\n")
 HEADING = re.compile(rb"^[^:\n]*+\n", re.MULTILINE)
 """A line without a colon, which each line of a section has."""
 LABELS = re.compile(rf"{LABEL}(?: {LABEL})*")
-PART, COSTLY = "differences", "costly"
-"""Under which names they are kept, and whether they cost much."""
+PART, TAKEN = "differences", "taken"
+"""Under which names they are kept, and what the program took for them."""
+
+Taken = tuple[float, int]
+"""Seconds of the processor, and bytes of memory."""
 
 
 @dataclass(frozen=True)
 class Differences:
     """The sections. `new` and `gone` have the assertions of one database that the other hasn't, by
     their labels and in file order; their numbers count them alone. `gained` and `lost` have for
-    theorems the labels of axioms, apart by one space. `is_costly` is whether one of both texts may
-    have taken more than its share of what both get."""
+    theorems the labels of axioms, apart by one space. `taken` are the seconds of the processor and
+    the bytes of memory that the program took for both texts, where the system tells them."""
 
     new: dict[str, Assertion] = field(default_factory=dict)
     gone: dict[str, Assertion] = field(default_factory=dict)
     gained: dict[str, str] = field(default_factory=dict)
     lost: dict[str, str] = field(default_factory=dict)
-    is_costly: bool = False
+    taken: Taken | None = None
 
 
-def differences_of(said: bytes, old: bytes, new: bytes, is_costly: bool = False) -> Differences:
+def differences_of(said: bytes, old: bytes, new: bytes, taken: Taken | None = None) -> Differences:
     """What the program said of two texts. Damaged where that hasn't its form."""
     came, went, gained, lost = sections_of(said)
     return Differences(
@@ -53,8 +55,14 @@ def differences_of(said: bytes, old: bytes, new: bytes, is_costly: bool = False)
         {one.label: one for one in assertions_of(went, old)},
         shifts_of(gained),
         shifts_of(lost),
-        is_costly,
+        taken,
     )
+
+
+def taken_of(said: bytes) -> Taken | None:
+    """What the program took, as it was kept."""
+    seconds, _, memory = said.decode("ascii").partition(" ")
+    return (float(seconds), int(memory)) if memory else None
 
 
 def sections_of(said: bytes) -> list[bytes]:
@@ -93,17 +101,18 @@ def coming(old: Database, new: Database) -> Iterator[Callable[[], Differences]]:
     key = result_key(FORM, old.sum, new.sum, new.program.sum, options.essential, options.open)
     kept = cache.load(key) if new.uses_cache else None
     if kept is not None:
-        yield partial(differences_of, kept[PART], *texts, bool(kept[COSTLY]))
+        yield partial(differences_of, kept[PART], *texts, taken_of(kept[TAKEN]))
         return
 
     def result() -> Differences:
         said = program.judged_differences(old.source, new.source, running)
         try:
-            found = differences_of(said, *texts, running.may_be_more_than(SHARE))
+            found = differences_of(said, *texts, running.taken)
         except Damaged as why:
             raise NoAnswer(f"{old.name} and {new.name}: {why}") from None
         if new.uses_cache:
-            cache.store(key, {PART: said, COSTLY: b"x" * found.is_costly})
+            taken = " ".join(map(str, running.taken or ()))
+            cache.store(key, {PART: said, TAKEN: taken.encode()})
         return found
 
     with handed([old.source, new.source]) as (names, passed):

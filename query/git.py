@@ -247,7 +247,7 @@ def surroundings() -> dict[str, str]:
 
 def too_much(words: Sequence[str], limit: str) -> NoAnswer:
     """What is said where a call of git comes to a limit, for `raise`."""
-    asked = next((word for word in words if not word.startswith("-")), "")
+    asked = next((word for word in words if not word.startswith("-") and "=" not in word), "")
     return NoAnswer(f"not judged: git {asked} needs more than {limit}")
 
 

@@ -2,7 +2,8 @@
 
 The rule `definitions` of the gate asks for it. What is called a definition, by a label that begins
 with `df-`, is let in if it is sound, and so is the syntax axiom of the form that it defines. What
-isn't sound is let in only by its whole label.
+isn't sound is let in only by its whole label; and so is what makes an axiom of OLD say another
+thing, since that speaks of the form, itself or by other definitions.
 """
 
 from __future__ import annotations
@@ -16,6 +17,7 @@ from query.config import Config
 from query.definitions import NO, TRUST, UNKNOWN, YES, Definitions, Verdict, rests_by
 from query.grounds import BEGINNING
 from query.labels import Labels
+from query.statements import ANOTHER_ORDER
 
 WORDS = {NO: "isn't sound", UNKNOWN: "isn't judged", TRUST: "would be on trust"}
 
@@ -35,11 +37,31 @@ class Introduced:
         return judged_side(self.comparison.new)
 
     @cached_property
+    def spoken_of(self) -> dict[str, str]:
+        """For each form of which an axiom speaks that OLD has too, or a theorem that is left open,
+        the first one of these."""
+        opened = (one for one in self.comparison.new.database.text.assertions if one.is_open)
+        return self.judged.spoken_of(self.comparison.differences.new, opened)
+
+    def changes(self, label: str) -> str:
+        """The axiom of OLD that says something else, unfolded, by what a definition says that is
+        new or changed; "" where there is none."""
+        told, axioms = self.comparison.differences.new, self.comparison.axioms
+        is_same = label in axioms.renamed or axioms.changed.get(label) == ANOTHER_ORDER
+        if label not in told or is_same or not self.judged.is_sound(label):
+            return ""
+        return self.spoken_of.get(str(self.judged.verdicts[label].defines), "")
+
+    @cached_property
     def harmless(self) -> dict[str, Verdict]:
-        """The sound definitions, and the new syntax axioms of what they define, each with the
-        verdict on the definition."""
+        """The sound definitions of what no axiom of OLD speaks of, and the new syntax axioms of
+        what they define, each with the verdict on the definition."""
         verdicts = self.judged.verdicts if self.axioms else {}
-        sound = {label: each for label, each in verdicts.items() if each.sound == YES}
+        sound = {
+            label: each
+            for label, each in verdicts.items()
+            if each.sound == YES and not self.changes(label)
+        }
         by_form = {str(each.defines): each for each in sound.values()}
         new = set(self.comparison.axioms.new)
         found = sound | {form: each for form, each in by_form.items() if form in new}
@@ -75,6 +97,12 @@ class Introduced:
                 f"called a definition, but isn't of typecode |- (condition `form`): {one.typecode}"
             )
         word = "changed" if one.label in self.comparison.axioms.changed else "new"
+        axiom = self.changes(one.label)
+        if axiom:
+            form = verdict.defines
+            return (
+                f"a {word} definition of {form}, of which {axiom} speaks: that says another thing"
+            )
         condition = f" (condition `{verdict.condition}`)" if verdict.condition else ""
         why = f": {verdict.why}" if verdict.why else ""
         return f"a {word} definition that {WORDS[verdict.sound]}{condition}{why}"

@@ -44,9 +44,9 @@ class Limits:
         return FREE_BYTES + BYTES_FOR_BYTE * size
 
     def share(self, size: int) -> Limits:
-        """What one of two texts, which have so many bytes together, may take by itself."""
-        memory = self.bytes_for(size) // MEGABYTE
-        return Limits(max(1, self.seconds_for(size) // SHARE), max(1, memory // SHARE))
+        """What a text of so many bytes may take by itself: a part of what two such texts get."""
+        memory = self.bytes_for(2 * size) // MEGABYTE
+        return Limits(max(1, self.seconds_for(2 * size) // SHARE), max(1, memory // SHARE))
 
     def or_else(self, other: Limits) -> Limits:
         """These, and where nothing is given those."""

@@ -19,7 +19,17 @@ from query import temporary
 from query.errors import NoAnswer, shown
 from query.git import NOWHERE, Repository, call, said, short
 from query.source import MOST_DATABASE_BYTES
-from query.trees import FOLDER, LINK, SUBMODULE, Entry, Malformed, entries_of, told, twins
+from query.trees import (
+    FOLDER,
+    LINK,
+    SUBMODULE,
+    Entry,
+    Malformed,
+    entries_of,
+    is_bare,
+    told,
+    twins,
+)
 
 ATTRIBUTES = "* merge -text -ident !filter !eol !working-tree-encoding\n"
 """These go before all that `.gitattributes` of a commit say: texts are merged as texts."""
@@ -146,10 +156,16 @@ class Objects:
             raise NoAnswer(f"{short(first)} and {short(second)} have no common history")
         return done.stdout.decode("ascii").split()[0]
 
-    def merged(self, tip: str, head: str, size: int = 0) -> str:
+    def has_several_bases(self, tip: str, head: str) -> bool:
+        """Whether two commits have more than one best common ancestor."""
+        return len(self.must("merge-base", "--all", tip, head).split()) > 1
+
+    def merged(self, tip: str, head: str, size: int = 0, *, has_renames: bool = False) -> str:
         """The tree that a merge of a commit into another one gives. `size` is how long the database
-        is. NoAnswer where they are in conflict."""
-        done = self.ask("merge-tree", "--write-tree", tip, head, size=size)
+        is, and `has_renames` whether renamed files are looked for. NoAnswer where they are in
+        conflict."""
+        given = ("-c", "merge.renames=true") if has_renames else ()
+        done = self.ask(*given, "merge-tree", "--write-tree", tip, head, size=size)
         lines = done.stdout.split(b"\n")
         if done.returncode == 0:
             return lines[0].decode("ascii")
@@ -201,12 +217,15 @@ class Objects:
         if tree not in self.listed:
             data = self.read("tree", tree, MOST_TREE_BYTES, path)
             try:
-                self.listed[tree] = entries_of(data, len(tree) // 2)
+                found = entries_of(data, len(tree) // 2)
             except Malformed as why:
                 raise NoAnswer(
                     f"not judged: the tree {short(tree)} on the way to {shown(path)} isn't"
                     f" well-formed: {why}"
                 ) from None
+            if is_bare(found):
+                raise NoAnswer(f"{shown(path)}: lies beside the files of a bare repository")
+            self.listed[tree] = found
         return self.listed[tree]
 
     def way(self, tree: str, path: str) -> Iterator[tuple[bytes, dict[bytes, Entry]]]:
@@ -231,8 +250,6 @@ class Objects:
         way = list(self.way(tree, path))
         found = None
         for part, beside in way:
-            if {b"HEAD", b"objects", b"refs"} <= beside.keys():
-                raise NoAnswer(f"{shown(path)}: lies beside the files of a bare repository")
             found = beside.get(part)
             what = NOT_JUDGED.get(b"" if found is None else found.mode)
             if what is not None:

@@ -114,13 +114,6 @@ class Running:
             return f"{memory // limits.MEGABYTE} MB of memory (--limit-memory), or than there are"
         return ""
 
-    def may_be_more_than(self, part: int) -> bool:
-        """Whether it may have taken more than such a part of what it was allowed."""
-        if self.allowed is None or self.taken is None:
-            return self.allowed is not None
-        seconds, memory = self.taken
-        return part * seconds > self.allowed.seconds or part * memory > self.allowed.memory
-
     def said(self) -> bytes:
         """What it wrote to standard error, where that is kept."""
         if self.errors is None:

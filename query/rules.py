@@ -379,10 +379,13 @@ def usages(text: Text) -> Iterator[Usage]:
         if "usage" not in body:
             continue
         words: list[Word] = []
-        is_whole = True
+        is_whole, end = True, 0
         for token in tokens(TOKEN, body):
-            # Behind a remark or a quote that isn't closed other programs read nothing.
-            is_whole = is_whole and not token[0].startswith("/*") and token.lastindex != 5
+            # Behind a remark or a quote that isn't closed other programs read nothing, and behind
+            # one that stands right beside a word something else: a doubled quote is one of a word.
+            is_open = token[0].startswith("/*") or token.lastindex == 5
+            is_whole = is_whole and not is_open and (token.start() > end or bool(token[3]))
+            end = 0 if token[3] else token.end()
             if token[3]:
                 yield from usage_in(text, words, is_within, is_whole)
                 words = []

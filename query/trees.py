@@ -10,7 +10,7 @@ from __future__ import annotations
 import os
 import re
 import unicodedata
-from collections.abc import Mapping
+from collections.abc import Iterable, Mapping
 from dataclasses import dataclass
 
 from query.errors import shown
@@ -23,9 +23,11 @@ HEAD = re.compile(rb"([0-7]+) ([^\0]+)\0")
 IGNORED = dict.fromkeys((*range(0x200C, 0x2010), *range(0x202A, 0x202F), *range(0x206A, 0x2070)))
 IGNORED[0xFEFF] = None
 """Signs that the file system of macOS passes over in names."""
-ENDS_ON_WINDOWS = re.compile(r"[:\\].*|[. ]+\Z", re.DOTALL)
-"""What Windows doesn't take for a part of a name: a stream, another folder, dots and spaces."""
+ENDS_ON_WINDOWS = re.compile(r":.*|[. ]+\Z", re.DOTALL)
+"""What Windows doesn't take for a part of a name: a stream, dots and spaces."""
 GIT_FOLDERS = (".git", "git~1")
+BARE = frozenset(("head", "objects", "refs"))
+"""What a folder has that git takes for a bare repository, where case doesn't matter."""
 
 
 class Malformed(Exception):
@@ -85,9 +87,30 @@ def told(name: bytes) -> str:
 
 def fold(name: bytes) -> str:
     """What names have in common that some system takes for one: case, the form of Unicode, signs
-    that it passes over, and what Windows cuts off."""
-    text = ENDS_ON_WINDOWS.sub("", os.fsdecode(name)).translate(IGNORED)
+    that it passes over, and what Windows cuts off or takes for the way through other folders. To
+    these systems names are UTF-8, whatever the user's settings say."""
+    text = name.decode("utf-8", "surrogateescape")
+    if "\\" in text:
+        text = first_of_way(text.split("\\"))
+    text = ENDS_ON_WINDOWS.sub("", text).translate(IGNORED)
     return unicodedata.normalize("NFC", unicodedata.normalize("NFD", text).casefold())
+
+
+def first_of_way(parts: Iterable[str]) -> str:
+    """The first name on a way through folders, which may lead back."""
+    way: list[str] = []
+    for part in parts:
+        if part == "..":
+            del way[-1:]
+        elif part not in ("", "."):
+            way.append(part)
+    return way[0] if way else ""
+
+
+def is_bare(beside: Iterable[bytes]) -> bool:
+    """Whether some system would find the files of a bare repository in a folder with these
+    names."""
+    return BARE <= {fold(name) for name in beside}
 
 
 def twins(name: bytes, beside: Mapping[bytes, Entry]) -> list[bytes]:

@@ -32,8 +32,10 @@ def losses(old: Config, new: Config) -> Iterator[Finding]:
             yield Finding("config", new.name, place, "", "", f"the rule `{rule}` is switched off")
     watched = Labels(new.watch)
     for word in old.watch:
-        if not watched.covers(word):
-            reason = f"'{word}' isn't watched any more"
+        if word not in watched.whole:
+            # What a longer word with `*` means may be missing, as long as it means something.
+            is_within = watched.covers(word)
+            reason = f"'{word}' isn't watched {'by itself ' if is_within else ''}any more"
             yield Finding("config", new.name, line(new, "watch"), word, word, reason)
     yield from lost_claims(old, new)
     yield from allowances(old, new)

@@ -13,6 +13,7 @@ from query.commands import Command
 from query.config import FILE_NAME, RULES, content_of, find_config, load_config
 from query.context import Context
 from query.database import Database
+from query.differences import Taken
 from query.errors import NoAnswer, shown
 from query.excerpts import SHOWN_FORMULA
 from query.faults import Refused
@@ -159,21 +160,24 @@ def found_in(request: Request, tells_all: bool) -> Iterator[Finding]:
             raise
         yield refusal_of(refused)
         return
-    if comparison.differences.is_costly:
-        see_share(request)
+    see_share(request, comparison.differences.taken)
     yield from judged(comparison, request.asked, tells_all)
 
 
-def see_share(request: Request) -> None:
-    """NoAnswer where NEW by itself takes more than its share of what it and OLD get, and OLD
-    doesn't: what is compared with it later might have no answer, whatever it brings."""
+def see_share(request: Request, taken: Taken | None) -> None:
+    """NoAnswer where NEW by itself takes more than its share of what two texts of its length get,
+    and OLD not more than that of its own: what is compared with NEW later might have no answer,
+    whatever it brings. `taken` is what both together took: where that is no more than the share of
+    NEW, neither is run again."""
     old, new = request.old, request.new
-    share = limits.chosen().share(len(old.data()) + len(new.data()))
-    if not is_within(new, share) and is_within(old, share):
+    share, share_before = (limits.chosen().share(len(each.data())) for each in (new, old))
+    if taken is not None and taken[0] <= share.seconds_for(0) and taken[1] <= share.bytes_for(0):
+        return
+    if not is_within(new, share) and is_within(old, share_before):
         raise NoAnswer(
             f"{new.name}: not judged: by itself the text needs more than {share.seconds} seconds of"
-            f" the processor or {share.megabytes} MB of memory, a quarter of what it and"
-            f" {old.name} get, so later comparisons with it might have no answer"
+            f" the processor or {share.megabytes} MB of memory, a quarter of what two such texts"
+            " get, so comparisons with it might have no answer"
         )
 
 

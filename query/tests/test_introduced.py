@@ -119,6 +119,67 @@ class Attacks(Judged):
         self.lost(pair, "df-foo", "(condition `pairs`) isn't judged: it has a dummy, and pair")
         self.lost("{}$c s $. cs $a setvar s x $.\n", "df-foo", "(condition `setvar`)")
 
+    def test_what_an_axiom_speaks_of(self) -> None:
+        """A definition that is sound by itself makes another axiom of one that was there: with both
+        all is proved. It is changed, or new where its form was primitive, or within others."""
+        empty, whole = (f"df-foo $a |- Foo = {each} $.\n" for each in ("(/)", "_V"))
+        use = "use $a |- ( Foo = _V -> F. ) $.\n"
+        bad = "bad $p |- F. $= cfoo cvv wceq wfal df-foo use ax-mp $.\n"
+        inner = "$c Bar $. cbar $a class Bar $. df-bar $a |- Bar = Foo $.\n"
+        use_bar = use.replace("Foo", "Bar")
+        is_whole = "cbar cfoo cvv df-bar df-foo eqtri"
+        bad_bar = f"bad $p |- F. $= cbar cvv wceq wfal {is_whole} use ax-mp $.\n"
+        for old, new, word in (
+            (CLASS + empty + use, CLASS + whole + use + bad, "changed"),
+            (CLASS + use, CLASS + whole + use + bad, "new"),
+            (CLASS + empty + inner + use_bar, CLASS + whole + inner + use_bar + bad_bar, "changed"),
+            (CLASS + inner + use_bar, CLASS + whole + inner + use_bar + bad_bar, "new"),
+        ):
+            why = f"a {word} definition of cfoo, of which use speaks: that says another thing"
+            for config in (ON, BY_PATTERN):
+                found = self.found(BASE + old, BASE + new, config)
+                self.assertEqual(found, [("definitions", "df-foo", why)], new)
+            named = ON + '[allow]\naxioms = ["df-foo"]\n'
+            self.assertEqual(self.found(BASE + old, BASE + new, named), [])
+            # Where no axiom speaks of it, it passes; and so does one of what is new.
+            one, other = (BASE + each.split("use $a")[0] for each in (old, new))
+            self.assertEqual(self.found(one, other), [])
+        named = ON + '[allow]\naxioms = ["use"]\n'
+        self.assertEqual(self.found(BASE, BASE + CLASS + empty + use, named), [])
+        self.assertEqual(self.found(BASE + CLASS + empty + use, BASE + CLASS + empty + use), [])
+        opened = (
+            CLASS + each + use.replace("$a", "$p").replace("$.", "$= ? $.")
+            for each in (empty, whole)
+        )
+        one, other = (BASE + each for each in opened)
+        why = "a changed definition of cfoo, of which use speaks: that says another thing"
+        config = ON + '[allow]\nopen = ["use"]\n'
+        self.assertEqual(self.found(one, other, config), [("definitions", "df-foo", why)])
+        # That it is moved before the definition changes nothing.
+        old, new = BASE + CLASS + empty + use, BASE + CLASS + use + empty
+        self.assertEqual(self.found(old, new), [])
+
+    def test_a_circle(self) -> None:
+        """An axiom that is moved before a definition makes its form a primitive one, of which
+        another definition may speak then. Both together prove anything."""
+        forms = "$c Foo Bar $. wfoo $a wff Foo $. wbar $a wff Bar $.\n"
+        foo, use = "df-foo $a |- ( Foo <-> Bar ) $.\n", "use $a |- ( Foo -> Foo ) $.\n"
+        bar, circle = (
+            f"df-bar $a |- ( Bar <-> {each} ) $.\n" for each in ("( F. -> F. )", "( Foo -> F. )")
+        )
+        same = "wfoo wbar wfoo wfal wi df-foo df-bar bitri"
+        no = f"no $p |- ( Foo -> F. ) $= wfoo wfal wfoo wfoo wfal wi {same} biimpi con $.\n"
+        turned = f"wfoo wfoo wfal wi {same} bicomi"
+        bad = f"bad $p |- F. $= wfoo wfal wfoo wfal wi wfoo no {turned} mpbi no ax-mp $.\n"
+        old = BASE + forms + bar + foo + use
+        found = self.found(old, BASE + forms + use + circle + foo + no + bad)
+        why = "a changed definition of wbar, of which df-foo speaks: that says another thing"
+        self.assertEqual(found, [("definitions", "df-bar", why)])
+        self.assertEqual(self.found(old, BASE + forms + use + bar + foo), [])
+        found = self.found(old, BASE + forms + circle + foo + use + no + bad)
+        self.assertEqual([each[:2] for each in found], [("definitions", "df-bar")])
+        self.assertIn("(condition `rests`)", found[0][2])
+
     def test_labels(self) -> None:
         """Of another typecode, of the same form, and such as are on trust."""
         for axiom, typecode in (

@@ -18,7 +18,7 @@ from query.includes import new_includes
 from query.rules import hidden_marks, is_discouraged
 from query.tests.repositories import ADDED, BASE, changed
 from query.tests.test_hostile import CHEAT, CHEAT_FOUND, Hostile
-from query.tests.world import built_program, database_text
+from query.tests.world import TOP, built_program, database_text
 
 EVIL = "$c evil $.\nax-evil $a |- 2 $.\n"
 NOTE = "$( A remark. $)\n"
@@ -279,6 +279,24 @@ class Attributes(Built):
         found = self.gives(line, BASE + "$( $Format:%H$ $)\n")
         self.assertIn("a new `$Format:` makes another text of archives", found[0])
 
+    def test_the_attribute_is_there(self) -> None:
+        """And so is a `$Format:`, which becomes another one."""
+        line, harmless = "db.mm export-subst", "$( $Format:%H$ $)\n"
+        tree = self.with_attributes(line, BASE + harmless)
+        first = self.git("commit-tree", tree, "-p", "main", "-m", "first")
+        self.git("update-ref", "refs/heads/main", first)
+        self.assertEqual(self.gives(line, BASE + NOTE + harmless + ADDED), [])
+        self.assertEqual(self.gives(line, BASE + ADDED), [])
+        for hidden in (
+            "$( $Format:%x24) cheat %x24a |- 2 %x24. %x24($ $)\n",
+            "$( $Format:%x24)\ncheat %x24a |- 2 %x24.\n%x24($ $)\n",
+            "$( $Format:%x24) cheat %x24a |- 2 %x24. %x24( $)\n",
+            harmless + harmless,
+        ):
+            found = self.gives(line, BASE + hidden)
+            self.assertEqual(len(found), 1, hidden)
+            self.assertIn("a new `$Format:` makes another text of archives", found[0])
+
     def test_names_and_macros(self) -> None:
         for line in (
             "* ident",
@@ -441,7 +459,9 @@ class Trees(Built):
             b"db.mm.",
             b"db.mm ",
             b"db.mm:x",
-            b"d\xe2\x80\x8bb.mm"[:0] + b"dB.MM",
+            b"d\xe2\x80\x8cb.mm",
+            b".\\db.mm",
+            b"x\\..\\db.mm",
         ):
             entries = sorted(
                 (
@@ -468,6 +488,29 @@ class Trees(Built):
         self.git("commit", "--quiet", "--message", "another form")
         found = self.findings("--base", "main", f"HEAD:{name}")
         self.assertEqual([line.rpartition(" ")[2] for line in found], ["[plain]"])
+
+    def test_settings_of_the_user(self) -> None:
+        """Whatever encoding the user's system has, names are compared as UTF-8."""
+        one, other = (name.encode() for name in ("caf\u00e9.mm", "CAFE\u0301.MM"))
+        line = f"import sys; sys.path.insert(0, {str(TOP)!r}); from query.trees import fold; "
+        line += f"sys.exit(fold({one!r}) != fold({other!r}))"
+        for words in ((), ("-X", "utf8=0"), ("-X", "utf8=1")):
+            done = self.ran("python3", *words, "-c", line, LC_ALL="C")
+            self.assertEqual((done.status, done.err), (0, ""), words)
+
+    def test_the_files_of_a_bare_repository(self) -> None:
+        """Also where only some system finds them."""
+        inner = self.tree(("100644", b"x", self.good))
+        last = [("100644", b"db.mm", self.good), ("100644", b"mmdepend.toml", self.asked)]
+        for head, objects, refs in ((b"HEAD", b"objects", b"refs"), (b"Head", b"OBJECTS", b"refs")):
+            folders = [("40000", objects, inner), ("40000", refs, inner)]
+            entries = sorted(
+                [("100644", head, self.good), *folders, *last], key=lambda each: each[1]
+            )
+            words = self.judge(self.tree(*entries))
+            self.is_refused(*words, why="db.mm: lies beside the files of a bare repository")
+            entries.remove(("40000", refs, inner))
+            self.assertEqual(self.findings(*self.judge(self.tree(*entries)), status=0), [])
 
     def test_names_that_the_base_has(self) -> None:
         """Nobody knows which file is meant; who takes one away mends it."""
