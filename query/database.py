@@ -236,6 +236,7 @@ class Database:
             raise NoAnswer(f"{self.name}: {why}") from None
         if self.uses_cache:
             cache.store(self.key, to_parts(found))
+        progress.now(f"working on {self.name}")
         return found
 
     def counts(self) -> tuple[int, int]:

@@ -15,6 +15,7 @@ from collections.abc import Iterator, Mapping, Sequence
 from dataclasses import dataclass, field
 from typing import NamedTuple
 
+from query import progress
 from query.assertions import Assertion
 from query.bare import without_comments
 from query.database import Database
@@ -30,6 +31,8 @@ from query.text import Text
 MOST_SYMBOLS, MOST_CHANGED = 3_000_000, 30_000_000
 """So many symbols and parts are gone through at the most, to unfold a statement, and to take a
 definition out of a database."""
+STRETCH = 100_000
+"""After so many of these it is told how far it is."""
 FLOATING = re.compile(rb"\$f\s+(\S+)\s+(\S+)\s+\$\.")
 STATEMENT = re.compile(rb"\$[eap](?=\s)")
 
@@ -50,14 +53,19 @@ class Unfolder:
     def __init__(self, by_form: Mapping[str, Definition], known: set[str], most: int) -> None:
         self.by_form = by_form
         self.known = known
-        self.left = most
+        self.most = self.left = most
         self.count = 0
+        self.told = 0
 
     def take(self, count: int = 1) -> None:
         """Counts what is written. NoAnswer where it is too much."""
         self.left -= count
         if self.left < 0:
             raise NoAnswer("unfolded, it would be too long")
+        done = self.most - self.left
+        if done >= self.told + STRETCH:
+            self.told = done
+            progress.now(f"unfolding, {done} of at most {self.most} symbols and parts are done")
 
     def unfolded(self, tree: Tree, symbols: Sequence[str]) -> list[str]:
         """The symbols of a formula in which the definitions are unfolded."""

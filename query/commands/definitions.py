@@ -4,6 +4,7 @@ needs."""
 import argparse
 from collections.abc import Iterator
 
+from query import progress
 from query.assertions import Assertion
 from query.commands import TABLE_FORMATS, Command
 from query.context import Context
@@ -121,6 +122,7 @@ def judged(database: Database, trusted: list[str], equalities: list[str]) -> Def
         if one.kind != "a" or one.typecode != "|-" or not label.startswith(BEGINNING):
             raise NoAnswer(f"{database.name}: {shown(label)} is no definition")
     assertions = database.text.assertions
+    progress.now(f"judging the definitions of {database.name}")
     found = Definitions(assertions, rests_by(database.graph()), trusted or TRUSTED, equalities)
     for label in equalities:
         database.assertion(label)

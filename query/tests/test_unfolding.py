@@ -1,13 +1,15 @@
 """`definitions --expand` and `--without`: what is unfolded, by hand; and databases without one of
 their definitions, which the program and metamath.exe verify."""
 
+import os
 import shutil
 import unittest
+from unittest import mock
 
 from query.tests import metamath
 from query.tests.test_definitions import LOGIC
 from query.tests.unsound import BASE
-from query.tests.world import DATABASES, World
+from query.tests.world import DATABASES, World, answered, built_program
 
 NOT = """$c -. Or Some $.
 wn $a wff -. ph $. df-n $a |- ( -. ph <-> ( ph -> F. ) ) $.
@@ -69,6 +71,22 @@ class Expanded(World):
         why = "unfolded, it would be too long"
         self.refuses("definitions", "db.mm", "--expand", "df-40", why=why)
         self.refuses("definitions", "db.mm", "--expand", "none", why="has no assertion 'none'")
+
+    def test_it_says_how_far_it_is(self) -> None:
+        """Each time that so many symbols and parts are done, and not before."""
+        path = str(self.folder / self.write("db.mm", BOTH))
+        for stretch, is_told in ((5, True), (10_000, False)):
+            said: list[str] = []
+            with (
+                mock.patch.dict(os.environ, {"MMDEPEND": built_program()}),
+                mock.patch("query.unfolding.STRETCH", stretch),
+                mock.patch("query.progress.now", said.append),
+            ):
+                answered("text", "definitions", path, "--expand", "last")
+            told = [each for each in said if each.startswith("unfolding, ")]
+            self.assertEqual(bool(told), is_told, said)
+            done = [int(each.split()[1]) for each in told]
+            self.assertTrue(all(two >= one + stretch for one, two in zip([0, *done], done)))
 
     def test_only_sound_ones(self) -> None:
         text = BASE + "$c Foo $. cfoo $a class Foo $. df-foo $a |- Foo = x $.\n"
