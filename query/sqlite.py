@@ -253,8 +253,11 @@ def fill_tables(content: Content, path: str) -> list[tuple[str, int]]:
         for table, rows in content.tables():
             counts.append((table, insert(connection, table, iter(rows))))
         connection.commit()
-        progress.now("making the indices of the tables")
-        connection.executescript(INDICES + VIEWS)
+        steps = INDICES.strip().splitlines()
+        for number, each in enumerate(steps):
+            progress.now(f"making the indices of the tables, {number} of {len(steps)} are done")
+            connection.execute(each)
+        connection.executescript(VIEWS)
         connection.commit()
     finally:
         connection.close()

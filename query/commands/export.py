@@ -21,7 +21,8 @@ rows   how many rows it has
   about       the database and the options
   chapter     the headers
   statement   axioms and theorems: label, kind, typecode, formula, line, chapter, mathbox, whether
-              new usage and modification are discouraged, comment, contributor and day
+              new usage and modification are discouraged, comment, contributor, and contributed,
+              which is the day
   hypothesis  the $e of a statement
   disjoint    the pairs of its variables that must be distinct
   proof       steps, depth and bytes of a theorem's proof
