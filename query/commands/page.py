@@ -114,7 +114,7 @@ def run(context: Context, arguments: argparse.Namespace) -> int:
     for database in databases:
         database.see_text()
     words += words_for(databases[0].program)
-    progress.now(f"verifying {databases[0].name}")
+    progress.now(f"verifying {databases[0].name}, and making its page")
     context.out.write(made_page(databases, words))
     return 0
 
