@@ -31,8 +31,9 @@ from query.text import Text
 MOST_SYMBOLS, MOST_CHANGED = 3_000_000, 30_000_000
 """So many symbols and parts are gone through at the most, to unfold a statement, and to take a
 definition out of a database."""
-STRETCH = 100_000
-"""After so many of these it is told how far it is."""
+STRETCH, FORMULAS_TOLD, PROOFS_TOLD = 100_000, 10_000, 100
+"""After so many of these it is told how far it is; of a database after so many formulas, and after
+so many proofs that are changed."""
 FLOATING = re.compile(rb"\$f\s+(\S+)\s+(\S+)\s+\$\.")
 STATEMENT = re.compile(rb"\$[eap](?=\s)")
 
@@ -216,7 +217,9 @@ class Without:
             kind, name = match[1].decode(), match[2].decode()
             if kinds.setdefault(name, kind) != kind:
                 raise NoAnswer(f"the variable {name} is of two typecodes")
-        for match in STATEMENT.finditer(bare_text):
+        for number, match in enumerate(STATEMENT.finditer(bare_text)):
+            if number % FORMULAS_TOLD == 0:
+                progress.now(f"unfolding formulas, {number} were looked at")
             end = bare_text.index(b"$", match.end())
             typecode, *symbols = bare_text[match.end() : end].decode("latin-1").split()
             if self.signs <= {*symbols}:
@@ -248,7 +251,9 @@ class Without:
             if not wanted.isdisjoint(words):
                 changed.append((start, one.end - 2, one, words))
         width = line_width(self.text.data[start:end] for start, end, _, _ in changed)
-        for start, end, one, words in changed:
+        for number, (start, end, one, words) in enumerate(changed):
+            if number % PROOFS_TOLD == 0:
+                progress.now(f"unfolding proofs, {number} of {len(changed)} are done")
             if one.number < self.text.by_label[self.reflexive].number and self.label in words:
                 raise NoAnswer(f"{one.label} stands before {self.reflexive} and cites {self.label}")
             labels, letters = self.proof(one, words)
