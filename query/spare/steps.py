@@ -4,7 +4,7 @@ from __future__ import annotations
 
 from collections.abc import Collection, Sequence
 
-from query.spare.index import keys_for
+from query.spare.index import Key, keys_for
 from query.spare.proofs import Proof
 from query.spare.search import Citable, Steps
 from query.spare.trees import Trees
@@ -62,13 +62,13 @@ def resting_by(steps: Steps, formulas: Collection[int], rests: Sequence[int]) ->
 def may_cite(trees: Trees, proof: Proof, citable: Sequence[Citable], has_new_steps: bool) -> bool:
     """Whether one of some statements becomes a formula of a proof, and has no hypothesis that none
     of its formulas can be, as far as keys tell; with new steps one more may be it."""
-    fit = [
-        each
-        for each in citable
-        if any(trees.match(each.rule.tree, formula, {}) is not None for formula in proof.steps)
-    ]
-    if has_new_steps:
-        return bool(fit)
-    formulas = (*proof.given, *proof.steps) if fit else ()
-    keys = {None, *(key for formula in formulas for key in keys_for(trees, formula))}
-    return any(keys.issuperset(each.keys) for each in fit)
+    keys: set[Key | None] = set()
+    for each in citable:
+        if not any(trees.match(each.rule.tree, formula, {}) is not None for formula in proof.steps):
+            continue
+        if not has_new_steps and not keys:
+            formulas = (*proof.given, *proof.steps)
+            keys = {None, *(key for formula in formulas for key in keys_for(trees, formula))}
+        if has_new_steps or keys.issuperset(each.keys):
+            return True
+    return False
