@@ -2,7 +2,7 @@
 use Rattle.std.proofs.lemmas.Grind.{common_steps}
 use Rattle.std.proofs.Common.{◌≡◌, ℕ, true, false, cond, ◌||◌, List, inl, inr, ◌<◌, ◌≤◌, ◌+◌, ◌*◌}
 use Rattle.std.proofs.Common.{◌/◌, ◌%◌, ◌-◌, ◌^◌, min, length, map, subst, sym, ap, ap₂, arith}
-use Rattle.std.proofs.Common.{get_or, set, eqb, replicate, bit_and, bit_or, ◌∙◌, zero, rules}
+use Rattle.std.proofs.Common.{get_or, set, eqb, replicate, bit_and, bit_or, ◌∙◌, rules}
 use Rattle.std.proofs.lemmas.Bool.{cases_eq, eq-eqb, ne_eqb, lt-ltb, le-ltb}
 use Rattle.std.proofs.lemmas.Nat.{same_from_place, pow_pos}
 use Rattle.std.proofs.lemmas.Nat.Bits.{bit_at-lt, and_pow}

@@ -4,7 +4,7 @@ use Rattle.std.proofs.Common.{length, subst, sym, refl, arith, get_or, bit_or, s
 use Rattle.std.proofs.Common.{◌++◌, ◌*◌, ◌∙◌}
 use Rattle.std.proofs.lemmas.Bool.Decides.{Decides-at, Decides-or, nat_tests}
 use Rattle.std.specs.Prelude.{Decides}
-use Rattle.mm_rows.specs.Bits.{is_bit, words_for}
+use Rattle.mm_rows.specs.Bits.{EndsAt, is_bit, words_for}
 use Rattle.mm_rows.proofs.BitLaw.{or_bits}
 use Rattle.std.proofs.lemmas.Grind.{common_steps}
 use Rattle.mm_cites.specs.Citing.{Citing, HasCitation, IsStatementList, IsFileOrder, theorem_at}
@@ -12,7 +12,7 @@ use Rattle.mm_cites.specs.Citing.{list_at}
 use Rattle.mm_spec.specs.Chains.{RestsOn}
 use Rattle.mm_spec.proofs.ChainsLaw.{rests_by_one_step}
 use Rattle.mm_spec.proofs.BoolLaw.{or_with_false}
-use Rattle.mm_rows.specs.BitRows.{IsBitRow, AreBitRows, row_at}
+use Rattle.mm_rows.specs.BitRows.{IsBitRow, AreBitRows, AreEnds, row_at}
 
 -- a rising list has a number once
 pub index_is_unique : (xs : List ℕ) (i j : ℕ) → IsStatementList xs → i < length xs → j < length xs
@@ -147,6 +147,23 @@ pub cited_row_is_ready : (c : Citing) (axioms bits : List ℕ) (i k : ℕ) (cite
     → IsBitRow c axioms (get_or cited k 0) (row_at bits (length row) r)
 cited_row_is_ready c axioms bits i k cited row is_file_order i_lt_theorems cited_is k_lt_length
     row_has_words are_bit_rows r r_lt_theorems theorem_is = grind (arith, nat_tests)
+
+-- and where its row ends
+pub cited_end_is_ready : (c : Citing) (axioms bits ends : List ℕ) (i k : ℕ) (cited row : List ℕ)
+    → IsFileOrder c → i < length c.theorems → cited ≡ list_at c i → k < length cited
+    → length row ≡ words_for (length axioms) → AreEnds bits (words_for (length axioms)) i ends
+    → (r : ℕ) → r < length c.theorems → theorem_at c r ≡ get_or cited k 0
+    → (r < length ends) × EndsAt (row_at bits (length row) r) (get_or ends r 0)
+cited_end_is_ready c axioms bits ends i k cited row is_file_order i_lt_theorems cited_is k_lt_length
+    row_has_words are_ends r r_lt_theorems theorem_is =
+    let r_lt_i =
+    earlier_row c i r k is_file_order i_lt_theorems
+    (subst (λ list. k < length list) cited_is k_lt_length) r_lt_theorems
+    (subst (λ list. theorem_at c r ≡ get_or list k 0) cited_is theorem_is) in (
+      omega (arith, r_lt_i, are_ends.count_is),
+      subst (λ width. EndsAt (row_at bits width r) (get_or ends r 0)) (sym row_has_words)
+          (are_ends.each_ends r r_lt_i),
+    )
 
 -- a row as a part of longer words
 pub row_of_longer_is_kept : (bits later : List ℕ) (width r : ℕ) → r * width + width ≤ length bits

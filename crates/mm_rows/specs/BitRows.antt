@@ -4,7 +4,7 @@ use Rattle.std.specs.Prelude.{length, slice_index, Decides}
 use Rattle.std.specs.List.{range_with_len}
 use Rattle.mm_spec.specs.Chains.{RestsOn}
 use Rattle.mm_cites.specs.Citing.{Citing, HasCitation, theorem_at}
-use Rattle.mm_rows.specs.Bits.{is_bit, words_for, bit_index}
+use Rattle.mm_rows.specs.Bits.{EndsAt, is_bit, words_for, bit_index}
 use Rattle.mm_rows.specs.Marks.{Marks}
 
 -- the bits of statement t: which columns it rests on, and nothing past the last column
@@ -30,6 +30,17 @@ pub record AreBitRows (c : Citing) (axioms : List ℕ) (n : ℕ) (bits : List �
   pub size_is : length bits ≡ n * words_for (length axioms)
   pub each_is_bit_row : (r : ℕ) → r < n
       → IsBitRow c axioms (theorem_at c r) (row_at bits (words_for (length axioms)) r)
+
+-- where the row of statement t ends is known, if it is a theorem; a row has `width` words
+abbrev pub IsEndKnown : Citing → List ℕ → List ℕ → ℕ → ℕ → Type 0
+IsEndKnown c bits ends width t =
+    (r : ℕ) → r < length c.theorems → theorem_at c r ≡ t
+    → (r < length ends) × EndsAt (row_at bits width r) (slice_index ends r)
+
+-- where each of the first n rows ends
+pub record AreEnds (bits : List ℕ) (width n : ℕ) (ends : List ℕ) : Type 0 where
+  pub count_is : length ends ≡ n
+  pub each_ends : (r : ℕ) → r < n → EndsAt (row_at bits width r) (slice_index ends r)
 
 -- the cells of row i of a table of bits
 abbrev pub cells_of : ℕ → List ℕ → ℕ → List Bool

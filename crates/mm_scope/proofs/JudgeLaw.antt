@@ -1,7 +1,7 @@
 -- The least of faults, symbol by symbol.
 use Rattle.std.proofs.Common.{◌≡◌, ◌≢◌, ℕ, ◌+◌, ◌-◌, ◌<◌, ◌≤◌, false, ◌||◌, List, [], ◌∷◌, ◌++◌}
 use Rattle.std.proofs.Common.{length, Option, None, Some, refl, ap, ap₂, sym, ◌∙◌, arith}
-use Rattle.std.proofs.Common.{append-nil, append_assoc, bytes_eq, map, if◌then◌else◌, is_some}
+use Rattle.std.proofs.Common.{append-nil, append_assoc, bytes_eq, if◌then◌else◌, is_some}
 use Rattle.std.proofs.Common.{drop-cons, add-one, length-drop, nat_eq}
 use Rattle.std.proofs.lemmas.List.{length-take-le, length-map, map-append}
 use Rattle.std.proofs.lemmas.List.Folds.{list_any-append}

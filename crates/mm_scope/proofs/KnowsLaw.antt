@@ -4,7 +4,7 @@ use Rattle.std.proofs.Common.{List, [], ◌∷◌, length, flat_map, bytes_eq, n
 use Rattle.std.proofs.Common.{refl, ◌∙◌, arith, inl, inr, le_refl, take_all, ◌^◌}
 use Rattle.std.proofs.lemmas.Grind.{common_steps}
 use Rattle.std.proofs.lemmas.Bool.Decides.{nat_tests}
-use Rattle.mm_spec.specs.Scope.{Names, names_before, active_statements, active_at, variables_of}
+use Rattle.mm_spec.specs.Scope.{Names, names_before, active_statements, variables_of}
 use Rattle.mm_spec.specs.Lawful.{least}
 use Rattle.mm_spec.specs.declared.Fault.{Fault}
 use Rattle.std.proofs.lemmas.List.Folds.{list_any-append}

@@ -7,7 +7,7 @@ use Rattle.std.proofs.lemmas.Bool.Decides.{nat_tests}
 use Rattle.std.proofs.lemmas.Bool.{lt-ltb}
 use Rattle.std.proofs.lemmas.Option.{slice_get-get_or}
 use Rattle.mm_spec.specs.Text.{Bytes, is_in}
-use Rattle.mm_spec.specs.Statement.{Statement, variables}
+use Rattle.mm_spec.specs.Statement.{Statement}
 use Rattle.mm_spec.specs.Scope.{active_at, is_still_active, variables_of, is_block_open}
 use Rattle.mm_outline.specs.Blocks.{BlockLists, IsBlocks, never, is_open_in}
 use Rattle.mm_scope.specs.WordEntry.{Latest}

@@ -8,6 +8,6 @@
 pub mod formulas;
 pub mod judge;
 mod keys;
-mod outlines;
+pub mod outlines;
 pub mod reading;
 pub mod scope;

@@ -9,11 +9,12 @@ use mm_outline::parts::{Kind, NextStatement, Outline, Part, next_statement};
 use mm_spec::{Fault, Word};
 use std::alloc::{AllocError, Allocator};
 
-/// What is found behind the last statement: a token that isn't expected, or the end of the tokens,
-/// with what was read of a statement before it.
+/// What is found behind the last statement.
 #[derive(Clone, Copy)]
-pub(crate) enum Rest {
+pub enum Rest {
+    /// A token that isn't expected.
     Stopped(Fault),
+    /// The end of the tokens, with what was read of a statement before it.
     Ended(Part),
 }
 
@@ -31,7 +32,7 @@ pub(crate) fn depth_after(kind: Kind, depth: u32) -> u32
 
 /// Returns the outlines of the statements of a text, lawful or not, up to the first that isn't
 /// well-formed, and what is found there.
-pub(crate) fn outlines_of<A: Allocator + Copy>(
+pub fn outlines_of<A: Allocator + Copy>(
     alloc: A,
     text: &[u8],
     tokens: &[Word],

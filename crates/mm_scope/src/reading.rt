@@ -1,19 +1,20 @@
 //! The reading of statements, one by one.
 
-ghost use Rattle.std.specs.Prelude.{◌≡◌, ◌<◌, ◌^◌, [], None, All, length, OnOk, IfOk};
+ghost use Rattle.std.specs.Prelude.{◌≡◌, ◌<◌, ◌^◌, [], None, length, take, OnOk, IfOk};
 ghost use Rattle.mm_spec.specs.Output.{IsRead};
 ghost use Rattle.mm_spec.specs.Lexed.{tokens_of};
 ghost use Rattle.mm_lists.specs.Lists.{AreBounds};
 ghost use Rattle.mm_database.specs.ParsedStatements.{AreParsedStatements};
-ghost use Rattle.mm_outline.specs.Parts.{AreWithin, IsOutline, statement_of};
+ghost use Rattle.mm_outline.specs.Parts.{AreWithin, statement_of};
 ghost use Rattle.mm_outline.specs.Tokens.{AreTokens};
 ghost use Rattle.mm_outline.specs.Statements.{end_fault_of, lexed, statements};
 ghost use Rattle.mm_scope.specs.Scopes.{IsAmong, IsScopeAfter, names_in};
 ghost use Rattle.mm_scope.specs.ReadSoFar.{HasReadNext, IsReadSoFar, MayTake, formulas_of};
 ghost use Rattle.mm_scope.specs.ReadSoFar.{read_so_far, reading_of};
+ghost use Rattle.mm_scope.specs.Outlines.{AreOutlinesFrom};
 
 use crate::keys::keys_of;
-use crate::outlines::{Rest, depth_after, label_count, outlines_of};
+use crate::outlines::{Rest, depth_after, label_count};
 use crate::scope::Scope;
 use mm_database::names::no_names;
 use mm_database::reading::Reading;
@@ -176,31 +177,34 @@ impl<'a, A: Allocator + Copy> Outlined<'a, A> {
     }
 }
 
-/// Reads the statements up to the first fault of words, shape, symbols, labels or scope.
-pub fn outline_statements<'a, A: Allocator + Copy>(
+/// Reads the statements up to the first fault of words, shape, symbols, labels or scope. `outlines`
+/// and `rest` are what is found of all statements by their shapes alone.
+pub fn read_outlines<'a, A: Allocator + Copy>(
     alloc: A,
     text: &'a [u8],
     tokens: &[Word],
     lexical: Option<Fault>,
+    outlines: &[Outline],
+    rest: Rest,
 ) -> Result<Outlined<'a, A>, AllocError>
     requires tokens_within { AreWithin text.now tokens.now }
     requires are_tokens { AreTokens text.now tokens.now }
     requires few_tokens { length tokens.now < 2 ^ 31 }
     requires few_bytes { lexical ≡ None → length text.now < 2 ^ 31 }
+    requires are_found { AreOutlinesFrom text.now tokens.now 0 0 outlines.now rest }
     ensures few_outlines { IfOk result (λ d. length d.outlines.items < 2 ^ 31) }
-    ensures are_outlines { IfOk result
-        (λ d. All (λ o. IsOutline o × (o.end < length tokens.now)) d.outlines.items) }
+    ensures are_first { IfOk result
+        (λ d. d.outlines.items ≡ take (length d.outlines.items) outlines.now) }
     ensures is_read_so_far { IfOk result
         (λ d. IsReadSoFar (statements text.now tokens.now d.outlines.items) (read_so_far d)) }
     ensures fault_is_read { IfOk result
         (λ d. IsRead (length text.now) (lexed text.now tokens.now lexical)
         (statements text.now tokens.now d.outlines.items) d.fault) }
 {
-    let (outlines, rest) = outlines_of(alloc, text, tokens)?;
-    let keys = keys_of(text, tokens, &outlines);
-    let mut read = nothing_read(alloc, keys, label_count(&outlines))?;
+    let keys = keys_of(text, tokens, outlines);
+    let mut read = nothing_read(alloc, keys, label_count(outlines))?;
     let mut depth = 0;
-    for outline in &outlines {
+    for outline in outlines {
         read.add_if_lawful(alloc, text, tokens, depth, *outline)?;
         if read.fault.is_some() {
             return Ok(read);

@@ -7,6 +7,7 @@
 #![tactic(auto)]
 
 mod kinds;
+mod listed;
 mod reader;
 mod reading;
 mod retained_words;

@@ -5,7 +5,7 @@ ghost use Rattle.mm_spec.specs.Lexed.{tokens_of, lexical_fault, lexed_of};
 ghost use Rattle.mm_spec.specs.Opened.{open_as_axioms};
 ghost use Rattle.mm_spec.specs.Output.{IsRead};
 
-use crate::unframed::{database_of, read_statements};
+use crate::unframed::{database_of, read_statements, read_statements_alone};
 use mm_database::Database;
 use mm_frame::stretches::{frame_tables_alone, frame_tables_of};
 use mm_spec::Lexed;
@@ -57,13 +57,14 @@ pub fn read_alone<'a, A: Allocator + Copy>(
     ensures are_counted { IfOk result
         (λ database. database.statements ≡ open_as_axioms with_open database.read) }
 {
-    let unframed = read_statements(alloc, text, lexed, with_open)?;
+    let unframed = read_statements_alone(alloc, text, lexed, with_open)?;
     let frame_tables = frame_tables_alone(alloc, &unframed.reading.statements)?;
     Ok(database_of(text, with_open, unframed, frame_tables))
 }
 
-/// The same as [`read_alone`], but the frames are made by as many threads as there are workers.
-/// With one worker no thread is started.
+/// The same as [`read_alone`], but one thread lists the statements while another one reads them, and
+/// the frames are made by as many threads as there are workers. With one worker no thread is
+/// started.
 pub fn read_owned<'a, R: Threads + Sync, A: Allocator + Copy + Send + Sync>(
     rt: &R,
     alloc: A,
@@ -82,7 +83,11 @@ pub fn read_owned<'a, R: Threads + Sync, A: Allocator + Copy + Send + Sync>(
     ensures are_counted { IfOk result
         (λ database. database.statements ≡ open_as_axioms with_open database.read) }
 {
-    let unframed = read_statements(alloc, text, lexed, with_open)?;
+    let unframed = if workers > 1 {
+        read_statements(rt, alloc, text, lexed, with_open)?
+    } else {
+        read_statements_alone(alloc, text, lexed, with_open)?
+    };
     let frame_tables = frame_tables_of(rt, alloc, &unframed.reading.statements, workers)?;
     Ok(database_of(text, with_open, unframed, frame_tables))
 }

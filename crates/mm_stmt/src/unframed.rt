@@ -5,20 +5,21 @@ ghost use Rattle.mm_spec.specs.Lexed.{tokens_of, lexical_fault, lexed_of};
 ghost use Rattle.mm_spec.specs.Opened.{open_as_axioms};
 ghost use Rattle.mm_spec.specs.Output.{IsRead};
 ghost use Rattle.mm_database.specs.FrameTables.{AreFrameTables};
+ghost use Rattle.mm_stmt.specs.Listed.{IsReadWith};
 ghost use Rattle.mm_stmt.specs.Unframed.{IsUnframed};
 
+use crate::listed::{Listed, read_listed, read_listed_alone};
 use crate::reading::reading_of;
-use crate::retained_words::retain_all_words;
-use crate::statement_lists::list_statements;
 use mm_database::Database;
 use mm_database::frames::FrameTables;
 use mm_database::reading::Reading;
 use mm_database::statement_lists::StatementLists;
 use mm_database::tables::StatementTables;
 use mm_lists::Lists;
-use mm_scope::reading::outline_statements;
+use mm_scope::reading::Outlined;
 use mm_spec::{Lexed, Word};
 use std::alloc::{AllocError, Allocator};
+use std::thread::Threads;
 
 /// The statements of a text with all that is kept of them but their frames.
 #[derive(Drop)]
@@ -28,9 +29,35 @@ pub struct Unframed<'a, A: Allocator> {
     pub retained_words: Lists<Word, A>,
 }
 
-/// Reads the statements of a text. The memory of the tokens is given back: the frames and the index
+/// Returns what is kept of a text. The memory of its tokens is given back: the frames and the index
 /// of the `$d` need no tokens, so it is free for them.
-pub(crate) fn read_statements<'a, A: Allocator + Copy>(
+fn unframed_of<'a, A: Allocator + Copy>(
+    alloc: A,
+    text: &'a [u8],
+    tokens: Vec<Word, A>,
+    with_open: bool,
+    outlined: Outlined<'a, A>,
+    listed: Listed<A>,
+) -> Result<Unframed<'a, A>, AllocError>
+    requires are_tokens { tokens.items ≡ tokens_of text.now }
+    requires is_read { IsReadWith text.now tokens.items with_open outlined listed }
+    ensures { IfOk result (IsUnframed text.now with_open) }
+{
+    drop(tokens);
+    let reading = reading_of(alloc, text, outlined)?;
+    let Listed {
+        statement_lists,
+        retained_words,
+    } = listed;
+    Ok(Unframed {
+        reading,
+        statement_lists,
+        retained_words,
+    })
+}
+
+/// Reads the statements of a text on the calling thread alone.
+pub(crate) fn read_statements_alone<'a, A: Allocator + Copy>(
     alloc: A,
     text: &'a [u8],
     lexed: Lexed<A>,
@@ -41,17 +68,25 @@ pub(crate) fn read_statements<'a, A: Allocator + Copy>(
     ensures { IfOk result (IsUnframed text.now with_open) }
 {
     let Lexed { tokens, fault } = lexed;
-    let words = tokens.as_slice();
-    let outlined = outline_statements(alloc, text, words, fault)?;
-    let statement_lists = list_statements(alloc, text, words, &outlined.outlines, with_open)?;
-    let retained_words = retain_all_words(alloc, words, &outlined.outlines)?;
-    drop(tokens);
-    let reading = reading_of(alloc, text, outlined)?;
-    Ok(Unframed {
-        reading,
-        statement_lists,
-        retained_words,
-    })
+    let (outlined, listed) = read_listed_alone(alloc, text, &tokens, fault, with_open)?;
+    unframed_of(alloc, text, tokens, with_open, outlined, listed)
+}
+
+/// Reads the statements of a text by two threads.
+pub(crate) fn read_statements<'a, R: Threads + Sync, A: Allocator + Copy + Send + Sync>(
+    rt: &R,
+    alloc: A,
+    text: &'a [u8],
+    lexed: Lexed<A>,
+    with_open: bool,
+) -> Result<Unframed<'a, A>, AllocError>
+    requires tokens_of_text { lexed.tokens.items ≡ tokens_of text.now }
+    requires fault_of_text { lexed.fault ≡ lexical_fault text.now }
+    ensures { IfOk result (IsUnframed text.now with_open) }
+{
+    let Lexed { tokens, fault } = lexed;
+    let (outlined, listed) = read_listed(rt, alloc, text, &tokens, fault, with_open)?;
+    unframed_of(alloc, text, tokens, with_open, outlined, listed)
 }
 
 /// Returns the database of a text, of what was read of it and its frames.

@@ -1,10 +1,9 @@
-use Rattle.std.proofs.Common.{◌≡◌, ◌<◌, ◌+◌, ◌∙◌, sym, ap, arith, length, ◌++◌, ◌∷◌, []}
+use Rattle.std.proofs.Common.{◌≡◌, ◌+◌, ◌∙◌, sym, ap, arith, length, ◌++◌, ◌∷◌, []}
 use Rattle.std.proofs.Common.{append_assoc, slice_index_or, subst}
 use Rattle.std.proofs.lemmas.List.{map-append, length-map}
-use Rattle.std.proofs.lemmas.List.Elements.{All-push}
 use Rattle.mm_spec.specs.Laws.Table.{start, statements_from, statements_of}
 use Rattle.mm_spec.proofs.LongestLaw.{read_statements_are_longest}
-use Rattle.mm_outline.specs.Parts.{statement_of, token_of, as_tokens, depth_after, IsOutline}
+use Rattle.mm_outline.specs.Parts.{statement_of, token_of, as_tokens, depth_after}
 use Rattle.mm_outline.specs.Parts.{outline as outline_with}
 use Rattle.mm_outline.specs.declared.parts.Kind.TheVariants.{Constants}
 use Rattle.mm_outline.specs.declared.parts.Outline.{Outline}
@@ -13,10 +12,11 @@ use Rattle.mm_outline.specs.Statements.{statements}
 use Rattle.mm_scope.proofs.ReadLaw.{is_read_to_with_statement, read_unlawful, read_stopped}
 use Rattle.mm_scope.proofs.ReadLaw.{read_ended, not_none_if_some, few_outlines, none_if_not_some}
 use Rattle.mm_scope.proofs.ReadLaw.{closing_is_inside_block, nothing_is_read}
-use Rattle.mm_scope.specs.Outlines.{AreOutlinesFrom, IsRest}
+use Rattle.mm_scope.specs.Outlines.{IsRest}
 use Rattle.mm_scope.proofs.BoundsLaw.{symbols_le_tokens}
-use Rattle.mm_scope.proofs.OutlinesLaw.{next_outline, rest_is_left}
-use Rattle.mm_scope.proofs.reading.outline_statements.Goals as goal
+use Rattle.mm_scope.proofs.OutlinesLaw.{next_outline, rest_is_left, first_by_length}
+use Rattle.mm_scope.proofs.OutlinesLaw.{first_with_next}
+use Rattle.mm_scope.proofs.reading.read_outlines.Goals as goal
 
 -- what an index finds that is too large
 abbrev no_outline : Outline
@@ -28,9 +28,9 @@ add_if_lawful-requires-clause-is_among_tokens g c =
     let text = c.args.text.now in
     let ws = c.args.tokens.now in
     let loop = c.loop-outline in
-    let items = c.deref-outline-items.result.now in
+    let items = c.args.outlines.now in
     let outline = slice_index_or items loop.outline-index no_outline in
-    let next = next_outline text ws loop.depth loop.invariant.from items c.in_ok-outlines.rest
+    let next = next_outline text ws loop.depth loop.invariant.from items c.args.rest
     loop.outline-index loop.invariant.left no_outline c.loop-outline-test.true in
     record {
       words = c.requires.tokens_within;
@@ -44,10 +44,9 @@ loop-outline-init g c =
     let ws = c.args.tokens.now in
     record {
       from = 0;
-      outlines = rw c.in_ok-read.ensures.0 (λ k d k_lt_length. absurd (omega (arith, k_lt_length)));
+      are_first = c.in_ok-read.ensures.0;
       reading = rw c.in_ok-read.ensures.0 (nothing_is_read text ws);
-      left = subst (λ os. AreOutlinesFrom text ws 0 0 os c.in_ok-outlines.rest)
-          (sym c.deref-outline-items.ensures.value) c.in_ok-outlines.ensures;
+      left = c.requires.are_found;
       is_read_so_far = rw c.in_ok-read.ensures.0 c.in_ok-read.ensures.2;
       no_fault = c.in_ok-read.ensures.1;
     }
@@ -57,9 +56,9 @@ add_if_lawful-requires-clause-may_take g c =
     let text = c.args.text.now in
     let ws = c.args.tokens.now in
     let loop = c.loop-outline in
-    let items = c.deref-outline-items.result.now in
+    let items = c.args.outlines.now in
     let outline = slice_index_or items loop.outline-index no_outline in
-    let next = next_outline text ws loop.depth loop.invariant.from items c.in_ok-outlines.rest
+    let next = next_outline text ws loop.depth loop.invariant.from items c.args.rest
     loop.outline-index loop.invariant.left no_outline c.loop-outline-test.true in
     let db = statements text ws loop.read.outlines.items in
     let s = statement_of text ws outline in
@@ -92,11 +91,12 @@ returns-then-is_some-clause-few_outlines g c =
     (not_none_if_some (sym c.is_some.ensures ∙ c.if-is_some.true))).0 in
     omega (arith, few_before, outlines_length)
 
-pub returns-then-is_some-clause-are_outlines : goal.returns-then-is_some-clause-are_outlines
-returns-then-is_some-clause-are_outlines g c =
+pub returns-then-is_some-clause-are_first : goal.returns-then-is_some-clause-are_first
+returns-then-is_some-clause-are_first g c =
     rw (c.in_ok-add_if_lawful.ensures.if_unlawful
     (not_none_if_some (sym c.is_some.ensures ∙ c.if-is_some.true))).0
-    c.loop-outline.invariant.outlines
+    (first_by_length c.loop-outline.read.outlines.items c.args.outlines.now
+    c.loop-outline.outline-index c.loop-outline.invariant.are_first)
 
 pub returns-then-is_some-clause-is_read_so_far : goal.returns-then-is_some-clause-is_read_so_far
 returns-then-is_some-clause-is_read_so_far g c =
@@ -110,9 +110,9 @@ returns-then-is_some-clause-fault_is_read g c =
     let text = c.args.text.now in
     let ws = c.args.tokens.now in
     let loop = c.loop-outline in
-    let items = c.deref-outline-items.result.now in
+    let items = c.args.outlines.now in
     let outline = slice_index_or items loop.outline-index no_outline in
-    let next = next_outline text ws loop.depth loop.invariant.from items c.in_ok-outlines.rest
+    let next = next_outline text ws loop.depth loop.invariant.from items c.args.rest
     loop.outline-index loop.invariant.left no_outline c.loop-outline-test.true in
     let os = loop.read.outlines.items in
     let fault_is_some = not_none_if_some (sym c.is_some.ensures ∙ c.if-is_some.true) in
@@ -127,9 +127,9 @@ loop-outline-preserved g c =
     let text = c.args.text.now in
     let ws = c.args.tokens.now in
     let loop = c.loop-outline in
-    let items = c.deref-outline-items.result.now in
+    let items = c.args.outlines.now in
     let outline = slice_index_or items loop.outline-index no_outline in
-    let next = next_outline text ws loop.depth loop.invariant.from items c.in_ok-outlines.rest
+    let next = next_outline text ws loop.depth loop.invariant.from items c.args.rest
     loop.outline-index loop.invariant.left no_outline c.loop-outline-test.true in
     let os = loop.read.outlines.items in
     let none_is_fault = none_if_not_some (sym c.is_some.ensures ∙ c.if-is_some.false) in
@@ -140,11 +140,9 @@ loop-outline-preserved g c =
     record {
       from = outline.end + 1;
       left = rw c.depth_after-depth.ensures next.1;
-      outlines = rw taken_if_lawful.0
-          (All-push
-          (λ outline. IsOutline outline × (outline.end < length ws)) os outline
-          loop.invariant.outlines
-          (next.0.0, next.0.1.end_lt_count));
+      are_first = taken_if_lawful.0
+          ∙ first_with_next items loop.outline-index no_outline loop.invariant.are_first
+          c.loop-outline-test.true;
       reading =
           rw (taken_if_lawful.0, statement_is_added, c.depth_after-depth.ensures)
           (is_read_to_with_statement loop.invariant.reading c.requires.few_tokens
@@ -162,23 +160,33 @@ returns-in-Stopped-clause-few_outlines g c =
     few_outlines c.loop-outline.read.outlines.items c.loop-outline.invariant.reading
     c.requires.few_tokens
 
+pub returns-in-Stopped-clause-are_first : goal.returns-in-Stopped-clause-are_first
+returns-in-Stopped-clause-are_first g c =
+    first_by_length c.loop-outline.read.outlines.items c.args.outlines.now
+    c.loop-outline.outline-index c.loop-outline.invariant.are_first
+
+pub returns-in-Ended-clause-are_first : goal.returns-in-Ended-clause-are_first
+returns-in-Ended-clause-are_first g c =
+    first_by_length c.loop-outline.read.outlines.items c.args.outlines.now
+    c.loop-outline.outline-index c.loop-outline.invariant.are_first
+
 pub returns-in-Stopped-clause-fault_is_read : goal.returns-in-Stopped-clause-fault_is_read
 returns-in-Stopped-clause-fault_is_read g c =
     let loop = c.loop-outline in
     let text = c.args.text.now in
     let ws = c.args.tokens.now in
     let stopped = subst (IsRest text ws loop.depth loop.invariant.from) c.in-Stopped.is
-    (rest_is_left text ws loop.depth loop.invariant.from c.deref-outline-items.result.now
-    c.in_ok-outlines.rest loop.outline-index loop.invariant.left c.loop-outline-test.false) in
+    (rest_is_left text ws loop.depth loop.invariant.from c.args.outlines.now
+    c.args.rest loop.outline-index loop.invariant.left c.loop-outline-test.false) in
     read_stopped loop.invariant.reading c.in-Stopped.fault stopped.0 stopped.1
 
-pub returns-clause-fault_is_read : goal.returns-clause-fault_is_read
-returns-clause-fault_is_read g c =
+pub returns-in-Ended-clause-fault_is_read : goal.returns-in-Ended-clause-fault_is_read
+returns-in-Ended-clause-fault_is_read g c =
     let loop = c.loop-outline in
     let text = c.args.text.now in
     let ws = c.args.tokens.now in
     let ended = subst (IsRest text ws loop.depth loop.invariant.from) c.in-Ended.is
-    (rest_is_left text ws loop.depth loop.invariant.from c.deref-outline-items.result.now
-    c.in_ok-outlines.rest loop.outline-index loop.invariant.left c.loop-outline-test.false) in
+    (rest_is_left text ws loop.depth loop.invariant.from c.args.outlines.now
+    c.args.rest loop.outline-index loop.invariant.left c.loop-outline-test.false) in
     read_ended loop.invariant.reading c.in-Ended.part ended.0 ended.1 ended.2
     c.end_fault-read.result c.end_fault-read.ensures
