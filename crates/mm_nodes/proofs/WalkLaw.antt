@@ -1,12 +1,13 @@
 -- A string is read from its first body on, and what is left of it is a segment and segments that
 -- were put off.
 use Rattle.std.proofs.lemmas.Grind.{common_steps}
-use Rattle.std.proofs.Common.{◌≡◌, ℕ, ◌+◌, ◌-◌, ◌<◌, ◌≤◌, inl, inr, List, [], ◌∷◌, ◌++◌, length}
-use Rattle.std.proofs.Common.{take, get_or, slice_range, refl, sym, ap, ap₂, ◌∙◌, subst, arith, All}
+use Rattle.std.proofs.Common.{◌≡◌, ℕ, zero, suc, ◌+◌, ◌-◌, ◌<◌, ◌≤◌, inl, inr, List, [], ◌∷◌, ◌++◌}
+use Rattle.std.proofs.Common.{length, take, drop, get_or, slice_range, refl, sym, ap, ap₂, ◌∙◌, subst, arith, All}
 use Rattle.std.proofs.Common.{length-append, true, false, nat_lt, bytes_eq, append-nil}
 use Rattle.std.proofs.lemmas.List.{append_assoc, append_cancel_left, drop_more, get_or_push}
-use Rattle.std.proofs.lemmas.List.{get_or_default}
-use Rattle.std.proofs.Math.Seq.{take-append_seam}
+use Rattle.std.proofs.lemmas.List.{get_or_default, drop-drop, drop_at}
+use Rattle.std.proofs.Math.Seq.{take-append_seam, take-add}
+use Rattle.std.proofs.lemmas.Grind.{flat_map-append}
 use Rattle.std.proofs.lemmas.List.Elements.{All-get_or, All-take, All-drop, All-weaker, All-push}
 use Rattle.std.proofs.lemmas.List.Elements.{All-nil}
 use Rattle.std.proofs.lemmas.Slice.Eq.{bytes_eq-Decides}
@@ -17,7 +18,8 @@ use Rattle.mm_nodes.specs.declared.heads.Segment.{Segment}
 use Rattle.mm_nodes.specs.Strings.{first_node, body_string, joined_strings, strings_after}
 use Rattle.mm_nodes.specs.Strings.{string_of, joined_string_of, IsBody}
 use Rattle.mm_nodes.specs.Store.{nodes_of, AreNodes, IsBodySegment, MayPutOff, IsSegmentOf, segment}
-use Rattle.mm_nodes.specs.Store.{segment_bodies, segment_string, no_head}
+use Rattle.mm_nodes.specs.Store.{segment_bodies, segment_string, no_head, AreSame}
+use Rattle.mm_nodes.specs.Store.{IsFirstDifference}
 use Rattle.mm_nodes.proofs.StringLaw.{node_string}
 use Rattle.mm_nodes.proofs.StoreLaw.{length_nodes, node_at, nodes_with_more, nodes_are_kept}
 use Rattle.mm_nodes.proofs.StoreLaw.{empty_range, range_of_front, range_behind}
@@ -25,6 +27,35 @@ use Rattle.mm_nodes.proofs.StoreLaw.{empty_range, range_of_front, range_behind}
 pub slice_is_cons : (l : List ℕ) (a e : ℕ) → a < e → e ≤ length l
     → slice_range l a e ≡ get_or l a 0 ∷ slice_range l (a + 1) e
 slice_is_cons l a e a_lt_e e_le_length = grind (arith, nat_tests, drop_more)
+
+range_splits : (l : List ℕ) (a n e : ℕ) → a + n ≤ e
+    → slice_range l a e ≡ slice_range l a (a + n) ++ slice_range l (a + n) e
+range_splits l a n e n_le =
+    let count_is : e - a ≡ n + (e - (a + n)) = omega (arith, n_le) in
+    let front_is : a + n - a ≡ n = omega arith in
+    rw (front_is, count_is) (take-add n (e - (a + n)) (drop a l)
+    ∙ ap (λ m. take n (drop a l) ++ take (e - (a + n)) m) (drop-drop n a l))
+
+pub same_ranges : (l : List ℕ) (a b n : ℕ) → a + n ≤ length l → b + n ≤ length l
+    → AreSame l a b n → slice_range l a (a + n) ≡ slice_range l b (b + n)
+same_ranges l a b zero a_le b_le are_same =
+    empty_range l a (a + 0) (omega arith) ∙ sym (empty_range l b (b + 0) (omega arith))
+same_ranges l a b (suc n) a_le b_le are_same =
+    let a_end : a + suc n ≡ a + 1 + n = omega arith in
+    let b_end : b + suc n ≡ b + 1 + n = omega arith in
+    let a_start : a + 0 ≡ a = omega arith in
+    let b_start : b + 0 ≡ b = omega arith in
+    let first : get_or l a 0 ≡ get_or l b 0 = rw (a_start, b_start) at (are_same 0 (omega arith)) in
+    slice_is_cons l a (a + suc n) (omega arith) a_le
+    ∙ ap₂ (λ x xs. x ∷ xs) first
+    (ap (slice_range l (a + 1)) a_end
+    ∙ same_ranges l (a + 1) (b + 1) n (omega (arith, a_le)) (omega (arith, b_le))
+    (λ k k_lt.
+    let a_at : a + 1 + k ≡ a + (k + 1) = omega arith in
+    let b_at : b + 1 + k ≡ b + (k + 1) = omega arith in
+    rw (a_at, b_at) (are_same (k + 1) (omega (arith, k_lt))))
+    ∙ sym (ap (slice_range l (b + 1)) b_end))
+    ∙ sym (slice_is_cons l b (b + suc n) (omega arith) b_le)
 
 module _ (front bodies : List ℕ) (heads : List Head) where
   -- the string of a segment, with `front` before the string of each node
@@ -57,6 +88,18 @@ module _ (front bodies : List ℕ) (heads : List Head) where
   string_splits s start_lt end_le =
       ap (joined_strings (strings_after front [] (nodes_of bodies heads)))
       (slice_is_cons bodies s.start s.end start_lt end_le)
+
+  -- the first `n` bodies and the rest
+  pub string_splits_at : (s : Segment) (n : ℕ) → s.start + n ≤ s.end
+      → string_of_segment s
+      ≡ joined_strings (strings_after front [] (nodes_of bodies heads))
+      (slice_range bodies s.start (s.start + n))
+      ++ string_of_segment (segment (s.start + n) s.end)
+  string_splits_at s n n_le =
+      let strings = strings_after front [] (nodes_of bodies heads) in
+      ap (joined_strings strings) (range_splits bodies s.start n s.end n_le)
+      ∙ flat_map-append (body_string strings) (slice_range bodies s.start (s.start + n))
+      (slice_range bodies (s.start + n) s.end)
 
   pub string_is_empty : (s : Segment) → s.end ≤ s.start → string_of_segment s ≡ []
   string_is_empty s end_le =
@@ -106,6 +149,21 @@ rest_is_in bodies heads s is_in start_lt = record {
       (get_or bodies s.start 0 ∷ slice_range bodies (s.start + 1) s.end)
       (subst (λ (bs : List ℕ). All (λ b. b < first_node + length heads) bs)
       (slice_is_cons bodies s.start s.end start_lt is_in.end_le_length) is_in.are_bodies);
+}
+
+later_is_in : (bodies : List ℕ) (heads : List Head) (s : Segment) (n : ℕ)
+    → IsBodySegment bodies heads s → s.start + n ≤ s.end
+    → IsBodySegment bodies heads (segment (s.start + n) s.end)
+later_is_in bodies heads s n is_in n_le = record {
+  end_le_length = is_in.end_le_length;
+  are_bodies =
+      let front = slice_range bodies s.start (s.start + n) in
+      let rest = slice_range bodies (s.start + n) s.end in
+      subst (λ (bs : List ℕ). All (λ b. b < first_node + length heads) bs)
+      (drop_at front rest (length front) refl)
+      (All-drop (λ b. b < first_node + length heads) (length front) (front ++ rest)
+      (subst (λ (bs : List ℕ). All (λ b. b < first_node + length heads) bs)
+      (range_splits bodies s.start n s.end n_le) is_in.are_bodies));
 }
 
 pub segment_is_in : (bodies : List ℕ) (heads : List Head) (i : ℕ) (p : Segment)
@@ -160,6 +218,21 @@ abbrev pub work : List ℕ → List Head → Segment → List Segment → ℕ
 work bodies heads s later =
     length (string_of_segment (0 ∷ 0 ∷ []) bodies heads s)
     + length (later_string (0 ∷ 0 ∷ []) bodies heads later) + length later
+
+-- to read bodies is no more to do
+work_of_rest : (bodies : List ℕ) (heads : List Head) (s : Segment) (later : List Segment) (n : ℕ)
+    → s.start + n ≤ s.end
+    → work bodies heads (segment (s.start + n) s.end) later ≤ work bodies heads s later
+work_of_rest bodies heads s later n n_le =
+    let front = 0 ∷ 0 ∷ [] in
+    let splits = ap length (string_splits_at front bodies heads s n n_le) in
+    omega (
+      arith,
+      splits,
+      length-append (joined_strings (strings_after front [] (nodes_of bodies heads))
+          (slice_range bodies s.start (s.start + n)))
+          (string_of_segment front bodies heads (segment (s.start + n) s.end)),
+    )
 
 module _ {bodies : List ℕ} {heads : List Head} (are_nodes : AreNodes bodies heads) where
   pub reading_begins : (s : Segment) (later : List Segment) → IsBodySegment bodies heads s
@@ -217,8 +290,32 @@ module _ {bodies : List ℕ} {heads : List Head} (are_nodes : AreNodes bodies he
               (later_string (0 ∷ 0 ∷ []) bodies heads later'),
         )
 
+    module _ (n : ℕ) (n_le : s.start + n ≤ s.end) where
+      pub reads_far : (common' : List ℕ)
+          → common' ≡ common ++ joined_strings (strings_after [] [] (nodes_of bodies heads))
+          (slice_range bodies s.start (s.start + n))
+          → Reads bodies heads whole common' (segment (s.start + n) s.end) later
+      reads_far common' common_is = record {
+        whole_is =
+            let front = joined_strings (strings_after [] [] (nodes_of bodies heads))
+            (slice_range bodies s.start (s.start + n)) in
+            let rest = string_of_segment [] bodies heads (segment (s.start + n) s.end) in
+            let after = later_string [] bodies heads later in
+            ap (λ u. u ++ (rest ++ after)) common_is
+            ∙ append_assoc common front (rest ++ after)
+            ∙ ap (λ u. common ++ u) (sym (append_assoc front rest after)
+            ∙ sym (ap (λ u. u ++ after) (string_splits_at [] bodies heads s n n_le)))
+            ∙ reads.whole_is;
+        is_in = later_is_in bodies heads s n reads.is_in n_le;
+        are_in = reads.are_in;
+      }
+
+      pub no_more_work_far : work bodies heads (segment (s.start + n) s.end) later
+          ≤ work bodies heads s later
+      no_more_work_far = work_of_rest bodies heads s later n n_le
+
     module _ (start_lt : s.start < s.end) (b : ℕ) (b_read : b ≡ get_or bodies s.start b) where
-      b_is : b ≡ get_or bodies s.start 0
+      pub b_is : b ≡ get_or bodies s.start 0
       b_is = let end_le = reads.is_in.end_le_length in
           b_read ∙ get_or_default bodies s.start b 0 (omega (arith, start_lt, end_le))
 
@@ -262,6 +359,16 @@ module _ {bodies : List ℕ} {heads : List Head} (are_nodes : AreNodes bodies he
                 (get_or bodies s.start 0))
                 (string_of_segment front bodies heads (segment (s.start + 1) s.end)),
           )
+
+      pub less_work_far : (n : ℕ) → 0 < n → s.start + n ≤ s.end
+          → work bodies heads (segment (s.start + n) s.end) later < work bodies heads s later
+      less_work_far n n_gt n_le =
+          let rest = segment (s.start + 1) s.end in
+          let start_is : s.start + 1 + (n - 1) ≡ s.start + n = omega (arith, n_gt) in
+          let one = less_work_on in
+          let others = work_of_rest bodies heads rest later (n - 1) (omega (arith, n_le, n_gt)) in
+          let same = ap (λ m. work bodies heads (segment m s.end) later) start_is in
+          omega (arith, one, others, same)
 
       module _ (i : ℕ) (is_node : b ≡ first_node + i) where
         pub index_lt : i < length heads
@@ -349,6 +456,80 @@ module _ {bodies : List ℕ} {heads : List Head} (are_nodes : AreNodes bodies he
       (sym (all_is_read are_nodes second end_le later_is))
       ∙ first.whole_is) lengths_equal
 
+module _ {bodies : List ℕ} {heads : List Head} (are_nodes : AreNodes bodies heads)
+    {u v common : List ℕ} {s t : Segment} {later later' : List Segment}
+    (first : Reads bodies heads u common s later) (second : Reads bodies heads v common t later')
+  where
+    -- both are read as far as their bodies are the same
+    pub both_read_far : (n : ℕ) → s.start + n ≤ s.end → t.start + n ≤ t.end
+        → AreSame bodies s.start t.start n
+        → (common' : List ℕ) × Reads bodies heads u common' (segment (s.start + n) s.end) later
+        × Reads bodies heads v common' (segment (t.start + n) t.end) later'
+    both_read_far n left_le right_le are_same =
+        let strings = strings_after [] [] (nodes_of bodies heads) in
+        let s_end = first.is_in.end_le_length in
+        let t_end = second.is_in.end_le_length in
+        let same = same_ranges bodies s.start t.start n (omega (arith, s_end, left_le))
+        (omega (arith, t_end, right_le)) are_same in (
+          common ++ joined_strings strings (slice_range bodies s.start (s.start + n)),
+          reads_far are_nodes first n left_le _ refl,
+          reads_far are_nodes second n right_le _
+              (ap (λ bs. common ++ joined_strings strings bs) same),
+        )
+
+    pub less_if_both_go_on : (n : ℕ) → 0 < n → s.start + n ≤ s.end → t.start + n ≤ t.end
+        → work bodies heads (segment (s.start + n) s.end) later
+        + work bodies heads (segment (t.start + n) t.end) later'
+        < work bodies heads s later + work bodies heads t later'
+    less_if_both_go_on n n_gt left_le right_le =
+        let b = get_or bodies s.start 0 in
+        let s_end = first.is_in.end_le_length in
+        let b_read : b ≡ get_or bodies s.start b =
+        sym (get_or_default bodies s.start b 0 (omega (arith, n_gt, left_le, s_end))) in
+        let less =
+        less_work_far are_nodes first (omega (arith, n_gt, left_le)) b b_read n n_gt left_le in
+        let no_more = work_of_rest bodies heads t later' n right_le in
+        omega (arith, less, no_more)
+
+    module _ {n : ℕ} (is_first : IsFirstDifference bodies s t n) where
+      pub both_read : (common' : List ℕ)
+          × Reads bodies heads u common' (segment (s.start + n) s.end) later
+          × Reads bodies heads v common' (segment (t.start + n) t.end) later'
+      both_read =
+          let left_lt = is_first.left_lt in
+          let right_lt = is_first.right_lt in
+          both_read_far n (omega (arith, left_lt)) (omega (arith, right_lt)) is_first.are_same
+
+      no_more_on_left : work bodies heads (segment (s.start + n) s.end) later
+          ≤ work bodies heads s later
+      no_more_on_left =
+          let left_lt = is_first.left_lt in
+          work_of_rest bodies heads s later n (omega (arith, left_lt))
+
+      no_more_on_right : work bodies heads (segment (t.start + n) t.end) later'
+          ≤ work bodies heads t later'
+      no_more_on_right =
+          let right_lt = is_first.right_lt in
+          work_of_rest bodies heads t later' n (omega (arith, right_lt))
+
+      pub less_if_left_opens : (p : Segment) (later'' : List Segment)
+          → work bodies heads p later'' < work bodies heads (segment (s.start + n) s.end) later
+          → work bodies heads p later'' + work bodies heads (segment (t.start + n) t.end) later'
+          < work bodies heads s later + work bodies heads t later'
+      less_if_left_opens p later'' less =
+          let left = no_more_on_left in
+          let right = no_more_on_right in
+          omega (arith, less, left, right)
+
+      pub less_if_right_opens : (p : Segment) (later'' : List Segment)
+          → work bodies heads p later'' < work bodies heads (segment (t.start + n) t.end) later'
+          → work bodies heads (segment (s.start + n) s.end) later + work bodies heads p later''
+          < work bodies heads s later + work bodies heads t later'
+      less_if_right_opens p later'' less =
+          let left = no_more_on_left in
+          let right = no_more_on_right in
+          omega (arith, less, left, right)
+
 pub nil_if_no_length : {X : Type 0} (later : List X) → length later ≡ 0 → later ≡ []
 nil_if_no_length later h1 = grind (arith, common_steps)
 
@@ -376,69 +557,67 @@ symbol_string strings b b_lt = grind (arith, common_steps)
 
 module _ (bodies wanted : List ℕ) (b : ℕ) (heads : List Head) (are_nodes : AreNodes bodies heads)
     (are_bodies : All (IsBody (nodes_of bodies heads)) wanted)
-    (is_body : IsBody (nodes_of bodies heads) b) (all : List ℕ) (start middle end : ℕ)
-    (all_is : all ≡ (bodies ++ wanted) ++ b ∷ []) (start_is : start ≡ length bodies)
-    (middle_is : middle ≡ length (bodies ++ wanted)) (end_is : end ≡ length all) where
-  regrouped : all ≡ bodies ++ (wanted ++ b ∷ [])
-  regrouped = all_is ∙ append_assoc bodies wanted (b ∷ [])
+    (is_body : IsBody (nodes_of bodies heads) b) (before : List ℕ)
+    (before_is : before ≡ bodies ++ wanted) where
+  ends_le : (i : ℕ) → i < length heads → (get_or heads i no_head).end ≤ length bodies
+  ends_le i i_lt = (are_nodes i i_lt).end_le_length
 
-  nodes_same : nodes_of all heads ≡ nodes_of bodies heads
-  nodes_same =
-      ap (λ bs. nodes_of bs heads) regrouped
-      ∙ nodes_with_more bodies (wanted ++ b ∷ []) heads (λ i i_lt. (are_nodes i i_lt).end_le_length)
+  nodes_before : nodes_of before heads ≡ nodes_of bodies heads
+  nodes_before =
+      ap (λ bs. nodes_of bs heads) before_is ∙ nodes_with_more bodies wanted heads ends_le
 
-  pub are_nodes_behind : AreNodes all heads
-  are_nodes_behind = rw regrouped (nodes_are_kept bodies (wanted ++ b ∷ []) heads are_nodes)
+  pub are_nodes_before : AreNodes before heads
+  are_nodes_before = rw before_is (nodes_are_kept bodies wanted heads are_nodes)
 
-  first_bodies : segment_bodies all (segment start middle) ≡ wanted
-  first_bodies =
-      ap (λ bs. slice_range bs start middle) all_is
-      ∙ range_of_front (bodies ++ wanted) (b ∷ []) start middle (omega (arith, middle_is))
-      ∙ range_behind bodies wanted start middle start_is middle_is
+  pub is_body_before : IsBody (nodes_of before heads) b
+  is_body_before = subst (λ (ns : List (List ℕ)). IsBody ns b) (sym nodes_before) is_body
 
-  second_bodies : segment_bodies all (segment middle end) ≡ b ∷ []
-  second_bodies =
-      ap (λ bs. slice_range bs middle end) all_is
-      ∙ range_behind (bodies ++ wanted) (b ∷ []) middle end middle_is
-      (end_is ∙ ap length all_is)
+  module _ (more all : List ℕ) (start middle : ℕ) (all_is : all ≡ before ++ more)
+      (start_is : start ≡ length bodies) (middle_is : middle ≡ length before) where
+    regrouped : all ≡ bodies ++ (wanted ++ more)
+    regrouped = all_is ∙ ap (λ bs. bs ++ more) before_is ∙ append_assoc bodies wanted more
 
-  pub first_string : segment_string all heads (segment start middle)
-      ≡ joined_string_of (nodes_of bodies heads) wanted
-  first_string = ap₂ joined_string_of nodes_same first_bodies
+    nodes_same : nodes_of all heads ≡ nodes_of bodies heads
+    nodes_same =
+        ap (λ bs. nodes_of bs heads) regrouped
+        ∙ nodes_with_more bodies (wanted ++ more) heads ends_le
 
-  pub second_string : segment_string all heads (segment middle end)
-      ≡ string_of (nodes_of bodies heads) b
-  second_string =
-      ap₂ joined_string_of nodes_same second_bodies
-      ∙ append-nil (string_of (nodes_of bodies heads) b)
+    pub are_nodes_behind : AreNodes all heads
+    are_nodes_behind = rw regrouped (nodes_are_kept bodies (wanted ++ more) heads are_nodes)
 
-  pub is_body_behind : IsBody (nodes_of all heads) b
-  is_body_behind = subst (λ (ns : List (List ℕ)). IsBody ns b) (sym nodes_same) is_body
+    pub is_body_behind : IsBody (nodes_of all heads) b
+    is_body_behind = subst (λ (ns : List (List ℕ)). IsBody ns b) (sym nodes_same) is_body
 
-  pub second_is_body : segment_string all heads (segment middle end) ≡ string_of (nodes_of all
-      heads) b
-  second_is_body = second_string ∙ sym (ap (λ ns. string_of ns b) nodes_same)
+    first_bodies : segment_bodies all (segment start middle) ≡ wanted
+    first_bodies =
+        let before_count = ap length before_is in
+        ap (λ bs. slice_range bs start middle) (all_is ∙ ap (λ bs. bs ++ more) before_is)
+        ∙ range_of_front (bodies ++ wanted) more start middle
+        (omega (arith, middle_is, before_count))
+        ∙ range_behind bodies wanted start middle start_is (middle_is ∙ before_count)
 
-  pub first_is_segment : IsBodySegment all heads (segment start middle)
-  first_is_segment = record {
-    end_le_length =
-        let all_count = ap length all_is in
-        omega (arith, all_count, middle_is, length-append (bodies ++ wanted) (b ∷ []));
-    are_bodies =
-        let count = length_nodes bodies heads in
-        subst (λ (bs : List ℕ). All (λ b. b < first_node + length heads) bs) (sym first_bodies)
-        (subst (λ (n : ℕ). All (λ b. b < first_node + n) wanted) count are_bodies);
-  }
+    pub first_string : segment_string all heads (segment start middle)
+        ≡ joined_string_of (nodes_of bodies heads) wanted
+    first_string = ap₂ joined_string_of nodes_same first_bodies
 
-  pub second_is_segment : IsBodySegment all heads (segment middle end)
-  second_is_segment = record {
-    end_le_length = omega (arith, end_is);
-    are_bodies =
-        let count = length_nodes bodies heads in
-        subst (λ (bs : List ℕ). All (λ b. b < first_node + length heads) bs) (sym second_bodies)
-        (All-push (λ b. b < first_node + length heads) [] b
-        (All-nil (λ b. b < first_node + length heads)) (omega (arith, count, is_body)));
-  }
+    pub first_is_segment : IsBodySegment all heads (segment start middle)
+    first_is_segment = record {
+      end_le_length =
+          let all_count = ap length all_is in
+          omega (arith, all_count, middle_is, length-append before more);
+      are_bodies =
+          let count = length_nodes bodies heads in
+          subst (λ (bs : List ℕ). All (λ b. b < first_node + length heads) bs) (sym first_bodies)
+          (subst (λ (n : ℕ). All (λ b. b < first_node + n) wanted) count are_bodies);
+    }
+
+    module _ (s : Segment)
+        (has_string : segment_string all heads s ≡ string_of (nodes_of before heads) b) where
+      pub second_string : segment_string all heads s ≡ string_of (nodes_of bodies heads) b
+      second_string = has_string ∙ ap (λ ns. string_of ns b) nodes_before
+
+      pub second_is_body : segment_string all heads s ≡ string_of (nodes_of all heads) b
+      second_is_body = second_string ∙ sym (ap (λ ns. string_of ns b) nodes_same)
 
 pub bodies_stay : (bodies more all : List ℕ) → all ≡ bodies ++ more
     → take (length bodies) all ≡ bodies

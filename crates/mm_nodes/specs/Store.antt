@@ -64,3 +64,14 @@ MayPutOff s later later' =
 abbrev pub IsSegmentOf : List Head → ℕ → Segment → Type 0
 IsSegmentOf heads i s =
     (s.start ≡ (get_or heads i no_head).start) × (s.end ≡ (get_or heads i no_head).end)
+
+-- so many bodies are the same from the one index on and from the other
+abbrev pub AreSame : List ℕ → ℕ → ℕ → ℕ → Type 0
+AreSame bodies a b count = (k : ℕ) → k < count → get_or bodies (a + k) 0 ≡ get_or bodies (b + k) 0
+
+-- the first `n` bodies of two segments are the same, and those after them aren't
+pub record IsFirstDifference (bodies : List ℕ) (left right : Segment) (n : ℕ) : Type 0 where
+  pub left_lt : left.start + n < left.end
+  pub right_lt : right.start + n < right.end
+  pub are_same : AreSame bodies left.start right.start n
+  pub differ : get_or bodies (left.start + n) 0 ≡ get_or bodies (right.start + n) 0 → ⊥

@@ -1,7 +1,7 @@
 //! The nodes.
 
 ghost use Rattle.std.specs.Prelude.{◌≡◌, ◌<◌, ◌≤◌, ◌++◌, ◌∷◌, [], length, take, All, OnOk, OnErr};
-ghost use Rattle.std.specs.Prelude.{IfOk, bytes_eq, true};
+ghost use Rattle.std.specs.Prelude.{IfOk, bytes_eq, true, List, ℕ};
 ghost use Rattle.mm_nodes.specs.Strings.{first_node, string_of, joined_string_of, IsBody, IsMade};
 ghost use Rattle.mm_nodes.specs.Strings.{Extends};
 ghost use Rattle.mm_nodes.specs.Store.{nodes_of, AreNodes, IsBodySegment, segment_string};
@@ -211,7 +211,7 @@ impl<A: Allocator> Nodes<A> {
         if self.is_listed(wanted, body) {
             return Ok(true);
         }
-        self.is_equal_by_symbols(wanted, body)
+        self.is_equal_by_symbols(wanted, symbol_count, body)
     }
 
     /// Whether these bodies are those of a node, or the body itself alone.
@@ -230,9 +230,15 @@ impl<A: Allocator> Nodes<A> {
         }
     }
 
-    /// Whether the string of a body is that of other bodies, by a walk over both.
+    /// Whether the string of a body is that of other bodies, by a walk over both. By
+    /// `symbol_count`, which is how many symbols they have, it chooses the walk.
     #[inline(never)]
-    fn is_equal_by_symbols(&mut self, wanted: &[Body], body: Body) -> Result<bool, AllocError>
+    fn is_equal_by_symbols(
+        &mut self,
+        wanted: &[Body],
+        symbol_count: u32,
+        body: Body,
+    ) -> Result<bool, AllocError>
         requires are_bodies { All (IsBody self.old) wanted.now }
         requires is_body { IsBody self.old body }
         requires lengths_equal { length (joined_string_of self.old wanted.now)
@@ -246,6 +252,7 @@ impl<A: Allocator> Nodes<A> {
             &self.heads,
             &mut self.bodies,
             wanted,
+            symbol_count,
             body,
             &mut self.left,
             &mut self.right,
@@ -279,12 +286,43 @@ impl<A: Allocator> Nodes<A> {
     }
 }
 
-/// Whether the string of `wanted` is that of `body`. Appends both to the bodies of the nodes, so
-/// that each is a segment of one list; the caller takes them away again.
+/// Returns where the bodies are whose strings are that of a body: those of its node, or the body
+/// itself, if it is a symbol, which is appended.
+#[inline(always)]
+fn place_of<A: Allocator>(
+    heads: &[Head],
+    bodies: &mut BodyList<A>,
+    body: Body,
+) -> Result<Segment, AllocError>
+    requires are_nodes { AreNodes bodies.old heads.now }
+    requires is_body { IsBody (nodes_of bodies.old heads.now) body }
+    ensures bodies_stay { (more : List ℕ) × (bodies.new ≡ bodies.old ++ more) }
+    ensures is_segment { IfOk result (IsBodySegment bodies.new heads.now) }
+    ensures has_string { IfOk result
+        (λ s. segment_string bodies.new heads.now s
+        ≡ string_of (nodes_of bodies.old heads.now) body) }
+{
+    match body.index() {
+        Some(index) => Ok(segment_of(heads, index)),
+        None => {
+            let start = bodies.len();
+            bodies.append(&[body])?;
+            Ok(Segment {
+                start,
+                end: bodies.len(),
+            })
+        }
+    }
+}
+
+/// Whether the string of `wanted` is that of `body`. Appends `wanted`, and a symbol, to the bodies
+/// of the nodes, so that each string is that of a segment of one list; the caller takes them away
+/// again.
 fn append_and_compare<A: Allocator>(
     heads: &[Head],
     bodies: &mut BodyList<A>,
     wanted: &[Body],
+    symbol_count: u32,
     body: Body,
     left: &mut Vec<Segment, A>,
     right: &mut Vec<Segment, A>,
@@ -303,18 +341,17 @@ fn append_and_compare<A: Allocator>(
 {
     let start = bodies.len();
     bodies.append(wanted)?;
-    let middle = bodies.len();
-    bodies.append(&[body])?;
-    let first = Segment { start, end: middle };
-    let second = Segment {
-        start: middle,
+    let first = Segment {
+        start,
         end: bodies.len(),
     };
+    let second = place_of(heads, bodies, body)?;
     compare(
         heads,
         bodies.as_slice(),
         first,
         second,
+        symbol_count,
         body,
         left,
         right,
@@ -323,12 +360,14 @@ fn append_and_compare<A: Allocator>(
     )
 }
 
-/// Whether two strings are equal, of which the second is that of a body. They have the same length.
+/// Whether two strings are equal, of which the second is that of a body. They have the same length,
+/// which is `symbol_count`: it decides only how they are compared.
 fn compare<A: Allocator>(
     heads: &[Head],
     bodies: &[Body],
     first: Segment,
     second: Segment,
+    symbol_count: u32,
     body: Body,
     left: &mut Vec<Segment, A>,
     right: &mut Vec<Segment, A>,
@@ -347,9 +386,9 @@ fn compare<A: Allocator>(
         (λ b. b ≡ bytes_eq (segment_string bodies.now heads.now second)
         (segment_string bodies.now heads.now first)) }
 {
-    let symbol_count = length_of(heads, bodies, body) as usize;
-    if symbol_count >= LONG_STRING {
-        let found = are_equal_by_parts(heads, bodies, first, body, symbol_count, pending, seen)?;
+    let steps = symbol_count as usize;
+    if steps >= LONG_STRING {
+        let found = are_equal_by_parts(heads, bodies, first, body, steps, pending, seen)?;
         if let Some(answer) = found {
             return Ok(answer);
         }

@@ -1,10 +1,11 @@
 //! Walks over strings, without recursion.
 
-ghost use Rattle.std.specs.Prelude.{◌≡◌, ◌<◌, ◌+◌, ◌++◌, [], ◌∷◌, length, OnOk, IfOk, bytes_eq};
-ghost use Rattle.std.specs.Prelude.{get_or, slice_index_or, List};
+ghost use Rattle.std.specs.Prelude.{◌≡◌, ◌<◌, ◌≤◌, ◌+◌, ◌-◌, ◌++◌, [], ◌∷◌, length, OnOk, IfOk};
+ghost use Rattle.std.specs.Prelude.{get_or, slice_index_or, List, bytes_eq, IfNone, IfSome, min};
 ghost use Rattle.mm_nodes.specs.Strings.{first_node, strings_of, string_of};
 ghost use Rattle.mm_nodes.specs.Store.{AreNodes, IsBodySegment, nodes_of, segment_string, no_head};
-ghost use Rattle.mm_nodes.specs.Store.{MayPutOff, segment, IsSegmentOf};
+ghost use Rattle.mm_nodes.specs.Store.{MayPutOff, segment, IsSegmentOf, AreSame};
+ghost use Rattle.mm_nodes.specs.Store.{IsFirstDifference};
 
 use crate::body::Body;
 use crate::heads::{Head, Segment};
@@ -68,6 +69,33 @@ fn put_off<A: Allocator>(from: Segment, later: &mut Vec<Segment, A>) -> Result<(
     Ok(())
 }
 
+/// At which of the first bodies of two segments they differ first; `None` if they don't differ, as
+/// far as both go.
+#[inline(always)]
+fn first_difference(bodies: &[Body], left: Segment, right: Segment) -> Option<usize>
+    requires left_has_bodies { left.start < left.end }
+    requires left_is_in { left.end ≤ length bodies.now }
+    requires right_has_bodies { right.start < right.end }
+    requires right_is_in { right.end ≤ length bodies.now }
+    ensures none_differs { IfNone result
+        (AreSame bodies.now left.start right.start
+        (min (left.end - left.start) (right.end - right.start))) }
+    ensures is_first { IfSome result (IsFirstDifference bodies.now left right) }
+{
+    let both = (left.end - left.start).min(right.end - right.start);
+    let mut same = 0;
+    // Both have a first body, so that the end is tested after it.
+    loop {
+        if !(bodies[left.start + same] == bodies[right.start + same]) {
+            return Some(same);
+        }
+        same += 1;
+        if same == both {
+            return None;
+        }
+    }
+}
+
 /// Whether two strings are equal. They have the same length.
 pub fn are_equal<A: Allocator>(
     heads: &[Head],
@@ -102,13 +130,19 @@ pub fn are_equal<A: Allocator>(
                 Some(next) => right = next,
             }
         } else {
+            let same = match first_difference(bodies, left, right) {
+                None => {
+                    let both = (left.end - left.start).min(right.end - right.start);
+                    left.start += both;
+                    right.start += both;
+                    continue;
+                }
+                Some(same) => same,
+            };
+            left.start += same;
+            right.start += same;
             let a = bodies[left.start];
             let b = bodies[right.start];
-            if a == b {
-                left.start += 1;
-                right.start += 1;
-                continue;
-            }
             match (a.index(), b.index()) {
                 (None, None) => return Ok(false),
                 (Some(index), None) => {

@@ -1,4 +1,4 @@
-use Rattle.std.proofs.Common.{rules, ◌-◌, arith}
+use Rattle.std.proofs.Common.{rules, arith}
 use Rattle.std.proofs.lemmas.List.{length-take-le, length-drop, take_rest}
 use Rattle.mm_nodes.proofs.CopyLaw.{put_twice}
 use Rattle.mm_nodes.proofs.copy.put_ends.Goals as goal

@@ -1,12 +1,11 @@
-use Rattle.std.proofs.Common.{◌<◌, ◌++◌, ◌∙◌, [], ℕ, sym, ap, subst, refl, arith, eqb-true, eq-eqb}
-use Rattle.std.proofs.Common.{IfNone, true≢false, Option}
-use Rattle.mm_nodes.specs.Strings.{first_node, body_string, strings_of}
-use Rattle.mm_nodes.specs.Store.{nodes_of, segment_string}
-use Rattle.mm_nodes.proofs.WalkLaw.{reading_begins, reads_later, reads_on, reads_into}
-use Rattle.mm_nodes.proofs.WalkLaw.{less_work_later, less_work_on, less_work_into, index_lt}
+use Rattle.std.proofs.Common.{◌<◌, ◌∙◌, [], ℕ, sym, subst, arith, IfNone, Option}
+use Rattle.mm_nodes.specs.Strings.{first_node, strings_of}
+use Rattle.mm_nodes.specs.Store.{nodes_of, segment_string, AreSame}
+use Rattle.mm_nodes.proofs.WalkLaw.{reading_begins, reads_later, reads_into, both_read, b_is}
+use Rattle.mm_nodes.proofs.WalkLaw.{less_work_later, less_work_into, index_lt, both_read_far}
 use Rattle.mm_nodes.proofs.WalkLaw.{first_body_is, different_if_symbols_are, nil_if_no_length}
 use Rattle.mm_nodes.proofs.WalkLaw.{equal_at_first_end, equal_at_second_end, less_left, less_right}
-use Rattle.mm_nodes.proofs.WalkLaw.{less_both}
+use Rattle.mm_nodes.proofs.WalkLaw.{less_if_left_opens, less_if_right_opens, less_if_both_go_on}
 use Rattle.mm_nodes.proofs.walk.are_equal.Goals as goal
 
 pub loop-left-init : goal.loop-left-init
@@ -70,160 +69,201 @@ loop-left-preserved-in-Some-pop g c =
       );
     }
 
+pub first_difference-requires-clause-left_is_in : goal.first_difference-requires-clause-left_is_in
+first_difference-requires-clause-left_is_in g c = c.loop-left.invariant.reads.1.is_in.end_le_length
+
+pub first_difference-requires-clause-right_is_in :
+    goal.first_difference-requires-clause-right_is_in
+first_difference-requires-clause-right_is_in g c =
+    c.loop-left.invariant.reads.2.is_in.end_le_length
+
+pub loop-left-smaller-in-None-first_difference : goal.loop-left-smaller-in-None-first_difference
+loop-left-smaller-in-None-first_difference g c =
+    less_if_both_go_on c.requires.are_nodes c.loop-left.invariant.reads.1
+    c.loop-left.invariant.reads.2 c.min-both.result
+    (omega (arith, c.min-both.ensures, c.if-left.false, c.if-right.false))
+    (omega (arith, c.min-both.ensures, c.if-left.false))
+    (omega (arith, c.min-both.ensures, c.if-right.false))
+
+pub loop-left-preserved-in-None-first_difference :
+    goal.loop-left-preserved-in-None-first_difference
+loop-left-preserved-in-None-first_difference g c =
+    record {
+      reads =
+          both_read_far c.requires.are_nodes c.loop-left.invariant.reads.1
+          c.loop-left.invariant.reads.2 c.min-both.result
+          (omega (arith, c.min-both.ensures, c.if-left.false))
+          (omega (arith, c.min-both.ensures, c.if-right.false))
+          (subst (AreSame c.args.bodies.now c.loop-left.left.start c.loop-left.right.start)
+          (sym c.min-both.ensures) c.in-None-first_difference.ensures.none_differs);
+    }
+
 pub bounds-bodies-left : goal.bounds-bodies-left
 bounds-bodies-left g c =
-    omega (arith, c.loop-left.invariant.reads.1.is_in.end_le_length)
+    let first = c.in-Some-first_difference.ensures.is_first.left_lt in
+    omega (arith, c.loop-left.invariant.reads.1.is_in.end_le_length, first)
 
 pub bounds-bodies-right : goal.bounds-bodies-right
 bounds-bodies-right g c =
-    omega (arith, c.loop-left.invariant.reads.2.is_in.end_le_length)
-
-pub loop-left-smaller-then-eq : goal.loop-left-smaller-then-eq
-loop-left-smaller-then-eq g c =
-    less_both _ _ _ _ (less_work_on c.requires.are_nodes c.loop-left.invariant.reads.1
-    c.if-left.false c.index-bodies-left.result c.index-bodies-left.is) (less_work_on
-    c.requires.are_nodes c.loop-left.invariant.reads.2 c.if-right.false
-    c.index-bodies-right.result c.index-bodies-right.is)
-
-pub loop-left-preserved-then-eq : goal.loop-left-preserved-then-eq
-loop-left-preserved-then-eq g c =
-    record {
-      reads = (
-        c.loop-left.invariant.reads.0 ++ body_string (strings_of
-            (nodes_of c.args.bodies.now c.args.heads.now)) c.index-bodies-left.result,
-        reads_on
-            c.requires.are_nodes c.loop-left.invariant.reads.1 c.if-left.false
-            c.index-bodies-left.result c.index-bodies-left.is _ refl,
-        reads_on c.requires.are_nodes
-            c.loop-left.invariant.reads.2 c.if-right.false c.index-bodies-right.result
-            c.index-bodies-right.is _ (ap (λ x. c.loop-left.invariant.reads.0 ++ body_string
-            (strings_of
-            (nodes_of c.args.bodies.now c.args.heads.now)) x) (eqb-true c.index-bodies-left.result
-            c.index-bodies-right.result (sym c.eq.ensures ∙ c.if-eq.true))),
-      );
-    }
+    let first = c.in-Some-first_difference.ensures.is_first.right_lt in
+    omega (arith, c.loop-left.invariant.reads.2.is_in.end_le_length, first)
 
 pub returns-in-None-None : goal.returns-in-None-None
 returns-in-None-None g c =
+    let is_first = c.in-Some-first_difference.ensures.is_first in
+    let reads = both_read c.requires.are_nodes c.loop-left.invariant.reads.1
+    c.loop-left.invariant.reads.2 is_first in
     different_if_symbols_are (segment_string c.args.bodies.now c.args.heads.now c.args.first)
     (segment_string c.args.bodies.now c.args.heads.now c.args.second)
-    c.loop-left.invariant.reads.0 _ _ (strings_of (nodes_of c.args.bodies.now c.args.heads.now))
+    reads.0 _ _ (strings_of (nodes_of c.args.bodies.now c.args.heads.now))
     c.index-bodies-left.result c.index-bodies-right.result (first_body_is c.requires.are_nodes
-    c.loop-left.invariant.reads.1 c.if-left.false c.index-bodies-left.result
-    c.index-bodies-left.is) (first_body_is c.requires.are_nodes c.loop-left.invariant.reads.2
-    c.if-right.false c.index-bodies-right.result c.index-bodies-right.is) (subst
+    reads.1 is_first.left_lt c.index-bodies-left.result
+    c.index-bodies-left.is) (first_body_is c.requires.are_nodes reads.2
+    is_first.right_lt c.index-bodies-right.result c.index-bodies-right.is) (subst
     (λ (r : Option ℕ). IfNone r (c.index-bodies-left.result < first_node)) c.in-None-None.is-0
-    c.index.ensures.is_symbol) c.in-None-None.ensures.is_symbol (λ same. true≢false
-    (sym (eq-eqb c.index-bodies-left.result c.index-bodies-right.result same) ∙ sym c.eq.ensures
-    ∙ c.if-eq.false))
+    c.index.ensures.is_symbol) c.in-None-None.ensures.is_symbol (λ same. is_first.differ
+    (sym (b_is c.requires.are_nodes reads.1 is_first.left_lt c.index-bodies-left.result
+    c.index-bodies-left.is)
+    ∙ same
+    ∙ b_is c.requires.are_nodes reads.2 is_first.right_lt c.index-bodies-right.result
+    c.index-bodies-right.is))
 
 pub segment_of-right-requires : goal.segment_of-right-requires
 segment_of-right-requires g c =
-    index_lt c.requires.are_nodes c.loop-left.invariant.reads.2 c.if-right.false
-    c.index-bodies-right.result c.index-bodies-right.is c.in-None-Some.index
-    c.in-None-Some.ensures.is_node
+    let is_first = c.in-Some-first_difference.ensures.is_first in
+    let reads = both_read c.requires.are_nodes c.loop-left.invariant.reads.1
+    c.loop-left.invariant.reads.2 is_first in
+    index_lt c.requires.are_nodes reads.2 is_first.right_lt c.index-bodies-right.result
+    c.index-bodies-right.is c.in-None-Some.index c.in-None-Some.ensures.is_node
 
 pub loop-left-smaller-in-None-Some : goal.loop-left-smaller-in-None-Some
 loop-left-smaller-in-None-Some g c =
-    less_right _ _ _ (less_work_into c.requires.are_nodes c.loop-left.invariant.reads.2
-    c.if-right.false c.index-bodies-right.result c.index-bodies-right.is c.in-None-Some.index
-    c.in-None-Some.ensures.is_node c.segment_of-right.result c.put_off.new.later.items
-    c.segment_of-right.ensures c.in_ok-put_off-in-None-Some.ensures)
+    let is_first = c.in-Some-first_difference.ensures.is_first in
+    let reads = both_read c.requires.are_nodes c.loop-left.invariant.reads.1
+    c.loop-left.invariant.reads.2 is_first in
+    less_if_right_opens c.requires.are_nodes c.loop-left.invariant.reads.1
+    c.loop-left.invariant.reads.2 is_first c.segment_of-right.result
+    c.put_off.new.later.items
+    (less_work_into c.requires.are_nodes reads.2 is_first.right_lt c.index-bodies-right.result
+    c.index-bodies-right.is c.in-None-Some.index c.in-None-Some.ensures.is_node c.segment_of-right.result
+    c.put_off.new.later.items c.segment_of-right.ensures c.in_ok-put_off-in-None-Some.ensures)
 
 pub loop-left-preserved-in-None-Some : goal.loop-left-preserved-in-None-Some
 loop-left-preserved-in-None-Some g c =
+    let is_first = c.in-Some-first_difference.ensures.is_first in
+    let reads = both_read c.requires.are_nodes c.loop-left.invariant.reads.1
+    c.loop-left.invariant.reads.2 is_first in
     record {
       reads = (
-        c.loop-left.invariant.reads.0,
-        c.loop-left.invariant.reads.1,
-        reads_into
-            c.requires.are_nodes c.loop-left.invariant.reads.2 c.if-right.false
-            c.index-bodies-right.result c.index-bodies-right.is c.in-None-Some.index
-            c.in-None-Some.ensures.is_node c.segment_of-right.result c.put_off.new.later.items
-            c.segment_of-right.ensures c.in_ok-put_off-in-None-Some.ensures,
+        reads.0,
+        reads.1,
+        reads_into c.requires.are_nodes reads.2 is_first.right_lt c.index-bodies-right.result
+            c.index-bodies-right.is c.in-None-Some.index c.in-None-Some.ensures.is_node c.segment_of-right.result
+            c.put_off.new.later.items c.segment_of-right.ensures c.in_ok-put_off-in-None-Some.ensures,
       );
     }
 
 pub segment_of-left-requires : goal.segment_of-left-requires
 segment_of-left-requires g c =
-    index_lt c.requires.are_nodes c.loop-left.invariant.reads.1 c.if-left.false
-    c.index-bodies-left.result c.index-bodies-left.is c.in-Some-None.index
-    c.in-Some-None.ensures.is_node
+    let is_first = c.in-Some-first_difference.ensures.is_first in
+    let reads = both_read c.requires.are_nodes c.loop-left.invariant.reads.1
+    c.loop-left.invariant.reads.2 is_first in
+    index_lt c.requires.are_nodes reads.1 is_first.left_lt c.index-bodies-left.result
+    c.index-bodies-left.is c.in-Some-None.index c.in-Some-None.ensures.is_node
 
 pub loop-left-smaller-in-Some-None : goal.loop-left-smaller-in-Some-None
 loop-left-smaller-in-Some-None g c =
-    less_left _ _ _ (less_work_into c.requires.are_nodes c.loop-left.invariant.reads.1
-    c.if-left.false c.index-bodies-left.result c.index-bodies-left.is c.in-Some-None.index
-    c.in-Some-None.ensures.is_node c.segment_of-left.result c.put_off-in-Some-None.new.later.items
-    c.segment_of-left.ensures c.in_ok-put_off-in-Some-None.ensures)
+    let is_first = c.in-Some-first_difference.ensures.is_first in
+    let reads = both_read c.requires.are_nodes c.loop-left.invariant.reads.1
+    c.loop-left.invariant.reads.2 is_first in
+    less_if_left_opens c.requires.are_nodes c.loop-left.invariant.reads.1
+    c.loop-left.invariant.reads.2 is_first c.segment_of-left.result
+    c.put_off-in-Some-None.new.later.items
+    (less_work_into c.requires.are_nodes reads.1 is_first.left_lt c.index-bodies-left.result
+    c.index-bodies-left.is c.in-Some-None.index c.in-Some-None.ensures.is_node c.segment_of-left.result
+    c.put_off-in-Some-None.new.later.items c.segment_of-left.ensures c.in_ok-put_off-in-Some-None.ensures)
 
 pub loop-left-preserved-in-Some-None : goal.loop-left-preserved-in-Some-None
 loop-left-preserved-in-Some-None g c =
+    let is_first = c.in-Some-first_difference.ensures.is_first in
+    let reads = both_read c.requires.are_nodes c.loop-left.invariant.reads.1
+    c.loop-left.invariant.reads.2 is_first in
     record {
       reads = (
-        c.loop-left.invariant.reads.0,
-        reads_into c.requires.are_nodes
-            c.loop-left.invariant.reads.1 c.if-left.false c.index-bodies-left.result
-            c.index-bodies-left.is c.in-Some-None.index c.in-Some-None.ensures.is_node
-            c.segment_of-left.result c.put_off-in-Some-None.new.later.items
-            c.segment_of-left.ensures c.in_ok-put_off-in-Some-None.ensures,
-        c.loop-left.invariant.reads.2,
+        reads.0,
+        reads_into c.requires.are_nodes reads.1 is_first.left_lt c.index-bodies-left.result
+            c.index-bodies-left.is c.in-Some-None.index c.in-Some-None.ensures.is_node c.segment_of-left.result
+            c.put_off-in-Some-None.new.later.items c.segment_of-left.ensures c.in_ok-put_off-in-Some-None.ensures,
+        reads.2,
       );
     }
 
 pub segment_of-left-requires-then-length_of : goal.segment_of-left-requires-then-length_of
 segment_of-left-requires-then-length_of g c =
-    index_lt c.requires.are_nodes c.loop-left.invariant.reads.1 c.if-left.false
-    c.index-bodies-left.result c.index-bodies-left.is c.in-Some-Some.i
-    c.in-Some-Some.ensures.is_node
+    let is_first = c.in-Some-first_difference.ensures.is_first in
+    let reads = both_read c.requires.are_nodes c.loop-left.invariant.reads.1
+    c.loop-left.invariant.reads.2 is_first in
+    index_lt c.requires.are_nodes reads.1 is_first.left_lt c.index-bodies-left.result
+    c.index-bodies-left.is c.in-Some-Some.i c.in-Some-Some.ensures.is_node
 
 pub loop-left-smaller-then-length_of : goal.loop-left-smaller-then-length_of
 loop-left-smaller-then-length_of g c =
-    less_left _ _ _ (less_work_into c.requires.are_nodes c.loop-left.invariant.reads.1
-    c.if-left.false c.index-bodies-left.result c.index-bodies-left.is c.in-Some-Some.i
-    c.in-Some-Some.ensures.is_node c.segment_of-left-then-length_of.result
-    c.put_off-then-length_of.new.later.items c.segment_of-left-then-length_of.ensures
-    c.in_ok-put_off-in-Some-Some.ensures)
+    let is_first = c.in-Some-first_difference.ensures.is_first in
+    let reads = both_read c.requires.are_nodes c.loop-left.invariant.reads.1
+    c.loop-left.invariant.reads.2 is_first in
+    less_if_left_opens c.requires.are_nodes c.loop-left.invariant.reads.1
+    c.loop-left.invariant.reads.2 is_first c.segment_of-left-then-length_of.result
+    c.put_off-then-length_of.new.later.items
+    (less_work_into c.requires.are_nodes reads.1 is_first.left_lt c.index-bodies-left.result
+    c.index-bodies-left.is c.in-Some-Some.i c.in-Some-Some.ensures.is_node c.segment_of-left-then-length_of.result
+    c.put_off-then-length_of.new.later.items c.segment_of-left-then-length_of.ensures c.in_ok-put_off-in-Some-Some.ensures)
 
 pub loop-left-preserved-then-length_of : goal.loop-left-preserved-then-length_of
 loop-left-preserved-then-length_of g c =
+    let is_first = c.in-Some-first_difference.ensures.is_first in
+    let reads = both_read c.requires.are_nodes c.loop-left.invariant.reads.1
+    c.loop-left.invariant.reads.2 is_first in
     record {
       reads = (
-        c.loop-left.invariant.reads.0,
-        reads_into c.requires.are_nodes
-            c.loop-left.invariant.reads.1 c.if-left.false c.index-bodies-left.result
-            c.index-bodies-left.is c.in-Some-Some.i c.in-Some-Some.ensures.is_node
-            c.segment_of-left-then-length_of.result c.put_off-then-length_of.new.later.items
-            c.segment_of-left-then-length_of.ensures c.in_ok-put_off-in-Some-Some.ensures,
-        c.loop-left.invariant.reads.2,
+        reads.0,
+        reads_into c.requires.are_nodes reads.1 is_first.left_lt c.index-bodies-left.result
+            c.index-bodies-left.is c.in-Some-Some.i c.in-Some-Some.ensures.is_node c.segment_of-left-then-length_of.result
+            c.put_off-then-length_of.new.later.items c.segment_of-left-then-length_of.ensures c.in_ok-put_off-in-Some-Some.ensures,
+        reads.2,
       );
     }
 
 pub segment_of-right-requires-else-length_of : goal.segment_of-right-requires-else-length_of
 segment_of-right-requires-else-length_of g c =
-    index_lt c.requires.are_nodes c.loop-left.invariant.reads.2 c.if-right.false
-    c.index-bodies-right.result c.index-bodies-right.is c.in-Some-Some.j
-    c.in-Some-Some.ensures'.is_node
+    let is_first = c.in-Some-first_difference.ensures.is_first in
+    let reads = both_read c.requires.are_nodes c.loop-left.invariant.reads.1
+    c.loop-left.invariant.reads.2 is_first in
+    index_lt c.requires.are_nodes reads.2 is_first.right_lt c.index-bodies-right.result
+    c.index-bodies-right.is c.in-Some-Some.j c.in-Some-Some.ensures'.is_node
 
 pub loop-left-smaller : goal.loop-left-smaller
 loop-left-smaller g c =
-    less_right _ _ _ (less_work_into c.requires.are_nodes c.loop-left.invariant.reads.2
-    c.if-right.false c.index-bodies-right.result c.index-bodies-right.is c.in-Some-Some.j
-    c.in-Some-Some.ensures'.is_node c.segment_of-right-else-length_of.result
-    c.put_off-else-length_of.new.later.items c.segment_of-right-else-length_of.ensures
-    c.in_ok-put_off-in-Some-Some-2.ensures)
+    let is_first = c.in-Some-first_difference.ensures.is_first in
+    let reads = both_read c.requires.are_nodes c.loop-left.invariant.reads.1
+    c.loop-left.invariant.reads.2 is_first in
+    less_if_right_opens c.requires.are_nodes c.loop-left.invariant.reads.1
+    c.loop-left.invariant.reads.2 is_first c.segment_of-right-else-length_of.result
+    c.put_off-else-length_of.new.later.items
+    (less_work_into c.requires.are_nodes reads.2 is_first.right_lt c.index-bodies-right.result
+    c.index-bodies-right.is c.in-Some-Some.j c.in-Some-Some.ensures'.is_node c.segment_of-right-else-length_of.result
+    c.put_off-else-length_of.new.later.items c.segment_of-right-else-length_of.ensures c.in_ok-put_off-in-Some-Some-2.ensures)
 
 pub loop-left-preserved : goal.loop-left-preserved
 loop-left-preserved g c =
+    let is_first = c.in-Some-first_difference.ensures.is_first in
+    let reads = both_read c.requires.are_nodes c.loop-left.invariant.reads.1
+    c.loop-left.invariant.reads.2 is_first in
     record {
       reads = (
-        c.loop-left.invariant.reads.0,
-        c.loop-left.invariant.reads.1,
-        reads_into
-            c.requires.are_nodes c.loop-left.invariant.reads.2 c.if-right.false
-            c.index-bodies-right.result c.index-bodies-right.is c.in-Some-Some.j
-            c.in-Some-Some.ensures'.is_node c.segment_of-right-else-length_of.result
-            c.put_off-else-length_of.new.later.items c.segment_of-right-else-length_of.ensures
-            c.in_ok-put_off-in-Some-Some-2.ensures,
+        reads.0,
+        reads.1,
+        reads_into c.requires.are_nodes reads.2 is_first.right_lt c.index-bodies-right.result
+            c.index-bodies-right.is c.in-Some-Some.j c.in-Some-Some.ensures'.is_node c.segment_of-right-else-length_of.result
+            c.put_off-else-length_of.new.later.items c.segment_of-right-else-length_of.ensures c.in_ok-put_off-in-Some-Some-2.ensures,
       );
     }
