@@ -19,6 +19,8 @@ import random
 class CommandLine(World):
     """Words, options, pages."""
 
+    takes_long = True
+
     def setUp(self) -> None:
         super().setUp()
         self.write("small.mm", SMALL)

@@ -60,6 +60,8 @@ def late_imports(path: Path) -> list[int]:
 class Code(unittest.TestCase):
     """What tools say of all Python and all scripts."""
 
+    takes_long = True
+
     def accepts(self, tool: str, *words: str, **surroundings: str) -> None:
         """The tool has nothing to say."""
         if not (TOOLS / tool).exists():

@@ -155,6 +155,8 @@ class Bases(Repositories):
 class NoAnswers(Repositories):
     """Why there is no answer: one line, status 2."""
 
+    takes_long = True
+
     def test_a_revision_that_is_missing(self) -> None:
         for word in ("nowhere", "--help", "-n", "HEAD~9", "a b", "main:db.mm", ""):
             self.has_no_answer(f"--base={word}", "db.mm", why=f"git has no revision '{word}'")
@@ -254,6 +256,8 @@ class NoAnswers(Repositories):
 
 class Rules(Repositories):
     """Each rule: what breaks it, what doesn't, and how it is allowed and switched off."""
+
+    takes_long = True
 
     def breaks(self, rule: str, text: str, *parts: str, allow: str, before: str = BASE) -> None:
         """Checks that a change of the database breaks one rule, unless it is allowed or off."""

@@ -18,6 +18,8 @@ MEMORY = 500_000_000
 class Shapes(World):
     """Two commands over each shape."""
 
+    takes_long = True
+
     def test_they_are_answered(self) -> None:
         for shape in shapes.SHAPES:
             for name, data in shape.make(shape.small).items():

@@ -97,6 +97,8 @@ class Hostile(Repositories):
 class TheTwelve(Hostile):
     """What was passed with status 0 once."""
 
+    takes_long = True
+
     def test_1_a_syntax_axiom(self) -> None:
         self.asks("", before=LOGIC)
         self.commit(LOGIC + WITHOUT_BRACKETS.replace("FIVE", "w5"))
@@ -767,6 +769,8 @@ exec "{git}" "$@"
 class Moving(Hostile):
     """Branches that move while the gate runs: it reads each once, and what it says is so of the
     commits that it names."""
+
+    takes_long = True
 
     def setUp(self) -> None:
         super().setUp()
