@@ -71,9 +71,21 @@ def escaped(number: int) -> str:
     return f"\\u{number:04x}" if number < 0x10000 else f"\\U{number:08x}"
 
 
+class ProgressLine:
+    """Whether a line of progress stands on standard error, behind which nothing may be written."""
+
+    is_shown = False
+
+
+progress_line = ProgressLine()
+CLEARED = "\r\x1b[K"
+"""What takes such a line away."""
+
+
 def tell(text: str) -> None:
     """Writes a line to standard error, which often is the log of a server."""
-    put(f"mmquery: {quiet(shown(text))}\n")
+    cleared = CLEARED if progress_line.is_shown else ""
+    put(f"{cleared}mmquery: {quiet(shown(text))}\n")
 
 
 def put(text: str) -> None:

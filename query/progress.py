@@ -4,14 +4,13 @@ import os
 from types import FrameType
 
 from query import system
-from query.errors import put, shown
+from query.errors import CLEARED, progress_line, put, shown
 
 
 class Line:
-    """What the line says, and whether it is shown."""
+    """What the line says."""
 
     doing = "working"
-    is_shown = False
 
 
 _line = Line()
@@ -20,13 +19,13 @@ _line = Line()
 def now(doing: str) -> None:
     """Says what is being done, such as `verifying set.mm`."""
     _line.doing = shown(doing)
-    if _line.is_shown:
+    if progress_line.is_shown:
         _show()
 
 
 def _show(*_: int | FrameType | None) -> None:
-    _line.is_shown = True
-    put(f"\r\x1b[Kmmquery: {_line.doing} ..")
+    progress_line.is_shown = True
+    put(f"{CLEARED}mmquery: {_line.doing} ..")
 
 
 def begin() -> None:
@@ -40,6 +39,6 @@ def end() -> None:
     """Takes the line away."""
     if os.isatty(2):
         system.not_after()
-    if _line.is_shown:
-        put("\r\x1b[K")
-    _line.is_shown = False
+    if progress_line.is_shown:
+        put(CLEARED)
+    progress_line.is_shown = False

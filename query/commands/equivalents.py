@@ -13,7 +13,8 @@ PAGE = """
 Lists which statements, added to the database without AX, give AX back: those from which links lead
 to AX, the fewest first. A link is an assertion that doesn't rest on AX: of the form ( S -> F ),
 ( S <-> F ) or, with a $e, F from S. Statements are the same that differ in the names of variables
-alone, or in quantifiers before all. AX may be a theorem too.
+alone, or in quantifiers before all. AX may be a theorem too. Only AX is given up: what another
+axiom proves without it, as ax-ac2 does for ax-ac, counts as proved.
 
 how        equivalent: AX gives it
            stronger: it isn't known that AX gives it

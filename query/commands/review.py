@@ -50,7 +50,8 @@ old, new both statements of a changed one, as `compare` tells them
 
 As text the edits that let axioms in stand first: which proof newly cites what, and how many
 theorems of both came to rest on each axiom by that. Where a theorem became an axiom, that is the
-edit.
+edit. Each theorem is counted with one edit, the first on a shortest chain to the axiom; without
+that edit it may still rest on the axiom by another one.
 
 The table has only what this change touches itself: `compare` lists all theorems that came to rest
 on an axiom. Standard error says how many axioms of any typecode are new, changed, renamed and gone,

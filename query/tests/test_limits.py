@@ -270,7 +270,8 @@ class InGit(Repositories):
         """Beside a long remark a text may cost more; the pull request after that leaves out the
         remark, and nothing would have an answer any more."""
         self.ask('[allow]\naxioms = ["*"]\n')
-        large, filling = self.worst(7), "$( " + "x" * 6_000_000 + " $)\n"
+        # By itself it takes more than its share also where threads happen to run one by one.
+        large, filling = self.worst(14), "$( " + "x" * 20_000_000 + " $)\n"
         self.commit(self.worst(1))
         self.branch()
         self.commit(large + filling)
@@ -279,7 +280,7 @@ class InGit(Repositories):
         self.git("checkout", "--quiet", "-B", "work")
         self.commit(large)
         words = ("gate", "--base", "main", "db.mm")
-        why = "db.mm: not judged: by itself the text needs more than 2 seconds"
+        why = "db.mm: not judged: by itself the text needs more than 3 seconds"
         self.refuses(*words, "--no-cache", why=why)
         # What was kept under other limits is no answer under these.
         self.assertEqual(self.query(*words, "--limit-time=999", "--limit-memory=999").status, 0)

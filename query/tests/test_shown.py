@@ -7,8 +7,10 @@ import os
 import pty
 import unittest
 from pathlib import Path
+from unittest import mock
 
-from query.errors import shown
+from query import progress
+from query.errors import shown, tell
 from query.excerpts import cut_both
 from query.findings import (
     SHOWN_TEXT,
@@ -104,6 +106,29 @@ class Terminal(World):
             (EVIL,),
         ):
             self.is_harmless(self.on_terminal(*words))
+
+    def test_a_notice_while_a_line_of_progress_stands(self) -> None:
+        said: list[str] = []
+        with mock.patch("query.errors.put", said.append), mock.patch(
+            "query.progress.put", said.append
+        ):
+            tell("before")
+            self.addCleanup(progress.end)
+            progress._show()
+            tell("meanwhile")
+            progress.end()
+            tell("afterwards")
+        cleared = "\r\x1b[K"
+        self.assertEqual(
+            said,
+            [
+                "mmquery: before\n",
+                f"{cleared}mmquery: working ..",
+                f"{cleared}mmquery: meanwhile\n",
+                cleared,
+                "mmquery: afterwards\n",
+            ],
+        )
 
     def test_a_pipe_gets_the_bytes(self) -> None:
         self.write("small.mm", SMALL.replace("$}\n", "$}\f\n"))
