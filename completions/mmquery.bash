@@ -23,7 +23,7 @@ _mmquery() {
                     cites:-*) words='--on --essential --open --format --before --main --mathbox --under --like --not --among --no-cache --limit-time --limit-memory -h --help' ;;
                     cited-by:-*) words='--essential --open --format --before --main --mathbox --under --like --not --among --no-cache --limit-time --limit-memory -h --help' ;;
                     uncited:-*) words='--not-discouraged --outside-mathboxes --essential --open --format --before --main --mathbox --under --like --not --among --no-cache --limit-time --limit-memory -h --help' ;;
-                    why:-*) words='--all --longest --essential --open --format --no-cache --limit-time --limit-memory -h --help' ;;
+                    why:-*) words='--all --longest --unavoidable --essential --open --format --no-cache --limit-time --limit-memory -h --help' ;;
                     way-out:-*) words='--keep --keep-wrappers --essential --open --format --before --main --mathbox --under --like --not --among --no-cache --limit-time --limit-memory -h --help' ;;
                     frees:-*) words='--most --plan --given --keep --keep-wrappers --essential --open --format --before --main --mathbox --under --like --not --among --no-cache --limit-time --limit-memory -h --help' ;;
                     spare:-*) words='--all --shorter --new-steps --theorem --may-gain --write --proof --only --open --jobs --cite-discouraged --cite-old --cite-mathboxes --change-discouraged --format --no-cache --limit-time --limit-memory -h --help' ;;
@@ -37,14 +37,14 @@ _mmquery() {
                     review:-*) words='--only --all --axioms --ignore-definitions --essential --open --format --no-cache --limit-time --limit-memory -h --help' ;;
                     history:-*) words='--of --faults --essential --open --format --no-cache --limit-time --limit-memory -h --help' ;;
                     gate:-*) words='--base --merge-base --config --config-of-new --summary --all --format --no-cache --limit-time --limit-memory -h --help' ;;
-                    chapters:-*) words='--only --all --axioms --ignore-definitions --essential --open --format --no-cache --limit-time --limit-memory -h --help' ;;
+                    chapters:-*) words='--no-empty --only --all --axioms --ignore-definitions --essential --open --format --no-cache --limit-time --limit-memory -h --help' ;;
                     proofs:-*) words='--by --most --essential --open --format --before --main --mathbox --under --like --not --among --no-cache --limit-time --limit-memory -h --help' ;;
                     order:-*) words='--only --all --axioms --ignore-definitions --essential --open --format --before --main --mathbox --under --like --not --among --no-cache --limit-time --limit-memory -h --help' ;;
                     unfinished:-*) words='--essential --open --format --before --main --mathbox --under --like --not --among --no-cache --limit-time --limit-memory -h --help' ;;
                     discouraged:-*) words='--essential --open --format --before --main --mathbox --under --like --not --among --no-cache --limit-time --limit-memory -h --help' ;;
                     mathboxes:-*) words='--essential --open --format --before --main --mathbox --under --like --not --among --no-cache --limit-time --limit-memory -h --help' ;;
                     definitions:-*) words='--trust --equality --basis --expand --without --essential --open --format --before --main --mathbox --under --like --not --among --no-cache --limit-time --limit-memory -h --help' ;;
-                    equivalents:-*) words='--only --all --axioms --ignore-definitions --essential --open --format --no-cache --limit-time --limit-memory -h --help' ;;
+                    equivalents:-*) words='--without --only --all --axioms --ignore-definitions --essential --open --format --no-cache --limit-time --limit-memory -h --help' ;;
                     search:-*) words='--given --open --format --before --main --mathbox --under --like --not --among --no-cache --limit-time --limit-memory -h --help' ;;
                     needs:-*) words='--tree --open --format --before --main --mathbox --under --like --not --among --no-cache --limit-time --limit-memory -h --help' ;;
                     move:-*) words='--to --format --no-cache --limit-time --limit-memory -h --help' ;;

@@ -10,14 +10,14 @@ import gc
 import os
 from typing import NoReturn
 
-from query import limits, progress, signals
+from query.answers.errors import NoAnswer, nearest, reason, shown, tell
+from query.answers.output import Output, write_all
+from query.arguments.context import Context
+from query.arguments.filters import Filters, add_filters, filters_of
+from query.arguments.options import Parser, add_limits
 from query.commands import Command, command, names, summaries
-from query.context import Context
-from query.errors import NoAnswer, nearest, shown, tell
-from query.filters import Filters, add_filters, filters_of
-from query.limits import Limits
-from query.options import Parser, add_limits
-from query.output import Output, reason, write_all
+from query.platform import limits, progress, signals
+from query.platform.limits import Limits
 
 VERSION = "mmquery 0.1.0\n"
 FORMS: dict[int | str | None, str] = {None: "{}", "+": "{}..", "*": "[{}..]", "?": "[{}]"}
@@ -94,7 +94,8 @@ def run(words: list[str]) -> int:
     if name == "help":
         name, words = words[1], [words[1], "--help"]
     if name not in names():
-        raise NoAnswer(f"there is no command {shown(name)}{nearest(name, names())}")
+        where = "; options stand behind the command" if name.startswith("-") else ""
+        raise NoAnswer(f"there is no command {shown(name)}{where or nearest(name, names())}")
     chosen = command(name)
     before = words[1 : words.index("--")] if "--" in words else words[1:]
     if "--help" in before or "-h" in before:

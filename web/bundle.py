@@ -25,7 +25,7 @@ VIEW = HERE / "view"
 sys.path.insert(0, str(TOP))
 
 # pylint: disable=wrong-import-position
-from query.faults import FAULTS, UNKNOWN  # noqa: E402
+from query.program.refusals import FAULTS, UNKNOWN  # noqa: E402
 
 FLAGS = ("--bundle", "--charset=utf8", "--minify-whitespace", "--log-level=warning")
 # What browsers of 2023 have.

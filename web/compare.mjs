@@ -53,7 +53,7 @@ function drawn() {
     };
 }
 
-/** @param {import("./types.js").Request} request */
+/** @param {import("./node/types.js").Request} request */
 function words({ report: part, only, form, essential, open }) {
     return [
         "--report",
@@ -69,7 +69,7 @@ function words({ report: part, only, form, essential, open }) {
 /**
  * What the program says.
  * @param {Uint8Array} text
- * @param {import("./types.js").Request} request
+ * @param {import("./node/types.js").Request} request
  */
 function answerOf(text, request) {
     const run = spawnSync(program, words(request), { input: text, maxBuffer: 1 << 30 });
@@ -80,7 +80,7 @@ function answerOf(text, request) {
  * Compares one run; with `limits` the module may also say that memory ran out.
  * @param {string} name
  * @param {Uint8Array} text
- * @param {import("./types.js").Request} request
+ * @param {import("./node/types.js").Request} request
  * @param {{ room?: number, most?: number }} [limits]
  */
 async function compared(name, text, request, limits) {

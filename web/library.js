@@ -3,8 +3,8 @@
 
 import { Status } from "./statuses.js";
 
-/** @typedef {import("./types.js").Answer} Answer */
-/** @typedef {import("./types.js").Request} Request */
+/** @typedef {import("./node/types.js").Answer} Answer */
+/** @typedef {import("./node/types.js").Request} Request */
 
 /** The sections of a report, each with its bit; `all` are the first three. */
 const BITS = { all: 7, matrix: 1, counts: 2, usage: 4, citations: 8, statements: 16 };

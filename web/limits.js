@@ -1,4 +1,4 @@
-// What a text may cost. `mmquery` has the same limits, in query/unpacking.py and query/limits.py.
+// What a text may cost. `mmquery` has the same limits, in query/program/unpacking.py and query/platform/limits.py.
 
 /** How many times as long as a compressed file its text may be, besides some bytes that are free. */
 export const MOST_TIMES = 100;

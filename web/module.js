@@ -5,7 +5,7 @@ import { READING_LIMIT, against as compared, compile, report as answered, versio
 import { refusalOf } from "./packer/faults.js";
 import { Status } from "./statuses.js";
 
-/** @typedef {import("./types.js").Request} Request */
+/** @typedef {import("./node/types.js").Request} Request */
 
 /** The database has a fault. Line and column count from 1, in bytes. `side` is the one of two that has it. */
 export class Refused extends Error {
@@ -105,7 +105,7 @@ function fieldsOf(request, fields) {
 
 /**
  * The bytes of an answer that isn't a refusal.
- * @param {import("./types.js").Answer} answer
+ * @param {import("./node/types.js").Answer} answer
  * @param {number} size the bytes of all texts
  */
 function reportIn(answer, size) {

@@ -20,7 +20,7 @@ def run(line: list[str]) -> NoReturn:
     os.execv(line[0], line)
 
 
-# query/program.py has the same, which this can't import; test_code.py compares them.
+# query/platform/executables.py has the same, which this can't import; test_code.py compares them.
 def located(command: str) -> str | None:
     """Where a command is. A folder of PATH that is relative to the working folder doesn't count,
     since whoever fills that folder could bring a command; nor does the working folder itself, in

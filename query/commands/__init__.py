@@ -1,6 +1,9 @@
 """The commands. Each module has the list `COMMANDS`; `INDEX` says which command is in which.
 
 To add a command, add its name, module and summary here and the `Command` to the list there.
+
+It imports `answers`, `platform`, `texts`, `citations`, `git`, `program`, `reports`, `proofs`,
+`formulas`, `definitions`, `spare`, `comparisons`, `gate`, `exports` and `arguments`.
 """
 
 import argparse
@@ -8,8 +11,8 @@ import importlib
 from collections.abc import Callable
 from dataclasses import dataclass
 
-from query.context import Context
-from query.options import Parser
+from query.arguments.context import Context
+from query.arguments.options import Parser
 
 TABLE_FORMATS = ("text", "tsv", "csv", "json")
 
@@ -41,10 +44,10 @@ INDEX: dict[str, tuple[str, str]] = {
     "cites": ("citations", "what LABELs cite themselves"),
     "cited-by": ("citations", "which theorems cite LABELs"),
     "uncited": ("citations", "which theorems nobody cites"),
-    "why": ("chains", "a shortest chain by which LABEL rests on ON"),
+    "why": ("chains", "a chain by which LABEL rests on ON, or what all chains lead through"),
     "way-out": ("chains", "the smallest change that frees THEOREM of ON"),
     "frees": ("chains", "what new proofs of THEOREMs free of ON, or which would free most"),
-    "spare": ("spare", "theorems that can do without AXIOMs, with new proofs of them"),
+    "spare": ("spare", "theorems that can do without AXIOMs, or with shorter proofs"),
     "repeats": ("repeats", "theorems that say what an earlier statement says"),
     "unneeded": ("unneeded", "hypotheses, $d conditions and symbols that nothing needs"),
     "top": ("ranking", "which axioms are used most, or least"),
@@ -59,7 +62,7 @@ INDEX: dict[str, tuple[str, str]] = {
     "history": ("history", "how much rested on AXIOMs in each revision, or since when T does"),
     "gate": ("gate", "whether a pull request keeps the rules that the base's mmdepend.toml sets"),
     "chapters": ("structure", "headers, with how many theorems below each rest on axioms"),
-    "proofs": ("lengths", "how long proofs are, and how deep theorems stand"),
+    "proofs": ("proofs", "how long proofs are, and how deep theorems stand"),
     "order": ("structure", "axioms and theorems in one list, in file order"),
     "unfinished": ("structure", "theorems that are left open, and what rests on them"),
     "discouraged": ("structure", "which theorems use one whose new usage is discouraged"),
@@ -68,13 +71,13 @@ INDEX: dict[str, tuple[str, str]] = {
     "equivalents": ("equivalents", "which statements give AX back, with the theorems that say so"),
     "search": ("search", "which formulas have a pattern, by what may stand for its variables"),
     "needs": ("definitions", "the definitions under the symbols of a statement"),
-    "move": ("moving", "what has to go along where THEOREM is moved"),
+    "move": ("move", "what has to go along where THEOREM is moved"),
     "graph": ("graphs", "the citations as DOT, GraphML or a list of edges"),
     "picture": ("graphs", "a picture of which theorem rests on which axiom"),
     "page": ("page", "one HTML file that shows the whole database"),
-    "set-proof": ("edit", "the database with the proof of one theorem for that of another"),
+    "set-proof": ("set_proof", "the database with the proof of one theorem for that of another"),
     "export": ("export", "statements, citations and marks as tables of SQLite"),
-    "cache": ("kept", "the results that are kept: show or clear"),
+    "cache": ("cache", "the results that are kept: show or clear"),
 }
 
 

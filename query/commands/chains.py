@@ -1,18 +1,26 @@
 """`why`, `way-out` and `frees`: chains of citations, and what would cut them."""
 
 import argparse
+from collections.abc import Iterator
 from dataclasses import dataclass
 from itertools import islice
 
-from query import cuts, progress
+from query.answers.errors import NoAnswer
+from query.answers.output import Value
+from query.arguments.context import Context
+from query.arguments.options import (
+    Parser,
+    add_choice_of_citations,
+    add_database,
+    options_of,
+    positive,
+)
+from query.citations import cuts
+from query.citations.graph import Graph
+from query.citations.wrappers import wrappers
 from query.commands import Command
-from query.context import Context
-from query.database import Database
-from query.errors import NoAnswer
-from query.graph import Graph
-from query.output import Value
-from query.options import Parser, add_choice_of_citations, add_database, positive, options_of
-from query.wrappers import wrappers
+from query.platform import progress
+from query.reports.database import Database
 
 WHY_PAGE = """
 Shows a shortest chain of citations by which LABEL rests on ON, from the one to the other: each
@@ -22,7 +30,8 @@ error says so.
 
 label    what is on the chain
 
-With --longest it is a longest chain instead, of several again the one that comes first.
+With --longest it is a longest chain instead, of several again the one that comes first. With
+--unavoidable it is what every chain leads through, both ends included.
 
 With --all, the part of the graph between: all citations that are on a chain, in file order.
 
@@ -32,6 +41,7 @@ cited    what is cited
   $ mmquery why set.mm zorn ax-ac2
   $ mmquery why set.mm zorn ax-ac2 --all
   $ mmquery why set.mm 2p2e4 ax-1 --longest
+  $ mmquery why set.mm fta ax-inf2 --unavoidable
 """
 
 WAY_OUT_PAGE = """
@@ -74,6 +84,8 @@ freed    how many theorems it frees besides, itself included
 total    how many are free by then
 theorem  the label of the theorem
 
+A plan looks one theorem ahead, so another choice of N theorems may free more together.
+
 With --given T, theorems that have such a proof already: this is about the others, and `total`
 counts what is free by T too. The filters choose which theorems a plan may take.
 
@@ -92,6 +104,8 @@ variables. Standard error says which they are.
 
 
 FREED = ["freed", "theorem"]
+MOST_RESTATED = 50
+"""So many axioms that a theorem states are looked at: each of them takes a walk over the file."""
 WAYS = ["of", "what", "theorem", "cited"]
 
 
@@ -100,23 +114,25 @@ def configure_why(parser: Parser) -> None:
     add_database(parser)
     parser.add_argument("label", metavar="LABEL")
     parser.add_argument("on", metavar="ON")
-    parser.exclude("--all", "--longest")
+    parser.exclude("--all", "--longest", "--unavoidable")
     parser.flag("--all", "all citations on chains between")
     parser.flag("--longest", "a longest chain in place of a shortest one")
+    parser.flag("--unavoidable", "what every chain leads through")
     add_choice_of_citations(parser)
 
 
 def run_why(context: Context, arguments: argparse.Namespace) -> int:
     """Answers `why`."""
     options = options_of(argparse.Namespace(**{**vars(arguments), "all": False}))
-    graph = context.database(arguments.database, options).graph()
+    database = context.database(arguments.database, options)
+    graph = database.graph()
     node, end = graph.node(arguments.label), graph.node(arguments.on)
     found = longest_chain if arguments.longest else Graph.chain
+    found = cuts.unavoidable if arguments.unavoidable else found
     chain = found(graph, node, end) if node != end else []
     if not chain:
-        context.tell(
-            f"{graph.labels[node]} doesn't rest on {graph.labels[end]}{reverse(graph, node, end)}"
-        )
+        said = reverse(graph, node, end) or restated(database, node, end)
+        context.tell(f"{graph.labels[node]} doesn't rest on {graph.labels[end]}{said}")
     if arguments.all:
         between = graph.below([node]) & graph.above([end]) if chain else set()
         rows = [
@@ -151,6 +167,47 @@ def reverse(graph: Graph, node: int, end: int) -> str:
     if node != end and graph.chain(end, node):
         return f", but {graph.labels[end]} on {graph.labels[node]}"
     return ""
+
+
+def restated(database: Database, node: int, end: int) -> str:
+    """What the remark that there is no chain says where an axiom only states what a theorem proves
+    that has one, as `ax-cnex` of set.mm states `axcnex`."""
+    if node == end or database.is_report:
+        return ""
+    found = list(islice(restatements(database, node, end), 2))
+    if not found:
+        return ""
+    graph = database.graph()
+    axiom, theorem = found[0]
+    says = f", but on {graph.labels[axiom]}"
+    if theorem == end:
+        return f"{says}, which says the same"
+    so_do = ", as with other axioms" if len(found) > 1 else ""
+    same = f"{graph.labels[theorem]}, which says the same, rests on {graph.labels[end]}"
+    return f"{says}; {same}{so_do}"
+
+
+def restatements(database: Database, node: int, end: int) -> Iterator[tuple[int, int]]:
+    """The axioms without `$e` on which a node rests, each with a theorem that says the same, rests
+    on `end` and not on this axiom. Of the axioms that a theorem states some are looked at."""
+    graph = database.graph()
+    below, above = graph.below([node]), graph.above([end])
+    proved: dict[str, list[int]] = {}
+    for one in database.text.assertions:
+        if one.kind == "p" and graph.index.get(one.label) in above:
+            proved.setdefault(one.formula, []).append(graph.index[one.label])
+    axioms = [
+        axiom
+        for axiom in sorted(each for each in below if not graph.is_theorem(each))
+        if database.text.by_label[graph.labels[axiom]].formula in proved
+    ]
+    for axiom in axioms[:MOST_RESTATED]:
+        one = database.text.by_label[graph.labels[axiom]]
+        if all(each.kind == "f" for each in one.frame().hypotheses()):
+            users = graph.above([axiom])
+            theorem = next((each for each in proved[one.formula] if each not in users), None)
+            if theorem is not None:
+                yield axiom, theorem
 
 
 def add_keep(parser: Parser) -> None:
@@ -304,11 +361,14 @@ def put_plan(context: Context, asked: Asked, steps: int) -> None:
         rows.append([each.freed, each.total, graph.labels[each.theorem]])
         progress.now(f"{len(rows)} of {steps} theorems chosen")
     context.out.table(["freed", "total", "theorem"], rows)
-    resting = len(graph.above([end]) - kept - {end})
+    resting = graph.above([end]) - {end}
     if rows:
+        count = len(resting & kept)
+        are_kept = f", {count} of which {'are' if count > 1 else 'is'} kept" if count else ""
         context.tell(
-            f"{graph.name}: free are then {rows[-1][1]} of {resting} that rest on"
-            f" {graph.labels[end]}"
+            f"{graph.name}: free are then {rows[-1][1]} of {len(resting)} that rest on"
+            f" {graph.labels[end]}{are_kept}"
+            f"{'; no other theorem frees more' if len(rows) < steps else ''}"
         )
     elif cuts.freeing(graph, end, kept, asked.given):
         context.tell(f"{graph.name}: none that rests on {graph.labels[end]} passes the filters")

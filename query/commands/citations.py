@@ -2,13 +2,13 @@
 
 import argparse
 
+from query.answers.errors import shown
+from query.arguments.context import Context
+from query.arguments.options import Parser, add_choice_of_citations, add_database, options_of
+from query.citations.graph import Graph
 from query.commands import Command
-from query.context import Context
-from query.errors import shown
-from query.graph import Graph
-from query.options import Parser, add_choice_of_citations, add_database, options_of
-from query.rules import is_discouraged
-from query.text import Text
+from query.texts.discouraged import is_discouraged
+from query.texts.text import Text
 
 CITES_PAGE = """
 Lists in file order what the proof of LABEL itself applies, axioms and theorems of every typecode.

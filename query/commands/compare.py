@@ -3,16 +3,15 @@
 import argparse
 from collections.abc import Iterator
 
-from query.changes import Comparison, side_by_side
+from query.answers.errors import NoAnswer, shown
+from query.answers.output import Value
+from query.arguments.context import Context
+from query.arguments.options import Parser, add_choice_of_axioms, add_database, options_of
 from query.commands import Command
-from query.context import Context
-from query.errors import NoAnswer, shown
-from query.restated import COLUMNS as BOTH
-from query.restated import Change, changes, lines_of, most_of
-from query.options import Parser, add_choice_of_axioms, add_database, options_of
-from query.output import Value
-from query.source import is_same_file
-from query.statements import ANOTHER_ORDER, Pairing
+from query.comparisons.changed_statements import COLUMNS as BOTH, Change, changes, lines_of, most_of
+from query.comparisons.changes import Comparison, side_by_side
+from query.comparisons.pairing import ANOTHER_ORDER, Pairing
+from query.program.source import is_same_file
 
 Row = tuple[Value, ...]
 COLUMNS = ("change", "kind", "label", "was", "axiom", "citing", "cited", *BOTH)

@@ -4,12 +4,21 @@ needs."""
 import argparse
 from collections.abc import Iterator
 
-from query import progress
-from query.assertions import Assertion
+from query.answers.annotations import escaped
+from query.answers.errors import NoAnswer, shown
+from query.answers.output import Value
+from query.arguments.context import Context
+from query.arguments.options import (
+    Parser,
+    add_choice_of_citations,
+    add_database,
+    add_open,
+    options_of,
+)
 from query.commands import TABLE_FORMATS, Command
-from query.context import Context
-from query.database import Database
-from query.definitions import (
+from query.definitions.foundations import BEGINNING
+from query.definitions.needs import Needs
+from query.definitions.soundness import (
     CONDITIONS,
     NO,
     TRUST,
@@ -21,19 +30,10 @@ from query.definitions import (
     is_definition,
     rests_by,
 )
-from query.errors import NoAnswer, shown
-from query.findings import escaped
-from query.grounds import BEGINNING
-from query.needs import Needs
-from query.options import (
-    Parser,
-    add_choice_of_citations,
-    add_database,
-    add_open,
-    options_of,
-)
-from query.output import Value
-from query.unfolding import statement, without
+from query.definitions.unfolding import statement, without
+from query.platform import progress
+from query.reports.database import Database
+from query.texts.assertions import Assertion
 
 PAGE = (
     """
@@ -71,7 +71,8 @@ answer where the definition has a dummy, or its right side lacks a variable of t
 NEEDS_PAGE = """
 Lists in file order of what LABEL's statement and its $e speak: the forms in it, those in the
 definitions of these, and so on down to forms without a definition. Proofs don't matter here. A form
-is a syntax axiom; its definition is an axiom of typecode |- whose label begins with df-.
+is a syntax axiom; its definition is an axiom of typecode |- whose label begins with df-. Of a
+definition it lists those in what it defines its form by.
 
 form        the label of the syntax axiom
 definition  that of its definition; nothing where it is primitive

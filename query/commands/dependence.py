@@ -4,13 +4,13 @@ import argparse
 from collections.abc import Iterable, Mapping, Sequence
 from dataclasses import replace
 
+from query.answers.errors import shown
+from query.answers.output import Value
+from query.arguments.context import Context
+from query.arguments.options import Parser, add_choice_of_axioms, add_database, options_of
+from query.citations.graph import Graph
 from query.commands import Command
-from query.context import Context
-from query.database import Database, Dependence
-from query.errors import shown
-from query.graph import Graph
-from query.options import Parser, add_choice_of_axioms, add_database, options_of
-from query.output import Value
+from query.reports.database import Database, Dependence
 
 RESTS_PAGE = """
 Lists in file order the axioms on which the proofs of the LABELs rest: those that a proof applies,
@@ -180,7 +180,7 @@ def run_falls(context: Context, arguments: argparse.Namespace) -> int:
     database = context.database(arguments.database, options_of(arguments))
     if arguments.only is not None or arguments.axioms or arguments.ignore_definitions:
         for label in arguments.labels:
-            if label not in database.prepared.theorems:
+            if label not in database.content.theorems:
                 database.dependence().see_axiom(label)
     labels = list(dict.fromkeys(arguments.labels))
     rows = union(users_of(database, label) for label in labels)
@@ -192,7 +192,7 @@ def run_falls(context: Context, arguments: argparse.Namespace) -> int:
     which = names if len(labels) == 1 else f"{word} of {names}"
     without = " that the options leave" if arguments.without else ""
     why = f"{database.name}: no theorem{without} rests on {which}"
-    theorems = database.prepared.theorems
+    theorems = database.content.theorems
     put_union(context, "theorem", theorems, rows, labels, why, arguments.all_of)
     return 0
 
@@ -200,7 +200,7 @@ def run_falls(context: Context, arguments: argparse.Namespace) -> int:
 def users_of(database: Database, label: str) -> set[int]:
     """The rows of the theorems that rest on an axiom or a theorem. NoAnswer where there is neither
     of this label."""
-    found = database.prepared
+    found = database.content
     if found.marks is not None and label in found.columns:
         return set(found.marks.users(found.columns.index(label)))
     graph: Graph = database.graph()

@@ -1,24 +1,27 @@
 """`equivalents`: which statements give an axiom back."""
 
 import argparse
+from collections.abc import Iterable
 
+from query.answers.output import Value
+from query.arguments.context import Context
+from query.arguments.options import Parser, add_choice_of_axioms, add_database, options_of
+from query.citations.graph import Graph
 from query.commands import Command
-from query.context import Context
-from query.database import Database
-from query.equivalents import Found, Links, Search
-from query.options import Parser, add_choice_of_axioms, add_database, options_of
-from query.output import Value
+from query.formulas.equivalents import Found, Links, Search
+from query.reports.database import Database
 
 PAGE = """
 Lists which statements, added to the database without AX, give AX back: those from which links lead
 to AX, the fewest first. A link is an assertion that doesn't rest on AX: of the form ( S -> F ),
 ( S <-> F ) or, with a $e, F from S. Statements are the same that differ in the names of variables
-alone, or in quantifiers before all. AX may be a theorem too. Only AX is given up: what another
-axiom proves without it, as ax-ac2 does for ax-ac, counts as proved.
+alone, or in quantifiers before all. AX may be a theorem too. What another axiom proves without AX,
+as ax-ac2 does for ax-ac, counts as proved; --without ax-ac2 gives that axiom up too.
 
 how        equivalent: AX gives it
-           stronger: it isn't known that AX gives it
-           proved: it is stated by an assertion that doesn't rest on AX, so the others give AX
+           stronger: it isn't known that AX gives it; it may even be false
+           proved: it is stated by an assertion that rests on nothing that is given up, so the
+           others give AX; standard error names the first one
 label      an assertion that states it; nothing where there is none
 by         the links from the statement to AX; nothing where it says what AX says
 from       how AX gives it: what states it, or the links from AX to it
@@ -31,6 +34,7 @@ found.
 
   $ mmquery equivalents set.mm ax-ac2
   $ mmquery equivalents set.mm ax-ac2 --axioms ax-
+  $ mmquery equivalents set.mm ax-ac --without ax-ac2
 """
 COLUMNS = ("how", "label", "by", "from", "rests", "statement")
 
@@ -39,6 +43,7 @@ def configure(parser: Parser) -> None:
     """Adds the words and options."""
     add_database(parser)
     parser.add_argument("axiom", metavar="AX")
+    parser.values("--without", "LABEL", "gives up LABEL too; several: by commas, or more options")
     add_choice_of_axioms(parser)
 
 
@@ -46,25 +51,36 @@ def run(context: Context, arguments: argparse.Namespace) -> int:
     """Answers."""
     database = context.database(arguments.database, options_of(arguments))
     graph = database.graph()
-    above = graph.above([graph.node(arguments.axiom)])
-    bound = {graph.labels[node] for node in above}
+    words = [label for word in arguments.without for label in word.split(",") if label]
+    others = [label for label in words if label != arguments.axiom]
+    lost = labels_above(graph, others)
+    bound = labels_above(graph, [arguments.axiom]) | lost
     assertions = database.text.assertions
     links = Links(assertions, [one.label not in bound for one in assertions])
-    search = Search(links, database.assertion(arguments.axiom))
+    given_up = [one.label in lost for one in assertions]
+    search = Search(links, database.assertion(arguments.axiom), given_up)
     rows = [row_of(database, search, each) for each in search.found()]
     is_chosen = arguments.only or arguments.all or arguments.axioms or arguments.ignore_definitions
     why = f"{database.name}: no statement is found that gives {arguments.axiom} back"
     context.table(COLUMNS, rows, why, aside=[] if is_chosen else ["rests"])
+    proved = next((row for row in rows if row[0] == "proved"), None)
+    if proved is not None:
+        context.tell(f"{database.name}: the others give {arguments.axiom}, by {proved[1]}")
     return 0
+
+
+def labels_above(graph: Graph, labels: Iterable[str]) -> set[str]:
+    """These labels, and those of all theorems that rest on one of them."""
+    return {graph.labels[node] for node in graph.above(map(graph.node, labels))}
 
 
 def row_of(database: Database, search: Search, found: Found) -> list[Value]:
     """A row of the answer."""
-    way, label = found.way, None
+    way, stated = found.way, found.stated
     how = "stronger" if way is None else "equivalent"
-    if way is not None and way.stated is not None:
-        label = way.stated.label
-        how = "proved" if search.links.free[way.stated.number] else how
+    if stated is not None and search.links.free[stated.number]:
+        how = "proved"
+    label = None if stated is None else stated.label
     given = list(way.labels) if way is not None else []
     rests = rests_of(database, {*found.by, *found.rules, *given}, search.axiom.label)
     return [how, label, list(found.by), given, rests, found.formula]

@@ -3,13 +3,13 @@
 import argparse
 import hashlib
 
-from query import progress
+from query.answers.errors import shown
+from query.answers.output import Value
+from query.arguments.context import Context
+from query.arguments.options import Parser, add_choice_of_axioms, add_database, options_of
 from query.commands import Command
-from query.context import Context
-from query.errors import shown
-from query.options import Parser, add_choice_of_axioms, add_database, options_of
-from query.output import Value
-from query.program import version
+from query.platform import progress
+from query.program.mmdepend import version
 
 PAGE = """
 Writes statements, citations and marks as tables of SQLite into FILE. One that `export` wrote before
@@ -45,7 +45,7 @@ def configure(parser: Parser) -> None:
 def run(context: Context, arguments: argparse.Namespace) -> int:
     """Answers."""
     # SQLite takes up to 140 milliseconds, and the help of all commands has no use for it.
-    from query.sqlite import SCHEMA, Content, export
+    from query.exports.sqlite import SCHEMA, Content, export
 
     options = options_of(arguments)
     database = context.database(arguments.database, options)

@@ -2,33 +2,34 @@
 
 import argparse
 import os
-from collections.abc import Iterable, Iterator, Mapping
-from dataclasses import dataclass, field, replace
+from collections.abc import Iterator
+from dataclasses import replace
 from pathlib import Path
 
-from query import limits
-from query.branch import Asked, Wish, branch_of, brought, compared, config_of
-from query.changes import Comparison, side_by_side
+from query.answers.errors import NoAnswer, reason, shown
+from query.answers.excerpts import SHOWN_FORMULA
+from query.arguments.context import Context
+from query.arguments.options import Parser, add_database
 from query.commands import Command
-from query.config import FILE_NAME, RULES, content_of, find_config, load_config
-from query.context import Context
-from query.database import Database
-from query.differences import Taken
-from query.errors import NoAnswer, shown
-from query.excerpts import SHOWN_FORMULA
-from query.faults import Refused
-from query.findings import FORMS, Verdict, as_summary
-from query.git import short
-from query.one_run import COUNTS
-from query.options import Options, Parser, add_database
-from query.output import reason
-from query.rules import Case, Finding, judge
-from query.source import Source, is_same_file
-from query.unpacking import packer_of
-from query.weakened import losses, mended
+from query.comparisons.changes import Comparison, side_by_side
+from query.comparisons.differences import Taken
+from query.gate.branch import branch_of, request_of
+from query.gate.config import FILE_NAME, content_of, find_config, load_config
+from query.gate.finding import Finding
+from query.gate.forms import FORMS, Verdict, as_summary
+from query.gate.request import Request, config_in, with_brought
+from query.gate.rules import Case, judge
+from query.gate.weakened import losses, mended
+from query.platform import limits
+from query.program.refusals import Refused
+from query.program.source import Source, is_same_file
+from query.program.unpacking import packer_of
+from query.reports.choice import Options
+from query.reports.database import Database
+from query.reports.of_program import COUNTS
 
 FORMATS = tuple(FORMS)
-ASKED = Options(only=None, open=True)
+OPTIONS = Options(only=None, open=True)
 """Any axiom may be watched. An open theorem isn't a fault, but breaks a rule."""
 
 PAGE = """
@@ -63,32 +64,25 @@ What one changed proof does to many theorems is one finding, and at most 1000 ar
 each theorem, and all of them. --format github writes annotations, and --format log what no server
 takes for a command.
 
+mmdepend.toml lies at the top of the repository. It counts once the base has it. For instance:
+
+  watch = ["ax-ac2", "ax-reg"]
+  definitions = true
+  [rules]
+  discouraged = false
+  [allow]
+  axioms = ["ax-mine"]
+  newly.ax-ac2 = ["zorn2"]
+  new.ax-ac2 = ["zorn3"]
+  open = ["mytheorem"]
+  [claims]
+  "2p2e4" = ["ax-ac2", "ax-reg"]
+
+Under allow stand the labels of findings that are let through, by rules. Which theorems rest on a
+new axiom is told by `review`; the gate tells it of those that are watched.
+
   $ mmquery gate --base origin/main set.mm
 """
-
-
-@dataclass(frozen=True)
-class Request:
-    """What is compared. `base` is what OLD is, in words; `paths` has for names of files the paths
-    from the top of the repository."""
-
-    old: Database
-    new: Database
-    base: str
-    asked: Asked
-    notes: tuple[str, ...] = ()
-    paths: Mapping[str, str] = field(default_factory=dict)
-
-    def all_notes(self) -> list[str]:
-        """Remarks that change nothing of the answer."""
-        config = self.asked.config
-        notes = [*self.notes, *self.asked.notes]
-        if config.typecode is not None and "axioms" in config.rules:
-            notes.append(
-                f"`typecode` of {config.name} leaves the axioms of '{config.typecode}'; others"
-                " aren't judged, and a new one can make proofs of anything"
-            )
-        return notes
 
 
 def configure(parser: Parser) -> None:
@@ -103,73 +97,79 @@ def configure(parser: Parser) -> None:
     parser.flag("--all", "tell each theorem, and all findings")
 
 
-def database_of(source: Source, context: Context) -> Database:
-    """The database of these bytes. NoAnswer where they are a report."""
-    source.see_text()
-    return Database(source, ASKED, context.uses_cache)
-
-
-def between_files(context: Context, old: str, new: str, wish: Wish) -> Request:
+def between_files(context: Context, arguments: argparse.Namespace) -> Request:
     """The request of two words."""
-    if wish.base is not None or wish.is_merge_base:
-        option = "--base" if wish.base is not None else "--merge-base"
+    words = (arguments.old, arguments.database)
+    if arguments.base is not None or arguments.merge_base:
+        option = "--base" if arguments.base is not None else "--merge-base"
         raise NoAnswer(f"gate: {option} goes with one database, not with two")
-    before, after = (database_of(context.database(word).source, context) for word in (old, new))
-    if old != new and is_same_file(old, new):
-        raise NoAnswer(f"{before.name} and {after.name} are the same file")
-    return Request(before, after, before.name, asked_of_files(old, new, wish))
+    old, new = (text_of(context.database(word).source) for word in words)
+    if words[0] != words[1] and is_same_file(*words):
+        raise NoAnswer(f"{old.name} and {new.name} are the same file")
+    return with_configs_of_files(Request(old, new, old.name), arguments)
 
 
-def asked_of_files(old: str, new: str, wish: Wish) -> Asked:
-    """What is asked of two files: by the file `mmdepend.toml` that holds for OLD, or by that which
-    the options name."""
-    if wish.config is not None:
-        return Asked(load_config(Path(wish.config)))
-    before, after = (find_config(Path(each).parent) for each in (old, new))
+def text_of(source: Source) -> Source:
+    """A source that is a database. NoAnswer where it is a report."""
+    source.see_text()
+    return source
+
+
+def with_configs_of_files(request: Request, arguments: argparse.Namespace) -> Request:
+    """A request with what is asked of two files: by the file `mmdepend.toml` that holds for OLD, or
+    by that which the options name."""
+    if arguments.config is not None:
+        return replace(request, config=load_config(Path(arguments.config)))
+    words = (arguments.old, arguments.database)
+    before, after = (find_config(Path(each).parent) for each in words)
     of_old, of_new = (None if each is None else content_of(each) for each in (before, after))
     name = FILE_NAME if after is None else os.path.relpath(after)
-    if wish.is_config_of_new:
-        return Asked(config_of(of_new, name))
-    config = config_of(of_old, FILE_NAME if before is None else os.path.relpath(before))
-    asked = Asked(config, config)
-    return asked if after is None or of_old == of_new else compared(asked, of_new, name)
+    if arguments.config_of_new:
+        return replace(request, config=config_in(of_new, name))
+    config = config_in(of_old, FILE_NAME if before is None else os.path.relpath(before))
+    request = replace(request, config=config, before=config)
+    return request if after is None or of_old == of_new else with_brought(request, of_new, name)
 
 
-def with_base(context: Context, word: str, wish: Wish) -> Request:
+def with_base(arguments: argparse.Namespace) -> Request:
     """The request of one word: a file in a repository, or `REV:PATH`."""
-    branch = branch_of(word)
-    found = brought(branch, wish)
-    name = shown(f"{short(found.commit)}:{branch.path}")
-    old = database_of(Source(name, found.old), context)
-    new = database_of(Source(shown(word), found.new), context)
-    paths = {**found.asked.paths, new.name: branch.path}
-    return Request(old, new, found.base, found.asked, found.notes, paths)
+    branch = replace(
+        branch_of(arguments.database),
+        base=arguments.base,
+        config=arguments.config,
+        is_config_of_new=arguments.config_of_new,
+        is_merge_base=arguments.merge_base,
+    )
+    request = request_of(branch, shown(arguments.database))
+    for source in (request.old, request.new):
+        source.see_text()
+    return request
 
 
-def found_in(request: Request, tells_all: bool) -> Iterator[Finding]:
+def found_in(request: Request, context: Context, tells_all: bool) -> Iterator[Finding]:
     """What breaks the rules. That NEW is refused breaks one too."""
-    packer = packer_of(request.new.source.data)
+    packer = packer_of(request.new.data)
     if packer is not None:
         reason = f"compressed by {packer}; in git a database is plain text"
         yield Finding("valid", request.new.name, 0, "", "", reason)
         return
+    old, new = (Database(each, OPTIONS, context.uses_cache) for each in (request.old, request.new))
     try:
-        comparison = side_by_side(request.old, request.new, is_reported=False)
+        comparison = side_by_side(old, new, is_reported=False)
     except Refused as refused:
-        if refused.source is not request.new.source:
+        if refused.source is not request.new:
             raise
         yield refusal_of(refused)
         return
-    see_share(request, comparison.differences.taken)
-    yield from judged(comparison, request.asked, tells_all)
+    see_share(old, new, comparison.differences.taken)
+    yield from judged(comparison, request, tells_all)
 
 
-def see_share(request: Request, taken: Taken | None) -> None:
+def see_share(old: Database, new: Database, taken: Taken | None) -> None:
     """NoAnswer where NEW by itself takes more than its share of what two texts of its length get,
     and OLD not more than that of its own: what is compared with NEW later might have no answer,
     whatever it brings. `taken` is what both together took: where that is no more than the share of
     NEW, neither is run again."""
-    old, new = request.old, request.new
     share, share_before = (limits.chosen().share(len(each.data())) for each in (new, old))
     if taken is not None and taken[0] <= share.seconds_for(0) and taken[1] <= share.bytes_for(0):
         return
@@ -194,18 +194,18 @@ def is_within(database: Database, some: limits.Limits) -> bool:
         limits.choose(chosen)
 
 
-def judged(comparison: Comparison, asked: Asked, tells_all: bool) -> Iterator[Finding]:
+def judged(comparison: Comparison, request: Request, tells_all: bool) -> Iterator[Finding]:
     """What breaks the rules by the file that judges, and then what breaks them only by the file
     that is brought: it would judge what comes later."""
-    brought = asked.brought
+    brought = request.brought
     if brought is None:
-        yield from judge(Case(comparison, asked.config, asked.findings, tells_all))
+        yield from judge(Case(comparison, request.config, request.findings, tells_all))
         return
-    before = mended(asked.before, brought, comparison.old)
-    is_one = asked.before is asked.config
-    config = before if is_one else mended(asked.config, brought, comparison.old)
+    before = mended(request.before, brought, comparison.old)
+    is_one = request.before is request.config
+    config = before if is_one else mended(request.config, brought, comparison.old)
     known = set()
-    beside = (*asked.findings, *losses(before, brought))
+    beside = (*request.findings, *losses(before, brought))
     for each in judge(Case(comparison, config, beside, tells_all)):
         known.add((each.rule, each.label, each.axiom, each.reason))
         yield each
@@ -217,11 +217,13 @@ def judged(comparison: Comparison, asked: Asked, tells_all: bool) -> Iterator[Fi
 def refusal_of(refused: Refused) -> Finding:
     """The finding that the database is refused."""
     # It takes 15 milliseconds, and most databases have no fault.
-    from query.explained import explanations
+    from query.proofs.explained import explanations
 
     said = f"{refused.said()}; {refused.advice}"
     for why in explanations([refused]):
-        said += f"; {why.clause(SHOWN_FORMULA)}" if why is not None else ""
+        if why is not None:
+            advice = why.advice() or refused.advice
+            said = f"{refused.said()}; {advice}; {why.clause(SHOWN_FORMULA)}"
     return Finding("valid", refused.source.name, refused.line, "", "", said, refused.column)
 
 
@@ -236,15 +238,14 @@ def add_summary(path: str, text: str) -> None:
 
 def run(context: Context, arguments: argparse.Namespace) -> int:
     """Answers."""
-    wish = Wish(arguments.base, arguments.config, arguments.config_of_new, arguments.merge_base)
-    if wish.config is not None and wish.is_config_of_new and arguments.old is not None:
+    if arguments.config is not None and arguments.config_of_new and arguments.old is not None:
         raise NoAnswer("gate: --config-of-new goes with one database where --config is given")
     if arguments.old is not None:
-        request = between_files(context, arguments.old, arguments.database, wish)
+        request = between_files(context, arguments)
     else:
-        request = with_base(context, arguments.database, wish)
-    limits.choose(limits.chosen().or_else(request.asked.config.limits))
-    verdict = verdict_of(request, found_in(request, arguments.all))
+        request = with_base(arguments)
+    limits.choose(limits.chosen().or_else(request.config.limits))
+    verdict = Verdict(request, found_in(request, context, arguments.all))
     for piece in FORMS[context.out.format](verdict, not arguments.all):
         context.out.text(piece)
         if arguments.all:
@@ -252,13 +253,6 @@ def run(context: Context, arguments: argparse.Namespace) -> int:
     if arguments.summary is not None:
         add_summary(arguments.summary, as_summary(verdict, arguments.summary))
     return 0 if verdict.has_passed else 1
-
-
-def verdict_of(request: Request, found: Iterable[Finding]) -> Verdict:
-    """The answer to a request."""
-    rules = tuple(rule for rule in RULES if rule in request.asked.config.rules)
-    notes = request.all_notes()
-    return Verdict(request.new.name, request.base, rules, found, notes, request.paths)
 
 
 COMMANDS = [Command("gate", PAGE, configure, run, FORMATS)]

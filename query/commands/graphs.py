@@ -5,21 +5,21 @@ import os
 from collections.abc import Iterable, Mapping, Sequence
 from dataclasses import dataclass, field
 
-from query import parts
-from query.commands import Command
-from query.context import Context
-from query.database import Database
-from query.errors import NoAnswer, shown
-from query.graph import Graph
-from query.options import (
+from query.answers.errors import NoAnswer, shown
+from query.arguments.context import Context
+from query.arguments.options import (
     Parser,
     add_choice_of_axioms,
     add_choice_of_citations,
     add_database,
-    positive,
     options_of,
+    positive,
 )
-from query.parts import Part
+from query.citations import subgraphs
+from query.citations.graph import Graph
+from query.citations.subgraphs import Part
+from query.commands import Command
+from query.reports.database import Database
 
 MOST_LANDMARKS = 1000
 FIGURE = (
@@ -39,11 +39,12 @@ nothing cites aren't in it.
 --as edges    a line for each citation: the theorem, a space, and what it cites
 
 Of THEOREM's graph, --depth N has what at most N citations lead to, with all citations between
-these, and --through LABEL only the chains that lead through LABEL. --landmarks N has only THEOREM,
-ON and the N theorems in which most of it comes together: those to whose proofs alone most is due,
-counted where chains part. An arrow then stands for chains through none of the others, and there is
-none beside a longer way. As DOT it is dashed where it is no citation, and each node says in which
-chapter it stands.
+these; where ON is farther away, standard error says how far. --through LABEL has only the chains
+that lead through LABEL. --landmarks N has only THEOREM, ON and the N theorems in which most of it
+comes together: those to whose proofs alone most is due, counted where chains part. An arrow then
+stands for chains through none of the others, and there is none beside a longer way. So chains may
+lead past a landmark; what all of them lead through is said by `why --unavoidable`. As DOT an arrow
+is dashed where it is no citation, and each node says in which chapter it stands.
 
   $ mmquery graph set.mm zorn ax-ac2 --as dot
   $ mmquery graph set.mm stirling --landmarks 25 | dot -Tsvg > stirling.svg
@@ -87,6 +88,8 @@ def run_graph(context: Context, arguments: argparse.Namespace) -> int:
     part = chosen_part(graph, arguments)
     if part.is_empty():
         context.tell(nothing(graph, arguments))
+    elif arguments.depth is not None and arguments.on is not None:
+        tell_too_deep(context, graph, arguments)
     is_of_one = arguments.theorem is not None
     if arguments.form == "edges":
         lines = edges(part)
@@ -105,23 +108,23 @@ def chosen_part(graph: Graph, arguments: argparse.Namespace) -> Part:
         for option in ("depth", "through", "landmarks"):
             if getattr(arguments, option) is not None:
                 raise NoAnswer(f"--{option} is about the graph of a THEOREM, so it wants one")
-        return parts.whole(graph)
+        return subgraphs.whole(graph)
     start = graph.theorem(arguments.theorem)
     end = None if arguments.on is None else graph.node(arguments.on)
     nodes = graph.below([start])
     if end is not None:
         nodes &= graph.above([end])
     if arguments.depth is not None:
-        nodes &= parts.within(graph, start, arguments.depth)
+        nodes &= subgraphs.within(graph, start, arguments.depth)
     nodes.add(start)
     if arguments.through is None:
-        part = parts.part_of(graph, nodes)
+        part = subgraphs.part_of(graph, nodes)
     else:
-        part = parts.through(graph, nodes, start, graph.node(arguments.through))
+        part = subgraphs.through(graph, nodes, start, graph.node(arguments.through))
     if arguments.landmarks is not None:
         if arguments.landmarks > MOST_LANDMARKS:
             raise NoAnswer(f"--landmarks takes at most {MOST_LANDMARKS}")
-        part = parts.landmarks(part, start, end, arguments.landmarks)
+        part = subgraphs.landmarks(part, start, end, arguments.landmarks)
     return part
 
 
@@ -139,6 +142,16 @@ def nothing(graph: Graph, arguments: argparse.Namespace) -> str:
     if arguments.on is not None:
         return f"{graph.name}: no chain from {theorem} to {shown(arguments.on)} is that short"
     return f"{graph.name}: {theorem} cites nothing"
+
+
+def tell_too_deep(context: Context, graph: Graph, arguments: argparse.Namespace) -> None:
+    """Says where no chain to ON is so short that the graph has it."""
+    chain = graph.chain(graph.node(arguments.theorem), graph.node(arguments.on))
+    if len(chain) - 1 > arguments.depth:
+        context.tell(
+            f"{graph.name}: the graph ends before {shown(arguments.on)}: a shortest chain from"
+            f" {shown(arguments.theorem)} has {len(chain) - 1} citations"
+        )
 
 
 def is_above(graph: Graph, theorem: str, on: str) -> bool:
@@ -231,7 +244,7 @@ def configure_picture(parser: Parser) -> None:
 def run_picture(context: Context, arguments: argparse.Namespace) -> int:
     """Answers `picture`."""
     # It takes 7 milliseconds; the other commands of this module draw nothing.
-    from query.picture import Dots, drawing, layout, svg
+    from query.exports.picture import Dots, drawing, layout, svg
 
     database = context.database(arguments.database, options_of(arguments))
     dependence = database.dependence()

@@ -6,17 +6,18 @@ import os
 from collections.abc import Iterator, Sequence
 from pathlib import Path
 
-from query import program, progress, secret
+from query.answers.errors import NoAnswer, shown
+from query.answers.output import Value
+from query.arguments.context import Context
+from query.arguments.options import Parser, add_choice_of_citations, add_database, options_of
 from query.commands import Command
-from query.context import Context
-from query.errors import NoAnswer, shown
-from query.figures import Figures, Question, figures_of
-from query.git import repository_of
-from query.history import Revision, nothing_in, range_of, revisions
-from query.objects import Objects
-from query.options import Parser, add_choice_of_citations, add_database, options_of
-from query.output import Value
-from query.source import is_of_git
+from query.git.history import Revision, nothing_in, range_of, revisions
+from query.git.objects import Objects
+from query.git.repository import repository_of
+from query.platform import progress, secret
+from query.program import mmdepend
+from query.program.source import is_of_git
+from query.reports.revisions import Figures, Question, figures_of
 
 PAGE = """
 Shows for each revision of the range that changed DATABASE, a file of the working folder's
@@ -42,7 +43,8 @@ rev, date, axiom, fault, author, subject   the same
 theorem                                    T
 rests                                      whether T rests on the axiom; none where there is no
                                            theorem T
-So the last row of an axiom says since which revision it is as it is.
+So the last row of an axiom says since which revision it is as it is. Behind a fault the answer is
+told anew, whether or not it is that before it.
 
 REV..REV are the revisions of the second REV that aren't in the first, as in git; REV alone is all
 of them. Of a merge the first parent is followed: a merge into the branch is one change, by whatever
@@ -83,7 +85,7 @@ def run(context: Context, arguments: argparse.Namespace) -> int:
     repository = repository_of(Path.cwd())
     path, within = repository.path_of(word), range_of(arguments.range, repository)
     question = Question(options_of(arguments), context.uses_cache, tuple(axioms), theorem)
-    program.ready()
+    mmdepend.ready()
     if context.uses_cache:
         secret.read_or_make()  # here, since a process of its own may be ended while it makes one
     with Objects(repository) as objects:

@@ -4,23 +4,24 @@ program for Node makes it."""
 import argparse
 import os
 
-from query import progress
+from query.answers.errors import NoAnswer
+from query.arguments.context import Context
+from query.arguments.options import Parser, add_choice_of_citations, add_database
 from query.commands import Command
-from query.context import Context
-from query.database import Database
-from query.errors import NoAnswer
-from query.handing import handed
-from query.options import Options, Parser, add_choice_of_citations, add_database
-from query.program import (
+from query.platform import progress
+from query.platform.executables import wanted
+from query.program.handover import handed
+from query.program.mmdepend import (
     HOME,
     SCRIPT,
     Program,
     Running,
     allowed_for,
-    wanted,
     why_ended,
     without_node,
 )
+from query.reports.choice import Options
+from query.reports.database import Database
 
 PAGE = """
 Writes one HTML file to standard output. It loads nothing else and needs no server; a browser of

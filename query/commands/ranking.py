@@ -3,13 +3,13 @@ rest."""
 
 import argparse
 
+from query.answers.errors import NoAnswer
+from query.answers.output import Value
+from query.arguments.context import Context
+from query.arguments.label_files import add_list, labels_of
+from query.arguments.options import Parser, add_choice_of_axioms, add_database, options_of, positive
 from query.commands import Command
-from query.context import Context
-from query.database import Dependence
-from query.errors import NoAnswer
-from query.lists import add_list, labels_of
-from query.options import Parser, add_choice_of_axioms, add_database, positive, options_of
-from query.output import Value
+from query.reports.database import Dependence
 
 TOP_PAGE = """
 Lists the axioms on which most theorems rest. With --theorems, the theorems that rest on most

@@ -3,18 +3,19 @@
 import argparse
 from collections.abc import Iterator
 
-from query import progress
+from query.answers.output import Value
+from query.arguments.context import Context
+from query.arguments.filters import Test
+from query.arguments.options import Parser, add_database, add_only, add_open
 from query.commands import Command
-from query.context import Context
-from query.database import Dependence
-from query.filters import Test
-from query.options import Options, Parser, add_database, add_only, add_open
-from query.output import Value
-from query.rules import is_discouraged
+from query.platform import progress
+from query.reports.choice import Options
+from query.reports.database import Dependence
 from query.spare.conventions import LAST, conventions_of, is_fit
-from query.spare.rules import UNREAD, Rule, Rules, rules_of
 from query.spare.repeats import Finder
+from query.spare.rules import UNREAD, Rule, Rules, rules_of
 from query.spare.search import Shelf
+from query.texts.discouraged import is_discouraged
 
 COLUMNS = ("theorem", "earlier", "how", "only", "besides")
 

@@ -5,19 +5,23 @@ import re
 from collections.abc import Callable, Iterable, Iterator, Sequence
 from dataclasses import dataclass, field
 
-from query.causes import Causes
-from query.changes import Comparison
+from query.answers.output import Value
+from query.arguments.context import Context
+from query.arguments.options import Parser, add_choice_of_axioms, add_database
 from query.commands import TABLE_FORMATS, Command
 from query.commands.compare import compared, reordered, why_empty
-from query.context import Context
-from query.introduced import introduced
-from query.order import longest_rising
-from query.options import Parser, add_choice_of_axioms, add_database
-from query.output import Value
-from query.restated import COLUMNS as BOTH
-from query.restated import Change, lines_of, most_of
-from query.restated import changes as both_statements
-from query.text import Text
+from query.comparisons.causes import Causes
+from query.comparisons.changed_statements import (
+    COLUMNS as BOTH,
+    Change,
+    changes as both_statements,
+    lines_of,
+    most_of,
+)
+from query.comparisons.changes import Comparison
+from query.comparisons.kept_order import longest_rising
+from query.gate.new_definitions import introduced
+from query.texts.text import Text
 
 COLUMNS = ("theorem", "status", "was", "axioms", "gained", "lost", "via", "bytes", *BOTH)
 SHOWN_ROWS = 60
@@ -48,10 +52,10 @@ bytes    how much longer its text is, from the label to the end; of a new one ho
 differ   of a changed one in what its statements differ, in words
 old, new both statements of a changed one, as `compare` tells them
 
-As text the edits that let axioms in stand first: which proof newly cites what, and how many
-theorems of both came to rest on each axiom by that. Where a theorem became an axiom, that is the
-edit. Each theorem is counted with one edit, the first on a shortest chain to the axiom; without
-that edit it may still rest on the axiom by another one.
+As text the edits that let axioms in stand first: which proof newly cites what, how many theorems of
+both came to rest on each axiom by that, and how many fewer would without the new citations of that
+proof. Where a theorem became an axiom, that is the edit. Each theorem is counted with one edit, the
+first on a shortest chain to the axiom; by another edit it may rest on the axiom all the same.
 
 The table has only what this change touches itself: `compare` lists all theorems that came to rest
 on an axiom. Standard error says how many axioms of any typecode are new, changed, renamed and gone,
@@ -203,6 +207,7 @@ def add_shifts(comparison: Comparison, found: dict[str, Outcome], causes: Causes
                 change.gained.append(axiom)
                 is_own = shift.citing == shift.theorem
                 change.via.append(shift.cited if is_own else shift.citing)
+        causes.weigh(axiom)
     for axiom in old_axioms(comparison):
         for theorem in comparison.lost(axiom):
             change = found.get(comparison.to_new.get(theorem, ""))
@@ -279,10 +284,10 @@ def axioms_in_words(comparison: Comparison) -> str:
 
 
 def causes_in_words(causes: Causes, shown: Callable[[str], str]) -> Iterator[str]:
-    """Each edit that let an axiom in, and then how many theorems followed. `shown` says how a label
-    is."""
+    """Each edit that let an axiom in, and then how many theorems followed, and how many fewer would
+    without the new citations of that proof. `shown` says how a label is."""
     for each in causes.in_order():
-        counts = [f"{shown(axiom)} ({count})" for axiom, count in each.axioms.items()]
+        counts = [f"{shown(axiom)} ({each.count_in_words(axiom)})" for axiom in each.axioms]
         if each.citing is None:
             edit = f"{shown(each.cited)} is new among the axioms"
         else:

@@ -2,11 +2,12 @@
 
 import argparse
 
+from query.answers.output import Value
+from query.arguments.context import Context
+from query.arguments.options import Parser, add_database, add_open
 from query.commands import Command
-from query.context import Context
-from query.options import Options, Parser, add_database, add_open
-from query.output import Value
-from query.searching import Searcher, pattern_of
+from query.formulas.search import Searcher, pattern_of
+from query.reports.choice import Options
 
 PAGE = """
 Lists in file order the formulas that have each PATTERN: symbols as they are typed, of a whole

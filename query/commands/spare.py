@@ -2,16 +2,17 @@
 
 import argparse
 
+from query.answers.errors import NEAR_LABEL, NoAnswer, nearest, shown
+from query.answers.output import Value
+from query.arguments.context import Context
+from query.arguments.options import Parser, add_database, add_only, add_open, positive
 from query.commands import Command
-from query.context import Context
-from query.database import Database
-from query.errors import NEAR_LABEL, NoAnswer, nearest, shown
-from query.files import see_missing, write_new
-from query.options import Options, Parser, add_database, add_only, add_open, positive
-from query.output import Value
+from query.platform.files import see_missing, write_new
+from query.reports.choice import Options
+from query.reports.database import Database
 from query.spare.changes import Changer, ProofRange, Wanted
-from query.spare.kept import Change
 from query.spare.judge import judge_changes, rewritten
+from query.spare.kept import Change
 from query.spare.roots import Roots
 from query.spare.rules import UNREAD
 
@@ -181,6 +182,8 @@ def run(context: Context, arguments: argparse.Namespace) -> int:
         context.out.text(new_statement(database, changes, arguments.proof))
     else:
         empty = f"{database.name}: no theorem was found that can do without"
+        if wanted.is_shorter:
+            empty = f"{database.name}: no shorter proof was found"
         given_up = [change.theorem for change in changes if change.is_given_up]
         remarks = {GIVEN_UP: given_up, UNREAD: changer.rules.unread}
         rows = rows_of(database, changer.ranked(changes))

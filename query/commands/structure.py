@@ -5,22 +5,23 @@ import argparse
 from bisect import bisect_left
 from collections.abc import Sequence
 
-from query.assertions import Assertion
-from query.commands import Command
-from query.context import Context
-from query.database import Dependence
-from query.errors import NoAnswer, shown
-from query.options import (
-    Options,
+from query.answers.errors import NoAnswer, shown
+from query.answers.output import Value
+from query.arguments.context import Context
+from query.arguments.options import (
     Parser,
     add_choice_of_axioms,
     add_choice_of_citations,
     add_database,
     options_of,
 )
-from query.output import Value
-from query.rules import across_mathboxes, citations, discouraged_labels, is_proof_discouraged
-from query.text import Text
+from query.citations.crossing import across_mathboxes, citations
+from query.commands import Command
+from query.reports.choice import Options
+from query.reports.database import Dependence
+from query.texts.assertions import Assertion
+from query.texts.discouraged import discouraged_labels, is_proof_discouraged
+from query.texts.text import Text
 
 CHAPTERS_PAGE = """
 Lists the headers of a database. A header is a comment whose title stands between lines of ####,
@@ -33,9 +34,11 @@ rest      how many of these theorems rest on the axiom
 first     the first of these that does
 title     that of the header
 
-Without an AXIOM there is a row for each header, and nothing in axiom, rest and first.
+Without an AXIOM there is a row for each header, and nothing in axiom, rest and first. With
+--no-empty there is no row where no theorem rests on the axiom, or, without an AXIOM, none stands.
 
   $ mmquery chapters set.mm ax-ac2 ax-reg
+  $ mmquery chapters set.mm ax-ac2 --no-empty
 """
 
 ORDER_PAGE = """
@@ -97,6 +100,7 @@ def configure_with_axioms(parser: Parser) -> None:
     """The words and options of `chapters`."""
     add_database(parser)
     parser.add_argument("axiom", metavar="AXIOM", nargs="*")
+    parser.flag("--no-empty", "leave out headers under which nothing is counted")
     add_choice_of_axioms(parser)
 
 
@@ -127,13 +131,20 @@ def run_chapters(context: Context, arguments: argparse.Namespace) -> int:
     places += [(each.number, each.first, each.end, each.title) for each in text.headers]
     rows: list[list[Value]] = []
     for number, first, end, title in places:
-        theorems_below = counted[0].within(first, end)[0]
-        if not columns:
-            rows.append([number, theorems_below, None, None, None, title])
-        for label, numbers in zip(arguments.axiom, counted[1:]):
-            rows.append([number, theorems_below, label, *numbers.within(first, end), title])
+        below = counted[0].within(first, end)[0]
+        for label, numbers in zip(arguments.axiom or [None], counted[1:] or counted):
+            count, one = numbers.within(first, end)
+            if count or not arguments.no_empty:
+                about_axiom: list[Value] = [label, count, one] if label is not None else [None] * 3
+                rows.append([number, below, *about_axiom, title])
     about = ["axiom", "rest", "first"]
-    context.out.table(["number", "theorems", *about, "title"], rows, [] if columns else about)
+    none = f"no theorem rests on {' or '.join(arguments.axiom)}" if columns else "has no theorem"
+    context.table(
+        ["number", "theorems", *about, "title"],
+        rows,
+        f"{database.name}: {none}",
+        aside=[] if columns else about,
+    )
     return 0
 
 

@@ -3,13 +3,14 @@
 import argparse
 from collections.abc import Iterator
 
+from query.answers.errors import NoAnswer
+from query.answers.output import Value
+from query.arguments.context import Context
+from query.arguments.options import Parser, add_database, add_open
 from query.commands import Command
-from query.context import Context
-from query.database import NOTHING, Database
-from query.errors import NoAnswer
-from query.options import Options, Parser, add_database, add_open
-from query.output import Value
-from query.unneeded import Symbol, read_text, unneeded_of
+from query.proofs.unneeded import Symbol, read_text, unneeded_of
+from query.reports.choice import Options
+from query.reports.database import NOTHING, Database
 
 COLUMNS = ("what", "theorem", "unneeded", "floating")
 

@@ -5,19 +5,26 @@ from collections.abc import Iterator
 from functools import cached_property
 from typing import TYPE_CHECKING
 
-from query import program, progress
-from query.bare import declared_at, leave_open, without_comments
+from query.answers.output import Value
+from query.arguments.context import Context
+from query.arguments.options import (
+    Parser,
+    add_choice_of_citations,
+    add_database,
+    options_of,
+    positive,
+)
 from query.commands import Command
-from query.context import Context
-from query.database import Database
-from query.faults import Refused
-from query.includes import misleading
-from query.options import Parser, add_choice_of_citations, add_database, positive, options_of
-from query.output import Value
-from query.source import Source
+from query.platform import progress
+from query.program import mmdepend
+from query.program.refusals import Refused
+from query.program.source import Source
+from query.reports.database import Database
+from query.texts.includes import misleading
+from query.texts.uncommented import declared_at, leave_open, without_comments
 
 if TYPE_CHECKING:
-    from query.explanation import Explanation
+    from query.proofs.explanation import Explanation
 
 PAGE = """
 Tells whether every proof is valid (status 0), or the first fault (status 1) as compilers write it:
@@ -116,7 +123,7 @@ def others(database: Database, first: Refused, most: int) -> Iterator[Refused]:
         progress.now(f"verifying {database.name} without {number + 1} proofs")
         source = Source(database.name, bytes(data))
         try:
-            program.report(database.program, source, NOTHING + ["--open"] * database.options.open)
+            mmdepend.report(database.program, source, NOTHING + ["--open"] * database.options.open)
             return
         except Refused as found:
             refusal = Refused(database.source, found.line, found.column, found.code)
@@ -126,8 +133,8 @@ def others(database: Database, first: Refused, most: int) -> Iterator[Refused]:
 def put_refusals(context: Context, refusals: list[Refused]) -> None:
     """Answers with faults of one database."""
     # It takes 15 milliseconds, and most databases have no fault.
-    from query.explained import explanations
-    from query.explanation import Explanation
+    from query.proofs.explained import explanations
+    from query.proofs.explanation import Explanation
 
     words = Words(refusals[0].source)
     known = zip(refusals, explanations(refusals))
@@ -139,7 +146,8 @@ def put_refusals(context: Context, refusals: list[Refused]) -> None:
     for refusal, why in known:
         why = why or Explanation()
         row: list[Value] = [refusal.line, refusal.column, refusal.code, refusal.statement() or None]
-        row += [refusal.meaning, refusal.advice, *why.formulas(), *words.of(refusal)]
+        row += [refusal.meaning, why.advice() or refusal.advice]
+        row += [*why.formulas(), *words.of(refusal)]
         rows.append([False, None, None, *row, *why.fields()])
     context.out.table(COLUMNS, rows)
 
@@ -152,7 +160,7 @@ def put_lines(context: Context, refusal: Refused, words: "Words", why: "Explanat
     if word is not None:
         where = f"is declared on line {declared}" if declared else "is declared nowhere"
         context.out.line(f"  the word          {word}, which {where}")
-    context.out.line(f"  what to do        {refusal.advice}")
+    context.out.line(f"  what to do        {why.advice() or refusal.advice}")
     for name, text in why.lines():
         context.out.line(f"  {name:<16}  {text}")
     name = "the last steps" if why.step is None else "the steps before"

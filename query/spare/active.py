@@ -12,8 +12,8 @@ from dataclasses import dataclass, field
 from functools import cached_property
 from typing import NamedTuple
 
-from query.bare import without_comments
-from query.spare.rules import FLOATING
+from query.texts.floating import FLOATING
+from query.texts.uncommented import without_comments
 
 SIGN = re.compile(rb"\$(?:[{}]|d\s([^$]*+)\$\.)")
 

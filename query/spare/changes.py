@@ -8,26 +8,29 @@ from collections.abc import Callable, Collection, Iterator, Sequence
 from dataclasses import KW_ONLY, asdict, dataclass, replace
 from functools import cached_property
 
-from query import progress
-from query.bare import without_comments
-from query.database import Database, result_key
-from query.grounds import BEGINNING
-from query.prepared import Prepared
-from query.rules import is_discouraged, is_proof_discouraged
+from query.citations.bits import bits_of, joined
+from query.definitions.foundations import BEGINNING
+from query.platform import progress
+from query.platform.parallel import number_at_once
+from query.proofs.layout import beginning, laid_out, line_width
+from query.reports.content import ReportContent
+from query.reports.database import Database, result_key
 from query.spare import kept as kept_changes
 from query.spare.active import Active
 from query.spare.conventions import conventions_of
-from query.spare.kept import Change, Replaced
-from query.spare.ranking import Rank, Ranking
 from query.spare.index import GivenUp
-from query.spare.rules import Rule, bits_of, joined, rules_of
+from query.spare.kept import Change, Replaced
 from query.spare.proofs import Proof, Step, Unfit, run
-from query.spare.search import AllSteps, Shelf, Steps, State, closed_of
+from query.spare.ranking import Rank, Ranking
+from query.spare.rules import Rule, rules_of
+from query.spare.search import AllSteps, Shelf, State, Steps, closed_of
 from query.spare.seeking import Answer, Seeker
+from query.spare.sharing import searched
 from query.spare.shorter import Shorter
-from query.spare.sharing import number_at_once, searched
 from query.spare.steps import first_steps, may_cite, other_steps, resting_by, used
-from query.spare.writing import Writer, beginning, laid_out, line_width
+from query.spare.writing import Writer
+from query.texts.discouraged import is_discouraged, is_proof_discouraged
+from query.texts.uncommented import without_comments
 
 SECONDS = 60
 """After so many seconds what was found is kept."""
@@ -93,12 +96,12 @@ class Changer:
         self.rules = rules_of(database, wanted.typecode)
         self.numbers = {rule.label: rule.number for rule in self.rules}
         self.names = [rule.label for rule in self.rules]
-        prepared = database.prepared
-        assert prepared.marks is not None
-        self.columns, self.typecodes = prepared.columns, prepared.typecodes
-        self.cites = cites_by_number(prepared, self.numbers)
+        content = database.content
+        assert content.marks is not None
+        self.columns, self.typecodes = content.columns, content.typecodes
+        self.cites = cites_by_number(content, self.numbers)
         self.bit_of = {label: 1 << bit for bit, label in enumerate(self.columns)}
-        self.state = State(self.rests(prepared.theorems))
+        self.state = State(self.rests(content.theorems))
         self.old_rests = list(self.state.rests)
         conventions = conventions_of(
             self.rules, wanted.cites_discouraged, wanted.cites_old, wanted.cites_mathboxes
@@ -450,14 +453,14 @@ class Changer:
         return Replaced(tuple(labels), self.names[step.rule], formula)
 
 
-def cites_by_number(prepared: Prepared, numbers: dict[str, int]) -> dict[int, list[int]]:
+def cites_by_number(content: ReportContent, numbers: dict[str, int]) -> dict[int, list[int]]:
     """What each theorem cites, by the numbers of both."""
-    cites = prepared.cites
+    cites = content.cites
     assert cites is not None
-    nodes = prepared.theorems + prepared.columns
+    nodes = content.theorems + content.columns
     return {
         numbers[label]: [numbers[nodes[node]] for node in cites[row]]
-        for row, label in enumerate(prepared.theorems)
+        for row, label in enumerate(content.theorems)
     }
 
 
@@ -466,6 +469,6 @@ def gainable(database: Database, wanted: Wanted) -> frozenset[str]:
     all rules of syntax, without which these would be of little use."""
     if not wanted.may_gain:
         return frozenset()
-    found = database.prepared
+    found = database.content
     pairs = zip(found.columns, found.typecodes)
     return wanted.may_gain | {label for label, kind in pairs if kind != wanted.typecode}

@@ -5,8 +5,9 @@ from __future__ import annotations
 from collections.abc import Callable
 from dataclasses import dataclass
 
-from query.rules import is_discouraged
-from query.spare.rules import Rule, Rules, joined
+from query.citations.bits import joined
+from query.spare.rules import Rule, Rules
+from query.texts.discouraged import is_discouraged
 
 LAST = ("ALT", "OLD")
 """How labels end of statements that nothing new should cite."""

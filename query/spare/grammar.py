@@ -8,8 +8,7 @@ from __future__ import annotations
 from collections.abc import Mapping, Sequence
 from dataclasses import dataclass
 
-from query.grammar import Grammar as Axioms
-from query.grammar import Part, Tree, Unbuilt
+from query.formulas.grammar import Grammar as Axioms, Part, Tree, Unbuilt
 from query.spare.trees import Trees
 
 MOST_TYPECODES = 20

@@ -5,8 +5,8 @@ from __future__ import annotations
 from collections.abc import Iterator
 from dataclasses import dataclass, field
 
+from query.citations.bits import bits_of, joined
 from query.spare.grammar import Forms
-from query.spare.rules import bits_of, joined
 from query.spare.trees import Trees
 
 MOST_SINGLY_CHOSEN = 100

@@ -9,17 +9,17 @@ from __future__ import annotations
 from collections.abc import Collection, Sequence
 from typing import NoReturn
 
-from query import progress
-from query.assertions import Assertion
-from query.bare import without_comments
-from query.database import Database
-from query.errors import NoAnswer
-from query.faults import Refused
-from query.marks import bit
-from query.prepared import Prepared
-from query.source import Source
+from query.answers.errors import NoAnswer
+from query.citations.marks import bit
+from query.platform import progress
+from query.program.refusals import Refused
+from query.program.source import Source
+from query.reports.content import ReportContent
+from query.reports.database import Database
 from query.spare.kept import Change
-from query.text import Text
+from query.texts.assertions import Assertion
+from query.texts.text import Text
+from query.texts.uncommented import without_comments
 
 
 def fail(what: str) -> NoReturn:
@@ -35,16 +35,16 @@ def judge_changes(
     progress.now("judging what was found")
     new = Database(Source("the new database", data), database.options, False)
     try:
-        prepared = new.prepared
+        content = new.content
     except Refused as why:
         fail(why.sentence())
     by_label = {change.theorem: change for change in changes}
     if len(by_label) != len(changes):
         fail("a theorem is changed twice")
     compare_texts(database.text, new.text, by_label)
-    compare_marks(database.prepared, prepared, by_label, may_gain)
+    compare_marks(database.content, content, by_label, may_gain)
     compare_citations(database, new, changes)
-    compare_reasons(database, prepared, by_label)
+    compare_reasons(database, content, by_label)
 
 
 def compare_texts(old: Text, new: Text, changes: dict[str, Change]) -> None:
@@ -77,7 +77,7 @@ def before_proof(text: Text, theorem: Assertion) -> bytes:
 
 
 def compare_marks(
-    old: Prepared, new: Prepared, changes: dict[str, Change], may_gain: Collection[str]
+    old: ReportContent, new: ReportContent, changes: dict[str, Change], may_gain: Collection[str]
 ) -> None:
     """Compares on which axioms the theorems rest."""
     if old.theorems != new.theorems or old.columns != new.columns:
@@ -110,7 +110,7 @@ def compare_citations(old: Database, new: Database, changes: Sequence[Change]) -
                 fail(f"{change.theorem} doesn't cite what is said")
 
 
-def compare_reasons(old: Database, new: Prepared, changes: dict[str, Change]) -> None:
+def compare_reasons(old: Database, new: ReportContent, changes: dict[str, Change]) -> None:
     """Compares what is said of the theorems by which others lose axioms, and of those at which
     faults lie."""
     assert new.marks is not None

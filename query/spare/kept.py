@@ -7,7 +7,7 @@ from collections.abc import Sequence
 from dataclasses import asdict, dataclass, field
 from typing import Any
 
-from query import cache
+from query.platform import cache
 
 FORM = 6
 """Counts the forms in which changes are kept, and the ways in which they are sought."""

@@ -10,7 +10,7 @@ from __future__ import annotations
 
 from collections.abc import Mapping, Sequence
 
-from query.letters import letters_of
+from query.proofs.letters import letters_of
 
 BEGUN = len("( ")
 """So many characters of the first line stand before the labels."""

@@ -7,7 +7,7 @@ from __future__ import annotations
 from collections.abc import Sequence
 from dataclasses import dataclass, field
 
-from query.letters import NUMBER, number_of
+from query.proofs.letters import NUMBER, number_of
 from query.spare.rules import Rule, Rules, Scope
 
 STEPS, STEPS_OF_LETTER = 100_000, 20

@@ -10,11 +10,11 @@ from __future__ import annotations
 
 from functools import cached_property
 
-from query.database import Database
-from query.definitions import YES, Definitions, rests_by
-from query.grounds import BEGINNING
-from query.rules import is_discouraged
+from query.definitions.foundations import BEGINNING
+from query.definitions.soundness import YES, Definitions, rests_by
+from query.reports.database import Database
 from query.spare.kept import Change
+from query.texts.discouraged import is_discouraged
 
 Rank = tuple[int, int, int, int]
 """How many axioms of those asked about are left, statements newly cited whose new usage is

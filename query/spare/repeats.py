@@ -6,8 +6,8 @@ from collections.abc import Iterator
 from dataclasses import dataclass
 
 from query.spare.index import GivenUp
-from query.spare.rules import Rule, Rules
 from query.spare.proofs import Proof, Step
+from query.spare.rules import Rule, Rules
 from query.spare.search import Citable, Search, Shelf, State, step_of
 from query.spare.trees import Binding
 

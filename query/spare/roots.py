@@ -13,12 +13,13 @@ from collections.abc import Iterable
 from dataclasses import replace
 from functools import cached_property
 
-from query import progress
+from query.citations.bits import joined
+from query.platform import progress
 from query.spare.changes import Changer, ProofRange
 from query.spare.index import GivenUp
 from query.spare.kept import Change
 from query.spare.proofs import Proof, Step, Unfit, run
-from query.spare.rules import Rule, joined
+from query.spare.rules import Rule
 from query.spare.search import closed_of
 from query.spare.seeking import Answer
 from query.spare.shape import Shape

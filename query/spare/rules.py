@@ -2,24 +2,22 @@
 
 from __future__ import annotations
 
-import re
 from array import array
-from collections.abc import Iterable, Iterator, Mapping, Sequence
+from collections.abc import Iterator, Mapping, Sequence
 from dataclasses import dataclass, field
 from itertools import chain
 from typing import NamedTuple
 
-from query.assertions import PAIR, Assertion, Hypothesis
-from query import cache, progress
-from query.bare import without_comments
-from query.database import Database, result_key
-from query.errors import NoAnswer
-from query.grammar import NotRead
+from query.answers.errors import NoAnswer
+from query.formulas.grammar import NotRead
+from query.platform import cache, progress
+from query.reports.database import Database, result_key
 from query.spare.grammar import Form, Forms
 from query.spare.trees import Code, Trees
-from query.text import Text
+from query.texts.assertions import PAIR, Assertion, Hypothesis
+from query.texts.floating import floating_of
+from query.texts.text import Text
 
-FLOATING = re.compile(rb"(?<!\S)([\w.-]++)\s++\$f\s++([^\s$]++)\s++([^\s$]++)\s++\$\.")
 MOST_ASSERTIONS, MOST_VARIABLES, MOST_MARKS = 500_000, 5000, 2_000_000_000
 """With more assertions or variables, or more pairs of an assertion and an axiom, there is no
 answer: sets of them are the bits of numbers."""
@@ -182,7 +180,7 @@ class Rules:
 
 def see_size(database: Database) -> None:
     """NoAnswer where a database has too much of something."""
-    axioms, assertions = len(database.prepared.columns), len(database.text.assertions)
+    axioms, assertions = len(database.content.columns), len(database.text.assertions)
     variables = len({*floating_of(database.data()).values()})
     for number, most, what in (
         (assertions, MOST_ASSERTIONS, "assertions"),
@@ -241,32 +239,7 @@ def form_of(assertion: Assertion, given: Sequence[Hypothesis]) -> Form:
     return Form(assertion.label, assertion.typecode, items, tuple(typecodes))
 
 
-def floating_of(data: bytes) -> dict[str, tuple[str, str]]:
-    """For the label of each `$f` its typecode and its variable."""
-    return {
-        label.decode(): (typecode.decode(), variable.decode())
-        for label, typecode, variable in FLOATING.findall(without_comments(data))
-    }
-
-
 def has_fixed_typecodes(floating: Mapping[str, tuple[str, str]]) -> bool:
     """Whether no variable has `$f` of several typecodes, so that a formula has the same tree under
     all hypotheses."""
     return len({*floating.values()}) == len({variable for _, variable in floating.values()})
-
-
-def joined(numbers: Iterable[int]) -> int:
-    """A number that has these bits."""
-    bits = list(numbers)
-    data = bytearray(max(bits, default=0) // 8 + 1)
-    for bit in bits:
-        data[bit >> 3] |= 1 << (bit & 7)
-    return int.from_bytes(data, "little")
-
-
-def bits_of(numbers: int) -> Iterator[int]:
-    """The bits that a number has, counted from 0 at the lowest, rising."""
-    while numbers:
-        lowest = numbers & -numbers
-        yield lowest.bit_length() - 1
-        numbers ^= lowest

@@ -13,10 +13,11 @@ from collections import defaultdict
 from collections.abc import Callable, Collection, Iterable, Mapping, Sequence
 from dataclasses import dataclass
 
+from query.citations.bits import bits_of, joined
 from query.spare.conventions import Conventions
-from query.spare.index import Budget, Index, Key, pattern_key, keys_for
-from query.spare.rules import Rule, Rules, bits_of, joined
+from query.spare.index import Budget, Index, Key, keys_for, pattern_key
 from query.spare.proofs import Proof, Step
+from query.spare.rules import Rule, Rules
 from query.spare.trees import Binding, Code, Trees
 
 MOST_NEW = 20_000

@@ -5,10 +5,11 @@ from __future__ import annotations
 from collections.abc import Sequence
 from dataclasses import dataclass, field
 
+from query.citations.bits import joined
 from query.spare.active import Active
 from query.spare.general import General
 from query.spare.proofs import Proof
-from query.spare.rules import Rule, joined
+from query.spare.rules import Rule
 from query.spare.search import AllSteps, Search, Shelf, State, Steps
 from query.spare.variables import Variables
 

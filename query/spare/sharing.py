@@ -14,20 +14,16 @@ from dataclasses import dataclass
 from functools import partial
 from typing import Protocol
 
-from query import system
-from query.parallel import Task, begun, ended
-from query.spare.kept import Change, to_fields, from_fields
+from query.platform import system
+from query.platform.parallel import Task, begun, ended
+from query.spare.kept import Change, from_fields, to_fields
 from query.spare.search import State
 
 STRETCH = 50
 """So many theorems that are searched are one piece of work."""
-MOST_AT_ONCE = 4
-"""So many processes search where no number is asked for, if there are processors and memory."""
 AHEAD = 4
 """So many times as many stretches as there are processes are searched, or wait to be taken. The
 others don't wait while one takes long."""
-GROWTH = 2
-"""A process that searches may take so many times the memory that it takes when it begins."""
 
 
 @dataclass(frozen=True, slots=True)
@@ -163,11 +159,3 @@ def taken(search: Searching, stretch: Stretch) -> Iterator[Change | None]:
         else:
             search.state.rest(number, one.rests)
             yield one.change
-
-
-def number_at_once() -> int:
-    """How many processes search where no number is asked for: one for each processor, at most
-    `MOST_AT_ONCE`, as far as the memory goes that is free."""
-    own, free = system.memory()
-    others = MOST_AT_ONCE if own is None or free is None else free // (GROWTH * own)
-    return max(1, min(MOST_AT_ONCE, system.processors(), 1 + others))

@@ -16,10 +16,10 @@ from functools import cached_property
 from hashlib import blake2b
 from typing import NamedTuple
 
-from query.assertions import Assertion, Pair
-from query.database import Database, Dependence
-from query.graph import Graph
-from query.text import Text
+from query.citations.graph import Graph
+from query.reports.database import Database, Dependence
+from query.texts.assertions import Assertion, Pair
+from query.texts.text import Text
 
 Cites = Callable[[str], frozenset[str]]
 """For a theorem's label the labels that it cites."""

@@ -12,9 +12,9 @@ import zlib
 
 from unittest import mock
 
-from query.bare import declared_at, without_comments
 from query.tests import world
 from query.tests.world import MMQUERY, SMALL, World, asked
+from query.texts.uncommented import declared_at, without_comments
 
 OPEN = SMALL.replace("wp wq wp wi h wp wq ax-1 ax-mp $.", "? $.")
 DOT = """digraph "small.mm" {

@@ -7,10 +7,10 @@ import unittest
 from collections import Counter
 from collections.abc import Sequence
 
-from query.brackets import MOST_TOKENS, Level, Reader
-from query.definitions import parts_within
-from query.descent import Descent
-from query.grammar import Grammar, NotRead, Unbuilt
+from query.formulas.brackets import MOST_TOKENS, Level, Reader
+from query.formulas.descent_parser import Descent
+from query.formulas.grammar import Grammar, NotRead, Unbuilt
+from query.formulas.syntax import parts_within
 
 KINDS = {
     **{"P": "p", "Q": "q", "R": "r"},

@@ -10,7 +10,7 @@ from contextlib import contextmanager
 from pathlib import Path
 from unittest import mock
 
-from query import cache
+from query.platform import cache
 from query.tests.world import MMQUERY, SMALL, Done, World, program
 
 CHAPTERS = ("chapters", "small.mm")

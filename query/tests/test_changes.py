@@ -21,13 +21,13 @@ from importlib.util import module_from_spec, spec_from_loader
 from pathlib import Path
 from unittest import mock
 
-from query.changes import Comparison, side_by_side
-from query.database import Database
-from query.faults import Refused
-from query.options import Options
+from query.comparisons.changes import Comparison, side_by_side
+from query.program.refusals import Refused
+from query.reports.choice import Options
+from query.reports.database import Database
 from query.tests import old_changes
-from query.tests.samples import LARGER, SMALLER
 from query.tests.world import DATABASES, TOP, World, built_program
+from tests.shared.samples import LARGER, SMALLER
 
 ALL = Options(only=None)
 PAIRS = 40

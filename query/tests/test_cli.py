@@ -68,6 +68,8 @@ class CommandLine(World):
             self.assertEqual(head, f"usage: mmquery {name} [OPTIONS] {words}")
         for wrong in (("--format", "xml"), ("--only", "wff", "--all"), ("--axioms",)):
             self.assertNotIn("usage", self.refuses("rests", "small.mm", "a2", *wrong))
+        self.refuses("--format", "json", why="options stand behind the command")
+        self.refuses("chapters", "small.mm", "a2", why="'a2'; it is a theorem")
         self.refuses("rests", "small.mm", why="LABEL")
         self.refuses("uncited", "small.mm", "a2", why="a2")
         self.refuses("top", "small.mm", "0", why="'0' is no number")
@@ -93,6 +95,7 @@ class CommandLine(World):
         both = ("rests", "d.mm", "t", "a2", "--format=csv")
         words = (*both, "--axioms", "df-,ax-m")
         self.assertEqual(self.answers(*words), ["axiom,labels", "ax-mp,a2", "df-x,t"])
+        self.assertEqual(self.answers(*both, "--axioms", "df-*,ax-m*"), self.answers(*words))
         twice = (*both, "--axioms", "df-", "--axioms", "ax-1")
         self.assertEqual(self.answers(*twice), ["axiom,labels", "ax-1,a2", "df-x,t"])
         self.refuses("rests", "d.mm", "t", "--axioms", "ax-m,dg-", why="begins with 'dg-'")

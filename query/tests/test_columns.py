@@ -6,7 +6,7 @@ import io
 import json
 import unittest
 
-from query.output import Output, Value
+from query.answers.output import Output, Value
 from query.tests.commands import NEWER, WHOLE, keep_in_git
 from query.tests.world import SMALL, World
 

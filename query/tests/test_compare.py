@@ -7,10 +7,10 @@ import re
 from collections import Counter
 from unittest import mock
 
-from query.statements import difference, statement_of
-from query.tests.generations import Generation, Part, generation, next_generation
+from query.comparisons.pairing import difference, statement_of
 from query.tests import replay
 from query.tests.world import SMALL, World, asked, built_program, database_text
+from tests.shared.generations import Generation, Part, generation, next_generation
 
 Row = dict[str, str]
 COLUMNS = ("change", "kind", "label", "was", "axiom", "citing", "cited", "differ", "old", "new")

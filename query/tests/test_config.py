@@ -5,20 +5,11 @@ import tempfile
 import unittest
 from pathlib import Path
 
+from query.answers.errors import NoAnswer
 from query.commands.gate import PAGE
-from query.config import (
-    DEFAULTS,
-    RULES,
-    SHAPE,
-    Claim,
-    Config,
-    Shape,
-    find_config,
-    read_config,
-)
-from query.errors import NoAnswer
-from query.labels import Labels
-from query.resting import Resting
+from query.gate.allowances import Resting
+from query.gate.config import DEFAULTS, RULES, SHAPE, Claim, Config, Shape, find_config, read_config
+from query.gate.labels import Labels
 from query.tests.world import TOP
 
 GUIDE = (TOP / "docs" / "GATE.md").read_text()

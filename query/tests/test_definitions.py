@@ -9,17 +9,16 @@ import unittest
 from collections import Counter
 from collections.abc import Sequence
 
-from query.ambiguity import Comparison, GivenUp, ambiguity
-from query.database import Database
-from query.definitions import CONDITIONS, Definitions, rests_by
-from query.grammar import STEPS, STEPS_OF_SYMBOL, FormulaReader, Grammar, NotRead, Tree
-from query.implied import Clauses
-from query.options import Options
-from query.tests import metamath
+from query.definitions.clauses import Clauses
+from query.definitions.soundness import CONDITIONS, Definitions, rests_by
+from query.formulas.ambiguity import Comparison, GivenUp, ambiguity
+from query.formulas.grammar import STEPS, STEPS_OF_SYMBOL, FormulaReader, Grammar, NotRead, Tree
+from query.reports.choice import Options
+from query.reports.database import Database
 from query.tests.repositories import changed
 from query.tests.unsound import AXIOMS, BASE, DATABASES, SYMBOLS, WITHOUT_CONSTANTS
-from query.tests.world import DATABASES as OF_DEBIAN
-from query.tests.world import TOP, World, needs_program
+from query.tests.world import DATABASES as OF_DEBIAN, TOP, World, needs_program
+from tests.shared import metamath
 
 LOGIC = (
     SYMBOLS

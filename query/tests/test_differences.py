@@ -4,11 +4,11 @@ import random
 import re
 import subprocess
 
-from query.assertions import Damaged
-from query.differences import Differences, differences_of
-from query.standing import NewText, OldText
+from query.comparisons.differences import Differences, differences_of
+from query.comparisons.two_texts import NewText, OldText
 from query.tests.world import SMALL, World, built_program, database_text
-from query.text import Text
+from query.texts.assertions import Damaged
+from query.texts.text import Text
 
 AXIOM = "ax-new $a |- ( p -> ( p -> p ) ) $.\n"
 NEWER = SMALL.replace("wi2 $p", AXIOM + "wi2 $p").replace(

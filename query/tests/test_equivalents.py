@@ -263,6 +263,11 @@ def chains(steps: Sequence[Step], start: Words, end: Words, most: int) -> Iterat
                     yield [step, *rest]
 
 
+def key_of(row: dict[str, object]) -> Words:
+    """What is the same of rows about the same statement."""
+    return key(str(row["statement"]).split())
+
+
 def labels_in(field: object) -> list[str]:
     """The labels of a field of JSON."""
     assert isinstance(field, list)
@@ -278,10 +283,10 @@ class Equivalents(World):
         patch.start()
         self.addCleanup(patch.stop)
 
-    def rows(self, text: str) -> list[dict[str, object]]:
+    def rows(self, text: str, *words: str) -> list[dict[str, object]]:
         """The answer about the axiom `ax`."""
         self.write("db.mm", text)
-        return asked_rows("equivalents", str(self.folder / "db.mm"), "ax")
+        return asked_rows("equivalents", str(self.folder / "db.mm"), "ax", *words)
 
     def test_each_answer_is_a_proof(self) -> None:
         """A database in which the statements are axioms proves the axiom by each of them, and
@@ -413,6 +418,53 @@ class Equivalents(World):
         self.write("db.mm", text)
         lines = self.answers("equivalents", "db.mm", "ax", "--format=tsv")
         self.assertEqual(lines[1:], ["proved\tbe\tla\tbe\tax-mp gen spi be la\tBar"])
+        done = self.query("equivalents", "db.mm", "ax")
+        self.assertEqual(done.err, "mmquery: db.mm: the others give ax, by be\n")
+
+    def test_another_axiom_is_given_up(self) -> None:
+        """What another axiom states counts as proved, until that is given up too: then the answers
+        are those of the database without it, and it has the label of its statement."""
+        tried = dict.fromkeys(("equivalent", "stronger"), 0)
+        for seed in range(60):
+            chosen = Chosen(seed)
+            lines = "".join(chosen.lines)
+            without = {key_of(row): row for row in self.rows(lines)}
+            step = chosen.chance.choice(chosen.steps())
+            other = Said("other", stripped(step.start))
+            own = key(other.formula)
+            is_stated = any(key(each.formula) == own for each in chosen.stated)
+            given_up = {
+                key_of(row): row for row in self.rows(lines + other.text(), "--without", "other")
+            }
+            for name, row in without.items():
+                self.assertEqual(given_up[name]["how"], row["how"], (seed, name))
+                if is_stated or name != own:
+                    self.assertEqual(given_up[name]["label"], row["label"], (seed, name))
+            if own not in given_up or is_stated:
+                continue
+            self.assertEqual(given_up[own]["label"], "other")
+            proved = {key_of(row): row for row in self.rows(lines + other.text())}
+            self.assertEqual((proved[own]["how"], proved[own]["label"]), ("proved", "other"))
+            tried[str(given_up[own]["how"])] += 1
+        self.assertGreater(min(tried.values()), 3, tried)
+
+    def test_what_rests_on_both(self) -> None:
+        """By a theorem that rests on the other axiom nothing is seen to follow from this one."""
+        text = BASE + "ax $a |- Foo $. other $a |- Bar $. la $a |- ( A. x Q x -> Foo ) $.\n"
+        text += "lb $a |- ( Bar -> A. x Q x ) $.\n"
+        text += "both $p |- A. x Q x $= wbar fx wq fx wal other fx lb ax-mp $.\n"
+        self.write("db.mm", text)
+        for words, wanted in (
+            ((), ["proved\tboth\tla\tboth\tA. x Q x", "proved\tother\tlb la\tother\tBar"]),
+            (
+                ("--without=other",),
+                ["stronger\tboth\tla\t\tA. x Q x", "stronger\tother\tlb la\t\tBar"],
+            ),
+        ):
+            lines = self.answers("equivalents", "db.mm", "ax", "--format=tsv", *words)
+            told = ["\t".join(line.split("\t")[:4] + line.split("\t")[5:]) for line in lines[1:]]
+            self.assertEqual(told, wanted)
+        self.refuses("equivalents", "db.mm", "ax", "--without=no", why="nor an axiom 'no'")
 
     @unittest.skipUnless((DATABASES / "set.mm").exists(), "there is no set.mm")
     def test_choice(self) -> None:

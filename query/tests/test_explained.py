@@ -10,13 +10,15 @@ import unittest
 from collections import deque
 from unittest import mock
 
-from query import limits
-from query.bare import without_comments
-from query.explained import CODES
-from query.outline import Outline
-from query.proof import Budget, Replay, Rule, proof_before
-from query.tests import metamath, replay, shapes
+from query.platform import limits
+from query.program.refusals import FAULTS
+from query.proofs.explained import CODES
+from query.proofs.replay import Budget, Replay, Rule, proof_before
+from query.proofs.text_before import TextBefore
+from query.tests import replay, shapes
 from query.tests.world import DATABASES, SMALL, World, answered, built_program, database_text
+from query.texts.uncommented import without_comments
+from tests.shared import metamath
 
 Row = dict[str, object]
 SMALL_ONES = ("demo0.mm", "peano.mm", "big-unifier.mm", "hol.mm", "ql.mm")
@@ -225,6 +227,28 @@ the last steps    1  wp  wff p
 """Theorems behind these databases, and what a person is told of them."""
 
 
+APART = (
+    "$c a $. $v x y $. fx $f a x $. fy $f a y $.\n"
+    "${ $d x y $. b $a a x y $. $} t $p a x OTHER $= fx fOTHER b $.\n"
+)
+PARTS = """$c a w $. $v x y z p $. fx $f a x $. fy $f a y $. fz $f a z $. fp $f w p $.
+pair $a w y z $. ${ $d x p $. b $a w x p $. $} t $p w x y z $= fx fy fz pair b $.
+"""
+ADVICE = (
+    (
+        APART.replace("OTHER", "x"),
+        "use another variable in place of x on one side: no `$d` helps there",
+    ),
+    (APART.replace("OTHER", "y"), "add `$d x y $.` to the theorem, or use other variables"),
+    (PARTS, "add `$d x y $. $d x z $.` to the theorem, or use other variables"),
+    (
+        PARTS.replace("fy fz", "fx fz").replace("w x y z $=", "w x x z $="),
+        "use another variable in place of x on one side: no `$d` helps there",
+    ),
+)
+"""Databases that are refused for E36, and what is advised."""
+
+
 class Told(Explained):
     """What a person is told, and where nothing more can be said."""
 
@@ -252,6 +276,15 @@ class Told(Explained):
         for theorem, wanted in EACH:
             lines = [f"  {line}" for line in wanted.strip().splitlines()]
             self.assertEqual(self.after(theorem), lines, theorem)
+
+    def test_what_to_do_with_variables_that_are_not_distinct(self) -> None:
+        """A `$d` is advised where it can be, and not for one variable twice."""
+        for theorem, wanted in ADVICE:
+            self.write("bad.mm", theorem)
+            done = self.query("verify", "bad.mm")
+            self.assertIn(f"\n  what to do        {wanted}\n", done.out)
+            (row,) = json.loads(self.query("verify", "bad.mm", "--format=json").out)
+            self.assertEqual(row["advice"], wanted)
 
     def test_the_gate_says_it_in_a_clause(self) -> None:
         for theorem, wanted in EACH:
@@ -339,7 +372,9 @@ class Told(Explained):
             (self.folder / "fails").chmod(0o755)
             words = ("verify", "bad.mm", "--limit-time", "1")
             done = self.query(*words, MMDEPEND=str(self.folder / "fails"))
-            self.assertEqual((done.status, done.err, done.lines()), (1, "", lines[:2]), way)
+            code = lines[0].partition(" refused ")[2][:3]
+            wanted = [lines[0], f"  what to do        {FAULTS[code][1]}"]
+            self.assertEqual((done.status, done.err, done.lines()), (1, "", wanted), way)
             self.assertFalse((self.folder / "same").exists(), way)
 
     def test_it_is_told_of_texts_that_are_whole_up_to_there(self) -> None:
@@ -372,7 +407,7 @@ class Outlines(World):
 
     def test_what_is_active(self) -> None:
         places = [self.TEXT.index(word) for word in (b"b $.", b"B $.", b"c $.")]
-        outline = Outline(self.TEXT, places, {b"a"})
+        outline = TextBefore(self.TEXT, places, {b"a"})
         told = [(one.label, [each.split() for each in one.distinct()]) for one in outline.theorems]
         both, one = [b"p", b"q"], [b"p", b"r"]
         self.assertEqual(told, [("t", [one, one, both]), ("u", [one, both]), ("v", [one, both])])
@@ -386,7 +421,7 @@ class Outlines(World):
             (b"b $.", set[bytes](), ["t"]),
             (b"c $.", {b"a", b"u"}, ["a", "u", "v"]),
         ):
-            outline = Outline(self.TEXT, [self.TEXT.index(word)], cited)
+            outline = TextBefore(self.TEXT, [self.TEXT.index(word)], cited)
             told = database_text(outline.text()).assertions
             self.assertEqual([one.label for one in told], wanted)
             self.assertEqual({one.letter for one in told[-1:]}, {"o"})
@@ -394,8 +429,8 @@ class Outlines(World):
     def test_what_is_not_lawful(self) -> None:
         for text in (b"$} x $p |- p $= a $.", b"$a |- $. x $p |- p $= a $.", b"a b $a |- p $. x"):
             with self.assertRaises((IndexError, ValueError), msg=text):
-                Outline(text, [len(text) - 4], set())
-        self.assertEqual(Outline(b"x $p |- p", [3], set()).theorems, [])
+                TextBefore(text, [len(text) - 4], set())
+        self.assertEqual(TextBefore(b"x $p |- p", [3], set()).theorems, [])
 
     def test_many_restrictions(self) -> None:
         """A million that are active at each of many theorems take no more than once."""
@@ -403,7 +438,7 @@ class Outlines(World):
         theorems = b"".join(b"t%d $p |- p $= a $. " % number for number in range(10_000))
         text = b"${ " + many + theorems
         places = [match.end() for match in re.finditer(rb"\$= ", text)]
-        outline = Outline(text, places, set())
+        outline = TextBefore(text, places, set())
         self.assertEqual(len(outline.theorems), 10_000)
         self.assertEqual(sum(1 for _ in outline.theorems[-1].distinct()), 1_000_000)
 
@@ -556,7 +591,7 @@ class Metamath(Explained):
                 place = one.end - len("$.")
                 proof = proof_before(bare_text, place)
                 assert proof is not None
-                floating = Outline(bare_text, [place], set()).floating
+                floating = TextBefore(bare_text, [place], set()).floating
                 replay = Replay(rules[one.label], rules.get, floating, Budget(10**7))
                 replay.last = deque()
                 replay.carry_out(proof.labels_of(rules[one.label]), proof.numbers)

@@ -6,8 +6,8 @@ import re
 import sqlite3
 import unittest
 
-from query.contributed import contributed
 from query.tests.world import DATABASES, SMALL, TOP, World, invented
+from query.texts.contributed import contributed
 
 PARTS = """$c |- wff class -> = $. $v p x y $. wp $f wff p $. vx $f class x $. vy $f class y $.
 $( #### Part #### $)

@@ -3,8 +3,8 @@
 import fnmatch
 import itertools
 
+from query.arguments.filters import Test
 from query.commands import command, names
-from query.filters import Test
 from query.tests.test_structure import PARTS
 from query.tests.world import World
 

@@ -5,11 +5,11 @@ import shlex
 import unittest
 from pathlib import Path
 
-from query import rules
-from query.bare import declared_at, proof_of, without_comments
-from query.remarks import tokens
+from query.gate import rules
 from query.tests import shapes
 from query.tests.world import World
+from query.texts.comment_tokens import tokens
+from query.texts.uncommented import declared_at, proof_of, without_comments
 
 SECONDS = 20
 MEMORY = 500_000_000

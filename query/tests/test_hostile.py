@@ -13,11 +13,11 @@ import unittest
 from collections.abc import Mapping
 from pathlib import Path
 
-from query.branch import see_one_merge
-from query.errors import NoAnswer
-from query.findings import in_markdown
-from query.git import Repository
-from query.objects import Objects
+from query.answers.errors import NoAnswer
+from query.gate.branch import see_one_merge
+from query.gate.forms import in_markdown
+from query.git.objects import Objects
+from query.git.repository import Repository
 from query.tests.repositories import ADDED, BASE, WATCH, Repositories, changed
 from query.tests.shapes import proof
 from query.tests.world import DATABASES, MMQUERY, TOP, Done

@@ -10,7 +10,7 @@ from contextlib import contextmanager
 from pathlib import Path
 from unittest import mock
 
-from query import cache, secret
+from query.platform import cache, secret
 from query.tests.world import MMQUERY, SMALL, World
 
 LIE = {"theorems": b"a2", "columns": b"", "typecodes": b"", "marks": b"\0", "statements": b""}

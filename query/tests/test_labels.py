@@ -6,9 +6,9 @@ import unittest
 from collections.abc import Sequence
 from unittest import mock
 
-from query import resting
-from query.labels import NONE, Beginnings, Labels, is_meant, meant
-from query.resting import Resting
+from query.gate import allowances
+from query.gate.allowances import Resting
+from query.gate.labels import NONE, Beginnings, Labels, is_meant, meant
 
 SECONDS = 20
 MANY = 100_000
@@ -84,7 +84,7 @@ class Allowed(unittest.TestCase):
         for turn in range(1000):
             self.axioms = [*dict.fromkeys(word(chance, 6) for _ in range(8))]
             lists = {each: Labels(tuple(patterns(chance))) for each in patterns(chance)}
-            with mock.patch.object(resting, "MOST_KEPT", -1 if turn % 2 else 1 << 20):
+            with mock.patch.object(allowances, "MOST_KEPT", -1 if turn % 2 else 1 << 20):
                 known = Resting(lists, self.axioms, self.bits)
                 for _ in range(9):
                     theorem = word(chance, 9)
@@ -104,7 +104,7 @@ class Allowed(unittest.TestCase):
         known = Resting(lists, self.axioms, lambda some: sum(1 << numbers[each] for each in some))
         found = {known.allowed(f"t{axiom}").bit_count() for axiom in self.axioms}
         self.assertEqual(found, {20_000})
-        self.assertLess(known.of_beginnings.size + known.of_axioms.size, 3 * resting.MOST_KEPT)
+        self.assertLess(known.of_beginnings.size + known.of_axioms.size, 3 * allowances.MOST_KEPT)
         self.assertLess(time.process_time() - begun, SECONDS)
 
 

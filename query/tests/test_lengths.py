@@ -7,9 +7,9 @@ import shutil
 import unittest
 from collections import Counter
 
-from query.tests import metamath
 from query.tests.test_questions import all_chains
 from query.tests.world import DATABASES, SMALL, World, invented
+from tests.shared import metamath
 
 
 class Lengths(World):

@@ -8,9 +8,11 @@ import unittest
 from pathlib import Path
 from unittest import mock
 
-from query import limits, program, system, unpacking
-from query.limits import MEGABYTE, Limits
-from query.source import Source
+from query.platform import limits, system
+from query.platform.executables import located
+from query.platform.limits import MEGABYTE, Limits
+from query.program import mmdepend, unpacking
+from query.program.source import Source
 from query.tests.repositories import ADDED, BASE, Repositories, changed
 from query.tests.world import PROGRAM_FOR_NODE, SMALL, TOP, Done, World, built_program
 
@@ -18,11 +20,11 @@ LARGE = SMALL + "$( " + "x " * 3_000_000 + "$)\n"
 BURNS = '#!/bin/sh\n[ "$1" != --version ] || exit 0\nwhile :; do :; done\n'
 
 
-ONE_SECOND_TO_MERGE = """ended = git.ended
+ONE_SECOND_TO_MERGE = """ended = repository.ended
 def ended_soon(process, given):
-    git.MOST_SECONDS = 1 if "merge-tree" in process.args else 100
+    repository.MOST_SECONDS = 1 if "merge-tree" in process.args else 100
     return ended(process, given)
-git.ended = ended_soon
+repository.ended = ended_soon
 """
 """Lets git merge for a second alone. Its other calls may take longer where the machine is busy."""
 
@@ -133,7 +135,7 @@ class Runs(World):
         """There the clock ends the program."""
         source = Source("db.mm", SMALL.encode())
         with mock.patch.object(system, "limiting", lambda *_: None):
-            running = program.Program(self.burns).running([], source.opened(), True, 0)
+            running = mmdepend.Program(self.burns).running([], source.opened(), True, 0)
             self.assertEqual(running.exceeded(0, 0), "")
             assert running.clock is not None
             running.clock.timer.cancel()
@@ -207,8 +209,8 @@ class InGit(Repositories):
         """What the gate says where a constant is another one, and PATH perhaps too."""
         words = ["gate", "--base", "main", "HEAD:db.mm"]
         top = str(Path(__file__).resolve().parents[2])
-        line = f"import sys; sys.path.insert(0, {top!r}); from query import cli, git; "
-        line += f"\n{change}\ncli.main({words!r})"
+        line = f"import sys; sys.path.insert(0, {top!r}); from query import cli; "
+        line += f"from query.git import repository\n{change}\ncli.main({words!r})"
         return self.ran("python3", "-c", line, PATH=path or self.surroundings()["PATH"])
 
     def test_a_merge_of_few_bytes_that_are_many(self) -> None:
@@ -225,11 +227,11 @@ class InGit(Repositories):
         self.commit("b\n", "other")
         self.git("symbolic-ref", "HEAD", "refs/heads/work")
         self.assertIn("can't be merged: CONFLICT", self.gate_with("pass").err)
-        done = self.gate_with("git.FREE_BYTES = 99_000_000")
+        done = self.gate_with("repository.FREE_BYTES = 99_000_000")
         self.assertEqual((done.status, done.out), (2, ""), done)
         self.assertIn("not judged: git merge-tree needs more than 99 MB of memory", done.err)
         self.git("update-ref", "refs/heads/work", "main")
-        self.assertEqual(self.gate_with("git.FREE_BYTES = 99_000_000").status, 0)
+        self.assertEqual(self.gate_with("repository.FREE_BYTES = 99_000_000").status, 0)
 
     def worst(self, count: int) -> str:
         """Axioms with half a million pairs of distinct variables each."""
@@ -310,7 +312,7 @@ def value_of(number: str) -> int:
 
 def git_path() -> str:
     """Where git is."""
-    found = program.located("git")
+    found = located("git")
     assert found is not None
     return found
 

@@ -5,8 +5,8 @@ import re
 import shutil
 import unittest
 
-from query.tests import metamath
 from query.tests.world import DATABASES, World, asked
+from tests.shared import metamath
 
 QUESTIONS = 40
 

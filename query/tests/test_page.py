@@ -9,10 +9,10 @@ import unittest
 from pathlib import Path
 from typing import Any
 
-from query.tests.blocks import Blocks, blocks_in, lines_in
-from query.tests.browser import databases
 from query.tests.repositories import Repositories
-from query.tests.world import PROGRAM_FOR_NODE, SMALL, World, invented, program, database_text
+from query.tests.world import PROGRAM_FOR_NODE, SMALL, World, database_text, invented, program
+from tests.browser import databases
+from tests.shared.blocks import Blocks, blocks_in, lines_in
 
 TYPESET = databases.EVIL + databases.EVIL_TYPESETTING
 FORBIDDEN = ("innerHTML", "outerHTML", "insertAdjacentHTML", "document.write", "eval(", "Function(")

@@ -14,11 +14,11 @@ import unittest
 from collections.abc import Callable
 from io import BytesIO
 
-from query.includes import new_includes
-from query.rules import hidden_marks, is_discouraged
 from query.tests.repositories import ADDED, BASE, changed
 from query.tests.test_hostile import CHEAT, CHEAT_FOUND, Hostile
 from query.tests.world import TOP, built_program, database_text
+from query.texts.discouraged import hidden_marks, is_discouraged
+from query.texts.includes import new_includes
 
 EVIL = "$c evil $.\nax-evil $a |- 2 $.\n"
 NOTE = "$( A remark. $)\n"
@@ -492,7 +492,7 @@ class Trees(Built):
     def test_settings_of_the_user(self) -> None:
         """Whatever encoding the user's system has, names are compared as UTF-8."""
         one, other = (name.encode() for name in ("caf\u00e9.mm", "CAFE\u0301.MM"))
-        line = f"import sys; sys.path.insert(0, {str(TOP)!r}); from query.trees import fold; "
+        line = f"import sys; sys.path.insert(0, {str(TOP)!r}); from query.git.trees import fold; "
         line += f"sys.exit(fold({one!r}) != fold({other!r}))"
         for words in ((), ("-X", "utf8=0"), ("-X", "utf8=1")):
             done = self.ran("python3", *words, "-c", line, LC_ALL="C")

@@ -7,6 +7,9 @@ import unittest
 from collections.abc import Iterator
 from unittest import mock
 
+from query.citations.graph import Graph
+from query.commands.chains import MOST_RESTATED
+from query.tests import shapes
 from query.tests.world import HOSTILE, Invented, World, asked, built_program, invented
 
 
@@ -116,17 +119,71 @@ class Questions(World):
             ]
             self.assertEqual(first(asked("uncited", path)), uncited)
 
+    def test_what_a_plan_frees(self) -> None:
+        """Of how many theorems, and how many of these are kept."""
+        lines = [shapes.theorem(*labels) for labels in (("k", "ax"), ("m", "k"), ("n", "m"))]
+        self.write("db.mm", shapes.HEAD + "".join(lines))
+        done = self.query("frees", "db.mm", "ax", "--keep=k", "--plan=1")
+        said = "free are then 2 of 3 that rest on ax, 1 of which is kept"
+        self.assertEqual(done.err, f"mmquery: db.mm: {said}\n")
+        for steps, end in ((1, ""), (2, "; no other theorem frees more")):
+            done = self.query("frees", "db.mm", "ax", f"--plan={steps}")
+            said = f"free are then 3 of 3 that rest on ax{end}"
+            self.assertEqual(done.err, f"mmquery: db.mm: {said}\n")
+
+    def test_an_axiom_that_states_a_theorem(self) -> None:
+        """Where there is no chain, since an axiom takes the place of a theorem that has one."""
+        lines = [shapes.theorem(*labels) for labels in (("u", "ax"), ("v", "other"))]
+        self.write("db.mm", shapes.HEAD + "".join(lines))
+        done = self.query("why", "db.mm", "v", "ax")
+        said = "v doesn't rest on ax, but on other; u, which says the same, rests on ax"
+        self.assertEqual((done.out, done.err), ("", f"mmquery: {said}\n"))
+        done = self.query("why", "db.mm", "v", "u")
+        self.assertEqual(
+            done.err, "mmquery: v doesn't rest on u, but on other, which says the same\n"
+        )
+        # A theorem that rests on the axiom itself takes nobody anywhere.
+        lines = [shapes.theorem(*labels) for labels in (("u", "ax", "other"), ("v", "other"))]
+        self.write("db.mm", shapes.HEAD + "".join(lines))
+        done = self.query("why", "db.mm", "v", "ax")
+        self.assertEqual(done.err, "mmquery: v doesn't rest on ax\n")
+
+    def test_many_axioms_that_state_a_theorem(self) -> None:
+        """That there are others is said. However many there are, few of them are looked at."""
+        labels = [f"x{number}" for number in range(2 * MOST_RESTATED)]
+        axioms = "".join(f"{label} $a |- p $.\n" for label in labels)
+        for cited, end in (
+            (("ax",), ", but on x0; u, which says the same, rests on ax, as with other axioms"),
+            (("ax", *labels), ""),
+        ):
+            lines = [shapes.theorem("u", *cited), shapes.theorem("v", *labels)]
+            path = self.folder / self.write("db.mm", shapes.HEAD + axioms + "".join(lines))
+            with (
+                mock.patch("query.arguments.context.Context.tell") as tell,
+                mock.patch.object(Graph, "above", autospec=True, side_effect=Graph.above) as above,
+            ):
+                asked("why", str(path), "v", "ax")
+            tell.assert_called_once_with(f"v doesn't rest on ax{end}")
+            self.assertLess(above.call_count, MOST_RESTATED + 5)
+
     def test_why(self) -> None:
         tried = 0
         for database, path, chance in self.databases():
             for _ in range(12):
                 label, on = chance.choice(database.theorems()), chance.choice(database.labels())
                 chains = all_chains(database, label, on) if label != on else []
-                with mock.patch("query.context.Context.tell") as tell:
+                with mock.patch("query.arguments.context.Context.tell") as tell:
                     chain = first(asked("why", path, "--", label, on))
                     edges = asked("why", path, "--all", "--", label, on)
                     longest = first(asked("why", path, "--longest", "--", label, on))
+                    common = first(asked("why", path, "--unavoidable", "--", label, on))
                 self.assertEqual(tell.called, not chains)
+                on_all = (
+                    [each for each in chains[0] if all(each in one for one in chains)]
+                    if chains
+                    else []
+                )
+                self.assertEqual(common, on_all)
                 if chains:
                     self.assertIn(longest, chains)
                     self.assertEqual(len(longest), max(map(len, chains)))

@@ -2,17 +2,17 @@
 
 import itertools
 
-from query.assertions import Assertion
+from query.arguments.context import Context
 from query.commands.repeats import candidates
-from query.context import Context
-from query.options import Options
+from query.reports.choice import Options
 from query.spare.conventions import conventions_of
-from query.spare.rules import Rules
 from query.spare.repeats import HOW, Finder
+from query.spare.rules import Rules
 from query.spare.search import Shelf
 from query.tests.test_spare_search import SETS, Everything, Maker, Term, filled, parsed, variables
 from query.tests.world import World, database_text
-from query.text import Text
+from query.texts.assertions import Assertion
+from query.texts.text import Text
 
 TEXT = """$c ( ) -> |- wff $.
 $v p q r $.

@@ -4,9 +4,9 @@ import random
 import re
 import unittest
 
-from query.errors import NoAnswer
-from query.prepared import Prepared
-from query.report import checked
+from query.answers.errors import NoAnswer
+from query.reports.content import ReportContent
+from query.reports.handed_in import checked
 from query.tests.world import SMALL, World, invented
 
 OTHER = SMALL.replace("wp wq wp wi h wp wq ax-1 ax-mp $.", "wp wq h ax-n $.").replace(
@@ -172,7 +172,7 @@ def changed(chance: random.Random, text: str) -> str:
     return text[:place] + chance.choice("0123456789abcdef") + text[place + 1 :]
 
 
-def meaning(found: Prepared) -> object:
+def meaning(found: ReportContent) -> object:
     """The marks by labels, without axioms on which nothing rests."""
     assert found.marks is not None
     used = [column for column, size in enumerate(found.marks.sizes()) if size]

@@ -3,10 +3,12 @@
 import os
 import random
 import re
+import unittest
 from collections import Counter
 from unittest import mock
 
 from query.commands.review import SHOWN_ROWS, out_of_order
+from query.citations.cuts import Meetings
 from query.tests.shapes import HEAD, theorem
 from query.tests.world import SMALL, World, answered, asked, built_program, invented
 
@@ -132,8 +134,38 @@ class Reviewed(World):
 
 
 EDIT = re.compile(r"(?:- )?(\S+) newly cites (\S+), by which theorems came to rest on (.*?)\.?")
+COUNTS = re.compile(r"(\S+) \((\d+); (?:as many|(\d+ fewer)) without its new citations\)")
 HEADING = "**Edits that let axioms in**:"
 Cites = dict[str, list[str]]
+
+
+class Trees(unittest.TestCase):
+    """Common ancestors, against the lists of all ancestors."""
+
+    def test_common(self) -> None:
+        for seed in range(6):
+            chance = random.Random(seed)
+            tree, above = Meetings(0), [[0]]
+            for number in range(1, 400):
+                parent = number - 1 - int(chance.random() ** (1 + seed) * min(number, 9))
+                tree.put(number, parent)
+                above.append([*above[parent], number])
+            for _ in range(3000):
+                one, other = chance.randrange(400), chance.randrange(400)
+                wanted = [a for a, b in zip(above[one], above[other]) if a == b][-1]
+                self.assertEqual(tree.common([one, other]), wanted, (seed, one, other))
+            self.assertGreater(max(tree.deep.values()), 80)
+
+    def test_few_steps(self) -> None:
+        """A path of 100,000 nodes is passed in few steps."""
+        tree = Meetings(0)
+        for node in range(100_000):
+            tree.put(node + 1, node)
+        steps, part = 0, tree.far[100_000]
+        while part != 0:
+            part = tree.far[part]
+            steps += 1
+        self.assertLess(steps, 40)
 
 
 class Edits(World):
@@ -162,7 +194,10 @@ class Edits(World):
         proof = "wp wq wp wi h wp wq ax-1 ax-mp $."
         new = old.replace(proof, "wq wp wi all $.")
         text, markdown = self.both(old, new)
-        said = "a1i newly cites all, by which theorems came to rest on all (3)"
+        said = (
+            "a1i newly cites all, by which theorems came to rest on all"
+            " (3; 3 fewer without its new citations)"
+        )
         self.assertEqual(text[:2], [said, ""])
         self.assertEqual([line.split()[0] for line in text[2:]], ["theorem", "a1i"])
         self.assertEqual(markdown[2:6], [HEADING, "", f"- {said}.", ""])
@@ -193,8 +228,8 @@ class Edits(World):
     def test_by_chance(self) -> None:
         """Each edit is a new citation of what rests on the axiom, and together they are the reason
         for all that came to rest on it; these are counted by trying everything."""
-        told = 0
-        for seed in range(12):
+        told = both = 0
+        for seed in range(40):
             chance = random.Random(seed)
             old = cites_by_chance(chance)
             new = old | {
@@ -210,16 +245,21 @@ class Edits(World):
             for citing, cited, axioms in (match.groups() for match in edits):
                 self.assertIn(cited, new[citing])
                 self.assertNotIn(cited, old[citing])
-                for axiom, count in re.findall(r"(\S+) \((\d+)\)", axioms):
+                for axiom, count, fewer in COUNTS.findall(axioms):
                     self.assertIn(axiom, resting(new, cited))
                     came = came_to_rest(old, new, axiom)
                     followed = [each for each in came if citing in resting(new, each)]
                     self.assertTrue(0 < int(count) <= len(followed), (seed, citing, axiom))
+                    without = new | {citing: [e for e in new[citing] if e in old[citing]]}
+                    freed = len(came) - len(came_to_rest(old, without, axiom))
+                    self.assertEqual(int(fewer.removesuffix(" fewer") or 0), freed, (seed, axiom))
+                    both += 0 < freed < len(came)
                     counts[axiom] += int(count)
                     told += 1
             wanted = {axiom: len(came_to_rest(old, new, axiom)) for axiom in AXIOMS}
             self.assertEqual(dict(counts), {axiom: n for axiom, n in wanted.items() if n}, seed)
-        self.assertGreater(told, 12)
+        self.assertGreater(told, 40)
+        self.assertGreater(both, 10)
 
 
 AXIOMS = ["ax", "other", "a0", "a1"]

@@ -8,9 +8,9 @@ import unittest
 from collections.abc import Iterator, Mapping, Sequence
 from types import MappingProxyType
 
-from query.tests import metamath
 from query.tests.test_equivalents import BASE, NAMES
 from query.tests.world import DATABASES, SMALL, World
+from tests.shared import metamath
 
 WFFS = ("ph", "ps")
 

@@ -9,19 +9,21 @@ import unittest
 from pathlib import Path
 from unittest import mock
 
-from query import progress
-from query.errors import shown, tell
-from query.excerpts import cut_both
-from query.findings import (
-    SHOWN_TEXT,
+from query.answers.errors import shown, tell
+from query.answers.excerpts import cut_both
+from query.answers.output import Output, for_terminal
+from query.gate.finding import Finding
+from query.gate.forms import (
     MOST_SUMMARY_BYTES,
+    SHOWN_TEXT,
     Verdict,
     as_annotations,
     as_markdown,
     as_summary,
 )
-from query.output import Output, for_terminal
-from query.rules import Finding
+from query.gate.request import Request
+from query.platform import progress
+from query.program.source import Source
 from query.tests.world import MMQUERY, SMALL, World
 
 EVIL = "\x1b]0;owned\x07\x9b2J\x7f\u202e\u2066\u200f\u061c\r\x08"
@@ -109,8 +111,8 @@ class Terminal(World):
 
     def test_a_notice_while_a_line_of_progress_stands(self) -> None:
         said: list[str] = []
-        with mock.patch("query.errors.put", said.append), mock.patch(
-            "query.progress.put", said.append
+        with mock.patch("query.answers.errors.put", said.append), mock.patch(
+            "query.platform.progress.put", said.append
         ):
             tell("before")
             self.addCleanup(progress.end)
@@ -203,7 +205,7 @@ class Summary(unittest.TestCase):
         """One with so many findings, whose words have so many signs that Markdown means."""
         word = "*" * size
         found = [Finding("axioms", word, 1, word, word, word) for _ in range(findings)]
-        return Verdict("set.mm", "base", ("axioms",), found, [word] * findings)
+        return Verdict(request([word] * findings), found)
 
     def test_below_one_megabyte(self) -> None:
         for findings, size in ((1, 10), (900, 400), (2000, 100), (3000, 5000), (1, 3_000_000)):
@@ -227,10 +229,16 @@ class Summary(unittest.TestCase):
 
     def test_annotations(self) -> None:
         found = [Finding("axioms", f"a{EVIL}.mm", 1, "", "", EVIL + "\n::error::x")]
-        verdict = Verdict("set.mm", "base", ("axioms",), found, [EVIL])
+        verdict = Verdict(request([EVIL]), found)
         said = "".join(as_annotations(verdict, True))
         self.assertEqual(shown(said, "\n"), said)
         self.assertEqual(len(said.splitlines()), 3)
+
+
+def request(notes: list[str]) -> Request:
+    """A request of the gate with these notes."""
+    source = Source("set.mm", b"")
+    return Request(source, source, "base", notes=tuple(notes))
 
 
 if __name__ == "__main__":

@@ -23,7 +23,7 @@ EARLY = f"""
 import ctypes, operator, os, select, sys
 from functools import partial
 sys.path.insert(0, {str(TOP)!r})
-from query import signals, system
+from query.platform import signals, system
 
 real = select.poll
 kill = partial(ctypes.CDLL(None).kill, os.getpid(), {int(signal.SIGTERM)})

@@ -8,22 +8,23 @@ from collections.abc import Callable
 from typing import Any
 from unittest import mock
 
+from query.answers.errors import NoAnswer
+from query.answers.output import Output
+from query.arguments.context import Context
 from query.cli import parser_of
 from query.commands import command
-from query.context import Context
-from query.errors import NoAnswer
-from query.letters import letters_of
-from query.options import Options
-from query.output import Output
 from query.commands.spare import GIVEN_UP, rows_of
+from query.proofs import layout
+from query.proofs.letters import letters_of
+from query.reports.choice import Options
 from query.spare import changes, judge, kept, proofs, rules, search, writing
 from query.spare.changes import Changer, Wanted
 from query.spare.kept import Change, Replaced
 from query.spare.roots import Roots
 from query.tests import shapes
-from query.tests.metamath import asked
-from query.tests.world import DATABASES, World, built_program
-from query.text import Text
+from query.tests.world import DATABASES, SMALL, World, built_program
+from query.texts.text import Text
+from tests.shared.metamath import asked
 
 BASE = """$c ( ) -> |- wff $.
 $v p q r $.
@@ -88,6 +89,9 @@ class Spare(World):
         done = self.query("spare", "db.mm", "near")
         self.assertEqual((done.out, done.status), ("", 0))
         self.assertIn("no theorem was found that can do without", done.err)
+        self.write("small.mm", SMALL)
+        done = self.query("spare", "small.mm", "--shorter")
+        self.assertEqual(done.err, "mmquery: small.mm: no shorter proof was found\n")
 
     def test_what_may_be_gained(self) -> None:
         """A proof gains what is named where it can't do without AXIOM otherwise, and so does what
@@ -363,7 +367,7 @@ WAYS: dict[str, tuple[str, Any]] = {
     "another substitution": ("bad", broken(search.Search, "cited", cited_wrongly)),
     "letters of other steps": (
         "bad",
-        broken(writing, "letters_of", lambda number: REAL_LETTERS(number + (number == 3))),
+        broken(layout, "letters_of", lambda number: REAL_LETTERS(number + (number == 3))),
     ),
     "letters in another order": ("bad", broken(writing.Writer, "words", words_backwards)),
     "a theorem that loses something else": (
@@ -485,7 +489,7 @@ class Limits(World):
         words = parser_of(command("spare")).read([path, "bad", "--no-cache"])
         with (
             mock.patch.multiple(search, STEPS=0, STEPS_OF_FORMULA=1),
-            mock.patch("query.context.tell") as told,
+            mock.patch("query.arguments.context.tell") as told,
         ):
             command("spare").run(Context(Output(), False), words)
         said = GIVEN_UP.format(2, "t1")

@@ -4,8 +4,8 @@ import json
 import random
 import re
 
-from query.context import Context
-from query.options import Options
+from query.arguments.context import Context
+from query.reports.choice import Options
 from query.spare.changes import Changer, Wanted
 from query.spare.judge import judge_changes, rewritten
 from query.spare.roots import Roots

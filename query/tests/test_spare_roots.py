@@ -7,9 +7,9 @@ from itertools import product
 from typing import NamedTuple
 from unittest import mock
 
-from query.context import Context
-from query.database import Database
-from query.options import Options
+from query.arguments.context import Context
+from query.reports.choice import Options
+from query.reports.database import Database
 from query.spare.changes import Changer, Wanted
 from query.spare.judge import judge_changes, rewritten
 from query.spare.kept import Change

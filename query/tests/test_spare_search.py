@@ -4,16 +4,16 @@ import itertools
 import random
 from dataclasses import dataclass, field
 
-from query.assertions import Assertion
-from query.context import Context
-from query.options import Options
+from query.arguments.context import Context
+from query.reports.choice import Options
 from query.spare.changes import Changer, Wanted
-from query.spare.kept import Change
 from query.spare.judge import judge_changes, rewritten
+from query.spare.kept import Change
 from query.spare.proofs import run
 from query.spare.search import AllSteps
 from query.tests.world import World
-from query.text import Text
+from query.texts.assertions import Assertion
+from query.texts.text import Text
 
 Term = str | tuple["Term", ...]
 """A variable, or the words of a form with terms between them."""

@@ -9,10 +9,10 @@ from functools import partial
 from pathlib import Path
 from unittest import mock
 
-from query import parallel, system
-from query.context import Context
-from query.errors import NoAnswer
-from query.options import Options
+from query.answers.errors import NoAnswer
+from query.arguments.context import Context
+from query.platform import parallel, system
+from query.reports.choice import Options
 from query.spare import sharing
 from query.spare.changes import Changer, Wanted
 from query.spare.kept import Change
@@ -156,9 +156,9 @@ class Processes(World):
         for memory, wanted in (((None, None), 4), ((10, 45), 3), ((10, 5), 1)):
             with mock.patch.object(system, "memory", lambda told=memory: told):
                 with mock.patch.object(system, "processors", lambda: 8):
-                    self.assertEqual(sharing.number_at_once(), wanted)
+                    self.assertEqual(parallel.number_at_once(), wanted)
         with mock.patch.object(system, "processors", lambda: 1):
-            self.assertEqual(sharing.number_at_once(), 1)
+            self.assertEqual(parallel.number_at_once(), 1)
         self.assertGreater(min(each or 0 for each in system.memory()), 1000)
         self.assertIsNone(system.number_in("/proc/self/status", "Name"))
         self.assertIsNone(system.number_in(str(self.folder / "none"), "VmRSS"))

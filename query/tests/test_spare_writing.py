@@ -11,17 +11,17 @@ from itertools import combinations
 from pathlib import Path
 from unittest import mock
 
-from query.bare import without_comments
-from query.context import Context
-from query.options import Options
+from query.arguments.context import Context
+from query.proofs.layout import beginning, laid_out
+from query.reports.choice import Options
 from query.spare.changes import Changer, ProofRange, Wanted
 from query.spare.judge import judge_changes, rewritten
 from query.spare.kept import Change
 from query.spare.labels import filling, saved_order
 from query.spare.proofs import Unfit
 from query.spare.search import Steps
-from query.spare.writing import beginning, laid_out
 from query.tests.world import DATABASES, World
+from query.texts.uncommented import without_comments
 
 needs_metamath = unittest.skipUnless(
     shutil.which("metamath") and (DATABASES / "ql.mm").exists(), "no metamath.exe or no ql.mm"

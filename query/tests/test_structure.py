@@ -6,8 +6,8 @@ import shutil
 import subprocess
 import unittest
 
-from query.assertions import Assertion
-from query.tests.world import DATABASES, SMALL, World, invented, database_text
+from query.tests.world import DATABASES, SMALL, World, database_text, invented
+from query.texts.assertions import Assertion
 
 PARTS = """$c wff |- ( -> ) $.
 $v p q $. wp $f wff p $. wq $f wff q $. wi $a wff ( p -> q ) $.
@@ -88,6 +88,10 @@ class Structure(World):
         self.assertEqual(rows[0], ["0", "6", "", "", "", "(the whole database)"])
         text = self.answers("chapters", "--open", "db.mm")
         self.assertEqual(text[0].split(), ["number", "theorems", "title"])
+        left = self.rows("chapters", "db.mm", "ax-2", "ax-1", "--no-empty")
+        rows = self.rows("chapters", "db.mm", "ax-2", "ax-1")
+        self.assertEqual(left, [row for row in rows if row[3] != "0"])
+        self.assertEqual(len(left), 6)
         self.refuses(
             "chapters", "--open", "db.mm", "one", why="has no axiom of typecode '|-' 'one'"
         )

@@ -17,10 +17,11 @@ from functools import partial
 from pathlib import Path
 from unittest import mock
 
-from query import source, system, temporary
 from query.commands import names
-from query.config import read_config
-from query.program import located
+from query.gate.config import read_config
+from query.platform import system, temporary
+from query.platform.executables import located
+from query.program import source
 from query.tests.commands import NEWER, WHOLE, keep_in_git, words_of
 from query.tests.lacking import ALL, MODULES
 from query.tests.test_spare_sharing import many
@@ -318,7 +319,7 @@ def sources() -> Iterator[Path]:
 
 
 class Sources(unittest.TestCase):
-    """Only `query/system.py` calls what not every system has."""
+    """Only `query/platform/system.py` calls what not every system has."""
 
     def test_calls(self) -> None:
         found = set()
@@ -351,7 +352,7 @@ class Sources(unittest.TestCase):
                 if isinstance(node, ast.Constant) and isinstance(node.value, str):
                     is_place = node.value.startswith(("/dev/", "/proc", "/tmp", "/usr", "/etc"))
                     self.assertFalse(
-                        is_place and (path.name, node.value) != ("git.py", "/dev/null"),
+                        is_place and (path.name, node.value) != ("repository.py", "/dev/null"),
                         f"{path.name}: {node.value}",
                     )
 

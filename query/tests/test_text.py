@@ -4,11 +4,11 @@ import random
 import re
 import unittest
 
-from query.assertions import Damaged, assertions_of
-from query.bare import declared_at, proof_of, without_comments
-from query.outline import Outline
-from query.tests.world import DATABASES, World, invented, database_text
-from query.text import Text
+from query.proofs.text_before import TextBefore
+from query.tests.world import DATABASES, World, database_text, invented
+from query.texts.assertions import Damaged, assertions_of
+from query.texts.text import Text
+from query.texts.uncommented import declared_at, proof_of, without_comments
 
 SMALL = b"""$( $t htmldef "p" as "P"; /* a ; in a remark */ $)
 $( A stray comment. $)
@@ -157,7 +157,7 @@ class Reader(World):
         self.assertEqual(re.findall(rb"\$[()]|stray|inner", text), [])
         start, end = proof_of(text, "first") or (0, 0)
         self.assertEqual(SMALL[start:end], b" ( vy $( ) $) ax ) ABE ")
-        outline = Outline(text, [start], {b"ax"})
+        outline = TextBefore(text, [start], {b"ax"})
         self.assertEqual(outline.floating["vy"], ["set", "y"])
         self.assertEqual([one.label for one in outline.theorems], ["first"])
         for label in ("wp", "first.e", "first", "fourth"):

@@ -6,10 +6,10 @@ import shutil
 import unittest
 from unittest import mock
 
-from query.tests import metamath
 from query.tests.test_definitions import LOGIC
 from query.tests.unsound import BASE
 from query.tests.world import DATABASES, World, answered, built_program
+from tests.shared import metamath
 
 NOT = """$c -. Or Some $.
 wn $a wff -. ph $. df-n $a |- ( -. ph <-> ( ph -> F. ) ) $.
@@ -79,8 +79,8 @@ class Expanded(World):
             said: list[str] = []
             with (
                 mock.patch.dict(os.environ, {"MMDEPEND": built_program()}),
-                mock.patch("query.unfolding.STRETCH", stretch),
-                mock.patch("query.progress.now", said.append),
+                mock.patch("query.definitions.unfolding.STRETCH", stretch),
+                mock.patch("query.platform.progress.now", said.append),
             ):
                 answered("text", "definitions", path, "--expand", "last")
             told = [each for each in said if each.startswith("unfolding, ")]

@@ -9,17 +9,17 @@ from collections import Counter
 from dataclasses import dataclass, replace
 from unittest import mock
 
-from query import unneeded
-from query.assertions import Assertion
-from query.bare import without_comments
-from query.letters import letters_of
-from query.parallel import Copy
+from query.platform.parallel import Copy
+from query.proofs import unneeded
+from query.proofs.letters import letters_of
+from query.proofs.unneeded import Unneeded, read_text, unneeded_of
 from query.tests import shapes
 from query.tests.replay import Frame, frames
 from query.tests.test_spare_search import Known, Maker
 from query.tests.world import DATABASES, World, built_program, database_text
-from query.text import Text
-from query.unneeded import Unneeded, read_text, unneeded_of
+from query.texts.assertions import Assertion
+from query.texts.text import Text
+from query.texts.uncommented import without_comments
 
 HEAD = """$c ( ) -> |- wff spare few typed $.
 $( $c hidden $. $)

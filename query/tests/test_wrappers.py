@@ -5,11 +5,11 @@ import random
 import unittest
 from unittest import mock
 
-from query.database import Database
-from query.options import Options
+from query.citations.wrappers import wrappers
+from query.reports.choice import Options
+from query.reports.database import Database
 from query.tests.repositories import BASE
 from query.tests.world import DATABASES, World, asked, built_program, invented
-from query.wrappers import wrappers
 
 
 class Wrappers(World):

@@ -12,13 +12,13 @@ from dataclasses import dataclass, field
 from pathlib import Path
 from unittest import mock
 
+from query.answers.output import Output
+from query.arguments.context import Context
 from query.cli import parser_of
 from query.commands import command
-from query.context import Context
-from query.output import Output
-from query.tests.samples import DEBIAN_DATABASES
-from query.text import Text
-from query.one_run import statements_of
+from query.reports.of_program import statements_of
+from query.texts.text import Text
+from tests.shared.samples import DEBIAN_DATABASES
 
 TOP = Path(__file__).resolve().parent.parent.parent
 MMQUERY = TOP / "mmquery"
@@ -256,7 +256,7 @@ def answered(form: str, *words: str) -> bytes:
     is_taken = form in chosen.formats
     arguments = parser_of(chosen).read([*(["--format", form] if is_taken else []), *words[1:]])
     out = Output(getattr(arguments, "format", "text"))
-    with mock.patch("query.context.tell"):  # remarks, which are none of the tests'
+    with mock.patch("query.arguments.context.tell"):  # remarks, which are none of the tests'
         chosen.run(Context(out, False), arguments)
     return b"".join(out.taken())
 

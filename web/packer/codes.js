@@ -1,4 +1,5 @@
-// How steps of proofs are written in the blocks of a page: proofs.js packs them, and proofs.js of the view reads them.
+// How steps of proofs are written in the blocks of a page: proof-packer.js packs them, and proof-reader.js of
+// the view reads them.
 //
 // A block `proof-steps-0` and so on has the proofs of `PROOFS_IN_CHUNK` theorems. It is made of streams, and begins with how many
 // bytes each of them has. The steps of a proof stand in them from the last to the first. Who reads them knows which

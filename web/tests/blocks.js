@@ -1,7 +1,7 @@
 // The blocks of small texts, for tests: the reports of these are made here.
 
 import { encoded } from "../packer/bytes.js";
-import { packReports, packText } from "../packer/pack.js";
+import { packReports, packText } from "../packer/blocks.js";
 import { readReport } from "../packer/reports.js";
 import { readText } from "../packer/text.js";
 import { Model } from "../view/model.js";

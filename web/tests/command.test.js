@@ -2,7 +2,7 @@
 
 import assert from "node:assert/strict";
 import { test } from "node:test";
-import { readWords } from "../command.js";
+import { readWords } from "../node/command-line.js";
 
 const PLAIN = { report: "all", only: null, form: 1, essential: false, open: false };
 

@@ -4,7 +4,7 @@ import assert from "node:assert/strict";
 import { test } from "node:test";
 import { report } from "../library.js";
 
-/** @typedef {import("../types.js").Request} Request */
+/** @typedef {import("../node/types.js").Request} Request */
 
 const MEGABYTE = 1 << 20;
 const TOO_SHORT = 3;
@@ -13,7 +13,7 @@ const TOO_SMALL = 4;
 /**
  * Runs a module that needs this room and output.
  * @param {{ size: number, room: number, output: number, most: number, fails?: number, request?: Partial<Request> }} given
- * @returns {Promise<{ answer: import("../types.js").Answer, calls: { room: number, output: number }[] }>}
+ * @returns {Promise<{ answer: import("../node/types.js").Answer, calls: { room: number, output: number }[] }>}
  */
 async function ran({ size, room, output, most, fails = Infinity, request = {} }) {
     const memory = new WebAssembly.Memory({ initial: 1 });

@@ -3,12 +3,12 @@
 import assert from "node:assert/strict";
 import { test } from "node:test";
 import { Writer, encoded } from "../packer/bytes.js";
-import { ProofPacker } from "../packer/proofs.js";
+import { ProofPacker } from "../packer/proof-packer.js";
 import { readCitations, readReport } from "../packer/reports.js";
 import { readText } from "../packer/text.js";
 import { Damaged } from "../view/decode.js";
 import { Derivation, OtherFormula, TooManySigns } from "../view/derivation.js";
-import { MOST_STEPS, Proofs, TooManySteps } from "../view/proofs.js";
+import { MOST_STEPS, Proofs, TooManySteps } from "../view/proof-reader.js";
 import { Abandoned, Turns } from "../view/turns.js";
 import { PLAIN, blocksOf, modelOf, reportOf } from "./blocks.js";
 

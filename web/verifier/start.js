@@ -3,7 +3,7 @@
 import { Blocks, textOf } from "../view/decode.js";
 import { byId, counted, element } from "../view/elements.js";
 import { Model, isLater } from "../view/model.js";
-import { present } from "../view/page.js";
+import { present } from "../view/router.js";
 import { TooLong, Unfit, chosen } from "./chosen.js";
 import { Stopped, addressOf, canShare } from "./helpers.js";
 import { Saving } from "./saving.js";

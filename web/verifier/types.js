@@ -15,7 +15,7 @@
  * @typedef {{ name: string, file: Contents }} Chosen
  */
 
-/** @typedef {import("../types.js").Tables} Tables */
+/** @typedef {import("../node/types.js").Tables} Tables */
 
 /**
  * What a worker is asked for: to look whether it can read what the browser holds, to verify a database for the page, to

@@ -5,8 +5,8 @@ import { compile, report } from "../library.js";
 import { mostMemory } from "../limits.js";
 import { sizeOf } from "./contents.js";
 import { faultOf, refusalOf } from "../packer/faults.js";
-import { NoAnswer, aboutPage, packComparison, sideOf } from "../packer/making.js";
-import { packReports, packText } from "../packer/pack.js";
+import { NoAnswer, aboutPage, packComparison, sideOf } from "../packer/page-facts.js";
+import { packReports, packText } from "../packer/blocks.js";
 import { PACKED_REPORT } from "../packer/reports.js";
 import { sumOf } from "../packer/sum.js";
 import { readText } from "../packer/text.js";
@@ -19,7 +19,7 @@ import { Status } from "../statuses.js";
 /** @typedef {import("./types.js").PackedBlocks} PackedBlocks */
 /** @typedef {import("./types.js").Reply} Reply */
 /** @typedef {import("../packer/typesetting.js").Entities} Entities */
-/** @typedef {import("../types.js").Request} Request */
+/** @typedef {import("../node/types.js").Request} Request */
 
 /** How many bytes of a file are read at a time. */
 const STEP = 1 << 22;

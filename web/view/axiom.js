@@ -6,7 +6,7 @@ import { counted, element, percent, put, withCommas } from "./elements.js";
 /** @typedef {import("./elements.js").Child} Child */
 /** @typedef {import("./elements.js").Elements} Elements */
 /** @typedef {import("./model.js").Model} Model */
-/** @typedef {import("./statements.js").Statements} Statements */
+/** @typedef {import("./statement-head.js").Statements} Statements */
 
 /** How many axioms to drop are offered at a time. */
 const OFFERED = 60;

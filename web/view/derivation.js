@@ -4,10 +4,10 @@
 // A formula is a text in which a space stands before each symbol, so that what replaces a variable may be empty.
 
 import { isFloating, numberOf } from "../packer/codes.js";
-import { Step } from "./proofs.js";
+import { Step } from "./proof-reader.js";
 
-/** @typedef {import("./proofs.js").Proofs} Proofs */
-/** @typedef {import("./proofs.js").Steps} Steps */
+/** @typedef {import("./proof-reader.js").Proofs} Proofs */
+/** @typedef {import("./proof-reader.js").Steps} Steps */
 /** @typedef {import("./turns.js").Turns} Turns */
 
 /** The formulas of a proof have no more signs together, those included that hypotheses ask for. */

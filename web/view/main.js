@@ -3,7 +3,7 @@
 import { Blocks } from "./decode.js";
 import { byId, element } from "./elements.js";
 import { Model, isLater } from "./model.js";
-import { present } from "./page.js";
+import { present } from "./router.js";
 
 async function start() {
     const blocks = new Blocks();

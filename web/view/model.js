@@ -106,7 +106,7 @@ export class Model {
 
     /**
      * The rows of the matrix, `words` numbers of 32 bits each; column c is bit c % 32 of number c / 32. Each is written as
-     * what differs from the row that is so many rows `above` it, as MatrixPacker of packer/pack.js writes it; 0 is none.
+     * what differs from the row that is so many rows `above` it, as MatrixPacker of packer/blocks.js writes it; 0 is none.
      * @param {BlockSource} blocks
      */
     readRows(blocks) {

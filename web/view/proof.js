@@ -3,7 +3,7 @@
 import { LONGEST_FORMULA, counted, element, withCommas } from "./elements.js";
 import { Damaged } from "./decode.js";
 import { Derivation, MOST_SIGNS, OtherFormula, TooManySigns } from "./derivation.js";
-import { MOST_STEPS, Proofs, Step, TooManySteps } from "./proofs.js";
+import { MOST_STEPS, Proofs, Step, TooManySteps } from "./proof-reader.js";
 import { Abandoned, Turns } from "./turns.js";
 
 /** @typedef {import("./elements.js").Child} Child */

@@ -8,7 +8,7 @@ import { ProofView } from "./proof.js";
 /** @typedef {import("./elements.js").Colours} Colours */
 /** @typedef {import("./elements.js").Elements} Elements */
 /** @typedef {import("./model.js").Model} Model */
-/** @typedef {import("./statements.js").Statements} Statements */
+/** @typedef {import("./statement-head.js").Statements} Statements */
 
 export class TheoremView {
     /**

@@ -79,8 +79,8 @@ flag_of_front : (ws us vs : List Bool) (n : ℕ) → n < length ws
 flag_of_front ws us vs n n_lt_length = grind (arith, common_steps, get_or_append_left)
 
 -- a flag that is set stays set
-step_flags_stay : (b : Bool) (s : Step) (step_flags : List Bool) (k : ℕ) → flag_at step_flags k
-    ≡ true → flag_at (step_flags_after b s step_flags) k ≡ true
+step_flags_stay : (b : Bool) (s : Step) (step_flags : List Bool) (k : ℕ)
+    → flag_at step_flags k ≡ true → flag_at (step_flags_after b s step_flags) k ≡ true
 step_flags_stay b s step_flags k h1 =
     grind (
       arith,
@@ -94,8 +94,8 @@ step_flags_stay b s step_flags k h1 =
     )
 
 -- a step that repeats a marked step sets the flag of that step, if its own entry is essential
-repeated_step_has_flag : (j : ℕ) (step_flags : List Bool) → j < length step_flags → (b : Bool) → b
-    ≡ true → flag_at (step_flags_after b (marked j) step_flags) j ≡ true
+repeated_step_has_flag : (j : ℕ) (step_flags : List Bool) → j < length step_flags → (b : Bool)
+    → b ≡ true → flag_at (step_flags_after b (marked j) step_flags) j ≡ true
 repeated_step_has_flag j step_flags h1 b h2 = grind (arith, nat_tests, get_or-set_same, true≢false)
 
 -- and it sets no other flag
@@ -208,8 +208,8 @@ module _ (counts : ℕ → ℕ → Bool) (forest_after : ℕ → Trees) where
 
         node_of_joined : HasNode counts (flag_at (ws ++ vs)) (ts ⧺ cs) a
             → IsToBeFound i (ws ++ vs) step_flags a
-        node_of_joined has_node = inl (subst (λ t. HasNode counts (flag_at (ws ++ vs)) t a) (sym
-            forest_before_is) has_node)
+        node_of_joined has_node = inl (subst (λ t. HasNode counts (flag_at (ws ++ vs)) t a)
+            (sym forest_before_is) has_node)
 
         found_below : b ≡ true → (a ≡ l) ⊎ HasNode counts (counts l) cs a
             → ((b ≡ true) × (a ≡ l)) ⊎ IsToBeFound i (ws ++ vs) step_flags a

@@ -46,8 +46,8 @@ module _ (db : List Statement) (t j : ℕ) where
   good_label_is_below is_complete = let labelled = good_label_has_statement is_complete in
       got_lt_length db j labelled.statement labelled.statement_is
 
-  assertion_flag_is : (s : Statement) (b : Bool) → slice_get db j ≡ Some s → is_assertion_at db j
-      ≡ b → list_any is_assertion (s ∷ []) ≡ b
+  assertion_flag_is : (s : Statement) (b : Bool) → slice_get db j ≡ Some s
+      → is_assertion_at db j ≡ b → list_any is_assertion (s ∷ []) ≡ b
   assertion_flag_is s b statement_is flag_is =
       sym (ap (λ o. list_any is_assertion (elim o [ None ↦ [] | Some s ↦ s ∷ [] ])) statement_is)
       ∙ flag_is

@@ -89,8 +89,8 @@ module _ (db : List Statement) (t : ℕ) (steps : List PlacedStep) where
         derivation = all_reached.forest;
         is_proof = is_proof.1;
         cites_rise = cites_rise;
-        cites_are_exact = λ a. subst (λ b. Decides b (Cites db essential t a)) (sym
-            (members_are a)) (noted_are_exact a);
+        cites_are_exact = λ a. subst (λ b. Decides b (Cites db essential t a))
+            (sym (members_are a)) (noted_are_exact a);
       }
 
     pub end_is_refused : (end : ℕ) (code : Code) → option_map end_at (slice_get db t) ≡ Some end
@@ -100,8 +100,8 @@ module _ (db : List Statement) (t : ℕ) (steps : List PlacedStep) where
         let f = formula_at db t in
         inr (
           has_performed.are_steps.no_reading_faults,
-          inr (subst
-              (λ ps. ProofEndFault (context_at db t) ps f (proof_end (slice_get db t))
+          inr
+              (subst (λ ps. ProofEndFault (context_at db t) ps f (proof_end (slice_get db t))
               (fault end code)) has_performed.are_steps.steps_are (subst (λ n. ProofEndFault
               (context_at db t) steps f n (fault end code)) (sym (proof_end_is_end_at db t end
               has_performed.are_steps.is_theorem end_is)) (end_code_is_fault db t steps

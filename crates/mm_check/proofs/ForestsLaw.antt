@@ -215,8 +215,9 @@ module _ (c : Context) where
     move_at_end : (lists : List (List ℕ)) (forests later : List Trees) (forest next_forest : Trees)
         (s : Step)
         → AreListsOf lists forests → AreDerivations c forest → AreDerivations c next_forest
-        → Adds c lists (postfix forest) s (postfix next_forest) → forest_at forests (length forests)
-        ≡ forest → IsForestStep (forests ++ next_forest ∷ later) (length forests) s
+        → Adds c lists (postfix forest) s (postfix next_forest)
+        → forest_at forests (length forests) ≡ forest
+        → IsForestStep (forests ++ next_forest ∷ later) (length forests) s
     move_at_end lists forests later forest next_forest (label l) are_lists derives next_derives adds
         forest_is =
         move_label (forests ++ next_forest ∷ later) (length forests) forest next_forest l derives
@@ -254,8 +255,8 @@ module _ (c : Context) where
           );
           ends_in_d =
               ap (forest_at (forests ++ next_forest ∷ later)) length_splits
-              ∙ ap (λ z. forest_at z (length (forests ++ next_forest ∷ []) + length steps)) (sym
-              lists_regroup) ∙ has_rest.ends_in_d;
+              ∙ ap (λ z. forest_at z (length (forests ++ next_forest ∷ []) + length steps))
+              (sym lists_regroup) ∙ has_rest.ends_in_d;
         }
       where
         length_is_suc : length (forests ++ next_forest ∷ []) ≡ suc (length forests)
@@ -271,8 +272,8 @@ module _ (c : Context) where
         lists_regroup : (forests ++ next_forest ∷ []) ++ later ≡ forests ++ next_forest ∷ later
         lists_regroup = append_assoc forests (next_forest ∷ []) later
 
-        length_splits : length forests + suc (length steps) ≡ length (forests ++ next_forest ∷ []) +
-            length steps
+        length_splits : length forests + suc (length steps)
+            ≡ length (forests ++ next_forest ∷ []) + length steps
         length_splits = omega (arith, length_is_suc)
 
     has_rest_from : (steps : List Step) (lists : List (List ℕ)) (forests : List Trees)

@@ -17,7 +17,7 @@ use Rattle.mm_steps.specs.TheoremSteps.{step_at, is_marked}
 use Rattle.mm_machine.specs.State.{MachineState, machine_state, with_mark, reason_of}
 use Rattle.mm_machine.specs.declared.reason.StepRefused.{StepRefused}
 use Rattle.mm_machine.specs.declared.reason.StepRefused.TheVariants.{Fault, Memory}
-use Rattle.mm_check.specs.Contract.{IsReady, IsRefusalOfSomeStep, refusal_at}
+use Rattle.mm_check.specs.Contract.{IsReadyStep, IsRefusalOfSomeStep, refusal_at}
 use Rattle.mm_check.specs.Checker.{CheckerState, checker_state, IsAtTheorem, HasPerformed, Performs}
 use Rattle.mm_check.specs.Checker.{IsStepRefusal}
 use Rattle.mm_check.specs.Reached.{IsReached, HasRun, AreEndFormulas, steps_of}
@@ -30,8 +30,8 @@ get_of_front [] later j f ends_at_j = absurd (cc)
 get_of_front (x ∷ ends) later zero f ends_at_j = ends_at_j
 get_of_front (x ∷ ends) later (suc j) f ends_at_j = get_of_front ends later j f ends_at_j
 
-get_of_last : (ends : List Formula) (f : Formula) → slice_get (ends ++ f ∷ []) (length ends)
-    ≡ Some f
+get_of_last : (ends : List Formula) (f : Formula)
+    → slice_get (ends ++ f ∷ []) (length ends) ≡ Some f
 get_of_last [] f = refl
 get_of_last (x ∷ ends) f = get_of_last ends f
 
@@ -82,12 +82,12 @@ module _ (db : List Statement) (t : ℕ) (steps : List PlacedStep) (i : ℕ) (c 
       has_performed.are_steps.are_good has_performed.has_run.end_count_is a_is
 
   -- the step can be made
-  pub step_is_ready : IsReady (context_at db t) c.machine.marks a
+  pub step_is_ready : IsReadyStep (context_at db t) c.machine.marks a
   step_is_ready = is_ready a a_is good_step
     where
       is_ready : (s : Step) → s ≡ (step_at steps i).step
           → IsGoodStep (context_at db t) (length has_performed.has_run.ends) s
-          → IsReady (context_at db t) c.machine.marks s
+          → IsReadyStep (context_at db t) c.machine.marks s
       is_ready (label l) a_is is_good = is_good
       is_ready (marked j) a_is is_good =
           has_performed.has_run.marked_are_kept j
@@ -139,8 +139,8 @@ module _ (db : List Statement) (t : ℕ) (steps : List PlacedStep) (i : ℕ) (c 
 
       marks_lt_i : All (λ j. j < i + 1) d.machine.marks
       marks_lt_i =
-          rw performs.marks_stay (All-weaker (λ j. j < i) (λ j. j < i + 1) (λ j j_lt_i. omega
-          (arith, j_lt_i)) c.machine.marks has_performed.has_run.marks_lt_i)
+          rw performs.marks_stay (All-weaker (λ j. j < i) (λ j. j < i + 1) (λ j j_lt_i.
+          omega (arith, j_lt_i)) c.machine.marks has_performed.has_run.marks_lt_i)
 
       ends_at_i : slice_get ends i ≡ Some (top d.machine.stack)
       ends_at_i =
@@ -178,8 +178,8 @@ module _ (db : List Statement) (t : ℕ) (steps : List PlacedStep) (i : ℕ) (c 
         marks_lt_i = All-push (λ j. j < i + 1) d.machine.marks i marks_lt_i (omega arith);
         marked_are_kept = λ j j_lt_suc_i is_marked_j. elim (cases_lt j
             i) [
-              | inl j_lt_i ↦ Contains-append_left d.machine.marks (i ∷
-                  []) j (earlier_is_kept j j_lt_i is_marked_j)
+              | inl j_lt_i ↦ Contains-append_left d.machine.marks (i ∷ []) j
+                  (earlier_is_kept j j_lt_i is_marked_j)
               | inr i_le_j ↦ let i_is_j : i ≡ j = omega (arith, i_le_j, j_lt_suc_i) in
                   subst (Contains (d.machine.marks ++ i ∷ [])) i_is_j (Contains-push d.machine.marks
                   i)

@@ -65,8 +65,8 @@ module _ (c : Context) where
       ≡ true) is_last is_member_of_x)
 
   members_after_step : (lists : List (List ℕ)) (labels new_labels : List ℕ) (s : Step)
-      → Adds c lists labels s new_labels → AreWithin lists labels → (a : ℕ) → is_member new_labels a
-      ≡ (is_member labels a || is_labelled_step s a)
+      → Adds c lists labels s new_labels → AreWithin lists labels → (a : ℕ)
+      → is_member new_labels a ≡ (is_member labels a || is_labelled_step s a)
   members_after_step lists labels new_labels (label l) adds are_within a =
       ap (λ z. is_member z a) adds ∙ list_any-append (λ y. a == y) labels (l ∷ [])
       ∙ ap (λ b. is_member labels a || b) (or-false (a == l))
@@ -169,12 +169,12 @@ module _ (db : List Statement) (t : ℕ) (steps : List PlacedStep) (stack ends :
             arith,
             ap length stack_is,
             length-append (xs ++ h ∷ []) (g ∷ []),
-            length-append xs (h ∷
-                []),
+            length-append xs (h ∷ []),
           )
 
-      forest_derives : (forest : Trees) → AreDerivations (context_at db t) forest → formulas forest
-          ≡ f ∷ [] → Expands (context_at db t) [] [] (steps_of steps) (postfix forest)
+      forest_derives : (forest : Trees) → AreDerivations (context_at db t) forest
+          → formulas forest ≡ f ∷ []
+          → Expands (context_at db t) [] [] (steps_of steps) (postfix forest)
           → Derives (context_at db t) (steps_of steps) f forest
       forest_derives none derives stack_is expansion = cc
       forest_derives (more none l g cs) derives stack_is expansion =
@@ -204,8 +204,8 @@ step_is_good_from c n (s ∷ steps) (suc i) i_lt_length are_good =
     subst (λ m. IsGoodStep c m (step_at steps i).step) sum_is
     (step_is_good_from c (suc n) steps i (omega arith) are_good.1)
 
-pub step_at_is_good : (c : Context) (steps : List PlacedStep) (i n : ℕ) (s : Step) → i
-    < length steps
+pub step_at_is_good : (c : Context) (steps : List PlacedStep) (i n : ℕ) (s : Step)
+    → i < length steps
     → AreGoodSteps c 0 (steps_of steps) → n ≡ i → s ≡ (step_at steps i).step → IsGoodStep c n s
 step_at_is_good c steps i n s i_lt_length are_good n_is_i s_is =
     grind (arith, common_steps, step_is_good_from)

@@ -23,9 +23,9 @@ module _ (db : List Statement) (t : ℕ) where
   length_push_is_positive : (es : List Formula) (f : Formula) → 0 < length (es ++ f ∷ [])
   length_push_is_positive es f = omega (arith, length-append es (f ∷ []))
 
-  pub repeated_step_performs : (c : CheckerState) (j n : ℕ) (m : MachineState) → n
-      < length c.machine.marks → get_or c.machine.marks n 0 ≡ j → m
-      ≡ machine_state (c.machine.stack ++ get_or c.machine.formulas n [] ∷ []) c.machine.marks
+  pub repeated_step_performs : (c : CheckerState) (j n : ℕ) (m : MachineState)
+      → n < length c.machine.marks → get_or c.machine.marks n 0 ≡ j
+      → m ≡ machine_state (c.machine.stack ++ get_or c.machine.formulas n [] ∷ []) c.machine.marks
       c.machine.formulas c.machine.variable_flags
       → Performs db t (marked j) c (checker_state m c.rules c.noted c.cache)
   repeated_step_performs c j n m n_lt_length mark_is entries_are =

@@ -69,8 +69,8 @@ module _ (db : List Statement) (t : ℕ) (b : Bool) (l : ℕ) (cs : Trees) (f : 
     pub flag_count_is : length vs ≡ tree_count cs
     pub flagged_is_counted : (n : ℕ) → flag_at vs n ≡ true → (b
         ≡ true) × (child_counts db true l n ≡ true)
-    pub counted_is_flagged : (n : ℕ) → n < tree_count cs → b ≡ true → child_counts db true l n
-        ≡ true → flag_at vs n ≡ true
+    pub counted_is_flagged : (n : ℕ) → n < tree_count cs → b ≡ true
+        → child_counts db true l n ≡ true → flag_at vs n ≡ true
 
   flags_by_kind : (q : Bool) → is_assertion_at db l ≡ q → AreFlags (if q then child_flags db b l
       else [])
@@ -217,8 +217,8 @@ module _ (db : List Statement) (t : ℕ) (steps : List PlacedStep) (i : ℕ) (ws
     step_flags_fit = step_flags_count b s step_flags ∙ are_found.step_flags_fit;
     entry_flags_fit = is_undone.entry_flags_fit;
     are_assertions =
-        λ a is_noted. elim (or_cases (is_member noted a) (b && (is_labelled_step s a &&
-        is_assertion_at db a))
+        λ a is_noted. elim (or_cases (is_member noted a) (b && (is_labelled_step s a
+        && is_assertion_at db a))
         (sym (members_are a) ∙ is_noted)) [
           | inl a_is_noted ↦ are_found.are_assertions a a_is_noted
           | inr is_noted_here ↦ (and_parts (is_labelled_step s a) (is_assertion_at db a)
@@ -274,8 +274,8 @@ module _ (db : List Statement) (t : ℕ) (steps : List PlacedStep) (i : ℕ) (ws
           members_are a ∙ or_left (is_member noted a)
           (b && (is_labelled_step s a && is_assertion_at db a)) a_is_noted
 
-      label_is_noted : (a : ℕ) → is_assertion_at db a ≡ true → b ≡ true → is_labelled_step s a
-          ≡ true → is_member out a ≡ true
+      label_is_noted : (a : ℕ) → is_assertion_at db a ≡ true → b ≡ true
+          → is_labelled_step s a ≡ true → is_member out a ≡ true
       label_is_noted a is_assertion b_is_true is_labelled =
           members_are a ∙ or_right (is_member noted a)
           (b && (is_labelled_step s a && is_assertion_at db a))
@@ -331,8 +331,8 @@ good_step_is_earlier c i n s h1 h2 = grind (arith, common_steps)
 
 module _ (db : List Statement) (t : ℕ) (steps : List PlacedStep) (is_complete : AreComplete db)
   where
-    pub walked_at_start : (entry_flags step_flags : List Bool) (noted : List ℕ) → steps
-        ≡ steps_at db t → ((d : Trees) × IsProof db t d) → entry_flags ≡ true ∷ []
+    pub walked_at_start : (entry_flags step_flags : List Bool) (noted : List ℕ)
+        → steps ≡ steps_at db t → ((d : Trees) × IsProof db t d) → entry_flags ≡ true ∷ []
         → step_flags ≡ replicate (length steps) false → noted ≡ []
         → AreFoundFrom db t steps (length steps) entry_flags step_flags noted
     walked_at_start entry_flags step_flags noted steps_are (d, derives) entry_flags_are
@@ -420,5 +420,5 @@ module _ (db : List Statement) (t : ℕ) (steps : List PlacedStep) (is_complete 
             step_flags a → is_member noted a ≡ true
         member_is_noted (inl noted_or_found) = noted_or_found
         member_is_noted (inr (inl noted_or_found)) = absurd noted_or_found
-        member_is_noted (inr (inr noted_or_found)) = absurd (omega
-            (arith, noted_or_found.1))
+        member_is_noted (inr (inr noted_or_found)) = absurd
+            (omega (arith, noted_or_found.1))

@@ -1,5 +1,5 @@
 -- What the answers of the checker mean.
-use Rattle.std.specs.Prelude.{ℕ, ◌≡◌, ◌<◌, Bool, false, ◌==◌, List, Some, slice_get, Decides}
+use Rattle.std.specs.Prelude.{ℕ, ◌≡◌, ◌<◌, Bool, false, ◌==◌, List, Some, slice_get, Decides, ⊤}
 use Rattle.std.specs.List.{Contains}
 use Rattle.std.specs.Option.{option_map}
 use Rattle.std.specs.List.Sorted.{IsStrictlyIncreasing}
@@ -40,19 +40,19 @@ pub record IsChecked (db : List Statement) (by_essential : Bool) (t : ℕ)
 -- if the refusal is a fault, it is the fault of the theorem's proof
 abbrev pub IsCheckRefusal : List Statement → ℕ → CheckRefused → Type 0
 IsCheckRefusal db t (Faulty f) = ProofFault db t (proof_end (slice_get db t)) f
-IsCheckRefusal db t Memory = Unit {0}
+IsCheckRefusal db t Memory = ⊤
 
 -- if the refusal is a fault, it is the fault of one of these steps
 abbrev pub IsRefusalOfSomeStep : List Statement → ℕ → List PlacedStep → CheckRefused → Type 0
 IsRefusalOfSomeStep db t steps (Faulty f) = StepFault (context_at db t) steps f
-IsRefusalOfSomeStep db t steps Memory = Unit {0}
+IsRefusalOfSomeStep db t steps Memory = ⊤
 
 -- if the refusal is a fault, it is that of the end of the theorem's proof, after which there are
 -- these entries
 abbrev pub IsEndRefusal : List Statement → ℕ → List Formula → CheckRefused → Type 0
 IsEndRefusal db t stack (Faulty f) =
     (option_map end_at (slice_get db t) ≡ Some f.at) × IsEndCode stack (formula_at db t) f.code
-IsEndRefusal db t stack Memory = Unit {0}
+IsEndRefusal db t stack Memory = ⊤
 
 -- the refusal of a proof, a step of which was refused at the place
 abbrev pub refusal_at : ℕ → StepRefused → CheckRefused
@@ -62,7 +62,7 @@ refusal_at at Full = Memory
 -- if the step is a label, it is less than the number
 abbrev pub IsLabelBelow : Step → ℕ → Type 0
 IsLabelBelow (label l) n = l < n
-IsLabelBelow (marked j) n = Unit {0}
+IsLabelBelow (marked j) n = ⊤
 
 -- whether a step has the label
 abbrev pub is_labelled_step : Step → ℕ → Bool
@@ -70,6 +70,6 @@ is_labelled_step (label l) a = a == l
 is_labelled_step (marked j) a = false
 
 -- the step is a label that stands for something, or a marked step whose formula is kept
-abbrev pub IsReady : Context → List ℕ → Step → Type 0
-IsReady c marks (label l) = IsCompleteReferent c (c.referent l)
-IsReady c marks (marked j) = Contains marks j
+abbrev pub IsReadyStep : Context → List ℕ → Step → Type 0
+IsReadyStep c marks (label l) = IsCompleteReferent c (c.referent l)
+IsReadyStep c marks (marked j) = Contains marks j

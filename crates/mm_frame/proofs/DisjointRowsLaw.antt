@@ -134,8 +134,8 @@ module _ (db : List Statement) (pairs : List (ℕ × ℕ)) (low : ℕ) (indices 
 
         is_chained : has_narrow_pair db low y j ≡ true
             → has_pair (map (λ i. get_or pairs i (0, 0)) indices) y j ≡ true
-        is_chained passes = at_index_of (index_of_pair pairs y j (grind
-            (arith, passes, are_pairs y j)))
+        is_chained passes = at_index_of (index_of_pair pairs y j
+            (grind (arith, passes, are_pairs y j)))
           where
             at_index_of : HasIndex pairs y j
                 → has_pair (map (λ i. get_or pairs i (0, 0)) indices) y j ≡ true
@@ -322,8 +322,8 @@ module _ (b : BlockLists) (pairs : List (ℕ × ℕ)) where
               let found = index_of_pair row y j in_row in
               let q = found.index in
               let q_lt = found.index_lt_length in
-              let last_is_there = has_pair_at_index row (length row - 1) (0, 0) (omega
-              (arith, q_lt))
+              let last_is_there = has_pair_at_index row (length row - 1) (0, 0)
+              (omega (arith, q_lt))
               in
               let last_before = in_row_is_before last.0 last.1 last_is_there in
               let last_ends : last.0 ≡ y → end_of b last.1 < end_of b next.1 =

@@ -9,6 +9,7 @@ use Rattle.std.proofs.lemmas.List.Folds.{list_any-append}
 use Rattle.std.proofs.lemmas.Grind.{flat_map-append}
 use Rattle.std.proofs.lemmas.Option.{same_Some}
 use Rattle.std.proofs.lemmas.Slice.Eq.{bytes_eq-Decides}
+use Rattle.std.specs.Option.{option_to_list}
 use Rattle.std.specs.List.{list_any}
 use Rattle.mm_spec.specs.Text.{Bytes, Token, is_in, fault}
 use Rattle.mm_spec.specs.Statement.{Statement, floating}
@@ -37,15 +38,11 @@ word_at_index_of w (v ∷ vs) index_lt_length = elim (cases_Bool (bytes_eq w v))
       rw (is_other, slice_get) (word_at_index_of w vs (search (rules, arith)))
 ]
 
--- the statement as a list, which is empty if there is none
-abbrev pub as_list : Option Statement → List Statement
-as_list o = elim o [ None ↦ [] | Some s ↦ s ∷ [] ]
-
 -- the variable to which a statement gives a type, if there is a statement
 abbrev typed_variable_of : List Statement → Option Statement → Option ℕ
 typed_variable_of db o =
-    if list_any is_floating (elim o [ None ↦ [] | Some s ↦ s ∷ [] ]) then slice_get
-    (flat_map (formula_of db) (elim o [ None ↦ [] | Some s ↦ s ∷ [] ])) 1 else None
+    if list_any is_floating (option_to_list o)
+    then slice_get (flat_map (formula_of db) (option_to_list o)) 1 else None
 
 -- statement `k` is a `$f` of variable `v`
 pub record IsFloat (db : List Statement) (k v : ℕ) : Type 0 where
@@ -135,21 +132,22 @@ module _ (db : List Statement) (is_sound : IsSound db) where
     where
       is_float : (o : Option Statement) → slice_get db k ≡ o → typed_variable_of db o ≡ Some v
           → IsFloat db k v
-      is_float o statement_k_is_o o_types_v = elim (cases_Bool (list_any is_floating (as_list o))) [
-        | inl is_one ↦ is_float_of_statement k v k_lt_length_db o statement_k_is_o is_one
-            (rw is_one at o_types_v)
-        | inr is_none ↦ absurd (let none_is_some = rw is_none at o_types_v in cc)
-      ]
+      is_float o statement_k_is_o o_types_v =
+          elim (cases_Bool (list_any is_floating (option_to_list o))) [
+            | inl is_one ↦ is_float_of_statement k v k_lt_length_db o statement_k_is_o is_one
+                (rw is_one at o_types_v)
+            | inr is_none ↦ absurd (let none_is_some = rw is_none at o_types_v in cc)
+          ]
 
   -- a `$f` has a variable
   pub floating_is_typed : (k : ℕ) → k < length db
-      → list_any is_floating (as_list (slice_get db k)) ≡ true
+      → list_any is_floating (option_to_list (slice_get db k)) ≡ true
       → (v : ℕ) × (typed_variable_at db k ≡ Some v) × IsFloat db k v
   floating_is_typed k k_lt_length_db k_is_floating =
       has_variable (slice_get db k) refl k_is_floating
     where
-      has_variable : (o : Option Statement) → slice_get db k ≡ o → list_any is_floating (as_list o)
-          ≡ true
+      has_variable : (o : Option Statement) → slice_get db k ≡ o
+          → list_any is_floating (option_to_list o) ≡ true
           → (v : ℕ) × (typed_variable_at db k ≡ Some v) × IsFloat db k v
       has_variable (Some (floating l a [] d)) statement_k_is_o k_is_floating =
           absurd (let no_typing_fault = (both_are_empty (label_faults (names_before db k) l)
@@ -172,12 +170,12 @@ module _ (db : List Statement) (is_sound : IsSound db) where
     pub formula_is_typecode_and_variable : formula_at db k
         ≡ index_of float.typecode.word (symbol_names db) ∷ v ∷ []
     formula_is_typecode_and_variable =
-        ap (λ o. flat_map (formula_of db) (as_list o)) float.statement_is
+        ap (λ o. flat_map (formula_of db) (option_to_list o)) float.statement_is
         ∙ ap (λ x. index_of float.typecode.word (symbol_names db) ∷ x ∷ []) float.number_is_v
 
     -- a `$f` is a floating hypothesis
-    pub float_is_floating : list_any is_floating (as_list (slice_get db k)) ≡ true
-    float_is_floating = ap (λ o. list_any is_floating (as_list o)) float.statement_is
+    pub float_is_floating : list_any is_floating (option_to_list (slice_get db k)) ≡ true
+    float_is_floating = ap (λ o. list_any is_floating (option_to_list o)) float.statement_is
 
     typecode_lt_symbol_count : index_of float.typecode.word (symbol_names db) < length
         (symbol_names db)
@@ -235,7 +233,7 @@ module _ (db : List Statement) (is_sound : IsSound db) where
       ∙ word_at_index_of k_is_float.variable.word (symbol_names db) k_index_lt_count) in
       let w = k_is_float.variable.word in
       let j_types_w =
-      ap (λ o. is_in w (flat_map typed_words (as_list o))) j_is_float.statement_is
+      ap (λ o. is_in w (flat_map typed_words (option_to_list o))) j_is_float.statement_is
       ∙ ap (λ b. b || false)
       ((bytes_eq-Decides w j_is_float.variable.word).1 (sym variables_equal)) in
       true≢false

@@ -255,18 +255,19 @@ module _ (db : List Statement) (k : ℕ) where
               (member_range k 0 j (omega arith)
               ∙ (let zero_plus_k_is_k : 0 + k ≡ k = omega arith in ap (nat_lt j) zero_plus_k_is_k)))
 
-          right_to_left : (j : ℕ) → (is_member es j || list_any (is_float_of db k ts j) variables)
-              ≡ true
+          right_to_left : (j : ℕ)
+              → (is_member es j || list_any (is_float_of db k ts j) variables) ≡ true
               → ((active_at db j k && wanted j) ≡ true) × (j < k)
           right_to_left j is_found =
-              elim (or_cases (is_member es j) (list_any (is_float_of db k ts j) variables) is_found) [
+              let is_float = list_any (is_float_of db k ts j) variables in
+              elim (or_cases (is_member es j) is_float is_found) [
                 | inl j_is_member ↦ (
                   grind (arith, j_is_member, member_is_active_essential j),
                   grind (arith, nat_tests, j_is_member, member_is_active_essential j),
                 )
-                | inr is_float ↦
-                    let (is_active, is_floating_j, has_mandatory, j_lt_k) = found_is_active_float j
-                    is_float in
+                | inr float_is_found ↦
+                    let (is_active, is_floating_j, has_mandatory, j_lt_k) =
+                    found_is_active_float j float_is_found in
                     (grind (arith, is_active, is_floating_j, has_mandatory), j_lt_k)
               ]
 

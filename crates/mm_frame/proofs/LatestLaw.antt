@@ -143,8 +143,8 @@ module _ (test : Statement → Bool) (db : List Statement) where
       member_is_staying : (i : ℕ) → is_member (xs ++ last ∷ []) i ≡ true
           → (i < k) × (is_staying test db i k ≡ true)
       member_is_staying i i_is_member =
-          elim (or_cases (is_member xs i) (nat_eq i last) (sym (member_push xs last i) ∙
-          i_is_member)) [
+          elim (or_cases (is_member xs i) (nat_eq i last) (sym (member_push xs last i)
+          ∙ i_is_member)) [
             | inl in_xs ↦ is_walked.members_are_staying i in_xs
             | inr is_last ↦ rw (eqb-true i last is_last) last_stays
           ]

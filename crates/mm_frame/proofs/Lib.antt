@@ -8,8 +8,8 @@
 -- they give `IsDisjointIndex`. `pairs_are_mandatory_pairs` (`MandatoryPairsLaw.antt`) gives the
 -- pairs. `wide_are_listed` and `rows_are_listed` (`SymbolFactsLaw.antt`) say that only variables
 -- that may be in an active `$d` need be looked up.
--- `same_frame` (`NeighboursLaw.antt`) says when an assertion has the frame of the one before it, and
--- `same_scope_of_latest` when the same `$d`, `$e` and `$f` are active at both.
+-- `same_frame` (`NeighboursLaw.antt`) says when an assertion has the frame of the one before it,
+-- and `same_scope_of_latest` when the same `$d`, `$e` and `$f` are active at both.
 -- (`SkipsLaw.antt`: the loops of `skips_of`; `LoopsLaw.antt`: one more element in the loops that
 -- collect.) The loop of `frames_between` adds to the frames by `frames_with_statement`
 -- (`FramesLaw.antt`). `next_is_joined` and `all_are_joined` (`StretchesLaw.antt`) put the frames of

@@ -49,8 +49,8 @@ pub record AddsLater (by_statement : List (ℕ × ℕ)) (first end : ℕ)
   where
     pub first_lt_end : first < end
     pub end_le_length : end ≤ length by_statement
-    pub statement_is_same : (p : ℕ) → first < p → p < end → (get_or by_statement p (0, 0)).0
-        ≡ (get_or by_statement first (0, 0)).0
+    pub statement_is_same : (p : ℕ) → first < p → p < end
+        → (get_or by_statement p (0, 0)).0 ≡ (get_or by_statement first (0, 0)).0
     pub earlier_pairs_stay : (x y : ℕ) → has_pair earlier_pairs x y ≡ true
         → has_pair pairs_so_far x y ≡ true
     pub new_pairs_are_later : (x y : ℕ) → has_pair pairs_so_far x y ≡ true
@@ -188,8 +188,8 @@ module _ (by_statement : List (ℕ × ℕ)) (pairs_are_rising : AreRising by_sta
                   statement_ends end_lt_length,
                   earlier_is_before by_statement pairs_are_rising first end (0, 0) adds.first_lt_end
                       end_lt_length,
-                  earlier_is_before by_statement pairs_are_rising end p (0, 0) (omega
-                      (arith, end_le_p, end_ne_p)) p_lt_length,
+                  earlier_is_before by_statement pairs_are_rising end p (0, 0)
+                      (omega (arith, end_le_p, end_ne_p)) p_lt_length,
                 ))
               ]
         ],
@@ -308,8 +308,8 @@ module _ (db : List Statement) (b : BlockLists) (are_blocks : IsBlocks db b) (k 
       x_lt_y = grind (arith, nat_tests, is_later);
       x_is_member = grind (arith, is_later, variables_are x);
       y_is_member = grind (arith, is_later, variables_are y);
-      both = row_is_together db b are_blocks k k_le_length rows rows_are x y (grind
-          (arith, is_later));
+      both = row_is_together db b are_blocks k k_le_length rows rows_are x y
+          (grind (arith, is_later));
     }
 
     mandatory_are_wanted : (x y : ℕ) → AreMandatory x y

@@ -200,8 +200,8 @@ module _ (db : List Statement) where
         same_scope (λ j. list_any is_disjoint_statement (statement_at db j))
         (λ j is_other. (other_tests j is_other).2)
 
-    module _ (vs : List ℕ) (variables_are : (x : ℕ) → is_member vs x
-        ≡ (is_variable_number db x
+    module _ (vs : List ℕ) (variables_are : (x : ℕ)
+        → is_member vs x ≡ (is_variable_number db x
         && list_any (λ j. is_member (formula_at db j) x) (active_of is_essential db p)))
         (further_agree : (x : ℕ) → is_further db k vs x ≡ is_further db p vs x) where
       mandatory_by_parts : (m x : ℕ) → active_of is_essential db m ≡ active_of is_essential db p
@@ -268,7 +268,7 @@ fresh_later n k stamps fresh = grind (arith, common_steps)
 module _ {A : Type 0} (db : List Statement) (from k : ℕ) (s : Scratch A) where
   module _ (same_scope : IsSameScope db s.previous k) (known : IsPreviousKnown db s) where
     -- the `$e` of an assertion are those of the one before it in the same scope
-    pub essential_lists_stay : s.previous < k → AreEssentialLists db k s.scope
+    pub essential_lists_stay : s.previous < k → AreEssentialLists db k s.essential_lists
     essential_lists_stay previous_lt_k =
         let lists = known.essential_lists in record {
           are_stamps = lists.are_stamps;
@@ -280,13 +280,14 @@ module _ {A : Type 0} (db : List Statement) (from k : ℕ) (s : Scratch A) where
 
     -- with the same further variables it has the same frame
     pub taken_over : (fs : List ℕ) → fs ≡ s.previous_further.items
-        → ((x : ℕ) → is_member fs x ≡ is_further db k s.scope.variables.items x)
+        → ((x : ℕ) → is_member fs x ≡ is_further db k s.essential_lists.variables.items x)
         → mandatory_at db k ≡ mandatory_at db s.previous
     taken_over fs fs_are fs_are_further =
-        same_frame db s.previous k same_scope s.scope.variables.items
+        same_frame db s.previous k same_scope s.essential_lists.variables.items
         (λ x. known.essential_lists.variables_are x
         ∙ ap (λ z. is_variable_number db x && z)
-        (same_members_same_any (λ j. is_member (formula_at db j) x) s.scope.essentials.items
+        (same_members_same_any (λ j. is_member (formula_at db j) x)
+        s.essential_lists.essentials.items
         (active_of is_essential db s.previous) known.essential_lists.essentials_are))
         (λ x. sym (fs_are_further x) ∙ ap (λ xs. is_member xs x) fs_are ∙ known.further_are x)
 
@@ -303,10 +304,10 @@ module _ {A : Type 0} (db : List Statement) (from k : ℕ) (s : Scratch A) where
 
   -- after an assertion
   pub ready_after_assertion : (t : Scratch A) → t.previous ≡ k → from ≤ k
-      → list_any is_assertion (statement_at db k) ≡ true → AreEssentialLists db k t.scope
+      → list_any is_assertion (statement_at db k) ≡ true → AreEssentialLists db k t.essential_lists
       → IsFresh (length (symbol_names db)) (k + 1) t.lists.marks.items
-      → ((x : ℕ) → is_member t.previous_further.items x
-      ≡ is_further db k t.scope.variables.items x)
+      → ((x : ℕ)
+      → is_member t.previous_further.items x ≡ is_further db k t.essential_lists.variables.items x)
       → IsReady db from (k + 1) t
   ready_after_assertion t previous_is from_le_k is_one lists marks_are_fresh
       further_are =
@@ -324,8 +325,8 @@ module _ {A : Type 0} (db : List Statement) (from k : ℕ) (s : Scratch A) where
         );
         previous_is_known = λ is_some. record {
           essential_lists =
-              subst (λ p. AreEssentialLists db p t.scope) (sym previous_is) lists;
+              subst (λ p. AreEssentialLists db p t.essential_lists) (sym previous_is) lists;
           further_are = λ x. further_are x
-              ∙ ap (λ p. is_further db p t.scope.variables.items x) (sym previous_is);
+              ∙ ap (λ p. is_further db p t.essential_lists.variables.items x) (sym previous_is);
         };
       }

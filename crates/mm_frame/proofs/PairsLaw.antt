@@ -156,8 +156,8 @@ sorted_with_same_members_equal (p ∷ ps) (q ∷ qs) ps_sorted qs_sorted same_me
     firsts_equal =
         elim (in_first_or_rest q qs p.low p.high (search (rules, arith, first_is_in))) [
           | inl (low_is, high_is) ↦ ap₂ pair low_is high_is
-          | inr p_in_qs ↦ elim (in_first_or_rest p ps q.low q.high (search
-              (rules, arith, first_is_in))) [
+          | inr p_in_qs ↦ elim (in_first_or_rest p ps q.low q.high
+              (search (rules, arith, first_is_in))) [
                 | inl (low_is, high_is) ↦ ap₂ pair (sym low_is) (sym high_is)
                 | inr q_in_ps ↦ search (rules, arith)
               ]

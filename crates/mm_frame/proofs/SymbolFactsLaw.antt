@@ -65,8 +65,8 @@ module _ (db : List Statement) (b : BlockLists) (k : ℕ) where
           (λ is_one. grind (arith, is_one, are_listed.are_variables y))
 
       -- and so is the symbol, if it is a variable
-      pub rows_are_listed : (x y : ℕ) → is_higher_variable_in_rows b rows ds k x y
-          ≡ is_higher_variable_in_rows b rows vs k x y
+      pub rows_are_listed : (x y : ℕ)
+          → is_higher_variable_in_rows b rows ds k x y ≡ is_higher_variable_in_rows b rows vs k x y
       rows_are_listed x y =
           same_tests (is_higher_variable_in_rows b rows ds k x y)
           (is_higher_variable_in_rows b rows vs k x y)

@@ -36,21 +36,21 @@ module _ {A : Type 0} where
   pub record AreEssentialLists (db : List Statement) (k : ℕ) (s : EssentialLists A) : Type 0 where
     pub are_stamps : AreStamps (length (symbol_names db)) s.stamp s.stamps.items s.variables.items
     pub stamp_le : s.stamp ≤ k + 1
-    pub essentials_are : (i : ℕ) → is_member s.essentials.items i
-        ≡ is_member (active_of is_essential db k) i
-    pub variables_are : (x : ℕ) → is_member s.variables.items x
-        ≡ (is_variable_number db x
+    pub essentials_are : (i : ℕ)
+        → is_member s.essentials.items i ≡ is_member (active_of is_essential db k) i
+    pub variables_are : (x : ℕ)
+        → is_member s.variables.items x ≡ (is_variable_number db x
         && list_any (λ j. is_member (formula_at db j) x) s.essentials.items)
 
   -- these are the lists of the last assertion
   pub record IsPreviousKnown (db : List Statement) (s : Scratch A) : Type 0 where
-    pub essential_lists : AreEssentialLists db s.previous s.scope
+    pub essential_lists : AreEssentialLists db s.previous s.essential_lists
     pub further_are : (x : ℕ) → is_member s.previous_further.items x
-        ≡ is_further db s.previous s.scope.variables.items x
+        ≡ is_further db s.previous s.essential_lists.variables.items x
 
   -- what a walk from statement `from` on keeps from one assertion to the next, before statement k
   pub record IsReady (db : List Statement) (from k : ℕ) (s : Scratch A) : Type 0 where
-    pub stamps_are_fresh : IsFresh (length (symbol_names db)) k s.scope.stamps.items
+    pub stamps_are_fresh : IsFresh (length (symbol_names db)) k s.essential_lists.stamps.items
     pub marks_are_fresh : IsFresh (length (symbol_names db)) k s.lists.marks.items
     pub previous_is_assertion : s.previous ≢ never
         → (from ≤ s.previous) × (s.previous < k)

@@ -19,7 +19,7 @@ ghost use Rattle.mm_frame.specs.Neighbours.{AreEssentialLists, IsReady, is_furth
 
 use crate::disjoint::{list_disjoint_variables, list_pairs, symbol_pairs};
 use crate::hypotheses::{list_further_variables, list_hypotheses, list_mandatory_variables};
-use crate::neighbours::{EssentialLists, filled, is_same_scope, list_scope};
+use crate::neighbours::{EssentialLists, filled, is_same_scope, list_essentials};
 use crate::sources::FrameSources;
 use crate::symbol_facts::{SymbolFacts, add_symbol_facts, symbol_facts_before};
 use mm_database::frames::{Frame, Frames};
@@ -63,7 +63,7 @@ struct Scratch<A: Allocator> {
     /// The last assertion before, or `NEVER`.
     previous: u32,
     /// Its active `$e`.
-    scope: EssentialLists<A>,
+    essential_lists: EssentialLists<A>,
     /// The variables of its formula that aren't in these `$e`, in ascending order.
     previous_further: Vec<u32, A>,
     /// Those of the assertion that is at hand.
@@ -76,7 +76,7 @@ impl<A: Allocator> Drop for Scratch<A> {
     fn drop(self) {
         let Self {
             previous: _,
-            scope: _,
+            essential_lists: _,
             previous_further: _,
             further: _,
             lists: _,
@@ -108,11 +108,11 @@ impl<A: Allocator + Copy> Scratch<A> {
             (λ s. (db : List Statement) (from : ℕ) → length (symbol_names db) ≡ symbol_count
             → IsReady db from from s) }
     {
-        let scope = EssentialLists::new(alloc, symbol_count)?;
+        let essential_lists = EssentialLists::new(alloc, symbol_count)?;
         let lists = FrameLists::new(alloc, symbol_count)?;
         Ok(Scratch {
             previous: NEVER,
-            scope,
+            essential_lists,
             previous_further: Vec::new(alloc),
             further: Vec::new(alloc),
             lists,
@@ -134,7 +134,7 @@ fn list_frame<A: Allocator>(
     sources: &FrameSources<A>,
     facts: &SymbolFacts<A>,
     assertion: u32,
-    scope: &EssentialLists<A>,
+    essential_lists: &EssentialLists<A>,
     lists: &mut FrameLists<A>,
 ) -> Result<(), AllocError>
     requires are_sources { AreSources sources.now }
@@ -143,7 +143,8 @@ fn list_frame<A: Allocator>(
         sources.now.statements.now.blocks assertion facts.now }
     requires are_fresh { IsFresh
         (length (symbol_names sources.now.statements.now.list)) assertion lists.old.marks.items }
-    requires are_essential { AreEssentialLists sources.now.statements.now.list assertion scope.now }
+    requires are_essential { AreEssentialLists sources.now.statements.now.list assertion
+        essential_lists.now }
     ensures are_fresh { OnOk result
         (IsFresh (length (symbol_names sources.now.statements.now.list)) (assertion + 1)
         lists.new.marks.items) }
@@ -153,7 +154,7 @@ fn list_frame<A: Allocator>(
 {
     list_mandatory_variables(
         sources.statements,
-        &scope.variables,
+        &essential_lists.variables,
         assertion,
         &mut lists.marks,
         &mut lists.variables,
@@ -162,7 +163,7 @@ fn list_frame<A: Allocator>(
         sources.statements,
         &facts.last_floats,
         assertion,
-        &scope.essentials,
+        &essential_lists.essentials,
         &lists.variables,
         &mut lists.hypotheses,
     )?;
@@ -253,31 +254,34 @@ fn list_further<A: Allocator>(
     sources: &FrameSources<A>,
     assertion: u32,
     is_same_scope: bool,
-    scope: &mut EssentialLists<A>,
+    essential_lists: &mut EssentialLists<A>,
     further: &mut Vec<u32, A>,
 ) -> Result<(), AllocError>
     requires are_sources { AreSources sources.now }
     requires assertion_lt_length { assertion < length sources.now.statements.now.list }
     requires are_fresh { IsFresh
-        (length (symbol_names sources.now.statements.now.list)) assertion scope.old.stamps.items }
+        (length (symbol_names sources.now.statements.now.list)) assertion
+        essential_lists.old.stamps.items }
     requires same_are_essential { is_same_scope ≡ true
-        → AreEssentialLists sources.now.statements.now.list assertion scope.old }
+        → AreEssentialLists sources.now.statements.now.list assertion essential_lists.old }
     ensures are_essential { OnOk result
-        (AreEssentialLists sources.now.statements.now.list assertion scope.new) }
-    ensures same_stay { OnOk result (is_same_scope ≡ true → scope.new ≡ scope.old) }
+        (AreEssentialLists sources.now.statements.now.list assertion essential_lists.new) }
+    ensures same_stay { OnOk result
+        (is_same_scope ≡ true → essential_lists.new ≡ essential_lists.old) }
     ensures are_further { OnOk result
         ((x : ℕ)
         → is_member further.new.items x
-        ≡ is_further sources.now.statements.now.list assertion scope.new.variables.items x) }
+        ≡ is_further sources.now.statements.now.list assertion essential_lists.new.variables.items
+        x) }
 {
     if !is_same_scope {
-        list_scope(sources, assertion, scope)?;
+        list_essentials(sources, assertion, essential_lists)?;
     }
     list_further_variables(
         sources.statements,
         sources.statements.formula(assertion),
-        scope.stamp,
-        &scope.stamps,
+        essential_lists.stamp,
+        &essential_lists.stamps,
         further,
     )
 }
@@ -315,7 +319,7 @@ fn add_assertion<A: Allocator + Copy>(
         sources,
         assertion,
         is_same_scope,
-        &mut scratch.scope,
+        &mut scratch.essential_lists,
         &mut scratch.further,
     )?;
     let previous = index_from(from, scratch.previous);
@@ -327,7 +331,7 @@ fn add_assertion<A: Allocator + Copy>(
         sources,
         facts,
         assertion,
-        &scratch.scope,
+        &scratch.essential_lists,
         &mut scratch.lists,
     )?;
     add_listed(alloc, previous, &scratch.lists, frames)?;

@@ -65,32 +65,33 @@ impl<A: Allocator + Copy> EssentialLists<A> {
 
 /// Lists the `$e` that are active at an assertion, and their variables. Replaces what the lists
 /// have.
-pub(crate) fn list_scope<A: Allocator>(
+pub(crate) fn list_essentials<A: Allocator>(
     sources: &FrameSources<A>,
     assertion: u32,
-    scope: &mut EssentialLists<A>,
+    essential_lists: &mut EssentialLists<A>,
 ) -> Result<(), AllocError>
     requires are_sources { AreSources sources.now }
     requires assertion_lt_length { assertion < length sources.now.statements.now.list }
     requires are_fresh { IsFresh
-        (length (symbol_names sources.now.statements.now.list)) assertion scope.old.stamps.items }
+        (length (symbol_names sources.now.statements.now.list)) assertion
+        essential_lists.old.stamps.items }
     ensures { OnOk result
-        (AreEssentialLists sources.now.statements.now.list assertion scope.new) }
+        (AreEssentialLists sources.now.statements.now.list assertion essential_lists.new) }
 {
     active_essentials(
         sources.statements,
         sources.essentials,
         assertion,
-        &mut scope.essentials,
+        &mut essential_lists.essentials,
     )?;
     list_essential_variables(
         sources.statements,
-        &scope.essentials,
+        &essential_lists.essentials,
         assertion,
-        &mut scope.stamps,
-        &mut scope.variables,
+        &mut essential_lists.stamps,
+        &mut essential_lists.variables,
     )?;
-    scope.stamp = assertion + 1;
+    essential_lists.stamp = assertion + 1;
     Ok(())
 }
 

@@ -13,8 +13,9 @@ use Rattle.mm_spec.proofs.UnifyLaw.{tested_equal_are_equal, found_gives_formula}
 use Rattle.mm_spec.proofs.UnifyLaw.{found_keeps_disjoint}
 use Rattle.mm_spec.specs.Laws.Stack.{substitution_from, IsCompleteReferent, label_entries}
 use Rattle.mm_spec.specs.Laws.Stack.{unless_failed, unless_too_long}
-use Rattle.mm_spec.proofs.StackStepsLaw.{proceed, perform_labels, AreGood, forest_is_performed}
-use Rattle.mm_spec.proofs.StackStepsLaw.{good_append_is_good_parts, found_matches_if_any, StopsAtLabel}
+use Rattle.mm_spec.proofs.StackStepsLaw.{AreGood, StopsAtLabel, proceed, perform_labels}
+use Rattle.mm_spec.proofs.StackStepsLaw.{forest_is_performed, good_append_is_good_parts}
+use Rattle.mm_spec.proofs.StackStepsLaw.{found_matches_if_any}
 
 -- the labels are the postfix list of a forest of derivations
 abbrev pub IsPostfixOfForest : Context → List ℕ → Type 0
@@ -31,53 +32,54 @@ module _ (c : Context) where
   step_stops_if_fails (Some (assertion a)) es too_few is_complete fails = grind arith
   step_stops_if_fails (Some (assertion a)) es unmatched is_complete fails =
       search (rules, arith, nat_le, le-leb, false_from_ne_true, tested_equal_are_equal)
-  step_stops_if_fails (Some (assertion a)) es not_disjoint is_complete fails =
+  step_stops_if_fails (Some (assertion a)) es not_disjoint is_complete
+      (τ, are_enough, premises_are, not_all_disjoint) =
       let n = length es - length a.hypotheses in
       let ps = drop n es in
       let σ = substitution_from c a.hypotheses ps in
-      let substitutions_equal : substitution_from c a.hypotheses (map (substitute c fails.0)
-      a.hypotheses) ≡ σ =
-      ap (substitution_from c a.hypotheses) (sym fails.2) in
-      let pair_tests_equal = found_keeps_disjoint c a.hypotheses fails.0 a.pairs is_complete.pairs
-      in
+      let substitutions_equal :
+      substitution_from c a.hypotheses (map (substitute c τ) a.hypotheses) ≡ σ =
+      ap (substitution_from c a.hypotheses) (sym premises_are) in
       let disjoint_tests_equal =
       subst (λ (s : Substitution). list_all (λ p. are_all_disjoint c (s p.low) (s p.high)) a.pairs
-      ≡ list_all (λ p. are_all_disjoint c (fails.0 p.low) (fails.0 p.high)) a.pairs)
-      substitutions_equal pair_tests_equal in
-      ap₂ (λ b m. unless_failed b m
+      ≡ list_all (λ p. are_all_disjoint c (τ p.low) (τ p.high)) a.pairs)
+      substitutions_equal (found_keeps_disjoint c a.hypotheses τ a.pairs is_complete.pairs) in
+      ap₂ (λ enough matched. unless_failed enough matched
       (list_all (λ p. are_all_disjoint c (σ p.low) (σ p.high)) a.pairs)
       (nat_le (length (substitute c σ a.formula)) formula_limit)
       (take n es ++ substitute c σ a.formula ∷ []))
-      (le-leb (length a.hypotheses) (length es) fails.1)
-      (found_matches_if_any c a ps fails.0 is_complete fails.2)
-      ∙ ap (λ k. unless_failed true true k
+      (le-leb (length a.hypotheses) (length es) are_enough)
+      (found_matches_if_any c a ps τ is_complete premises_are)
+      ∙ ap (λ disjoint. unless_failed true true disjoint
       (nat_le (length (substitute c σ a.formula)) formula_limit)
-      (take n es ++ substitute c σ a.formula ∷ [])) (disjoint_tests_equal
-      ∙ false_from_ne_true _ fails.3)
-  step_stops_if_fails (Some (assertion a)) es too_long is_complete fails =
+      (take n es ++ substitute c σ a.formula ∷ []))
+      (disjoint_tests_equal ∙ false_from_ne_true _ not_all_disjoint)
+  step_stops_if_fails (Some (assertion a)) es too_long is_complete
+      (τ, are_enough, premises_are, all_disjoint, exceeds_limit) =
       let n = length es - length a.hypotheses in
       let ps = drop n es in
       let σ = substitution_from c a.hypotheses ps in
-      let substitutions_equal : substitution_from c a.hypotheses (map (substitute c fails.0)
-      a.hypotheses) ≡ σ =
-      ap (substitution_from c a.hypotheses) (sym fails.2) in
+      let substitutions_equal :
+      substitution_from c a.hypotheses (map (substitute c τ) a.hypotheses) ≡ σ =
+      ap (substitution_from c a.hypotheses) (sym premises_are) in
       let disjoint_tests_equal =
       subst (λ (s : Substitution). list_all (λ p. are_all_disjoint c (s p.low) (s p.high)) a.pairs
-      ≡ list_all (λ p. are_all_disjoint c (fails.0 p.low) (fails.0 p.high)) a.pairs)
-      substitutions_equal (found_keeps_disjoint c a.hypotheses fails.0 a.pairs is_complete.pairs) in
+      ≡ list_all (λ p. are_all_disjoint c (τ p.low) (τ p.high)) a.pairs)
+      substitutions_equal (found_keeps_disjoint c a.hypotheses τ a.pairs is_complete.pairs) in
       let formulas_equal =
-      subst (λ (s : Substitution). substitute c s a.formula ≡ substitute c fails.0 a.formula)
+      subst (λ (s : Substitution). substitute c s a.formula ≡ substitute c τ a.formula)
       substitutions_equal
-      (found_gives_formula c a.hypotheses fails.0 a.formula is_complete.formula) in
-      ap₂ (λ b m. unless_failed b m
+      (found_gives_formula c a.hypotheses τ a.formula is_complete.formula) in
+      ap₂ (λ enough matched. unless_failed enough matched
       (list_all (λ p. are_all_disjoint c (σ p.low) (σ p.high)) a.pairs)
       (nat_le (length (substitute c σ a.formula)) formula_limit)
       (take n es ++ substitute c σ a.formula ∷ []))
-      (le-leb (length a.hypotheses) (length es) fails.1)
-      (found_matches_if_any c a ps fails.0 is_complete fails.2)
-      ∙ ap₂ (λ k s. unless_failed true true k s (take n es ++ substitute c σ a.formula ∷ []))
-      (disjoint_tests_equal ∙ fails.3)
-      (ap (λ f. nat_le (length f) formula_limit) formulas_equal ∙ lt-leb _ _ fails.4)
+      (le-leb (length a.hypotheses) (length es) are_enough)
+      (found_matches_if_any c a ps τ is_complete premises_are)
+      ∙ ap₂ (λ disjoint fits. unless_failed true true disjoint fits
+      (take n es ++ substitute c σ a.formula ∷ []))
+      (disjoint_tests_equal ∙ all_disjoint)
+      (ap (λ f. nat_le (length f) formula_limit) formulas_equal ∙ lt-leb _ _ exceeds_limit)
 
   -- all labels of a forest of derivations are performed, and leave the formulas of the forest
   pub run_of_forest : (ls : List ℕ) → AreGood c ls → (forest : Trees) → AreDerivations c forest

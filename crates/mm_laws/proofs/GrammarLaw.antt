@@ -91,8 +91,8 @@ reading_comment_words text p (w ∷ ws) us (is_comment, are_comment_words) =
     reading_comment text (Some p) w (ws ++ us) (role_is_comment _ is_comment)
     ∙ reading_comment_words text p ws us are_comment_words
 
-reading_lexemes : (text : List ℕ) (lexemes : List Lexeme) → AllByRecursion (IsLexeme text) lexemes →
-    reading text None (flat_map words_in lexemes)
+reading_lexemes : (text : List ℕ) (lexemes : List Lexeme) → AllByRecursion (IsLexeme text) lexemes
+    → reading text None (flat_map words_in lexemes)
     ≡ record { tokens = flat_map tokens_in lexemes; fault = None; open_comment = None }
 reading_lexemes text [] are_lexemes = reading_end text None
 reading_lexemes text (Single w ∷ lexemes) (is_lexeme, are_lexemes) =
@@ -106,8 +106,8 @@ reading_lexemes text (Comment o ws c ∷ lexemes) (is_lexeme, are_lexemes) =
     ∙ reading_lexemes text lexemes are_lexemes
 
 reading_last_comment : (text : List ℕ) (last_comment : LastComment)
-    → IsLastComment text last_comment → reading text None (words_in_last_comment last_comment)
-    ≡ record {
+    → IsLastComment text last_comment
+    → reading text None (words_in_last_comment last_comment) ≡ record {
       tokens = [];
       fault = None;
       open_comment = option_map (λ c. c.opening.start) last_comment;
@@ -198,8 +198,8 @@ both_are_begun text (w ∷ ws) = record {
         rw (reading_faulty text None w ws role) (λ no_fault. absurd cc)
 
     begun_inside : (o : Word) (us : List Word) → opens_comment (bytes_of text o) ≡ true
-        → AreCommentWords text us → RoleInside (bytes_of text w) → BothAreBegun text ws →
-        IsBegunIfFaultless text (o ∷ (us ++ w ∷ ws)) (reading text (Some o.start) (w ∷ ws))
+        → AreCommentWords text us → RoleInside (bytes_of text w) → BothAreBegun text ws
+        → IsBegunIfFaultless text (o ∷ (us ++ w ∷ ws)) (reading text (Some o.start) (w ∷ ws))
     begun_inside o us opens are_comment_words (closing closes role) later =
         rw (reading_closing text (Some o.start) w ws role) (λ no_fault. subst
         (λ (vs : List Word). IsWellBegun text (o ∷ vs) (reading text None ws).tokens
@@ -278,8 +278,8 @@ reading_is_split text c (x ∷ xs) f =
         })
 
 faulty_word : (text : List ℕ) (ws : List Word) (f : Fault) (r : Reading)
-    → IsSplit text None ws f r →
-    (w : Word) × IsFirstFaultyWord text ws w r.tokens r.open_comment
+    → IsSplit text None ws f r
+    → (w : Word) × IsFirstFaultyWord text ws w r.tokens r.open_comment
     × (f ≡ fault_of (is_some r.open_comment) w.start (bytes_of text w))
 faulty_word text ws f r split = (
   split.w,

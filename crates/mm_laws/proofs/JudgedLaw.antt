@@ -127,8 +127,8 @@ module _ (c : Context) (all_complete : (l : ℕ) → HasCompleteFrame c (c.refer
       verdict_by_result : (r : Result (List Formula) StepFailure)
           → StepsOutcome c [] [] (steps_of ps) r → Verdict
       verdict_by_result (Ok out) outcome =
-          verdict_at_end outcome.2 outcome.3 (subst (λ x. Expands c [] [] (steps_of ps) x) (sym
-          outcome.4) outcome.1)
+          verdict_at_end outcome.2 outcome.3 (subst (λ x. Expands c [] [] (steps_of ps) x)
+          (sym outcome.4) outcome.1)
       verdict_by_result (Err e) outcome =
           let split = placed_split outcome.before outcome.after outcome.failing ps outcome.splits in
           step_fault (fault split.place (code_of e.reason)) (record {

@@ -112,8 +112,8 @@ module _ (db : List Statement) (k : ℕ) where
             subst (λ is. AreSteps hypotheses is well_spelled.items ss) statements_equal
             says_steps.are_steps in
             let steps_equal : ss ≡ bare_steps db k (t ∷ ts) =
-            named_steps_are_unique hypotheses named.0 well_spelled.items ss (bare_steps db k (t ∷
-            ts)) are_steps named.2 in
+            named_steps_are_unique hypotheses named.0 well_spelled.items ss
+            (bare_steps db k (t ∷ ts)) are_steps named.2 in
             (no_faults, subst HasDerivation steps_equal has_derivation)
 
         said_is_read : SaysDerivation (t ∷ ts) → IsReadAndDerived end (t ∷ ts)
@@ -177,8 +177,8 @@ module _ (db : List Statement) (k : ℕ) where
         statement_if_any : Option Statement → List Statement
         statement_if_any o = elim o [ None ↦ [] | Some s ↦ s ∷ [] ]
 
-        meaning_by_statement : (o : Option Statement) → list_any is_theorem (statement_if_any o)
-            ≡ true
+        meaning_by_statement : (o : Option Statement)
+            → list_any is_theorem (statement_if_any o) ≡ true
             → IsValidProof o ↔ SaysDerivation (words o)
         meaning_by_statement None is_theorem_o = absurd (true≢false (sym is_theorem_o))
         meaning_by_statement (Some (provable l p xs e ps d)) is_theorem_o = read_exactly_if_said d

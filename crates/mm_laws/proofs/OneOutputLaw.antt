@@ -206,8 +206,8 @@ row_is_unique db request t r s is_row_r is_row_s =
 
 -- ---- faults of the text
 
-front_begins : (tokens_before zs : List Token) (x : Token) → BeginStatements (tokens_before ++ x ∷
-    zs)
+front_begins : (tokens_before zs : List Token) (x : Token)
+    → BeginStatements (tokens_before ++ x ∷ zs)
     → BeginStatements (tokens_before ++ x ∷ [])
 front_begins tokens_before zs x begins = (
   begins.0,
@@ -249,11 +249,11 @@ shape_fault_is_unique ts f g faults_f faults_g =
         (subst (λ b. HasShapeCode b faults_f.first f) splits_equal.0 faults_f.fault_is))
         faults_g.fault_is
     faults_equal_by_split (inr (inl is_longer)) =
-        absurd (faults_f.no_more (front_begins faults_f.before is_longer.0 faults_f.first (subst
-        BeginStatements is_longer.1 faults_g.begins)))
+        absurd (faults_f.no_more (front_begins faults_f.before is_longer.0 faults_f.first
+        (subst BeginStatements is_longer.1 faults_g.begins)))
     faults_equal_by_split (inr (inr is_longer)) =
-        absurd (faults_g.no_more (front_begins faults_g.before is_longer.0 faults_g.first (subst
-        BeginStatements is_longer.1 faults_f.begins)))
+        absurd (faults_g.no_more (front_begins faults_g.before is_longer.0 faults_g.first
+        (subst BeginStatements is_longer.1 faults_f.begins)))
 
 longest_statements_equal : (ts : List Token) (a b : List Statement) → AreLongestStatements ts a
     → AreLongestStatements ts b → a ≡ b

@@ -16,8 +16,8 @@ pub read_statements_are_lawful : (len : ℕ) (x : LexedText) (db : List Statemen
     Fault)
     → IsRead len x db fault → (k : ℕ) → k < length db → IsLawful db k
 read_statements_are_lawful len x db fault is_read k k_lt_length =
-    sym (scope_fault_front db is_read.rest k k_lt_length) ∙ ap (λ list. scope_fault list k) (sym
-    is_read.splits)
+    sym (scope_fault_front db is_read.rest k k_lt_length) ∙ ap (λ list. scope_fault list k)
+    (sym is_read.splits)
     ∙ is_read.lawful k k_lt_length
 
 -- frames are complete

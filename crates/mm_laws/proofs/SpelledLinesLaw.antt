@@ -1,7 +1,8 @@
 -- What is read of a text is spelled as the lines of the statements need it.
-use Rattle.std.proofs.Common.{◌≡◌, ◌∙◌, suc, ◌+◌, ◌<◌, ◌≤◌, ◌^◌, ◌∷◌, map, sym, ap, not, inl, inr}
-use Rattle.std.proofs.Common.{ℕ, false, length, subst, arith, append-nil, Option, is_some, eqb-true}
-use Rattle.std.proofs.Common.{zero, Bool, true, ◌&&◌, ◌==◌, List, [], ◌++◌, refl, Some, None, rules}
+use Rattle.std.proofs.Common.{rules, ◌≡◌, ℕ, zero, suc, ◌+◌, ◌^◌, ◌<◌, ◌≤◌, Bool, true, false}
+use Rattle.std.proofs.Common.{◌&&◌, not, ◌==◌, inl, inr, List, [], ◌∷◌, ◌++◌, length, map}
+use Rattle.std.proofs.Common.{Option, Some, None, is_some, refl, sym, ap, ◌∙◌, subst, arith}
+use Rattle.std.proofs.Common.{eqb-true, append-nil}
 use Rattle.std.specs.Prelude.{flat_map, unwrap_or, slice_get, codes}
 use Rattle.std.specs.Option.{option_map, option_and_then}
 use Rattle.std.specs.List.{list_any, list_all, AllByRecursion}
@@ -293,8 +294,9 @@ spelled_database db are_spelled = record {
   names = of_got IsLineWord (λ o. IsLineWord (unwrap_or o [])) no_label_is_plain
       (λ w plain. plain) _ (first_are_plain [] _ (all_declared db are_spelled));
   places = λ k. (
-    of_got FitsLines (λ o. unwrap_or (option_map (λ t. t.at) (option_and_then label_of o)) 0 < 2 ^
-        64) (omega arith) (λ s spelled. omega (arith, spelled.start)) db are_spelled k,
+    of_got FitsLines
+        (λ o. unwrap_or (option_map (λ t. t.at) (option_and_then label_of o)) 0 < 2 ^ 64)
+        (omega arith) (λ s spelled. omega (arith, spelled.start)) db are_spelled k,
     of_got FitsLines (λ o. unwrap_or (option_map end_at o) 0 + 2 < 2 ^ 64) (omega arith)
         (λ s spelled. omega (arith, spelled.end)) db are_spelled k,
   );

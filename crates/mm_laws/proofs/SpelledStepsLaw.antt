@@ -227,8 +227,8 @@ label_is_word s w has_label =
     search (rules, arith, bytes_eq, or_left, bytes_eq-Decides, equal_bytes_equal_words)
 
 -- the test finds nothing in a range, or one place
-at_most_one_in_range : (passes : ℕ → Bool) → ((i j : ℕ) → passes i ≡ true → passes j ≡ true → i
-    ≡ j) → (n a : ℕ)
+at_most_one_in_range : (passes : ℕ → Bool) → ((i j : ℕ) → passes i ≡ true → passes j ≡ true
+    → i ≡ j) → (n a : ℕ)
     → (filter passes (range_with_len a n) ≡ [])
     ⊎ ((j : ℕ) × (filter passes (range_with_len a n) ≡ j ∷ []) × (passes j ≡ true) × (a ≤ j))
 at_most_one_in_range passes passes_once zero a = inl refl

@@ -50,8 +50,8 @@ module _ {X : Type 0} (p : X → Bool) where
   split [] (y ∷ ys) rs ss no_x no_y rs_begin ss_begin equal =
       absurd (not_begun rs y (ys ++ ss) rs_begin (or_parts (p y) (list_any p ys) no_y).0 equal)
   split (x ∷ xs) [] rs ss no_x no_y rs_begin ss_begin equal =
-      absurd (not_begun ss x (xs ++ rs) ss_begin (or_parts (p x) (list_any p xs) no_x).0 (sym
-      equal))
+      absurd (not_begun ss x (xs ++ rs) ss_begin (or_parts (p x) (list_any p xs) no_x).0
+      (sym equal))
   split (x ∷ xs) (y ∷ ys) rs ss no_x no_y rs_begin ss_begin equal =
       let heads : x ≡ y = cc in
       let tails : xs ++ rs ≡ ys ++ ss = cc in

@@ -135,8 +135,8 @@ module _ (with_open : Bool) (db : List Statement) (k : ℕ) where
   hypothesis_counted j = ap (λ (f : ℕ → List ℕ). is_member (f k) j) (counted_hypotheses with_open
       db)
 
-  variable_counted : (x : ℕ) → is_variable_number (open_as_axioms with_open db) x
-      ≡ is_variable_number db x
+  variable_counted : (x : ℕ)
+      → is_variable_number (open_as_axioms with_open db) x ≡ is_variable_number db x
   variable_counted x = ap (λ (f : ℕ → Bool). f x) (counted_variable with_open db)
 
   frame_counted : (x : ℕ) → is_in_frame (open_as_axioms with_open db) k x ≡ is_in_frame db k x

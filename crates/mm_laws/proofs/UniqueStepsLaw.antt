@@ -10,8 +10,8 @@ use Rattle.mm_laws.proofs.SpelledStepsLaw.{count_append}
 use Rattle.std.proofs.lemmas.Option.{same_Some, slice_get_within}
 use Rattle.std.proofs.lemmas.Grind.{common_steps}
 
-tail_counts_equal : (p : Item → Bool) (x : Item) (b c : List Item) → count_by p (x ∷ b)
-    ≡ count_by p (x ∷ c)
+tail_counts_equal : (p : Item → Bool) (x : Item) (b c : List Item)
+    → count_by p (x ∷ b) ≡ count_by p (x ∷ c)
     → count_by p b ≡ count_by p c
 tail_counts_equal p x b c counts_equal = grind (arith, common_steps)
 
@@ -31,12 +31,12 @@ fronts_equal (x ∷ b) (y ∷ c) d e lists_equal mark_counts_equal =
     ∙ mark_counts_equal)))
 
 -- mark k stands after one step
-marked_step_is_unique : (items : List Item) (k i j : ℕ) → IsMark items k i → IsMark items k j → i
-    ≡ j
+marked_step_is_unique : (items : List Item) (k i j : ℕ) → IsMark items k i → IsMark items k j
+    → i ≡ j
 marked_step_is_unique items k i j marks_i marks_j = search (rules, arith, fronts_equal)
 
-elements_equal : (xs : List ℕ) (i j x y : ℕ) → i ≡ j → slice_get xs i ≡ Some x → slice_get xs j
-    ≡ Some y
+elements_equal : (xs : List ℕ) (i j x y : ℕ) → i ≡ j → slice_get xs i ≡ Some x
+    → slice_get xs j ≡ Some y
     → x ≡ y
 elements_equal xs i j x y i_is_j x_is_at_i y_is_at_j = search (rules, arith, same_Some, slice_get)
 

@@ -14,6 +14,6 @@ use Rattle.mm_laws.specs.Grammar.{IsReading}
 pub record IsLexed (text : List ℕ) (tokens : List Word) (fault : Option Fault) : Type 0 where
   pub long_text_is_refused : text_limit < length text
       → (tokens ≡ []) × (fault ≡ Some (record { at = 0; code = TextTooLong }))
-  pub short_text_is_read : length text ≤ text_limit → (ws : List Word) → AreWords text ws →
-      (r : Reading) × IsReading text ws r × (tokens ≡ r.tokens)
+  pub short_text_is_read : length text ≤ text_limit → (ws : List Word) → AreWords text ws
+      → (r : Reading) × IsReading text ws r × (tokens ≡ r.tokens)
       × (fault ≡ fault_in r.fault r.open_comment)

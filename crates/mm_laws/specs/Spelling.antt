@@ -107,8 +107,8 @@ NamesStep hypotheses labels items_before n (marked i) =
 pub record AreSteps (hypotheses labels : List ℕ) (items : List Item)
     (steps : List Step) : Type 0 where
   pub step_count_is : length steps ≡ count_by is_number items
-  pub each_is_named : (items_before items_after : List Item) (n : ℕ) → items
-      ≡ items_before ++ number n ∷ items_after
+  pub each_is_named : (items_before items_after : List Item) (n : ℕ)
+      → items ≡ items_before ++ number n ∷ items_after
       → (s : Step) × (slice_get steps (count_by is_number items_before) ≡ Some s)
       × NamesStep hypotheses labels items_before n s
 

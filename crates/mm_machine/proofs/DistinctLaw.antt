@@ -26,6 +26,7 @@ use Rattle.mm_machine.specs.Entries.{no_entry}
 use Rattle.mm_machine.specs.Filled.{body_string_at}
 use Rattle.mm_machine.specs.Distinct.{segment_at, IsSegment, HaveSameVariables}
 use Rattle.mm_machine.specs.Distinct.{AppendsIfNew, AppendsVariables, AppendsSegment, HaveVariables}
+use Rattle.mm_machine.specs.Distinct.{are_bodies_disjoint, are_segments_disjoint}
 
 list_all_equal : (p q : ℕ → Bool) → ((s : ℕ) → p s ≡ q s) → (u : List ℕ)
     → list_all p u ≡ list_all q u
@@ -130,8 +131,8 @@ module _ (db : List Statement) (nodes : List (List ℕ)) (es : List Entry) (xs :
       (segment_at (xs ++ variables) (ss ++ added ∷ []) j)
   have_same_with_segment j (inl j_lt_es) j_lt_length =
       have_same_at db _ (body_string_at nodes es j) _ (segment_at xs ss j) (ap (λ z. string_of nodes
-      z.body) (get_or_append_left es (e ∷ []) no_entry j j_lt_es)) (segment_stays j (omega
-      (arith, so_far.counts_equal, j_lt_es))) (so_far.have_same_variables j j_lt_es)
+      z.body) (get_or_append_left es (e ∷ []) no_entry j j_lt_es)) (segment_stays j
+      (omega (arith, so_far.counts_equal, j_lt_es))) (so_far.have_same_variables j j_lt_es)
   have_same_with_segment j (inr es_le_j) j_lt_length =
       let j_is_es : j ≡ length es = omega (arith, length-append es (e ∷ []), es_le_j) in
       let j_is_ss : j ≡ length ss = omega (arith, j_is_es, so_far.counts_equal) in
@@ -197,17 +198,10 @@ disjoint_by_variables db t u u' v v' first_same second_same =
 
 module _ (db : List Statement) (t : ℕ) (nodes : List (List ℕ)) (es : List Entry) (xs : List ℕ)
     (ss : List Segment) (have_variables : HaveVariables db nodes es xs ss) where
-  abbrev keep : ℕ × ℕ → Bool
-  keep p = are_all_disjoint (context_at db t) (body_string_at nodes es p.0)
-      (body_string_at nodes es p.1)
-
-  abbrev keep_by_variables : ℕ × ℕ → Bool
-  keep_by_variables p = are_all_disjoint (context_at db t) (segment_at xs ss p.0)
-      (segment_at xs ss p.1)
-
   each_pair : (ps : List (ℕ × ℕ))
       → AllByRecursion (λ (p : ℕ × ℕ). (p.0 < length es) × (p.1 < length es)) ps
-      → list_all keep_by_variables ps ≡ list_all keep ps
+      → list_all (are_segments_disjoint db t xs ss) ps
+      ≡ list_all (are_bodies_disjoint db t nodes es) ps
   each_pair [] in_range = refl
   each_pair (p ∷ ps) in_range = ap₂ (λ x y. x && y)
       (sym (disjoint_by_variables db t (body_string_at nodes es p.0) (segment_at xs ss p.0)
@@ -217,8 +211,7 @@ module _ (db : List Statement) (t : ℕ) (nodes : List (List ℕ)) (es : List En
 
   pub pairs_by_variables : (ps : List (ℕ × ℕ))
       → All (λ (p : ℕ × ℕ). (p.0 < length es) × (p.1 < length es)) ps
-      → list_all (λ (p : ℕ × ℕ). are_all_disjoint (context_at db t) (segment_at xs ss p.0)
-      (segment_at xs ss p.1)) ps ≡ list_all (λ (p : ℕ × ℕ). are_all_disjoint (context_at db t)
-      (body_string_at nodes es p.0) (body_string_at nodes es p.1)) ps
+      → list_all (are_segments_disjoint db t xs ss) ps
+      ≡ list_all (are_bodies_disjoint db t nodes es) ps
   pairs_by_variables ps in_range = each_pair ps (recursion_from_All
       (λ (p : ℕ × ℕ). (p.0 < length es) × (p.1 < length es)) ps in_range)

@@ -25,6 +25,7 @@ use Rattle.mm_machine.specs.Entries.{no_entry, entry_formula, entry_formulas, Is
 use Rattle.mm_rule.specs.Rule.{floating_index, parts_of, stored_part_count, all_parts, CompiledRule}
 use Rattle.mm_rule.specs.Rule.{IsCompiled}
 use Rattle.mm_machine.specs.Filled.{body_string_at, filled_part, filled_parts}
+use Rattle.mm_machine.specs.Distinct.{are_bodies_disjoint}
 use Rattle.mm_machine.specs.State.{applied}
 use Rattle.mm_rule.proofs.FirstFloatLaw.{floating_index_lt_length, substitution_is_tail_at_index}
 use Rattle.mm_machine.proofs.FilledLaw.{symbol_string_is}
@@ -48,15 +49,18 @@ module _ (db : List Statement) (t : ℕ) (hs : List Formula) (nodes : List (List
   replacement_is x is_bound =
       let j = floating_index db hs x in
       let j_lt_length_hs : j < length hs = floating_index_lt_length db hs x is_bound in
-      body_is_tail nodes (get_or es j no_entry) (All-get_or (IsEntry nodes) es j no_entry (omega
-      (arith, j_lt_length_hs, counts_equal)) entries_in) ∙ ap tail (entry_formula_is_at nodes es j
-      (omega (arith, j_lt_length_hs, counts_equal))) ∙ sym (substitution_is_tail_at_index db t hs
-      (entry_formulas nodes es) x (length-map es (entry_formula nodes) ∙ counts_equal) is_bound)
+      let j_lt_length_es : j < length es = omega (arith, j_lt_length_hs, counts_equal) in
+      let is_entry = All-get_or (IsEntry nodes) es j no_entry j_lt_length_es entries_in in
+      body_is_tail nodes (get_or es j no_entry) is_entry
+      ∙ ap tail (entry_formula_is_at nodes es j j_lt_length_es)
+      ∙ sym (substitution_is_tail_at_index db t hs (entry_formulas nodes es) x
+      (length-map es (entry_formula nodes) ∙ counts_equal) is_bound)
 
   pub replaced_is_substituted : (f : Formula) → AreBound (context_at db t) hs f
       → filled_parts nodes es (parts_of db hs f) ≡ substitute (context_at db t) σ f
   replaced_is_substituted [] are_bound = refl
-  replaced_is_substituted (s ∷ f) are_bound = ap₂ (λ u v. u ++ v)
+  replaced_is_substituted (s ∷ f) are_bound =
+      ap₂ (λ u v. u ++ v)
       (symbol_is_substituted (is_variable_number db s) are_bound.0)
       (replaced_is_substituted f are_bound.1)
     where
@@ -68,26 +72,24 @@ module _ (db : List Statement) (t : ℕ) (hs : List Formula) (nodes : List (List
 
   pub all_replaced_are_substituted : (fs : List Formula)
       → AllByRecursion (AreBound (context_at db t) hs) fs
-      → map (filled_parts nodes es) (map (parts_of db hs) fs) ≡ map (substitute (context_at db t) σ)
-      fs
+      → map (filled_parts nodes es) (map (parts_of db hs) fs)
+      ≡ map (substitute (context_at db t) σ) fs
   all_replaced_are_substituted [] all_bound = refl
-  all_replaced_are_substituted (f ∷ fs) all_bound = ap₂ (λ u us. u ∷ us) (replaced_is_substituted f
-      all_bound.0)
-      (all_replaced_are_substituted fs all_bound.1)
-
-  abbrev pub cache : ℕ × ℕ → Bool
-  cache p =
-      are_all_disjoint (context_at db t) (body_string_at nodes es p.0) (body_string_at nodes es p.1)
+  all_replaced_are_substituted (f ∷ fs) all_bound =
+      ap₂ (λ u us. u ∷ us)
+      (replaced_is_substituted f all_bound.0) (all_replaced_are_substituted fs all_bound.1)
 
   pub pair_tests_equal : (pairs : List Pair) → AllByRecursion
       (λ p. IsBound (context_at db t) hs p.low × IsBound (context_at db t) hs p.high) pairs
-      → list_all cache
+      → list_all (are_bodies_disjoint db t nodes es)
       (map (λ (p : Pair). (floating_index db hs p.low, floating_index db hs p.high)) pairs)
       ≡ list_all (λ p. are_all_disjoint (context_at db t) (σ p.low) (σ p.high)) pairs
   pair_tests_equal [] all_bound = refl
   pair_tests_equal (p ∷ pairs) all_bound =
-      ap₂ (λ u v. u && v) (ap₂ (are_all_disjoint (context_at db t)) (replacement_is p.low
-      all_bound.0.0) (replacement_is p.high all_bound.0.1)) (pair_tests_equal pairs all_bound.1)
+      ap₂ (λ u v. u && v)
+      (ap₂ (are_all_disjoint (context_at db t))
+      (replacement_is p.low all_bound.0.0) (replacement_is p.high all_bound.0.1))
+      (pair_tests_equal pairs all_bound.1)
 
 pub length_all_parts : (parts : List RulePart) (j : ℕ) (hypotheses : List Hypothesis)
     → length (all_parts parts j hypotheses) ≡ length hypotheses
@@ -100,43 +102,58 @@ pub applied_is_tested : (db : List Statement) (t : ℕ) (c : CompiledRule) (node
     (stack premises : List Entry) → IsCompiled db c → length c.hypotheses ≤ length stack
     → premises ≡ drop (length stack - length c.hypotheses) stack → All (IsEntry nodes) premises
     → length premises ≡ length c.hypotheses → (b1 b2 : Bool)
-    → b1 ≡ are_equal (entry_formulas nodes premises) (map (filled_parts nodes premises)
-    (all_parts c.parts 0 c.hypotheses))
-    → b2 ≡ list_all (λ (p : ℕ × ℕ). are_all_disjoint (context_at db t) (body_string_at nodes
-    premises p.0) (body_string_at nodes premises p.1)) c.pairs
-    → applied db t c.assertion (entry_formulas nodes stack) ≡ unless_failed true b1 b2
+    → b1 ≡ are_equal (entry_formulas nodes premises)
+    (map (filled_parts nodes premises) (all_parts c.parts 0 c.hypotheses))
+    → b2 ≡ list_all (are_bodies_disjoint db t nodes premises) c.pairs
+    → applied db t c.assertion (entry_formulas nodes stack)
+    ≡ unless_failed true b1 b2
     (nat_le (length (filled_parts nodes premises c.formula)) formula_limit)
-    (take (length stack - length c.hypotheses) (entry_formulas nodes stack) ++ filled_parts nodes
-    premises c.formula ∷ [])
+    (take (length stack - length c.hypotheses) (entry_formulas nodes stack)
+    ++ filled_parts nodes premises c.formula ∷ [])
 applied_is_tested db t c nodes stack premises rule hypotheses_le_stack premises_are premises_in
     premise_count_is b1 b2 b1_is b2_is =
+    let context = context_at db t in
     let a = frame_at db c.assertion in
     let hs = a.hypotheses in
     let es = entry_formulas nodes stack in
+    let ps = entry_formulas nodes premises in
     let m = length stack - length c.hypotheses in
-    let length_es_is_length_stack : length es ≡ length stack = length-map stack (entry_formula
-    nodes) in
+    let entry_count : length es ≡ length stack = length-map stack (entry_formula nodes) in
     let hypothesis_counts_equal : length c.hypotheses ≡ length hs =
-    sym (length_all_parts c.parts 0 c.hypotheses) ∙ ap length rule.hypotheses_are
+    sym (length_all_parts c.parts 0 c.hypotheses)
+    ∙ ap length rule.hypotheses_are
     ∙ length-map hs (parts_of db hs) in
-    let below_is : length es - length hs ≡ m =
-    omega (arith, length_es_is_length_stack, hypothesis_counts_equal) in
     let counts_equal : length premises ≡ length hs = premise_count_is ∙ hypothesis_counts_equal in
     let σ' : Substitution = σ db t hs nodes premises premises_in counts_equal in
-    ap₂ (λ b i. apply (context_at db t) a b (take i es) (drop i es)) (le-leb _ _ (omega
-    (arith, length_es_is_length_stack, hypothesis_counts_equal, hypotheses_le_stack))) below_is
-    ∙ ap (λ z. apply (context_at db t) a true (take m es) z) (drop-map (entry_formula nodes) m stack
-    ∙ ap (entry_formulas nodes) (sym premises_are)) ∙ ap₂ (λ x y. unless_failed true x y (nat_le
-    (length (substitute (context_at db t) σ' a.formula)) formula_limit) (take m es ++ substitute
-    (context_at db t) σ' a.formula ∷ [])) (ap (are_equal (entry_formulas nodes premises))
+    let are_enough : nat_le (length hs) (length es) ≡ true =
+    le-leb _ _ (omega (arith, entry_count, hypothesis_counts_equal, hypotheses_le_stack)) in
+    let below_is : length es - length hs ≡ m =
+    omega (arith, entry_count, hypothesis_counts_equal) in
+    let premise_formulas_are : drop m es ≡ ps =
+    drop-map (entry_formula nodes) m stack ∙ ap (entry_formulas nodes) (sym premises_are) in
+    let matched_is : are_equal ps (map (substitute context σ') hs) ≡ b1 =
+    ap (are_equal ps)
     (sym (all_replaced_are_substituted db t hs nodes premises premises_in counts_equal hs
-    rule.is_complete.hypotheses) ∙ ap (map (filled_parts nodes premises)) (sym rule.hypotheses_are))
-    ∙ sym b1_is) (sym (pair_tests_equal db t hs nodes premises premises_in counts_equal a.pairs
-    rule.is_complete.pairs) ∙ ap (list_all (cache db t hs nodes premises premises_in counts_equal))
-    (sym rule.pairs_are) ∙ sym b2_is) ∙ ap (λ z. unless_failed true b1 b2 (nat_le (length z)
-    formula_limit) (take m es ++ z ∷ [])) (sym (replaced_is_substituted db t hs nodes premises
-    premises_in counts_equal a.formula rule.is_complete.formula) ∙ ap (filled_parts nodes premises)
-    (sym rule.formula_is))
+    rule.is_complete.hypotheses)
+    ∙ ap (map (filled_parts nodes premises)) (sym rule.hypotheses_are))
+    ∙ sym b1_is in
+    let disjoint_is :
+    list_all (λ (p : Pair). are_all_disjoint context (σ' p.low) (σ' p.high)) a.pairs ≡ b2 =
+    sym (pair_tests_equal db t hs nodes premises premises_in counts_equal a.pairs
+    rule.is_complete.pairs)
+    ∙ ap (list_all (are_bodies_disjoint db t nodes premises)) (sym rule.pairs_are)
+    ∙ sym b2_is in
+    let formula_is : substitute context σ' a.formula ≡ filled_parts nodes premises c.formula =
+    sym (replaced_is_substituted db t hs nodes premises premises_in counts_equal a.formula
+    rule.is_complete.formula)
+    ∙ ap (filled_parts nodes premises) (sym rule.formula_is) in
+    ap₂ (λ b i. apply context a b (take i es) (drop i es)) are_enough below_is
+    ∙ ap (λ z. apply context a true (take m es) z) premise_formulas_are
+    ∙ ap₂ (λ x y. unless_failed true x y
+    (nat_le (length (substitute context σ' a.formula)) formula_limit)
+    (take m es ++ substitute context σ' a.formula ∷ [])) matched_is disjoint_is
+    ∙ ap (λ z. unless_failed true b1 b2 (nat_le (length z) formula_limit) (take m es ++ z ∷ []))
+    formula_is
 
 -- the same by the values that the code has
 pub rule_test_by_stack : (db : List Statement) (t : ℕ) (c : CompiledRule) (nodes : List (List ℕ))
@@ -144,28 +161,35 @@ pub rule_test_by_stack : (db : List Statement) (t : ℕ) (c : CompiledRule) (nod
     → IsCompiled db c → n ≡ length c.hypotheses → n ≤ length stack → below ≡ length stack - n
     → premises ≡ drop below stack → All (IsEntry nodes) stack → (ps : List (ℕ × ℕ)) → ps ≡ c.pairs
     → (b1 b2 : Bool) → b1 ≡ are_equal (entry_formulas nodes premises)
-    (map (filled_parts nodes premises) (all_parts c.parts 0 c.hypotheses)) → b2 ≡ list_all
-    (λ (p : ℕ × ℕ). are_all_disjoint (context_at db t) (body_string_at nodes premises p.0)
-    (body_string_at nodes premises p.1)) ps → applied db t c.assertion (entry_formulas nodes stack)
+    (map (filled_parts nodes premises) (all_parts c.parts 0 c.hypotheses))
+    → b2 ≡ list_all (are_bodies_disjoint db t nodes premises) ps
+    → applied db t c.assertion (entry_formulas nodes stack)
     ≡ unless_failed true b1 b2
     (nat_le (length (filled_parts nodes (drop below stack) c.formula)) formula_limit)
-    (take below (entry_formulas nodes stack) ++ filled_parts nodes (drop below stack) c.formula
-    ∷ [])
+    (take below (entry_formulas nodes stack)
+    ++ filled_parts nodes (drop below stack) c.formula ∷ [])
 rule_test_by_stack db t c nodes stack premises n below rule n_is n_le_length below_is premises_are
     entries_in ps ps_are b1 b2 b1_is b2_is =
+    let taken = drop below stack in
     let below_is_difference : below ≡ length stack - length c.hypotheses =
     omega (arith, below_is, n_is) in
-    applied_is_tested db t c nodes stack (drop below stack) rule (omega (arith, n_is, n_le_length))
+    let matched_is : b1 ≡ are_equal (entry_formulas nodes taken)
+    (map (filled_parts nodes taken) (all_parts c.parts 0 c.hypotheses)) =
+    b1_is
+    ∙ ap (λ z. are_equal (entry_formulas nodes z)
+    (map (filled_parts nodes z) (all_parts c.parts 0 c.hypotheses))) premises_are in
+    let disjoint_is : b2 ≡ list_all (are_bodies_disjoint db t nodes taken) c.pairs =
+    b2_is
+    ∙ ap (λ z. list_all (are_bodies_disjoint db t nodes z) ps) premises_are
+    ∙ ap (list_all (are_bodies_disjoint db t nodes taken)) ps_are in
+    applied_is_tested db t c nodes stack taken rule (omega (arith, n_is, n_le_length))
     (ap (λ b. drop b stack) below_is_difference) (All-drop (IsEntry nodes) below stack entries_in)
-    (omega (arith, below_is, n_is, n_le_length, length-drop below stack)) b1 b2 (b1_is
-    ∙ ap (λ z. are_equal (entry_formulas nodes z) (map (filled_parts nodes z) (all_parts c.parts 0
-    c.hypotheses))) premises_are) (b2_is ∙ ap (λ z. list_all (λ (p : ℕ × ℕ). are_all_disjoint
-    (context_at db t) (body_string_at nodes z p.0) (body_string_at nodes z p.1)) ps) premises_are
-    ∙ ap (λ z. list_all (λ (p : ℕ × ℕ). are_all_disjoint (context_at db t) (body_string_at nodes
-    (drop below stack) p.0) (body_string_at nodes (drop below stack) p.1)) z) ps_are)
-    ∙ ap (λ b. unless_failed true b1 b2 (nat_le (length (filled_parts nodes (drop below stack)
-    c.formula)) formula_limit) (take b (entry_formulas nodes stack) ++ filled_parts nodes
-    (drop below stack) c.formula ∷ [])) (sym below_is_difference)
+    (omega (arith, below_is, n_is, n_le_length, length-drop below stack)) b1 b2 matched_is
+    disjoint_is
+    ∙ ap (λ b. unless_failed true b1 b2
+    (nat_le (length (filled_parts nodes taken c.formula)) formula_limit)
+    (take b (entry_formulas nodes stack) ++ filled_parts nodes taken c.formula ∷ []))
+    (sym below_is_difference)
 
 -- too few entries
 pub applied_is_too_few : (db : List Statement) (t : ℕ) (c : CompiledRule) (nodes : List (List ℕ))

@@ -23,8 +23,8 @@ module _ {nodes : List (List ℕ)} {stack : List Entry} {marks : List ℕ} {mark
     {floor : ℕ} {o : Owned} (is_masked : IsMaskedMachine nodes stack marks marked floor o) where
   -- after a formula was pushed
   pub pushed_masked : {T E : Type 0} (r : Result T E) (o' : Owned) (nodes' : List (List ℕ))
-      (stack' : List Entry) (below keep m : ℕ) (symbols f : Formula) → o'.variable_flags
-      ≡ o.variable_flags
+      (stack' : List Entry) (below keep m : ℕ) (symbols f : Formula)
+      → o'.variable_flags ≡ o.variable_flags
       → ExtendsSymbols o.symbols o'.symbols → (All (λ s. s < length o.variable_flags) o.symbols
       → All (λ s. s < length o.variable_flags) o'.symbols) → AreMasked o.variable_flags o'.symbols m
       f → All (λ s. s < length o.variable_flags) f → IsStack nodes' stack' → below ≡ length stack

@@ -141,8 +141,7 @@ own_bit vs owners i s i_le lt_length is_owner is_variable =
         omega (
           arith,
           bit_at_set_same w64 0 i (omega (arith, i_le)),
-          bit_at_or 0 (1 * 2 ^ i % 2 ^
-              64) i,
+          bit_at_or 0 (1 * 2 ^ i % 2 ^ 64) i,
           bit_at-zero i,
         )
 
@@ -155,11 +154,16 @@ pub mask_more : (vs : List Bool) (owners owners' : List ℕ) (m n : ℕ) (f : Li
     → AreMasked vs owners m (take i f)
     → IsMasked vs owners' n s → AreMasked vs owners' (bit_or m n) (take (i + 1) f)
 mask_more vs owners owners' m n f i s extends i_lt s_is so_far is_masked =
-    subst (AreMasked vs owners' (bit_or m n)) (sym (take_more f i s i_lt))
-    (All-push (IsMasked vs owners' (bit_or m n)) (take i f) (get_or f i s) (formula_masked_by_more
-    vs owners owners' m (bit_or m n) (take i f) extends (includes_first m n) so_far)
-    (subst (IsMasked vs owners' (bit_or m n)) s_is (masked_by_more vs owners' owners' n (bit_or m n)
-    s (itself_extended owners') (includes_second m n) is_masked)))
+    let both = bit_or m n in
+    let taken_masked : AreMasked vs owners' both (take i f) =
+    formula_masked_by_more vs owners owners' m both (take i f) extends (includes_first m n)
+    so_far in
+    let next_masked : IsMasked vs owners' both s =
+    masked_by_more vs owners' owners' n both s (itself_extended owners') (includes_second m n)
+    is_masked in
+    subst (AreMasked vs owners' both) (sym (take_more f i s i_lt))
+    (All-push (IsMasked vs owners' both) (take i f) (get_or f i s) taken_masked
+    (subst (IsMasked vs owners' both) s_is next_masked))
 
 pub flags_push : (db : List Statement) (vs : List Bool) (n : ℕ) (b : Bool) → length vs ≡ n
     → ((s : ℕ) → s < n → get_or vs s false ≡ is_variable_number db s) → b ≡ is_variable_number db n
@@ -182,9 +186,10 @@ pub includes_more : (es : List Entry) (parts : List RulePart) (i m n : ℕ) (p :
     → i < length parts → p ≡ get_or parts i p → Includes n m → IncludesPart es n p
     → All (IncludesPart es m) (take i parts) → All (IncludesPart es n) (take (i + 1) parts)
 includes_more es parts i m n p i_lt p_is includes includes_part so_far =
-    subst (All (IncludesPart es n)) (sym (take_more parts i p i_lt)) (All-push (IncludesPart es n)
-    (take i parts) (get_or parts i p) (All-weaker (IncludesPart es m) (IncludesPart es n) weaker
-    (take i parts) so_far) (subst (IncludesPart es n) p_is includes_part))
+    subst (All (IncludesPart es n)) (sym (take_more parts i p i_lt))
+    (All-push (IncludesPart es n) (take i parts) (get_or parts i p)
+    (All-weaker (IncludesPart es m) (IncludesPart es n) weaker (take i parts) so_far)
+    (subst (IncludesPart es n) p_is includes_part))
   where
     weaker : (q : RulePart) → IncludesPart es m q → IncludesPart es n q
     weaker (Constant s) included = tt
@@ -273,16 +278,18 @@ module _ (vs : List Bool) (owners : List ℕ) where
       let e = get_or es j no_entry in
       All_behind (IsMasked vs owners e.mask) (string_of nodes e.typecode) (string_of nodes e.body)
       (subst (AreMasked vs owners e.mask) (sym (entry_formula_is_at nodes es j j_lt))
-      (subst (λ n. AreMasked vs owners n (get_or (entry_formulas nodes es) j [])) (mask_is_at es j
-      j_lt) (all_masked j (omega (arith, j_lt, length-map es (entry_formula nodes))))))
+      (subst (λ n. AreMasked vs owners n (get_or (entry_formulas nodes es) j []))
+      (mask_is_at es j j_lt)
+      (all_masked j (omega (arith, j_lt, length-map es (entry_formula nodes))))))
 
   pub filled_masked : (nodes : List (List ℕ)) (es : List Entry) (parts : List RulePart) (m : ℕ)
       → AreAllMasked vs owners (entry_masks es) (entry_formulas nodes es)
       → All (IsNoVariable vs) parts → All (IsVariableBelow (length es)) parts
       → All (IncludesPart es m) parts → AreMasked vs owners m (filled_parts nodes es parts)
   filled_masked nodes es parts m all_masked no_variables variables_below includes =
-      All_flat_map (IsMasked vs owners m) (filled_part nodes es) parts (λ i d i_lt. part_masked
-      (get_or parts i d) (no_variables i d i_lt) (variables_below i d i_lt) (includes i d i_lt))
+      All_flat_map (IsMasked vs owners m) (filled_part nodes es) parts
+      (λ i d i_lt. part_masked (get_or parts i d)
+      (no_variables i d i_lt) (variables_below i d i_lt) (includes i d i_lt))
     where
       part_masked : (p : RulePart) → IsNoVariable vs p → IsVariableBelow (length es) p
           → IncludesPart es m p → AreMasked vs owners m (filled_part nodes es p)
@@ -303,8 +310,9 @@ pub pushed_as_before : (nodes : List (List ℕ)) (from es : List Entry) (i : ℕ
     → AreAllMasked vs owners (entry_masks (es ++ e ∷ [])) (entry_formulas nodes (es ++ e ∷ []))
 pushed_as_before nodes from es i m e vs owners i_lt m_is formula_stays mask_stays from_masked
     es_masked =
-    rw (masks_push es e, map_push (entry_formula nodes) es e) (masked_push vs owners (entry_masks
-    es) (entry_formulas nodes es) e.mask (entry_formula nodes e) (masks_count nodes es) es_masked
+    rw (masks_push es e, map_push (entry_formula nodes) es e)
+    (masked_push vs owners (entry_masks es) (entry_formulas nodes es) e.mask (entry_formula nodes e)
+    (masks_count nodes es) es_masked
     (rw (
       mask_stays,
       formula_stays,
@@ -373,20 +381,23 @@ parts_stay_masked r nodes nodes' es stack es' below t parts list filled b bodies
     f_masked vs owners no_variables all_masked =
         rw (b_is, ap (joined_string_of nodes) bodies_are ∙ is_filled.string_is)
         (All-cons (IsMasked vs owners filled.mask) t (filled_parts nodes premises parts)
-        (constant_masked vs owners filled.mask t (All-head (IsNoVariable vs) (Constant t) parts
-        no_variables)) (filled_masked vs owners nodes premises parts filled.mask (premises_masked vs
-        owners nodes nodes es stack below refl stack_is all_masked) (All-tail (IsNoVariable vs)
-        (Constant t) parts no_variables) (variables_are_below_premises es stack below parts stack_is
-        variables_below) is_filled.includes_masks))
+        (constant_masked vs owners filled.mask t
+        (All-head (IsNoVariable vs) (Constant t) parts no_variables))
+        (filled_masked vs owners nodes premises parts filled.mask
+        (premises_masked vs owners nodes nodes es stack below refl stack_is all_masked)
+        (All-tail (IsNoVariable vs) (Constant t) parts no_variables)
+        (variables_are_below_premises es stack below parts stack_is variables_below)
+        is_filled.includes_masks))
 
 -- the formula of a compiled rule names constants and its own variables
 pub rule_has_no_variables : (db : List Statement) (vs : List Bool) (c : CompiledRule)
     → AreVariablesOf db vs → IsCompiled db c → All (IsNoVariable vs) c.formula
 rule_has_no_variables db vs c are_variables rule =
-    subst (All (IsNoVariable vs)) (sym rule.formula_is) (All-from_recursion (IsNoVariable vs)
-    (parts_of db hs f) (each f (recursion_from_All (IsConstantBelow (length (symbol_names db)))
-    (parts_of db hs f) (subst (All (IsConstantBelow (length (symbol_names db)))) rule.formula_is
-    rule.constants_in_range))))
+    let is_constant_below = IsConstantBelow (length (symbol_names db)) in
+    subst (All (IsNoVariable vs)) (sym rule.formula_is)
+    (All-from_recursion (IsNoVariable vs) (parts_of db hs f)
+    (each f (recursion_from_All is_constant_below (parts_of db hs f)
+    (subst (All is_constant_below) rule.formula_is rule.constants_in_range))))
   where
     hs : List Formula
     hs = (frame_at db c.assertion).hypotheses
@@ -395,15 +406,17 @@ rule_has_no_variables db vs c are_variables rule =
     f = (frame_at db c.assertion).formula
 
     by_test : (s : ℕ) (b : Bool) → is_variable_number db s ≡ b
-        → IsConstantBelow (length (symbol_names db)) (cond b (Variable (floating_index db hs s))
-        (Constant s)) → IsNoVariable vs (cond b (Variable (floating_index db hs s)) (Constant s))
+        → IsConstantBelow (length (symbol_names db))
+        (cond b (Variable (floating_index db hs s)) (Constant s))
+        → IsNoVariable vs (cond b (Variable (floating_index db hs s)) (Constant s))
     by_test s true is_variable is_below = tt
     by_test s false is_constant is_below =
         are_variables.are_variables s (omega (arith, are_variables.count_is, is_below))
         ∙ is_constant
 
-    each : (f : Formula) → AllByRecursion (IsConstantBelow (length (symbol_names db))) (parts_of
-        db hs f) → AllByRecursion (IsNoVariable vs) (parts_of db hs f)
+    each : (f : Formula)
+        → AllByRecursion (IsConstantBelow (length (symbol_names db))) (parts_of db hs f)
+        → AllByRecursion (IsNoVariable vs) (parts_of db hs f)
     each [] all_below = tt
     each (s ∷ f) all_below =
         (by_test s (is_variable_number db s) refl all_below.0, each f all_below.1)
@@ -475,17 +488,17 @@ module _ {nodes : List (List ℕ)} {stack marked : List Entry} {o : Owned}
   }
 
   pub masks_with_owners : (o' : Owned) → o'.variable_flags ≡ o.variable_flags
-      → ExtendsSymbols o.symbols o'.symbols → (All (λ s. s < length o.variable_flags) o.symbols →
-      All (λ s. s < length o.variable_flags) o'.symbols) → HasMasks nodes stack marked o'
+      → ExtendsSymbols o.symbols o'.symbols
+      → (All (λ s. s < length o.variable_flags) o.symbols
+      → All (λ s. s < length o.variable_flags) o'.symbols)
+      → HasMasks nodes stack marked o'
   masks_with_owners o' variables_stay extends stay_in_range = record {
     stack_masked =
-        rw variables_stay (all_masked_by_more o.variable_flags o.symbols o'.symbols (entry_masks
-        stack)
-        (entry_formulas nodes stack) extends has_masks.stack_masked);
+        rw variables_stay (all_masked_by_more o.variable_flags o.symbols o'.symbols
+        (entry_masks stack) (entry_formulas nodes stack) extends has_masks.stack_masked);
     marked_masked =
-        rw variables_stay (all_masked_by_more o.variable_flags o.symbols o'.symbols (entry_masks
-        marked)
-        (entry_formulas nodes marked) extends has_masks.marked_masked);
+        rw variables_stay (all_masked_by_more o.variable_flags o.symbols o'.symbols
+        (entry_masks marked) (entry_formulas nodes marked) extends has_masks.marked_masked);
     owners_in_range = rw variables_stay (stay_in_range has_masks.owners_in_range);
   }
 

@@ -1,6 +1,6 @@
 -- What the test of a rule answers, and the machine once it has performed a step.
 use Rattle.std.specs.Prelude.{ℕ, ◌≡◌, ◌<◌, ◌+◌, ◌++◌, ◌∷◌, [], List, length, take, drop, nat_le}
-use Rattle.std.specs.Prelude.{Result, Ok, Err, OnOk, IfErr}
+use Rattle.std.specs.Prelude.{Result, Ok, Err, OnOk, IfErr, ⊤}
 use Rattle.mm_spec.specs.Statement.{Statement}
 use Rattle.mm_spec.specs.Derivation.{Formula}
 use Rattle.mm_spec.specs.Limits.{formula_limit}
@@ -18,7 +18,7 @@ use Rattle.mm_machine.specs.State.{MachineState, reason_of, applied}
 -- a step that was refused for a reason fails for this reason
 abbrev pub IsStepRefusalOf : StepRefused → Result (List Formula) SpecReason → Type 0
 IsStepRefusalOf (Fault reason) r = r ≡ Err (reason_of reason)
-IsStepRefusalOf Memory r = Unit {0}
+IsStepRefusalOf Memory r = ⊤
 
 -- The entries after a step that takes those from index `below` on as its premises, and pushes the
 -- parts with each variable replaced. It fails if that formula is too long.

@@ -3,8 +3,9 @@ use Rattle.std.specs.Prelude.{ℕ, ◌≡◌, ◌≤◌, ◌<◌, ◌++◌, ◌�
 use Rattle.std.specs.Prelude.{length, drop, get_or, slice_range}
 use Rattle.std.specs.List.{list_all, Contains}
 use Rattle.mm_spec.specs.Statement.{Statement}
-use Rattle.mm_spec.specs.Derivation.{Formula}
+use Rattle.mm_spec.specs.Derivation.{Formula, are_all_disjoint}
 use Rattle.mm_spec.specs.Frame.{is_variable_number, symbol_names}
+use Rattle.mm_spec.specs.Citation.{context_at}
 use Rattle.mm_nodes.specs.declared.heads.Segment.{Segment}
 use Rattle.mm_nodes.specs.Store.{segment}
 use Rattle.mm_machine.specs.declared.entry.Entry.{Entry}
@@ -14,6 +15,17 @@ use Rattle.mm_machine.specs.Filled.{body_string_at}
 abbrev pub segment_at : List ℕ → List Segment → ℕ → List ℕ
 segment_at list ss j =
     slice_range list (get_or ss j (segment 0 0)).start (get_or ss j (segment 0 0)).end
+
+-- whether, at theorem `t`, the variables in what replaces one variable by the entries are disjoint
+-- from those in what replaces another one
+abbrev pub are_bodies_disjoint : List Statement → ℕ → List (List ℕ) → List Entry → ℕ × ℕ → Bool
+are_bodies_disjoint db t nodes es p =
+    are_all_disjoint (context_at db t) (body_string_at nodes es p.0) (body_string_at nodes es p.1)
+
+-- the same of two segments of a list
+abbrev pub are_segments_disjoint : List Statement → ℕ → List ℕ → List Segment → ℕ × ℕ → Bool
+are_segments_disjoint db t list ss p =
+    are_all_disjoint (context_at db t) (segment_at list ss p.0) (segment_at list ss p.1)
 
 -- it is a segment of a list of `n` symbols
 pub record IsSegment (n : ℕ) (s : Segment) : Type 0 where

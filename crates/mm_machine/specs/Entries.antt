@@ -27,8 +27,8 @@ abbrev pub entry_formulas : List (List ℕ) → List Entry → List Formula
 entry_formulas nodes es = map (entry_formula nodes) es
 
 -- the body is a symbol or one of the first `count` nodes, or it is none and has no symbols
-abbrev pub IsAmong : ℕ → ℕ → ℕ → Type 0
-IsAmong count b symbol_count =
+abbrev pub IsBodyAmong : ℕ → ℕ → ℕ → Type 0
+IsBodyAmong count b symbol_count =
     (b < first_node + count) ⊎ ((b ≡ no_body) × (symbol_count ≡ 0))
 
 -- the formula has no symbols, and no body stands for it
@@ -39,7 +39,7 @@ HasNoSymbols nodes e =
 -- an entry over the nodes: a symbol and a body, or a formula without symbols
 pub record IsEntry (nodes : List (List ℕ)) (e : Entry) : Type 0 where
   pub has_typecode : (e.typecode < first_node) ⊎ HasNoSymbols nodes e
-  pub body_is_among : IsAmong e.needed e.body e.length
+  pub body_is_among : IsBodyAmong e.needed e.body e.length
   pub needed_le_count : e.needed ≤ length nodes
   pub length_is : e.length ≡ length (string_of nodes e.body)
   pub length_lt_limit : e.length < formula_limit

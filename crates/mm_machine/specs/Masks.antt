@@ -1,5 +1,6 @@
 -- The variables of formulas as bits of masks.
-use Rattle.std.specs.Prelude.{◌≡◌, ℕ, ◌<◌, ◌≤◌, ◌⊎◌, Bool, true, false, All, List, [], length, map, get_or}
+use Rattle.std.specs.Prelude.{◌≡◌, ℕ, ◌<◌, ◌≤◌, ◌⊎◌, Bool, true, false, All, List, [], length}
+use Rattle.std.specs.Prelude.{map, get_or, ⊤}
 use Rattle.std.specs.Int.{bit_at}
 use Rattle.mm_spec.specs.Statement.{Statement}
 use Rattle.mm_spec.specs.Derivation.{Formula, are_disjoint}
@@ -56,13 +57,13 @@ Includes m n = (i : ℕ) → bit_at n i ≡ 1 → bit_at m i ≡ 1
 
 -- the mask has the bits of what replaces the part
 abbrev pub IncludesPart : List Entry → ℕ → RulePart → Type 0
-IncludesPart es mask (Constant s) = Unit {0}
+IncludesPart es mask (Constant s) = ⊤
 IncludesPart es mask (Variable j) = Includes mask (get_or es j no_entry).mask
 
 -- the part isn't a variable that stands for itself
 abbrev pub IsNoVariable : List Bool → RulePart → Type 0
 IsNoVariable vs (Constant s) = get_or vs s false ≡ false
-IsNoVariable vs (Variable j) = Unit {0}
+IsNoVariable vs (Variable j) = ⊤
 
 -- Entries that have masks for their formulas have them still after they were replaced: a step
 -- pushed a formula of these parts.

@@ -13,8 +13,8 @@ ghost use Rattle.mm_machine.specs.FlagRows.{AreColumnsOf};
 ghost use Rattle.mm_rule.specs.Rule.{IsCompiled};
 ghost use Rattle.mm_nodes.specs.Strings.{string_of};
 ghost use Rattle.mm_machine.specs.Distinct.{IsSegment, segment_at};
+ghost use Rattle.mm_machine.specs.Distinct.{are_bodies_disjoint, are_segments_disjoint};
 ghost use Rattle.mm_machine.specs.Entries.{IsEntry, AreInRange, entry_formulas};
-ghost use Rattle.mm_machine.specs.Filled.{body_string_at};
 ghost use Rattle.mm_machine.specs.Masks.{AreVariablesOf, AreAllMasked, AreMasked, entry_masks};
 ghost use Rattle.mm_machine.specs.Masks.{IsDisjointFromMask, AreDisjointMasks};
 ghost use Rattle.mm_machine.specs.Applied.{TestsRule};
@@ -260,8 +260,7 @@ fn pairs_are_disjoint<A: Allocator>(
     requires cached_are_disjoint { AreDisjointAt database.now.statements theorem cache.old }
     ensures tells_disjoint { result
         ≡ list_all
-        (λ (p : ℕ × ℕ). disjoint_lists (context_at database.now.statements theorem)
-        (segment_at symbols.now segments.now p.0) (segment_at symbols.now segments.now p.1))
+        (are_segments_disjoint database.now.statements theorem symbols.now segments.now)
         pairs.now }
     ensures cached_are_disjoint { AreDisjointAt database.now.statements theorem cache.new }
 {
@@ -299,9 +298,7 @@ fn long_formulas_are_disjoint<A: Allocator>(
     ensures tells_disjoint { IfOk result
         (λ r. r
         ≡ list_all
-        (λ (p : ℕ × ℕ). disjoint_lists (context_at database.now.statements theorem)
-        (body_string_at nodes.old premises.now p.0) (body_string_at nodes.old premises.now p.1))
-        pairs.now) }
+        (are_bodies_disjoint database.now.statements theorem nodes.old premises.now) pairs.now) }
     ensures cached_are_disjoint { AreDisjointAt database.now.statements theorem cache.new }
 {
     distinct.collect(database, nodes, premises, bodies)?;
@@ -455,9 +452,7 @@ fn keeps_disjoint<A: Allocator>(
     ensures tells_disjoint { IfOk result
         (λ r. r
         ≡ list_all
-        (λ (p : ℕ × ℕ). disjoint_lists (context_at database.now.statements theorem)
-        (body_string_at nodes.old premises.now p.0) (body_string_at nodes.old premises.now p.1))
-        pairs.now) }
+        (are_bodies_disjoint database.now.statements theorem nodes.old premises.now) pairs.now) }
     ensures cached_are_disjoint { AreDisjointAt database.now.statements theorem cache.new }
 {
     let mut count: usize = 0;

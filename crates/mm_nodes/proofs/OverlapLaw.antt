@@ -32,8 +32,8 @@ module _ (u v : List ℕ) where
       (λ i i_lt.
       let i_is : i - 0 ≡ i = omega arith in
       sym (ap (λ j. get_or u j 0) i_is)
-      ∙ agree i (omega arith) (omega (arith, i_lt)) (omega arith) (omega
-      (arith, i_lt, lengths_equal))
+      ∙ agree i (omega arith) (omega (arith, i_lt)) (omega arith)
+      (omega (arith, i_lt, lengths_equal))
       ∙ ap (λ j. get_or v j 0) i_is)
 
   pub same_if_agree : length u ≡ length v → Agree u 0 v 0 → true ≡ bytes_eq v u
@@ -270,8 +270,8 @@ module _ {nodes : List (List ℕ)} {Statement : Type 0} {pending pending' seen s
 
       pub pending_next : ComesToPending nodes Statement pending' seen'
       pending_next =
-          subst (λ (os : List Overlap). ComesToPending nodes Statement os seen') (sym
-          comes.pending_is)
+          subst (λ (os : List Overlap). ComesToPending nodes Statement os seen')
+          (sym comes.pending_is)
           (record {
             are_overlaps =
                 All-append (IsOverlap nodes) pending comes.added

@@ -2,8 +2,9 @@
 -- were put off.
 use Rattle.std.proofs.lemmas.Grind.{common_steps}
 use Rattle.std.proofs.Common.{◌≡◌, ℕ, zero, suc, ◌+◌, ◌-◌, ◌<◌, ◌≤◌, inl, inr, List, [], ◌∷◌, ◌++◌}
-use Rattle.std.proofs.Common.{length, take, drop, get_or, slice_range, refl, sym, ap, ap₂, ◌∙◌, subst, arith, All}
-use Rattle.std.proofs.Common.{length-append, true, false, nat_lt, bytes_eq, append-nil}
+use Rattle.std.proofs.Common.{length, take, drop, get_or, slice_range, refl, sym, ap, ap₂, ◌∙◌}
+use Rattle.std.proofs.Common.{subst, arith, All, length-append, append-nil}
+use Rattle.std.proofs.Common.{true, false, nat_lt, bytes_eq}
 use Rattle.std.proofs.lemmas.List.{append_assoc, append_cancel_left, drop_more, get_or_push}
 use Rattle.std.proofs.lemmas.List.{get_or_default, drop-drop, drop_at}
 use Rattle.std.proofs.Math.Seq.{take-append_seam, take-add}
@@ -436,46 +437,55 @@ pub equal_if_second_is_read : (u v more : List ℕ) → v ++ more ≡ u → leng
 equal_if_second_is_read u v more h1 h2 =
     grind (arith, common_steps, bytes_eq-Decides, append-nil, length-append)
 
+-- the same symbols were read of two strings, of which these segments are left
+pub record ReadAlike (bodies : List ℕ) (heads : List Head) (u v : List ℕ) (s : Segment)
+    (later : List Segment) (t : Segment) (later' : List Segment) : Type 0 where
+  pub common : List ℕ
+  pub left : Reads bodies heads u common s later
+  pub right : Reads bodies heads v common t later'
+
 module _ {bodies : List ℕ} {heads : List Head} (are_nodes : AreNodes bodies heads)
-    {u v common : List ℕ} {s t : Segment} {later later' : List Segment}
-    (first : Reads bodies heads u common s later) (second : Reads bodies heads v common t later')
+    {u v : List ℕ} {s t : Segment} {later later' : List Segment}
+    (reads : ReadAlike bodies heads u v s later t later')
     (lengths_equal : length u ≡ length v) where
   pub equal_at_first_end : s.end ≤ s.start → later ≡ [] → true ≡ bytes_eq v u
   equal_at_first_end end_le later_is =
       equal_if_first_is_read u v
       (string_of_segment [] bodies heads t ++ later_string [] bodies heads later')
       (ap (λ w. w ++ (string_of_segment [] bodies heads t ++ later_string [] bodies heads later'))
-      (sym (all_is_read are_nodes first end_le later_is))
-      ∙ second.whole_is) lengths_equal
+      (sym (all_is_read are_nodes reads.left end_le later_is))
+      ∙ reads.right.whole_is) lengths_equal
 
   pub equal_at_second_end : t.end ≤ t.start → later' ≡ [] → true ≡ bytes_eq v u
   equal_at_second_end end_le later_is =
       equal_if_second_is_read u v
       (string_of_segment [] bodies heads s ++ later_string [] bodies heads later)
       (ap (λ w. w ++ (string_of_segment [] bodies heads s ++ later_string [] bodies heads later))
-      (sym (all_is_read are_nodes second end_le later_is))
-      ∙ first.whole_is) lengths_equal
+      (sym (all_is_read are_nodes reads.right end_le later_is))
+      ∙ reads.left.whole_is) lengths_equal
 
 module _ {bodies : List ℕ} {heads : List Head} (are_nodes : AreNodes bodies heads)
-    {u v common : List ℕ} {s t : Segment} {later later' : List Segment}
-    (first : Reads bodies heads u common s later) (second : Reads bodies heads v common t later')
+    {u v : List ℕ} {s t : Segment} {later later' : List Segment}
+    (reads : ReadAlike bodies heads u v s later t later')
   where
     -- both are read as far as their bodies are the same
     pub both_read_far : (n : ℕ) → s.start + n ≤ s.end → t.start + n ≤ t.end
         → AreSame bodies s.start t.start n
-        → (common' : List ℕ) × Reads bodies heads u common' (segment (s.start + n) s.end) later
-        × Reads bodies heads v common' (segment (t.start + n) t.end) later'
+        → ReadAlike bodies heads u v (segment (s.start + n) s.end) later
+        (segment (t.start + n) t.end) later'
     both_read_far n left_le right_le are_same =
         let strings = strings_after [] [] (nodes_of bodies heads) in
-        let s_end = first.is_in.end_le_length in
-        let t_end = second.is_in.end_le_length in
+        let s_end = reads.left.is_in.end_le_length in
+        let t_end = reads.right.is_in.end_le_length in
         let same = same_ranges bodies s.start t.start n (omega (arith, s_end, left_le))
-        (omega (arith, t_end, right_le)) are_same in (
-          common ++ joined_strings strings (slice_range bodies s.start (s.start + n)),
-          reads_far are_nodes first n left_le _ refl,
-          reads_far are_nodes second n right_le _
-              (ap (λ bs. common ++ joined_strings strings bs) same),
-        )
+        (omega (arith, t_end, right_le)) are_same in
+        record {
+          common = reads.common
+              ++ joined_strings strings (slice_range bodies s.start (s.start + n));
+          left = reads_far are_nodes reads.left n left_le _ refl;
+          right = reads_far are_nodes reads.right n right_le _
+              (ap (λ bs. reads.common ++ joined_strings strings bs) same);
+        }
 
     pub less_if_both_go_on : (n : ℕ) → 0 < n → s.start + n ≤ s.end → t.start + n ≤ t.end
         → work bodies heads (segment (s.start + n) s.end) later
@@ -483,18 +493,17 @@ module _ {bodies : List ℕ} {heads : List Head} (are_nodes : AreNodes bodies he
         < work bodies heads s later + work bodies heads t later'
     less_if_both_go_on n n_gt left_le right_le =
         let b = get_or bodies s.start 0 in
-        let s_end = first.is_in.end_le_length in
+        let s_end = reads.left.is_in.end_le_length in
         let b_read : b ≡ get_or bodies s.start b =
         sym (get_or_default bodies s.start b 0 (omega (arith, n_gt, left_le, s_end))) in
         let less =
-        less_work_far are_nodes first (omega (arith, n_gt, left_le)) b b_read n n_gt left_le in
+        less_work_far are_nodes reads.left (omega (arith, n_gt, left_le)) b b_read n n_gt left_le in
         let no_more = work_of_rest bodies heads t later' n right_le in
         omega (arith, less, no_more)
 
     module _ {n : ℕ} (is_first : IsFirstDifference bodies s t n) where
-      pub both_read : (common' : List ℕ)
-          × Reads bodies heads u common' (segment (s.start + n) s.end) later
-          × Reads bodies heads v common' (segment (t.start + n) t.end) later'
+      pub both_read : ReadAlike bodies heads u v (segment (s.start + n) s.end) later
+          (segment (t.start + n) t.end) later'
       both_read =
           let left_lt = is_first.left_lt in
           let right_lt = is_first.right_lt in

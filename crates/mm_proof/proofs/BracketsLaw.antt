@@ -26,8 +26,8 @@ with_labels_before ts p = record { labels = ts ++ p.labels; letters = p.letters 
 
 -- the brackets close at a `)`
 pub brackets_close : (earlier_labels : List Token) (t : Token) (ts : List Token)
-    → bytes_eq t.word (codes ")") ≡ true → with_labels_before earlier_labels (bracketed (t ∷ ts))
-    ≡ closed_brackets earlier_labels ts
+    → bytes_eq t.word (codes ")") ≡ true
+    → with_labels_before earlier_labels (bracketed (t ∷ ts)) ≡ closed_brackets earlier_labels ts
 brackets_close earlier_labels t ts t_closes = grind (arith, common_steps, append-nil)
 
 module _ (db : List Statement) (k end : ℕ) where

@@ -1,7 +1,6 @@
 -- What a refusal promises of the faults of a proof: that it tells the first of them, either by
--- place and code, or as the list has them. And what the readers find of a label.
-use Rattle.std.specs.Prelude.{◌≡◌, ℕ, true, false, List, [], ◌∷◌, Option, Some, None, bytes_eq}
-use Rattle.std.specs.Prelude.{codes}
+-- place and code, or as the list has them. And the faults of a word of a normal proof.
+use Rattle.std.specs.Prelude.{◌≡◌, ℕ, true, false, List, [], ◌∷◌, Some, bytes_eq, codes, ⊤}
 use Rattle.mm_spec.specs.Text.{Token, fault}
 use Rattle.mm_spec.specs.declared.Fault.{Fault}
 use Rattle.mm_spec.specs.Statement.{Statement}
@@ -14,17 +13,12 @@ use Rattle.mm_proof.specs.declared.refused.ProofRefused.TheVariants.{Fault as Fa
 -- if the refusal is a fault, it is the first of these
 abbrev pub IsProofRefusal : List Fault → ProofRefused → Type 0
 IsProofRefusal faults (Faulty f) = least faults ≡ Some f
-IsProofRefusal faults Memory = Unit {0}
+IsProofRefusal faults Memory = ⊤
 
 -- if the refusal is a fault, these begin with it
 abbrev pub StartsWith : List Fault → ProofRefused → Type 0
 StartsWith faults (Faulty f) = (more : List Fault) × (faults ≡ f ∷ more)
-StartsWith faults Memory = Unit {0}
-
--- the statement that was found, if any, as a list
-abbrev pub as_list : Option ℕ → List ℕ
-as_list None = []
-as_list (Some j) = j ∷ []
+StartsWith faults Memory = ⊤
 
 -- the fault of a word of a normal proof, if it has one
 abbrev pub word_faults : List Statement → ℕ → Token → List Fault

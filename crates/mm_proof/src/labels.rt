@@ -1,8 +1,8 @@
 //! The labels of a proof.
 
 ghost use Rattle.std.specs.Prelude.{◌≡◌, ◌<◌, length};
+ghost use Rattle.std.specs.Option.{option_to_list};
 ghost use Rattle.mm_spec.specs.NormalProof.{usable};
-ghost use Rattle.mm_proof.specs.Refused.{as_list};
 
 use mm_database::Database;
 use std::alloc::Allocator;
@@ -16,7 +16,7 @@ pub(crate) fn usable_label<A: Allocator>(
     label: &[u8],
 ) -> Option<u32>
     requires { theorem < length database.now.statements }
-    ensures { usable database.now.statements theorem label.now ≡ as_list result }
+    ensures { usable database.now.statements theorem label.now ≡ option_to_list result }
 {
     match database.find(label) {
         None => None,

@@ -155,8 +155,8 @@ module _ (db : List Statement) (db_lt_never : length db < never) (w : Bytes) whe
   is_label_after_statement s m o is_label_before =
       rw (in_flat_map_push db s w label_words, is_label_before) (is_label_after (label_of s))
     where
-      tests_agree : (l : Token) (b : Bool) → (is_some o || (b || false))
-          ≡ is_some (if b then Some m else o)
+      tests_agree : (l : Token) (b : Bool)
+          → (is_some o || (b || false)) ≡ is_some (if b then Some m else o)
       tests_agree l true = or-true (is_some o)
       tests_agree l false = or-false (is_some o)
 

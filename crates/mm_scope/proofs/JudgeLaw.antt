@@ -41,11 +41,9 @@ least_append (f ∷ xs) ys =
     grind (arith, least_append xs ys, lesser_fault_assoc (Some f) (least xs) (least ys))
 
 -- the lesser of the least of two lists
-pub lesser_of_least_is_least : (xs ys : List Fault) (a b r : Option Fault) → a ≡ least xs
-    → b ≡ least ys
-    → r ≡ lesser_fault a b
-    → r ≡ least (xs ++ ys)
-lesser_of_least_is_least xs ys a b r a_is_least b_is_least r_is_lesser =
+pub lesser_of_least_is_least : (a b r : Option Fault) → r ≡ lesser_fault a b
+    → (xs ys : List Fault) → a ≡ least xs → b ≡ least ys → r ≡ least (xs ++ ys)
+lesser_of_least_is_least a b r r_is_lesser xs ys a_is_least b_is_least =
     r_is_lesser ∙ ap₂ lesser_fault a_is_least b_is_least ∙ sym (least_append xs ys)
 
 -- the words before the next one: those of the tokens, the last one first, then those before them
@@ -71,8 +69,8 @@ module _ (text : List ℕ) (ws : List spec.Word) (from i : ℕ) where
   earlier = before_next [] (between text ws from i)
 
   -- the words before the one at i, in both forms
-  pub in_between_is_in_earlier : (w : Bytes) → is_in w (words (between text ws from i))
-      ≡ is_in w earlier
+  pub in_between_is_in_earlier : (w : Bytes)
+      → is_in w (words (between text ws from i)) ≡ is_in w earlier
   in_between_is_in_earlier w =
       sym (in_before_next w [] (between text ws from i)
       ∙ or-false (is_in w (words (between text ws from i))))

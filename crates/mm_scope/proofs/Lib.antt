@@ -1,4 +1,4 @@
--- The loop of `outline_statements` keeps three things: `IsReadTo` (the lawful statements lead to the
+-- The loop of `read_outlines` keeps three things: `IsReadTo` (the lawful statements lead to the
 -- token `from`), `AreOutlinesFrom` (the outlines that are left are found from there on;
 -- `OutlinesLaw.antt`) and `IsReadSoFar` (names, blocks and numbers are theirs). `scope_knows_names`
 -- (`KnowsLaw.antt`) says that what has been read is what the judge needs.

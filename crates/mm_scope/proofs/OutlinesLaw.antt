@@ -1,6 +1,6 @@
 -- The statements that are found from one of them on.
-use Rattle.std.proofs.Common.{◌≡◌, ◌<◌, ◌≤◌, ℕ, ◌+◌, zero, suc, List, [], ◌∷◌, drop, length}
-use Rattle.std.proofs.Common.{All, slice_index_or, arith, refl, subst, take, ◌++◌, ◌∙◌, ap, sym, min}
+use Rattle.std.proofs.Common.{◌≡◌, ◌<◌, ◌≤◌, ℕ, ◌+◌, zero, suc, min, List, [], ◌∷◌, ◌++◌, length}
+use Rattle.std.proofs.Common.{take, drop, All, slice_index_or, arith, refl, sym, ap, ◌∙◌, subst}
 use Rattle.std.proofs.lemmas.List.{length-take, take_min, take_more}
 use Rattle.std.proofs.lemmas.List.Elements.{All-nil, All-cons}
 use Rattle.mm_spec.specs.declared.Word.{Word}
@@ -64,7 +64,8 @@ module _ (text : List ℕ) (ws : List Word) (rest : Rest) where
   IsWithin o = IsOutline o × (o.end < length ws)
 
   -- the outlines that are found lie within the tokens
-  pub outlines_are_within : (d from : ℕ) (os : List Outline) → AreOutlinesFrom text ws d from os rest
+  pub outlines_are_within : (d from : ℕ) (os : List Outline)
+      → AreOutlinesFrom text ws d from os rest
       → All (λ o. IsOutline o × (o.end < length ws)) os
   outlines_are_within d from [] found = All-nil IsWithin
   outlines_are_within d from (o ∷ os) found =
@@ -72,7 +73,8 @@ module _ (text : List ℕ) (ws : List Word) (rest : Rest) where
       (outlines_are_within (depth_after o.kind d) (o.end + 1) os found.1)
 
   -- there are no more outlines than tokens
-  pub outlines_le_tokens : (d from : ℕ) (os : List Outline) → AreOutlinesFrom text ws d from os rest
+  pub outlines_le_tokens : (d from : ℕ) (os : List Outline)
+      → AreOutlinesFrom text ws d from os rest
       → from ≤ length ws → length os + from ≤ length ws
   outlines_le_tokens d from [] found from_le_length = omega (arith, from_le_length)
   outlines_le_tokens d from (o ∷ os) found from_le_length =

@@ -19,7 +19,7 @@ use Rattle.mm_scope.specs.WordEntry.{WordEntry, entry_of}
 use Rattle.mm_scope.specs.ReadSoFar.{KnowsStatements}
 
 -- the outline is that of a whole statement among these tokens of a text
-pub record IsAmong (text : List ℕ) (tokens : List Word) (o : Outline) : Type 0 where
+pub record IsOutlineAmong (text : List ℕ) (tokens : List Word) (o : Outline) : Type 0 where
   pub words : AreWithin text tokens
   pub outline : IsOutline o
   pub end_lt_length : o.end < length tokens

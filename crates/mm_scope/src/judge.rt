@@ -11,7 +11,7 @@ ghost use Rattle.mm_spec.specs.Scope.{Names as DeclaredNames};
 ghost use Rattle.mm_spec.specs.declared.Fault.{Fault as SpecFault};
 ghost use Rattle.mm_outline.specs.Parts.{AreWithin, between, nth_word, token_at, statement_of};
 ghost use Rattle.mm_scope.specs.Knows.{fault_at, listed_codes, lists_symbols};
-ghost use Rattle.mm_scope.specs.Scopes.{IsAmong, IsLeastFault, names_in};
+ghost use Rattle.mm_scope.specs.Scopes.{IsOutlineAmong, IsLeastFault, names_in};
 
 use crate::scope::Scope;
 use mm_database::name_map::NameMap;
@@ -161,7 +161,7 @@ impl<'a, A: Allocator + Copy> Scope<'a, A> {
         depth: u32,
         outline: Outline,
     ) -> Option<Fault>
-        requires is_among_tokens { IsAmong _text.now tokens.now outline }
+        requires is_among_tokens { IsOutlineAmong _text.now tokens.now outline }
         requires keyword_lt_middle { outline.keyword < outline.middle }
         requires kind_lists_symbols { lists_symbols outline.kind ≡ true }
         ensures { (n : DeclaredNames)
@@ -208,7 +208,7 @@ impl<'a, A: Allocator + Copy> Scope<'a, A> {
         outline: Outline,
         numbers: &mut Vec<Sym, A>,
     ) -> Result<Option<Fault>, AllocError>
-        requires is_among_tokens { IsAmong text.now tokens.now outline }
+        requires is_among_tokens { IsOutlineAmong text.now tokens.now outline }
         requires few_names { length (names_in self.now) < 2 ^ 31 }
         ensures numbers_are_added { OnOk result
             (numbers.new.items
@@ -250,7 +250,7 @@ impl<'a, A: Allocator + Copy> Scope<'a, A> {
         outline: Outline,
         numbers: &mut Vec<Sym, A>,
     ) -> Result<Option<Fault>, AllocError>
-        requires is_among_tokens { IsAmong text.now tokens.now outline }
+        requires is_among_tokens { IsOutlineAmong text.now tokens.now outline }
         requires keyword_gt_0 { 0 < outline.keyword }
         requires keyword_lt_middle { outline.keyword < outline.middle }
         requires few_names { length (names_in self.now) < 2 ^ 31 }
@@ -281,7 +281,7 @@ impl<'a, A: Allocator + Copy> Scope<'a, A> {
         depth: u32,
         outline: Outline,
     ) -> Result<Option<Fault>, AllocError>
-        requires is_among_tokens { IsAmong text.now tokens.now outline }
+        requires is_among_tokens { IsOutlineAmong text.now tokens.now outline }
         requires keyword_lt_middle { outline.keyword < outline.middle }
         requires kind_lists_symbols { lists_symbols outline.kind ≡ true }
         ensures { IfOk result

@@ -8,7 +8,7 @@ ghost use Rattle.mm_database.specs.ParsedStatements.{AreParsedStatements};
 ghost use Rattle.mm_outline.specs.Parts.{AreWithin, statement_of};
 ghost use Rattle.mm_outline.specs.Tokens.{AreTokens};
 ghost use Rattle.mm_outline.specs.Statements.{end_fault_of, lexed, statements};
-ghost use Rattle.mm_scope.specs.Scopes.{IsAmong, IsScopeAfter, names_in};
+ghost use Rattle.mm_scope.specs.Scopes.{IsOutlineAmong, IsScopeAfter, names_in};
 ghost use Rattle.mm_scope.specs.ReadSoFar.{HasReadNext, IsReadSoFar, MayTake, formulas_of};
 ghost use Rattle.mm_scope.specs.ReadSoFar.{read_so_far, reading_of};
 ghost use Rattle.mm_scope.specs.Outlines.{AreOutlinesFrom};
@@ -150,7 +150,7 @@ impl<'a, A: Allocator + Copy> Outlined<'a, A> {
         depth: u32,
         outline: Outline,
     ) -> Result<(), AllocError>
-        requires is_among_tokens { IsAmong text.now tokens.now outline }
+        requires is_among_tokens { IsOutlineAmong text.now tokens.now outline }
         requires few_tokens { length tokens.now < 2 ^ 31 }
         requires no_fault { self.old.fault ≡ None }
         requires is_read_so_far { IsReadSoFar

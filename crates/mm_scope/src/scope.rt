@@ -14,7 +14,7 @@ ghost use Rattle.mm_database.specs.Names.{find as find_in, is_constant_in};
 ghost use Rattle.mm_scope.specs.Knows.{is_active_symbol, fault_at, listed_codes, typing_fault};
 ghost use Rattle.mm_scope.specs.WordEntry.{after_declaring, after_typing, declared_entry, entry_of};
 ghost use Rattle.mm_scope.specs.WordEntry.{entry_after, label_after};
-ghost use Rattle.mm_scope.specs.Scopes.{Declares, IsAmong, IsLeastCode, IsLeastFault};
+ghost use Rattle.mm_scope.specs.Scopes.{Declares, IsOutlineAmong, IsLeastCode, IsLeastFault};
 ghost use Rattle.mm_scope.specs.Scopes.{IsScopeAfter, IsNextScope, declared_words, listed_words};
 ghost use Rattle.mm_scope.specs.Scopes.{symbol_in, word_entry_in, label_in, names_in};
 
@@ -208,7 +208,7 @@ impl<'a, A: Allocator + Copy> Scope<'a, A> {
         tokens: &[Word],
         outline: Outline,
     ) -> Result<(), AllocError>
-        requires is_among_tokens { IsAmong text.now tokens.now outline }
+        requires is_among_tokens { IsOutlineAmong text.now tokens.now outline }
         requires few_tokens { length tokens.now < 2 ^ 31 }
         requires is_scope_after { (db : List Statement)
             × IsScopeAfter db self.old × (length db < 2 ^ 31) }
@@ -231,7 +231,7 @@ impl<'a, A: Allocator + Copy> Scope<'a, A> {
         outline: Outline,
         statement: u32,
     ) -> Result<(), AllocError>
-        requires is_among_tokens { IsAmong text.now tokens.now outline }
+        requires is_among_tokens { IsOutlineAmong text.now tokens.now outline }
         requires few_tokens { length tokens.now < 2 ^ 31 }
         ensures symbols_are_added { OnOk result
             ((w : List ℕ)
@@ -343,7 +343,7 @@ impl<'a, A: Allocator + Copy> Scope<'a, A> {
         is_variable: bool,
         statement: u32,
     ) -> Result<(), AllocError>
-        requires is_among_tokens { IsAmong text.now tokens.now outline }
+        requires is_among_tokens { IsOutlineAmong text.now tokens.now outline }
         requires keyword_lt_middle { outline.keyword < outline.middle }
         ensures labels_stay { OnOk result
             ((w : List ℕ) → label_in self.new w ≡ label_in self.old w) }

@@ -1,6 +1,5 @@
 -- The dummy variable that a label of a proof stands for, if it stands for one.
-use Rattle.std.specs.Prelude.{ℕ, Bool, ◌&&◌, not, List, [], ◌∷◌, Option, Some, None}
-use Rattle.std.specs.Prelude.{if◌then◌else◌}
+use Rattle.std.specs.Prelude.{ℕ, Bool, ◌&&◌, not, List, [], if◌then◌else◌}
 use Rattle.std.specs.List.{list_any}
 use Rattle.mm_spec.specs.Text.{Bytes}
 use Rattle.mm_spec.specs.Statement.{Statement}
@@ -8,11 +7,6 @@ use Rattle.mm_spec.specs.Scope.{statement_at}
 use Rattle.mm_spec.specs.Derivation.{is_member}
 use Rattle.mm_spec.specs.Frame.{is_floating, active_of, mandatory_hypotheses}
 use Rattle.mm_spec.specs.Assertion.{has_label, variable_of}
-
--- an element as a list of one, or none
-abbrev pub as_list : Option ℕ → List ℕ
-as_list None = []
-as_list (Some x) = x ∷ []
 
 -- the variable of statement j, if that is a `$f`
 abbrev pub float_variable : List Statement → ℕ → List ℕ

@@ -1,6 +1,8 @@
 //! The dummy variables of a theorem, and all variables that it uses.
 
-ghost use Rattle.std.specs.Prelude.{◌≡◌, ◌<◌, ◌≤◌, ◌||◌, ◌++◌, ℕ, All, OnOk, IfSome, length, flat_map};
+ghost use Rattle.std.specs.Prelude.{◌≡◌, ◌<◌, ◌≤◌, ◌||◌, ◌++◌, ℕ, All, OnOk, IfSome, length};
+ghost use Rattle.std.specs.Prelude.{flat_map};
+ghost use Rattle.std.specs.Option.{option_to_list};
 ghost use Rattle.std.specs.List.{list_any};
 ghost use Rattle.std.specs.List.Sorted.{IsStrictlyIncreasing};
 ghost use Rattle.mm_spec.specs.Text.{words as words_of};
@@ -8,7 +10,7 @@ ghost use Rattle.mm_spec.specs.Derivation.{is_member};
 ghost use Rattle.mm_spec.specs.Frame.{mandatory_hypotheses, symbol_names};
 ghost use Rattle.mm_spec.specs.Assertion.{dummies, dummy_floats, is_variable_of, used};
 ghost use Rattle.mm_outline.specs.Parts.{as_tokens, AreWithin};
-ghost use Rattle.mm_tell.specs.Named.{as_list, float_variable, names_dummy};
+ghost use Rattle.mm_tell.specs.Named.{float_variable, names_dummy};
 
 use crate::proof_labels::label_words;
 use crate::rising_lists::{has_number, sort_and_dedup};
@@ -20,7 +22,7 @@ use std::alloc::{AllocError, Allocator};
 /// The variable of a `$f`, by its number. `None` if the statement is no `$f`.
 fn typed_variable<D: Allocator>(database: &Database<'_, D>, statement: u32) -> Option<u32>
     requires { statement < length database.now.statements }
-    ensures variable_is { as_list result ≡ float_variable database.now.statements statement }
+    ensures variable_is { option_to_list result ≡ float_variable database.now.statements statement }
     ensures variable_lt_count { IfSome result
         (λ v. v < length (symbol_names database.now.statements)) }
 {
@@ -45,7 +47,7 @@ fn dummy_variable<D: Allocator>(
     requires are_hypotheses { hypotheses.now
         ≡ mandatory_hypotheses database.now.statements theorem }
     requires rise { IsStrictlyIncreasing hypotheses.now }
-    ensures names_dummy { (x : ℕ) → is_member (as_list result) x
+    ensures names_dummy { (x : ℕ) → is_member (option_to_list result) x
         ≡ names_dummy database.now.statements theorem label.now x }
     ensures variable_lt_count { IfSome result
         (λ v. v < length (symbol_names database.now.statements)) }

@@ -8,9 +8,9 @@ use Rattle.mm_spec.specs.Opened.{open_as_axioms}
 use Rattle.mm_spec.specs.Lexed.{lexed_of}
 use Rattle.mm_spec.specs.Derivation.{Pair}
 use Rattle.mm_spec.specs.Frame.{formula_at, mandatory_hypotheses, mandatory_pairs}
-use Rattle.mm_spec.specs.Assertion.{label_at, name_at, hypothesis_keyword, kind_letter, kind_keyword}
-use Rattle.mm_spec.specs.Assertion.{is_axiom_at, start_place, end_place, dummies, dummy_pairs}
-use Rattle.mm_spec.specs.Assertion.{is_told, statement_lines}
+use Rattle.mm_spec.specs.Assertion.{label_at, name_at, start_place, end_place, is_axiom_at, is_told}
+use Rattle.mm_spec.specs.Assertion.{hypothesis_keyword, kind_letter, kind_keyword}
+use Rattle.mm_spec.specs.Assertion.{dummies, dummy_pairs, statement_lines}
 use Rattle.mm_spec.specs.Output.{IsRead}
 use Rattle.mm_spec.specs.declared.Fault.{Fault}
 

@@ -27,9 +27,10 @@ pub undo_step-requires-clause-label_is_below : goal.undo_step-requires-clause-la
 undo_step-requires-clause-label_is_below g c =
     let db = c.args.database.now.statements in
     let i = c.loop-i.i - 1 in
-    good_step_label_is_below db c.args.theorem i (as_step c.step.result)
-    (step_at_is_good (context_at db c.args.theorem) c.args.steps.now.steps i i
-    (as_step c.step.result) (omega (arith, c.loop-i-test.true, c.loop-i.auto.i, c.len-i.ensures))
+    let step = as_step c.step.result in
+    good_step_label_is_below db c.args.theorem i step
+    (step_at_is_good (context_at db c.args.theorem) c.args.steps.now.steps i i step
+    (omega (arith, c.loop-i-test.true, c.loop-i.auto.i, c.len-i.ensures))
     c.requires.are_steps.are_good refl c.step.ensures)
 
 pub undo_step-requires-clause-repeats_earlier : goal.undo_step-requires-clause-repeats_earlier
@@ -37,26 +38,27 @@ undo_step-requires-clause-repeats_earlier g c =
     let db = c.args.database.now.statements in
     let steps = c.args.steps.now.steps in
     let i = c.loop-i.i - 1 in
+    let step = as_step c.step.result in
     let i_lt_length_steps : i < length steps =
     omega (arith, c.loop-i-test.true, c.loop-i.auto.i, c.len-i.ensures) in
-    good_step_is_earlier (context_at db c.args.theorem) i (length c.deref_mut.result.now)
-    (as_step c.step.result) (omega (
-      arith,
-      i_lt_length_steps,
-      ap length c.deref_mut.ensures.value
-          ∙ c.loop-i.invariant.step_flags_fit,
-    )) (step_at_is_good (context_at db c.args.theorem) steps i i
-    (as_step c.step.result) i_lt_length_steps c.requires.are_steps.are_good refl c.step.ensures)
+    let flags_fit = ap length c.deref_mut.ensures.value ∙ c.loop-i.invariant.step_flags_fit in
+    good_step_is_earlier (context_at db c.args.theorem) i (length c.deref_mut.result.now) step
+    (omega (arith, i_lt_length_steps, flags_fit))
+    (step_at_is_good (context_at db c.args.theorem) steps i i step i_lt_length_steps
+    c.requires.are_steps.are_good refl c.step.ensures)
 
 pub loop-i-preserved : goal.loop-i-preserved
 loop-i-preserved g c =
     let steps = c.args.steps.now.steps in
     let i = c.loop-i.i - 1 in
+    let step = as_step c.step.result in
     let step_flags = c.loop-i.step_flags.items in
+    let is_essential = c.if-flag.is_essential in
+    let undone = c.undo_step.new in
     let i_lt_length_steps : i < length steps =
     omega (arith, c.loop-i-test.true, c.loop-i.auto.i, c.len-i.ensures) in
-    let is_essential_is : c.if-flag.is_essential ≡ (c.pop_flag-flag.result || flag_at step_flags i)
-    =
+    let length_is : length step_flags ≡ c.loop-i.step_flags.len = search rules in
+    let is_essential_is : is_essential ≡ (c.pop_flag-flag.result || flag_at step_flags i) =
     elim c.if-flag.branch [
       | then-flag w ↦ w.is_essential-is ∙ w.if-flag.true
           ∙ sym (or_left c.pop_flag-flag.result (flag_at step_flags i) w.if-flag.true)
@@ -65,27 +67,31 @@ loop-i-preserved g c =
           (omega (arith, i_lt_length_steps, c.loop-i.invariant.step_flags_fit)))
           ∙ sym (ap (λ f. f || flag_at step_flags i) w.if-flag.false)
     ] in
-    let step_flags_are : c.undo_step.new.step_flags
-    ≡ step_flags_after c.if-flag.is_essential
-    (as_step c.step.result) step_flags = c.in_ok-undo_step.ensures.sets_step_flag
-    ∙ ap (step_flags_after c.if-flag.is_essential (as_step c.step.result))
-    c.deref_mut.ensures.value in
-    let length_is : length step_flags ≡ c.loop-i.step_flags.len = search rules in
+    let step_flags_are : undone.step_flags ≡ step_flags_after is_essential step step_flags =
+    c.in_ok-undo_step.ensures.sets_step_flag
+    ∙ ap (step_flags_after is_essential step) c.deref_mut.ensures.value in
+    let length_stays : length undone.step_flags ≡ c.loop-i.step_flags.len =
+    ap length step_flags_are ∙ step_flags_count is_essential step step_flags ∙ length_is in
+    let written_flags_are =
+    take_at undone.step_flags (drop (length undone.step_flags) step_flags) c.loop-i.step_flags.len
+    length_stays
+    ∙ step_flags_are in
     walked_by_value c.args.database.now.statements c.args.theorem steps c.loop-i.i i
     c.loop-i.entry_flags.items step_flags c.loop-i.noted c.loop-i.invariant i_lt_length_steps
     (omega (arith, c.loop-i-test.true)) c.pop_flag-flag.new.entry_flags.items c.pop_flag-flag.result
-    c.if-flag.is_essential (as_step c.step.result) c.undo_step.new.entry_flags.items _
-    c.undo_step.new.noted c.pop_flag-flag.ensures is_essential_is c.requires.are_steps.are_good
-    c.step.ensures c.in_ok-undo_step.ensures.pushes_taken_flags ((take_at c.undo_step.new.step_flags
-    (drop (length c.undo_step.new.step_flags) step_flags) c.loop-i.step_flags.len
-    (ap length step_flags_are ∙ step_flags_count c.if-flag.is_essential (as_step c.step.result)
-    step_flags ∙ length_is)) ∙ step_flags_are) c.in_ok-undo_step.ensures.notes_applied
+    is_essential step undone.entry_flags.items _ undone.noted c.pop_flag-flag.ensures
+    is_essential_is c.requires.are_steps.are_good c.step.ensures
+    c.in_ok-undo_step.ensures.pushes_taken_flags written_flags_are
+    c.in_ok-undo_step.ensures.notes_applied
 
 pub returns : goal.returns
 returns g c =
+    let db = c.args.database.now.statements in
+    let steps = c.args.steps.now.steps in
+    let entry_flags = c.loop-i.entry_flags.items in
+    let step_flags = c.loop-i.step_flags.items in
     let i_is_0 : c.loop-i.i ≡ 0 = omega (arith, c.loop-i-test.false) in
-    walked_to_start c.args.database.now.statements c.args.theorem c.args.steps.now.steps
-    c.requires.are_steps.is_complete
-    c.loop-i.entry_flags.items c.loop-i.step_flags.items c.loop-i.noted
-    (subst (λ n. AreFoundFrom c.args.database.now.statements c.args.theorem c.args.steps.now.steps n
-    c.loop-i.entry_flags.items c.loop-i.step_flags.items c.loop-i.noted) i_is_0 c.loop-i.invariant)
+    walked_to_start db c.args.theorem steps c.requires.are_steps.is_complete entry_flags step_flags
+    c.loop-i.noted
+    (subst (λ n. AreFoundFrom db c.args.theorem steps n entry_flags step_flags c.loop-i.noted)
+    i_is_0 c.loop-i.invariant)

@@ -18,8 +18,8 @@ loop-link-preserved g c =
     index_lt_length in
     record {
       link_le_length = rw link_is_at_index (let next_le_index =
-          c.requires.are_linked.next_le_index (n - 1) index_lt_length in omega
-          (arith, next_le_index, index_lt_length));
+          c.requires.are_linked.next_le_index (n - 1) index_lt_length in
+          omega (arith, next_le_index, index_lt_length));
       rest_is_chain = λ statements is_chain. rw (c.in_ok-push.ensures.items, link_is_at_index)
           (rest_after_link links c.args.symbol c.args.by_symbol.now.items
           c.loop-link.by_symbol.items statements

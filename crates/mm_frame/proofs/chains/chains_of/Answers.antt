@@ -54,8 +54,8 @@ loop-statement-preserved-in-Continue-branch-2 g c =
           ∙ has_symbol_with_disjoint db c.args.narrow (statement - 1) x j statement
           c.formula.result.now
           statement_is_next
-          c.formula.ensures.formula (sym c.is_disjoint_by_width.ensures ∙
-          c.if-is_disjoint_by_width.true))
+          c.formula.ensures.formula (sym c.is_disjoint_by_width.ensures
+          ∙ c.if-is_disjoint_by_width.true))
           (c.in_ok-add_links.ensures.adds_in_front _
           (chains_for_equal_tests _ _ (statement - 1) statement _ _ (omega arith) (λ x j. refl)
           c.loop-statement.invariant.chains));

@@ -4,8 +4,10 @@ use Rattle.mm_database.specs.Pairs.{has_pair}
 use Rattle.mm_database.specs.DisjointIndex.{row_of}
 use Rattle.mm_frame.specs.Together.{is_higher_variable_in_row}
 use Rattle.mm_frame.proofs.LoopsLaw.{none_so_far, passing_with_next_element}
-use Rattle.mm_frame.proofs.disjoint.add_narrow.Goals.{then-row-disjoint_variables+in_ok-add_walked}
-use Rattle.mm_frame.proofs.disjoint.add_narrow.Goals.{else-row-disjoint_variables+in_ok-add_looked_up}
+use Rattle.mm_frame.proofs.disjoint.add_narrow.Goals.{
+  then-row-disjoint_variables+in_ok-add_walked,
+  else-row-disjoint_variables+in_ok-add_looked_up,
+}
 use Rattle.mm_frame.proofs.disjoint.add_narrow.Goals as goal
 
 pub loop-variable-init : goal.loop-variable-init
@@ -22,8 +24,8 @@ loop-variable-preserved g c = λ x y.
     let qs = c.if-row-disjoint_variables.pairs.items in
     let higher : List (ℕ × ℕ) → ℕ → List ℕ → Bool = λ (r : List (ℕ × ℕ)) (l : ℕ) (xs : List ℕ).
     has_pair ps x y || (nat_eq x l && is_higher_variable_in_row b r l xs at y) in
-    let in_row : (xs : List ℕ) → higher c.row-row.result.now c.number-low.result xs
-    ≡ higher (row_of rows s) s xs =
+    let in_row : (xs : List ℕ)
+    → higher c.row-row.result.now c.number-low.result xs ≡ higher (row_of rows s) s xs =
     λ (xs : List ℕ). ap₂ (λ (r : List (ℕ × ℕ)) (l : ℕ). higher r l xs) c.row-row.ensures
     c.number-low.ensures in
     let step : has_pair qs x y ≡ higher (row_of rows s) s ds =

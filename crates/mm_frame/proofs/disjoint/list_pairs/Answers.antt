@@ -52,8 +52,8 @@ returns g c =
     ∙ wide_are_listed db b k variables listed c.requires.are_disjoint_variables ps
     c.requires.are_sources.index_is.members_are j y)
     c.sort_and_dedup_pairs-2.new.pairs.items c.sort_and_dedup_pairs-2.ensures.rising (λ x y.
-    c.sort_and_dedup_pairs-2.ensures.members_stay x y ∙ c.in_ok-add_pairs_by_statement.ensures x y ∙
-    ap (λ (hs : List (ℕ × ℕ)). has_pair c.add_narrow.new.pairs.items x y
+    c.sort_and_dedup_pairs-2.ensures.members_stay x y ∙ c.in_ok-add_pairs_by_statement.ensures x y
+    ∙ ap (λ (hs : List (ℕ × ℕ)). has_pair c.add_narrow.new.pairs.items x y
     || list_any (λ p. has_later hs p x y) hs) c.deref.ensures.value
     ∙ ap (λ z. z || list_any (λ p. has_later c.sort_and_dedup_pairs.new.pairs.items p x y)
     c.sort_and_dedup_pairs.new.pairs.items)

@@ -1,8 +1,10 @@
 use Rattle.std.proofs.Common.{◌≡◌, ◌∙◌, ◌+◌, ◌-◌, ◌<◌, ◌≤◌, length, get_or, arith, ap, ℕ}
 use Rattle.mm_outline.specs.Blocks.{end_of}
 use Rattle.mm_frame.proofs.DisjointRowsLaw.{IsRowTo, row_of_all, row_with_next, row_without_next}
-use Rattle.mm_frame.proofs.disjoint_index.list_uncovered.Goals.{then-not-is_covered_by_last+in_ok-push}
-use Rattle.mm_frame.proofs.disjoint_index.list_uncovered.Goals.{else-not-is_covered_by_last}
+use Rattle.mm_frame.proofs.disjoint_index.list_uncovered.Goals.{
+  then-not-is_covered_by_last+in_ok-push,
+  else-not-is_covered_by_last,
+}
 use Rattle.mm_frame.proofs.disjoint_index.list_uncovered.Goals as goal
 
 pub loop-pair-preserved : goal.loop-pair-preserved

@@ -9,11 +9,11 @@ pub list_mandatory_variables-requires-clause-are_variables :
     goal.list_mandatory_variables-requires-clause-are_variables
 list_mandatory_variables-requires-clause-are_variables g c = λ x.
     let db = c.args.sources.now.statements.now.list in
-    let scope = c.args.scope.now in
     ap (λ xs. is_member xs x) c.deref.ensures.value
     ∙ c.requires.are_essential.variables_are x
     ∙ ap (λ z. is_variable_number db x && z)
-    (same_members_same_any (λ j. is_member (formula_at db j) x) scope.essentials.items
+    (same_members_same_any (λ j. is_member (formula_at db j) x)
+    c.args.essential_lists.now.essentials.items
     (active_of is_essential db c.args.assertion) c.requires.are_essential.essentials_are)
 
 pub list_disjoint_variables-requires : goal.list_disjoint_variables-requires

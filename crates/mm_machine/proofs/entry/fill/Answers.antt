@@ -11,8 +11,11 @@ use Rattle.mm_machine.specs.Masks.{IncludesPart}
 use Rattle.mm_machine.proofs.FilledLaw.{body_written, premise_written, none_written}
 use Rattle.mm_machine.proofs.FilledLaw.{symbol_string_is, nil_if_no_length, too_long_if_front_is}
 use Rattle.mm_machine.proofs.OwnersLaw.{includes_more, includes_variable, itself_included}
-use Rattle.mm_machine.proofs.entry.fill.Goals.{in-Constant, in-Variable+else-premise-gt0}
-use Rattle.mm_machine.proofs.entry.fill.Goals.{in-Variable+then-premise-gt0+else-more-gt-FORMULA_LIMIT}
+use Rattle.mm_machine.proofs.entry.fill.Goals.{
+  in-Constant,
+  in-Variable+else-premise-gt0,
+  in-Variable+then-premise-gt0+else-more-gt-FORMULA_LIMIT,
+}
 use Rattle.mm_machine.proofs.entry.fill.Goals as goal
 
 pub loop-part-preserved : goal.loop-part-preserved

@@ -18,8 +18,8 @@ is_equal-requires-clause-are_bodies g c =
     let nodes = c.args.nodes.now in
     let u = c.args.symbols.now in
     All-take (λ s. s < first_node + length nodes) _ _ (All-drop (λ s. s < first_node + length nodes)
-    1 u (All-weaker (λ s. s < first_node) (λ s. s < first_node + length nodes) (λ s s_lt. omega
-    (arith, s_lt)) u c.requires.are_symbols))
+    1 u (All-weaker (λ s. s < first_node) (λ s. s < first_node + length nodes) (λ s s_lt.
+    omega (arith, s_lt)) u c.requires.are_symbols))
 
 pub returns-then-not-begins_with_typecode-clause-tells_equal :
     goal.returns-then-not-begins_with_typecode-clause-tells_equal

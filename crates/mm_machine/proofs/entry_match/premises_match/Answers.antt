@@ -1,14 +1,11 @@
-use Rattle.std.proofs.Common.{◌≡◌, ◌+◌, ◌-◌, ◌<◌, ◌&&◌, ◌∷◌, take, drop, get_or, length, bytes_eq}
-use Rattle.std.proofs.Common.{sym, ap, ap₂, ◌∙◌, subst, arith}
-use Rattle.std.proofs.lemmas.List.{get_or_default}
-use Rattle.mm_nodes.specs.Strings.{string_of}
+use Rattle.std.proofs.Common.{◌≡◌, ◌+◌, ◌<◌, ◌&&◌, get_or, length, sym, ap, ◌∙◌, subst, arith}
 use Rattle.mm_rule.specs.Rule.{CompiledRule}
-use Rattle.mm_machine.specs.Entries.{no_entry, entry_formula}
-use Rattle.mm_machine.specs.Filled.{filled_parts}
 use Rattle.mm_machine.proofs.EntryFitLaw.{fit_from, fit_from_splits, part_count_stays, IsTested}
 use Rattle.mm_machine.proofs.EntryFitLaw.{typed_tested, essential_tested}
-use Rattle.mm_machine.proofs.entry_match.premises_match.Goals.{in-Floating}
-use Rattle.mm_machine.proofs.entry_match.premises_match.Goals.{in-Essential+in_ok-is_fitting-in-Essential}
+use Rattle.mm_machine.proofs.entry_match.premises_match.Goals.{
+  in-Floating,
+  in-Essential+in_ok-is_fitting-in-Essential,
+}
 use Rattle.mm_machine.proofs.entry_match.premises_match.Goals as goal
 
 pub returns-then-not-is_fitting-clause-tells_match :
@@ -33,21 +30,16 @@ returns-then-not-is_fitting-clause-tells_match g c =
     elim c.match-hypothesis.branch [
       | in-Floating w ↦
           typed_tested nodes es parts hs j part_index h is_fitting next_part_index
-          w.in-Floating.typecode w.in-Floating.is (w.is_fitting-is ∙
-          w.begins_with_typecode-is_fitting.ensures ∙ ap₂ (λ ns e. bytes_eq (entry_formula ns e)
-          (w.in-Floating.typecode ∷ string_of ns e.body)) stay (w.index-premises-j.is ∙
-          get_or_default es j w.index-premises-j.result no_entry j_lt_length_es)) w.part_index-is
+          w.in-Floating.typecode w.in-Floating.is c.loop-j.nodes w.index-premises-j.result stay
+          w.index-premises-j.is j_lt_length_es
+          (w.is_fitting-is ∙ w.begins_with_typecode-is_fitting.ensures) w.part_index-is
       | in-Essential+in_ok-is_fitting-in-Essential w ↦
-          let n = w.in-Essential.part_count in
-          essential_tested nodes es parts hs j part_index h is_fitting next_part_index n
-          w.in-Essential.is (w.is_fitting-is ∙ w.in_ok-is_fitting-in-Essential.ensures.tells_equal
-          ∙ ap₂ (λ ns e. bytes_eq (entry_formula ns e) (filled_parts ns es
-          (take ((part_index + n) - part_index) (drop part_index c.rule.inside.parts.now)))) stay
-          (w.index-premises-j-in-Essential.is
-          ∙ get_or_default es j w.index-premises-j-in-Essential.result no_entry j_lt_length_es)
-          ∙ ap (λ z. bytes_eq (entry_formula nodes (get_or es j no_entry)) (filled_parts nodes es
-          (take ((part_index + n) - part_index) (drop part_index z))))
-          (ap (λ (r : CompiledRule). r.parts) c.rule.view_is)) w.part_index-is
+          essential_tested nodes es parts hs j part_index h is_fitting next_part_index
+          w.in-Essential.part_count w.in-Essential.is c.loop-j.nodes
+          w.index-premises-j-in-Essential.result c.rule.inside.parts.now stay
+          w.index-premises-j-in-Essential.is (ap (λ (r : CompiledRule). r.parts) c.rule.view_is)
+          j_lt_length_es
+          (w.is_fitting-is ∙ w.in_ok-is_fitting-in-Essential.ensures.tells_equal) w.part_index-is
     ] in
     sym (c.loop-j.invariant.test_is_rest_test
     ∙ fit_from_splits nodes es parts hs j part_index h is_fitting next_part_index tested
@@ -76,21 +68,16 @@ loop-j-preserved g c =
     elim c.match-hypothesis.branch [
       | in-Floating w ↦
           typed_tested nodes es parts hs j part_index h is_fitting next_part_index
-          w.in-Floating.typecode w.in-Floating.is (w.is_fitting-is ∙
-          w.begins_with_typecode-is_fitting.ensures ∙ ap₂ (λ ns e. bytes_eq (entry_formula ns e)
-          (w.in-Floating.typecode ∷ string_of ns e.body)) stay (w.index-premises-j.is ∙
-          get_or_default es j w.index-premises-j.result no_entry j_lt_length_es)) w.part_index-is
+          w.in-Floating.typecode w.in-Floating.is c.loop-j.nodes w.index-premises-j.result stay
+          w.index-premises-j.is j_lt_length_es
+          (w.is_fitting-is ∙ w.begins_with_typecode-is_fitting.ensures) w.part_index-is
       | in-Essential+in_ok-is_fitting-in-Essential w ↦
-          let n = w.in-Essential.part_count in
-          essential_tested nodes es parts hs j part_index h is_fitting next_part_index n
-          w.in-Essential.is (w.is_fitting-is ∙ w.in_ok-is_fitting-in-Essential.ensures.tells_equal
-          ∙ ap₂ (λ ns e. bytes_eq (entry_formula ns e) (filled_parts ns es
-          (take ((part_index + n) - part_index) (drop part_index c.rule.inside.parts.now)))) stay
-          (w.index-premises-j-in-Essential.is
-          ∙ get_or_default es j w.index-premises-j-in-Essential.result no_entry j_lt_length_es)
-          ∙ ap (λ z. bytes_eq (entry_formula nodes (get_or es j no_entry)) (filled_parts nodes es
-          (take ((part_index + n) - part_index) (drop part_index z))))
-          (ap (λ (r : CompiledRule). r.parts) c.rule.view_is)) w.part_index-is
+          essential_tested nodes es parts hs j part_index h is_fitting next_part_index
+          w.in-Essential.part_count w.in-Essential.is c.loop-j.nodes
+          w.index-premises-j-in-Essential.result c.rule.inside.parts.now stay
+          w.index-premises-j-in-Essential.is (ap (λ (r : CompiledRule). r.parts) c.rule.view_is)
+          j_lt_length_es
+          (w.is_fitting-is ∙ w.in_ok-is_fitting-in-Essential.ensures.tells_equal) w.part_index-is
     ] in
     record {
       nodes_stay =

@@ -24,8 +24,8 @@ returns-clause-is_stack g c =
     xs ++ entry b b 0 c.count.result c.args.mask ∷ []) c.truncate.ensures.items
     c.none-nothing.ensures)) (stack_pushed nodes (take c.args.below es) (entry no_body no_body 0
     c.count.result c.args.mask) (stack_cut nodes c.args.below es c.requires.is_stack)
-    (nothing_is_entry nodes c.count.result c.args.mask c.requires.is_stack.count_lt (omega
-    (arith, c.count.ensures.count_is))) c.count.ensures.count_is)
+    (nothing_is_entry nodes c.count.result c.args.mask c.requires.is_stack.count_lt
+    (omega (arith, c.count.ensures.count_is))) c.count.ensures.count_is)
 
 pub returns-clause-formulas_are : goal.returns-clause-formulas_are
 returns-clause-formulas_are g c =

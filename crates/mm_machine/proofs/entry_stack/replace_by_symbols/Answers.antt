@@ -19,8 +19,8 @@ pub replace_entries-requires-clause-bodies_are_kept :
 replace_entries-requires-clause-bodies_are_kept g c =
     let u = c.args.symbols.now in
     All-take (λ s. s < first_node + c.args.keep) _ _ (All-drop (λ s. s < first_node + c.args.keep) 1
-    u (All-weaker (λ s. s < first_node) (λ s. s < first_node + c.args.keep) (λ s s_lt. omega
-    (arith, s_lt)) u c.requires.are_symbols))
+    u (All-weaker (λ s. s < first_node) (λ s. s < first_node + c.args.keep) (λ s s_lt.
+    omega (arith, s_lt)) u c.requires.are_symbols))
 
 pub replace_entries-requires-clause-symbol_count_is :
     goal.replace_entries-requires-clause-symbol_count_is

@@ -1,10 +1,8 @@
 use Rattle.std.proofs.Common.{rules, ◌-◌, true, false, length, slice_range, sym, ap, ◌∙◌, arith}
-use Rattle.std.proofs.Common.{refl, ℕ}
+use Rattle.std.proofs.Common.{refl}
 use Rattle.std.proofs.lemmas.List.{take_rest}
 use Rattle.std.specs.List.{list_all}
-use Rattle.mm_spec.specs.Derivation.{are_all_disjoint}
-use Rattle.mm_spec.specs.Citation.{context_at}
-use Rattle.mm_machine.specs.Filled.{body_string_at}
+use Rattle.mm_machine.specs.Distinct.{are_bodies_disjoint}
 use Rattle.mm_machine.proofs.StepLaw.{premises_are_in_range}
 use Rattle.mm_machine.proofs.EntryRuleLaw.{rule_test_by_stack, applied_is_too_few}
 use Rattle.mm_machine.proofs.OwnersLaw.{premises_masked}
@@ -46,9 +44,8 @@ returns-then-not-is_disjoint-clause-tests_rule g c =
     c.pairs-pairs.ensures true false (sym c.if-not-is_match.false
     ∙ c.in_ok-is_match.ensures.tells_match) (sym c.if-not-is_disjoint.true
     ∙ c.in_ok-is_disjoint.ensures.tells_disjoint
-    ∙ ap (λ ns. list_all (λ (p : ℕ × ℕ). are_all_disjoint (context_at c.args.database.now.statements
-    c.args.theorem) (body_string_at ns premises p.0) (body_string_at ns premises p.1))
-    c.pairs-pairs.result.now) c.premises_match.ensures.nodes_unchanged)
+    ∙ ap (λ ns. list_all (are_bodies_disjoint c.args.database.now.statements c.args.theorem ns
+    premises) c.pairs-pairs.result.now) c.premises_match.ensures.nodes_unchanged)
 
 pub returns-clause-tests_rule : goal.returns-clause-tests_rule
 returns-clause-tests_rule g c =
@@ -65,10 +62,8 @@ returns-clause-tests_rule g c =
           c.pairs-pairs.ensures true true
           (sym c.if-not-is_match.false ∙ c.in_ok-is_match.ensures.tells_match)
           (sym c.if-not-is_disjoint.false ∙ c.in_ok-is_disjoint.ensures.tells_disjoint
-          ∙ ap (λ ns. list_all (λ (p : ℕ × ℕ). are_all_disjoint (context_at
-          c.args.database.now.statements c.args.theorem)
-          (body_string_at ns premises p.0) (body_string_at ns premises p.1))
-          c.pairs-pairs.result.now) c.premises_match.ensures.nodes_unchanged),
+          ∙ ap (λ ns. list_all (are_bodies_disjoint c.args.database.now.statements c.args.theorem ns
+          premises) c.pairs-pairs.result.now) c.premises_match.ensures.nodes_unchanged),
     )
 
 pub keeps_disjoint-requires-clause-formulas_in_range :

@@ -1,8 +1,8 @@
 use Rattle.std.proofs.Common.{rules, arith, refl}
 use Rattle.std.proofs.lemmas.Grind.{common_steps}
 use Rattle.mm_machine.proofs.StackLaw.{extends_unchanged, extends_less}
-use Rattle.mm_machine.proofs.StepLaw.{premises_are, variables_are_below_premises, premises_are_entries}
-use Rattle.mm_machine.proofs.StepLaw.{entries_too_long}
+use Rattle.mm_machine.proofs.StepLaw.{premises_are, premises_are_entries, entries_too_long}
+use Rattle.mm_machine.proofs.StepLaw.{variables_are_below_premises}
 use Rattle.mm_machine.proofs.OwnersLaw.{parts_stay_masked}
 use Rattle.mm_machine.proofs.rule_step.replace_by_parts.Goals as goal
 

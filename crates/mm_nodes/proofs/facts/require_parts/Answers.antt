@@ -2,8 +2,10 @@ use Rattle.std.proofs.Common.{◌<◌, ◌≤◌, ◌+◌, ℕ, ap, arith, ◌�
 use Rattle.std.proofs.lemmas.List.{get_or_default}
 use Rattle.mm_nodes.proofs.OverlapLaw.{no_parts_before, part_apart, part_over, all_parts}
 use Rattle.mm_nodes.proofs.facts.require_parts.Goals as goal
-use Rattle.mm_nodes.proofs.facts.require_parts.Goals.{then-at-end+then-other_start-end+in_ok-require}
-use Rattle.mm_nodes.proofs.facts.require_parts.Goals.{else-at-end}
+use Rattle.mm_nodes.proofs.facts.require_parts.Goals.{
+  then-at-end+then-other_start-end+in_ok-require,
+  else-at-end,
+}
 
 pub loop-rest-init : goal.loop-rest-init
 loop-rest-init g c = record {

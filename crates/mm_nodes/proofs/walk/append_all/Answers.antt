@@ -43,9 +43,9 @@ loop-rest-preserved-in-None-index g c =
         c.loop-rest.invariant.reads.0 ++ c.index-bodies-rest.result ∷ [],
         reads_on
             c.requires.are_nodes c.loop-rest.invariant.reads.1 c.if-rest.false
-            c.index-bodies-rest.result c.index-bodies-rest.is _ (ap
-            (λ u. c.loop-rest.invariant.reads.0 ++ u) (sym
-            (symbol_string (strings_of (nodes_of c.args.bodies.now c.args.heads.now))
+            c.index-bodies-rest.result c.index-bodies-rest.is _
+            (ap (λ u. c.loop-rest.invariant.reads.0 ++ u)
+            (sym (symbol_string (strings_of (nodes_of c.args.bodies.now c.args.heads.now))
             c.index-bodies-rest.result c.in-None-index.ensures.is_symbol))),
         c.in_ok-push-in-None-index.ensures.items ∙ ap (λ u. u ++ c.index-bodies-rest.result ∷ [])
             c.loop-rest.invariant.reads.2 ∙ append_assoc c.args.list.now.items

@@ -1,14 +1,12 @@
-use Rattle.std.proofs.Common.{◌+◌, List, ℕ}
+use Rattle.std.proofs.Common.{◌+◌}
 use Rattle.mm_nodes.specs.Store.{segment_string}
-use Rattle.mm_nodes.proofs.WalkLaw.{Reads, work}
+use Rattle.mm_nodes.proofs.WalkLaw.{ReadAlike, work}
 use Rattle.mm_nodes.proofs.walk.are_equal.Given as goal
 
 abbrev pub invariant-loop-left : goal.invariant-loop-left
 invariant-loop-left g l = record {
-  reads : (common : List ℕ)
-      × Reads l.bodies l.heads (segment_string l.bodies l.heads l.fn.first) common l.left
-      l.left_later.items
-      × Reads l.bodies l.heads (segment_string l.bodies l.heads l.fn.second) common l.right
+  reads : ReadAlike l.bodies l.heads (segment_string l.bodies l.heads l.fn.first)
+      (segment_string l.bodies l.heads l.fn.second) l.left l.left_later.items l.right
       l.right_later.items;
 }
 

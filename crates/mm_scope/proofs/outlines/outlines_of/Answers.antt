@@ -1,4 +1,5 @@
-use Rattle.std.proofs.Common.{◌+◌, ◌++◌, ◌∷◌, ◌∙◌, [], ap, append-nil, append_assoc, arith, subst, sym}
+use Rattle.std.proofs.Common.{◌+◌, [], ◌∷◌, ◌++◌, sym, ap, ◌∙◌, subst, arith}
+use Rattle.std.proofs.Common.{append-nil, append_assoc}
 use Rattle.mm_scope.proofs.ReadLaw.{depth_after_le}
 use Rattle.mm_scope.specs.Outlines.{AreOutlinesFrom}
 use Rattle.mm_scope.specs.declared.outlines.Rest.TheVariants.{Stopped, Ended}

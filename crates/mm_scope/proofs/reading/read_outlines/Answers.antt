@@ -1,5 +1,5 @@
-use Rattle.std.proofs.Common.{◌≡◌, ◌+◌, ◌∙◌, sym, ap, arith, length, ◌++◌, ◌∷◌, []}
-use Rattle.std.proofs.Common.{append_assoc, slice_index_or, subst}
+use Rattle.std.proofs.Common.{◌≡◌, ◌+◌, [], ◌∷◌, ◌++◌, length, slice_index_or, sym, ap, ◌∙◌, subst}
+use Rattle.std.proofs.Common.{arith, append_assoc}
 use Rattle.std.proofs.lemmas.List.{map-append, length-map}
 use Rattle.mm_spec.specs.Laws.Table.{start, statements_from, statements_of}
 use Rattle.mm_spec.proofs.LongestLaw.{read_statements_are_longest}
@@ -83,7 +83,8 @@ add_if_lawful-requires-clause-may_take g c =
 
 pub returns-then-is_some-clause-few_outlines : goal.returns-then-is_some-clause-few_outlines
 returns-then-is_some-clause-few_outlines g c =
-    let few_before = few_outlines c.loop-outline.read.outlines.items c.loop-outline.invariant.reading
+    let loop = c.loop-outline in
+    let few_before = few_outlines loop.read.outlines.items loop.invariant.reading
     c.requires.few_tokens in
     let outlines_length =
     ap length

@@ -10,8 +10,10 @@ use Rattle.mm_spec.specs.Frame.{is_floating}
 use Rattle.mm_spec.specs.Assertion.{variable_of}
 use Rattle.mm_tell.proofs.NamedLaw.{named_by_none, named_alone}
 use Rattle.mm_tell.proofs.variables.dummy_variable.Goals as goal
-use Rattle.mm_tell.proofs.variables.dummy_variable.Goals.{else-active_at-via-else-active_at}
-use Rattle.mm_tell.proofs.variables.dummy_variable.Goals.{else-active_at-via-then-active_at+else-not-has_number}
+use Rattle.mm_tell.proofs.variables.dummy_variable.Goals.{
+  else-active_at-via-else-active_at,
+  else-active_at-via-then-active_at+else-not-has_number,
+}
 
 pub returns-in_default-clause-names_dummy : goal.returns-in_default-clause-names_dummy
 returns-in_default-clause-names_dummy g c = search (rules, arith, named_by_none)

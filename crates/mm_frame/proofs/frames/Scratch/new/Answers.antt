@@ -5,8 +5,8 @@ use Rattle.mm_frame.proofs.frames.Scratch.new.Goals as goal
 pub returns : goal.returns
 returns g c = λ db from count_is. record {
   stamps_are_fresh =
-      subst (λ n. IsFresh n from c.in_ok-scope.scope.stamps.items) (sym count_is)
-      (c.in_ok-scope.ensures from);
+      subst (λ n. IsFresh n from c.in_ok-essential_lists.essential_lists.stamps.items)
+      (sym count_is) (c.in_ok-essential_lists.ensures from);
   marks_are_fresh =
       subst (λ n. IsFresh n from c.in_ok-lists.lists.marks.items) (sym count_is)
       (c.in_ok-lists.ensures from);

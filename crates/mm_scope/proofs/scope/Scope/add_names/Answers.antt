@@ -11,8 +11,8 @@ returns-in_ok-give_type-in-Floating-clause-symbols_are_added g c = λ w.
     let text = c.args.text.now in
     let ws = c.args.tokens.now in
     let o = c.args.outline in
-    let middle_le_length : o.middle ≤ length ws = omega
-    (arith, c.requires.is_among_tokens.end_lt_length, c.requires.is_among_tokens.outline.3) in
+    let middle_le_length : o.middle ≤ length ws =
+    omega (arith, c.requires.is_among_tokens.end_lt_length, c.requires.is_among_tokens.outline.3) in
     typed_after_two_symbols text ws o.keyword o.middle middle_le_length c.if-outline-eq3.true
     c.args.statement (find c.args.self.now.names.symbols) (find c.give_label.new.self.names.symbols)
     (find c.give_type.new.self.names.symbols)
@@ -27,8 +27,8 @@ returns-else-outline-eq3-clause-symbols_are_added g c = λ w.
     let text = c.args.text.now in
     let ws = c.args.tokens.now in
     let o = c.args.outline in
-    let middle_le_length : o.middle ≤ length ws = omega
-    (arith, c.requires.is_among_tokens.end_lt_length, c.requires.is_among_tokens.outline.3) in
+    let middle_le_length : o.middle ≤ length ws =
+    omega (arith, c.requires.is_among_tokens.end_lt_length, c.requires.is_among_tokens.outline.3) in
     let keyword_lt_middle : o.keyword < o.middle =
     subst (λ kd. IsKeywordBefore kd o.keyword o.middle) c.in-Floating.is
     c.requires.is_among_tokens.outline.1 in

@@ -20,8 +20,8 @@ overflow_cast-number g c =
 
 pub returns-clause-fault_is_least : goal.returns-clause-fault_is_least
 returns-clause-fault_is_least g c = λ n are_names.
-    let from_lt_to : c.args.from < c.args.to = omega
-    (arith, c.if-from-to.false, c.requires.from_le_to) in
+    let from_lt_to : c.args.from < c.args.to =
+    omega (arith, c.if-from-to.false, c.requires.from_le_to) in
     let to_le_length : c.args.to ≤ length c.args.tokens.now = omega (arith, c.requires.to_lt_length)
     in
     let text = c.args.text.now in

@@ -1,0 +1,201 @@
+"""The words and options of commands: how they are read, those that commands share, and which
+axioms they choose."""
+
+import argparse
+import re
+from collections.abc import Container, Iterator
+from itertools import islice
+from typing import Any, NoReturn
+
+from query.answers.errors import NoAnswer, nearest, shown
+from query.reports.choice import Options
+
+Given = tuple[argparse.Action, list[str]]
+"""An argument with the words that are given for it."""
+SHARES: dict[int | str | None, str] = {None: "(.)", "+": "(.+)", "*": "(.*)", "?": "(.?)"}
+"""How many words an argument takes, as a pattern that has a sign for each."""
+
+
+class Parser(argparse.ArgumentParser):
+    """The words and options of a command. argparse knows them and writes their page; what is given
+    is read here, since a label may be `--`, a word that argparse drops in Python 3.11."""
+
+    def __init__(self) -> None:
+        layout = argparse.RawDescriptionHelpFormatter
+        super().__init__(add_help=False, formatter_class=layout)
+        self.actions: list[argparse.Action] = []
+        self.apart: list[tuple[str, ...]] = []
+
+    def add_argument(self, *names: str, **settings: Any) -> argparse.Action:
+        """As in argparse. `group` is one of its groups, under which the page is to have it."""
+        self.actions.append(settings.pop("group", super()).add_argument(*names, **settings))
+        return self.actions[-1]
+
+    def flag(self, name: str, about: str, **more: Any) -> None:
+        """Adds an option without a value."""
+        self.add_argument(name, action="store_true", help=about, **more)
+
+    def value(self, name: str, metavar: str, about: str, **more: Any) -> None:
+        """Adds an option with a value."""
+        self.add_argument(name, metavar=metavar, help=about, **more)
+
+    def values(self, name: str, metavar: str, about: str, **more: Any) -> None:
+        """Adds an option that may be given several times, each time with a value."""
+        self.value(name, metavar, about, action="append", default=[], **more)
+
+    def exclude(self, *names: str) -> None:
+        """Lets only one of these options be given."""
+        self.apart.append(names)
+
+    def options(self) -> dict[str, argparse.Action]:
+        """The options by their names."""
+        return {name: action for action in self.actions for name in action.option_strings}
+
+    def read(self, words: list[str]) -> argparse.Namespace:
+        """What the words give: options from anywhere before a `--`, then the others. NoAnswer where
+        they aren't what the command takes."""
+        given: list[Given] = []
+        plain: list[str] = []
+        left = iter(words)
+        for word in left:
+            if word == "--":
+                plain += left
+            elif word.startswith("-") and word != "-":
+                given.append(self.read_option(word, left))
+            else:
+                plain.append(word)
+        for names in self.apart:
+            both = [each for each in dict(given) if each.option_strings[0] in names]
+            if len(both) > 1:
+                refuse(both[1], f"not allowed with argument {both[0].option_strings[0]}")
+        found = argparse.Namespace(**{each.dest: each.default for each in self.actions})
+        for action, texts in given:
+            action(self, found, meant(action, texts))
+        for action, texts in self.shared_out(plain, dict(given)):
+            action(self, found, meant(action, texts))
+        return found
+
+    def read_option(self, word: str, left: Iterator[str]) -> Given:
+        """An option with its value, which is taken from what is left where it follows."""
+        name, sign, value = word.partition("=")
+        action = self.options().get(name)
+        if action is None:
+            raise NoAnswer(shown(f"there is no option {name}{nearest(name, self.options())}"))
+        most = 0 if action.nargs == 0 else 1
+        values = [value] if sign else list(islice(left, most))
+        if len(values) > most:
+            refuse(action, f"ignored explicit argument {value!r}")
+        if len(values) < most:
+            raise NoAnswer(f"the option {name} lacks its value")
+        return action, values
+
+    def shared_out(self, plain: list[str], given: Container[argparse.Action]) -> list[Given]:
+        """The plain words by what they are given for. NoAnswer where some are missing or too many,
+        or where an option is missing that isn't among those given."""
+        wanted = [each for each in self.actions if not each.option_strings]
+        lacking = [str(each.metavar) for each in wanted if each.nargs in (None, "+")][len(plain) :]
+        for name, action in self.options().items():
+            if action.required and action not in given:
+                lacking.append(name)
+        share = re.match("".join(SHARES[each.nargs] for each in wanted), "." * len(plain))
+        if share is None or lacking:
+            wrong = f"the following arguments are required: {', '.join(lacking)}"
+        elif share.end() < len(plain):
+            wrong = f"unrecognized arguments: {' '.join(plain[share.end():])}"
+        else:
+            spans = [share.span(group) for group in range(1, len(wanted) + 1)]
+            shared = [(each, plain[slice(*span)]) for each, span in zip(wanted, spans)]
+            return [(each, texts) for each, texts in shared if texts or each.nargs == "*"]
+        raise NoAnswer(f"{shown(wrong)}; {self.format_usage().strip()}")
+
+
+def refuse(action: argparse.Action, why: str) -> NoReturn:
+    """Raises NoAnswer, for what is given for an argument."""
+    raise NoAnswer(shown(str(argparse.ArgumentError(action, why))))
+
+
+def meant(action: argparse.Action, words: list[str]) -> Any:
+    """What the words for an argument mean."""
+    try:
+        values = [action.type(word) if callable(action.type) else word for word in words]
+    except argparse.ArgumentTypeError as error:
+        refuse(action, str(error))
+    for value in values:
+        if action.choices is not None and value not in action.choices:
+            known = ", ".join(map(repr, action.choices))
+            refuse(action, f"invalid choice: {value!r} (choose from {known})")
+    return values[0] if action.nargs in (None, "?") else values
+
+
+def positive(word: str) -> int:
+    """A whole number from 1 to 999999. ArgumentTypeError where the word is none."""
+    if not word.isascii() or not word.isdecimal() or not 1 <= len(word) <= 6 or int(word) < 1:
+        raise argparse.ArgumentTypeError(f"'{word}' is no number from 1 to 999999")
+    return int(word)
+
+
+def add_database(parser: Parser, name: str = "DATABASE") -> None:
+    """Adds the word DATABASE: `arguments.database`, or the name in small letters."""
+    parser.add_argument(name.lower(), metavar=name)
+
+
+def add_choice_of_axioms(parser: Parser) -> None:
+    """Adds `--only`, `--all`, `--axioms`, `--ignore-definitions`, `--essential` and `--open`."""
+    parser.exclude("--only", "--all")
+    add_only(parser, None)
+    parser.flag("--all", "the axioms are all $a statements")
+    parser.values(
+        "--axioms",
+        "WORD",
+        "only axioms whose label begins with WORD; several: by commas, or more options",
+    )
+    parser.flag("--ignore-definitions", "no axioms whose label begins with df-")
+    add_choice_of_citations(parser)
+
+
+def add_only(parser: Parser, default: str | None) -> None:
+    """Adds `--only`."""
+    parser.value("--only", "T", "the axioms are those of typecode T (else: |-)", default=default)
+
+
+def add_open(parser: Parser) -> None:
+    """Adds `--open`."""
+    parser.flag("--open", "a theorem whose proof is ? counts as an axiom")
+
+
+def add_choice_of_citations(parser: Parser) -> None:
+    """Adds `--essential` and `--open`."""
+    parser.flag("--essential", "only the logical part of proofs cites")
+    add_open(parser)
+
+
+def add_limits(parser: Parser) -> None:
+    """Adds `--limit-time` and `--limit-memory`."""
+    parser.value(
+        "--limit-time",
+        "SECONDS",
+        "of the processor, for verifying a text (else: 10, and 5 for each MB)",
+        type=positive,
+    )
+    parser.value(
+        "--limit-memory",
+        "MB",
+        "for verifying a text (else: 256, and 64 for each MB)",
+        type=positive,
+    )
+
+
+def options_of(arguments: argparse.Namespace) -> Options:
+    """The options among the arguments of a command; those it doesn't take have their default."""
+    given = {name: value for name, value in vars(arguments).items() if value not in (None, False)}
+    chosen = [name for name in ("only", "all", "essential", "open") if name in given]
+    words = [word for words in given.get("axioms", []) for word in words.split(",") if word]
+    words = [word.removesuffix("*") or word for word in words]
+    return Options(
+        only=given.get("only", None if "all" in given else "|-"),
+        essential="essential" in given,
+        open="open" in given,
+        axioms=tuple(words),
+        ignore_definitions="ignore_definitions" in given,
+        chosen=f"--{chosen[-1]}" if chosen else None,
+    )

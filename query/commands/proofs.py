@@ -1,0 +1,65 @@
+"""`proofs`: how long proofs are, and how deep the theorems stand."""
+
+import argparse
+
+from query.answers.output import Value
+from query.arguments.context import Context
+from query.arguments.options import (
+    Parser,
+    add_choice_of_citations,
+    add_database,
+    options_of,
+    positive,
+)
+from query.commands import Command
+from query.proofs.lengths import lengths
+
+PAGE = """
+Lists in file order how long the proofs of the LABELs are. Without a LABEL, the theorems that have
+most of what --by names, the largest first.
+
+steps    of the proof as it stands in the text: its labels, or the numbers of a compressed one
+depth    of the longest chain of citations down from it: 1 where it cites only axioms, or nothing
+bytes    between $= and $.
+theorem  the label of the theorem
+
+  $ mmquery proofs set.mm --most 5
+  $ mmquery proofs set.mm --by depth --main
+  $ mmquery proofs set.mm 2p2e4
+"""
+COLUMNS = ("steps", "depth", "bytes", "theorem")
+FEW = 10
+
+
+def configure(parser: Parser) -> None:
+    """Adds the words and options."""
+    add_database(parser)
+    parser.add_argument("labels", metavar="LABEL", nargs="*")
+    parser.add_argument(
+        "--by", choices=COLUMNS[:3], default="steps", help="of what most (else: steps)"
+    )
+    parser.value("--most", "N", "without LABEL: how many (else: 10)", type=positive, default=FEW)
+    add_choice_of_citations(parser)
+
+
+def run(context: Context, arguments: argparse.Namespace) -> int:
+    """Answers."""
+    database = context.database(arguments.database, options_of(arguments))
+    graph = database.graph()
+    wanted = {graph.labels[graph.theorem(label)] for label in arguments.labels}
+    found = lengths(database.text, graph)
+    rows: list[list[Value]] = []
+    for label, each in found.items():
+        if label in wanted or not arguments.labels:
+            rows.append([each.steps, each.depth, each.size, label])
+    if not rows:
+        context.tell(f"{database.name}: has no theorem with a proof")
+    passing = context.passing(rows, 3)
+    if not arguments.labels:
+        column = COLUMNS.index(arguments.by)
+        passing = sorted(passing, key=lambda row: -int(str(row[column])))[: arguments.most]
+    context.out.table(COLUMNS, passing)
+    return 0
+
+
+COMMANDS = [Command("proofs", PAGE, configure, run, lists=True)]

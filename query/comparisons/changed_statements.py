@@ -1,0 +1,96 @@
+"""What an assertion says in OLD and in NEW that says something else now under the same label.
+
+A statement is written as a database has it, without labels: `$e |- p $. $d x y $. |- ( p -> q )`.
+The formula is always there; of the rest what differs. It is cut where it is long.
+"""
+
+from __future__ import annotations
+
+from collections.abc import Iterable, Iterator
+from typing import NamedTuple
+
+from query.answers.excerpts import cut, cut_both
+from query.comparisons.changes import Comparison
+from query.comparisons.pairing import DISTINCT, FORMULA, HYPOTHESES
+from query.texts.assertions import Assertion, Frame, Pair
+
+COLUMNS = ("differ", "old", "new")
+MOST_PAIRS = 10_000
+"""So many pairs of distinct variables of an assertion are told one by one at the most."""
+SHOWN_STATEMENT, TOLD_STATEMENT = 300, 1000
+"""How many characters of a statement a person is shown, and a program."""
+
+
+class Change(NamedTuple):
+    """An assertion that was changed: in what its statements differ, in words, and both of them."""
+
+    label: str
+    differ: str
+    old: str
+    new: str
+
+
+def most_of(form: str) -> int:
+    """How many characters of a statement an answer has in a form."""
+    return TOLD_STATEMENT if form in ("tsv", "csv", "json") else SHOWN_STATEMENT
+
+
+def changes(comparison: Comparison, kind: str, most: int) -> Iterator[Change]:
+    """The theorems that were changed, or the axioms, in the order of NEW."""
+    pairing = comparison.theorems if kind == "theorem" else comparison.axioms
+    told = comparison.differences
+    for label, differ in pairing.changed.items():
+        yield change_of(told.gone[label], told.new[label], differ, most)
+
+
+def change_of(before: Assertion, after: Assertion, differ: str, most: int) -> Change:
+    """An assertion that was changed, with so many characters of its statements at the most."""
+    frames = before.frame(), after.frame()
+    parts = [hypotheses(*frames)] if HYPOTHESES in differ else []
+    if DISTINCT in differ:
+        parts.append(distinct(*frames))
+    elif not parts and FORMULA not in differ:
+        parts.append((in_order(frames[0]), in_order(frames[1])))
+    old, new = (
+        "".join(part[side] for part in parts) + one.formula
+        for side, one in enumerate((before, after))
+    )
+    return Change(after.label, differ, *cut_both(old, new, most))
+
+
+def hypotheses(*frames: Frame) -> tuple[str, str]:
+    """The `$e` of both."""
+    old, new = (
+        "".join(f"$e {each.formula} $. " for each in frame.hypotheses() if each.kind == "e")
+        for frame in frames
+    )
+    return old, new
+
+
+def in_order(frame: Frame) -> str:
+    """All hypotheses, in order."""
+    return "".join(f"${each.kind} {each.formula} $. " for each in frame.hypotheses())
+
+
+def distinct(old: Frame, new: Frame) -> tuple[str, str]:
+    """The pairs of distinct variables that only one of both has; where they are very many, how many
+    each has."""
+    counts = [frame.disjoint.count(" $d ") for frame in (old, new)]
+    if max(counts) > MOST_PAIRS:
+        return f"$d {counts[0]} pairs $. ", f"$d {counts[1]} pairs $. "
+    one, other = dict.fromkeys(old.pairs()), dict.fromkeys(new.pairs())
+    return pairs_lacking(one, other), pairs_lacking(other, one)
+
+
+def pairs_lacking(some: dict[Pair, None], other: dict[Pair, None]) -> str:
+    """The pairs that the other ones lack."""
+    return "".join(f"$d {one} {two} $. " for one, two in some if (one, two) not in other)
+
+
+def lines_of(changes: Iterable[Change]) -> Iterator[str]:
+    """What a person is told of these, behind a table."""
+    for each in changes:
+        yield ""
+        yield f"{cut(each.label)}: {each.differ}"
+        yield f"  was  {each.old}"
+        yield f"  is   {each.new}"

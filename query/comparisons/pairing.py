@@ -1,0 +1,185 @@
+"""Which assertion of one database is which of another where the program says that these differ: one
+that says something else now, or one that has another label.
+
+The same label, kind and frame is the same assertion: the program says so. That an assertion was
+renamed is a guess. It is made where two of different labels say the same: the formula, the
+mandatory hypotheses in order, and the pairs of variables that must be distinct. The labels of
+hypotheses aren't part of that, and neither are variables that only the proof has.
+"""
+
+from __future__ import annotations
+
+from array import array
+from collections import deque
+from collections.abc import Callable, Iterable, Iterator, Mapping
+from dataclasses import dataclass, field
+from functools import cached_property
+from hashlib import blake2b
+from typing import NamedTuple
+
+from query.texts.assertions import Assertion, Damaged, Pair
+
+Cites = Callable[[str], frozenset[str]]
+"""For a theorem's label the labels that it cites."""
+
+ANOTHER_ORDER = "only the order of `$f` is other"
+"""A proof gives the hypotheses in their order, so this is another frame."""
+FORMULA, HYPOTHESES, DISTINCT = "the formula", "the hypotheses", "the $d conditions"
+"""In what statements differ."""
+
+
+class Statement(NamedTuple):
+    """What an assertion says; equal for two databases exactly where it is the same. Hypotheses and
+    pairs have sums in their place: there may be many of them."""
+
+    formula: str
+    essentials: bytes
+    disjoint: bytes
+    typecodes: frozenset[Pair]
+    """Each variable with its typecode."""
+    order: bytes
+    """The hypotheses of both kinds, in order."""
+
+
+def statement_of(assertion: Assertion) -> Statement:
+    """The statement of an assertion."""
+    frame = assertion.frame()
+    hypotheses = frame.hypotheses()
+    given = [f"{each.kind} {each.formula}" for each in hypotheses]
+    floating = [each.formula.split(" ") for each in hypotheses if each.kind == "f"]
+    return Statement(
+        assertion.formula,
+        sum_of_lines(each for each in given if each.startswith("e")),
+        sum_of_pairs(frame.pairs()),
+        frozenset((variable, typecode) for typecode, variable in floating),
+        sum_of_lines(given),
+    )
+
+
+def sum_of(*parts: bytes) -> bytes:
+    """A sum of bytes."""
+    total = blake2b(digest_size=20)
+    for part in parts:
+        total.update(part)
+    return total.digest()
+
+
+def sum_of_lines(lines: Iterable[str]) -> bytes:
+    """A sum of lines in order."""
+    return sum_of("\n".join(lines).encode())
+
+
+def sum_of_pairs(pairs: Iterable[Pair]) -> bytes:
+    """What is the same for pairs exactly where they are the same, in whatever order. A pair takes
+    four bytes, since there may be millions of them."""
+    numbers: dict[str, int] = {}
+    others: dict[str, array[int]] = {}
+    for one, other in pairs:
+        others.setdefault(one, array("I")).append(numbers.setdefault(other, len(numbers)))
+    names = sorted(numbers)
+    ranks = {numbers[name]: rank for rank, name in enumerate(names)}
+    total = [sum_of_lines(names)]
+    for one in sorted(others):
+        ranked = array("I", sorted(ranks[number] for number in others[one]))
+        total += [sum_of(one.encode()), sum_of(ranked.tobytes())]
+    return sum_of(*total)
+
+
+def difference(old: Statement, new: Statement) -> str:
+    """In words, in what two statements differ; "" where they don't."""
+    parts = []
+    if old.formula != new.formula:
+        parts.append(FORMULA)
+    if old.essentials != new.essentials:
+        parts.append(HYPOTHESES)
+    if old.disjoint != new.disjoint:
+        parts.append(DISTINCT)
+    if old.typecodes != new.typecodes and not parts:
+        parts.append("the typecodes of variables")
+    if parts:
+        return f"{' and '.join(parts)} changed"
+    return "" if old.order == new.order else ANOTHER_ORDER
+
+
+@dataclass
+class Pairing:
+    """What became of the assertions of one kind, axioms or theorems. Labels are in file order."""
+
+    renamed: dict[str, str] = field(default_factory=dict)
+    """For labels of NEW the label in OLD, which is gone or another statement's now."""
+    changed: dict[str, str] = field(default_factory=dict)
+    """For those with the same label and another statement in what these differ, in words."""
+    new: list[str] = field(default_factory=list)
+    gone: list[str] = field(default_factory=list)
+
+    @cached_property
+    def now(self) -> dict[str, str]:
+        """For renamed labels of OLD the label in NEW."""
+        return {old: new for new, old in self.renamed.items()}
+
+
+def pairing_of(
+    gone: Iterable[Assertion], new: Iterable[Assertion], old_cites: Cites, new_cites: Cites
+) -> Pairing:
+    """Pairs assertions of one kind that OLD alone has with those that NEW alone has. The citations
+    are asked for only where several say the same."""
+    before = {one.label: (one.letter, statement_of(one)) for one in gone}
+    after = {one.label: (one.letter, statement_of(one)) for one in new}
+    words = {label: in_words(before[label], one) for label, one in after.items() if label in before}
+    opened = {label for label, differ in words.items() if not differ}
+    old_ones, new_ones = (
+        by_statement({label: said for label, (_, said) in some.items() if label not in opened})
+        for some in (before, after)
+    )
+    found: dict[str, str] = {}
+    for statement, labels in new_ones.items():
+        found.update(matched(old_ones.get(statement, []), labels, old_cites, new_cites))
+    pairing = Pairing({label: found[label] for label in after if label in found})
+    for label in after:
+        if label in words and label not in found and label not in pairing.now:
+            if label not in opened:
+                pairing.changed[label] = words[label]
+        elif label not in found:
+            pairing.new.append(label)
+    stayed = {*pairing.now, *pairing.changed, *opened}
+    pairing.gone = [label for label in before if label not in stayed]
+    return pairing
+
+
+def in_words(old: tuple[str, Statement], new: tuple[str, Statement]) -> str:
+    """In what two assertions of one label differ, each its letter and its statement; "" where only
+    one of them is left open."""
+    words = difference(old[1], new[1])
+    if not words and old[0] == new[0]:
+        raise Damaged
+    return words
+
+
+def by_statement(said: Mapping[str, Statement]) -> dict[Statement, list[str]]:
+    """The labels of assertions by what these say."""
+    found: dict[Statement, list[str]] = {}
+    for label, statement in said.items():
+        found.setdefault(statement, []).append(label)
+    return found
+
+
+def matched(
+    old: list[str], new: list[str], old_cites: Cites, new_cites: Cites
+) -> Iterator[tuple[str, str]]:
+    """Pairs of labels of NEW and OLD that say the same: first those that cite the same, then the
+    others in file order."""
+    if not old or len(old) == len(new) == 1:
+        yield from zip(new, old)
+        return
+    citing: dict[frozenset[str], deque[str]] = {}
+    for label in old:
+        citing.setdefault(old_cites(label), deque()).append(label)
+    left, taken = [], set()
+    for label in new:
+        same = citing.get(new_cites(label))
+        if same:
+            taken.add(same[0])
+            yield label, same.popleft()
+        else:
+            left.append(label)
+    yield from zip(left, (label for label in old if label not in taken))

@@ -1,0 +1,273 @@
+"""On what definitions rest: on definitions that are sound themselves, and on theorems that don't
+need the definition which is to be taken out of proofs by them.
+
+What a definition needs is a list of facts, each a tuple of words. That a definition can be taken
+out of proofs is one, `("df-", LABEL)`; what a theorem says is another, such as `("reflexive",
+"wb")`. `("under", FORM)` is that equals under a condition may be put into a form, unfolded, and
+that the variables which it binds may have other names; `("through", FORM)` that equals may be put
+into it. What holds is the least that the rules allow, so nothing rests on itself.
+"""
+
+from __future__ import annotations
+
+from collections.abc import Callable, Collection, Iterable, Iterator, Mapping, Sequence
+from dataclasses import dataclass
+
+from query.definitions.clauses import Clauses
+from query.definitions.equality import Known
+from query.formulas.syntax import PROVABLE, SETVAR, WFF
+from query.texts.assertions import Assertion
+
+BEGINNING = "df-"
+
+Need = tuple[str, ...]
+Rests = Callable[[str], Iterable[str]]
+"""For the label of a theorem the axioms on which it rests."""
+
+
+@dataclass(frozen=True)
+class Ground:
+    """A definition as it is seen here. `equality` is that by which it is one, and `forms` are those
+    of its right side. `equation` has the symbols of `RIGHT = RIGHT` with other dummies on its right
+    side, and `kinds` the typecodes of its variables; `left` are those of the left side. `doubt` is
+    what a theorem has to justify: a condition, and why."""
+
+    label: str
+    defined: str
+    equality: str
+    forms: frozenset[str]
+    has_dummies: bool
+    equation: Sequence[str]
+    kinds: Mapping[str, str]
+    left: frozenset[str]
+    doubt: tuple[str, str] | None
+
+
+class Grounds:
+    """Finds which definitions are sound. `definers` has for each form that is defined the label of
+    its definition; `trusted` are definitions that are axioms, and `unproved` theorems that are left
+    open."""
+
+    def __init__(
+        self,
+        grounds: Sequence[Ground],
+        known: Known,
+        definers: Mapping[str, str],
+        rests: Rests,
+        trusted: Collection[str],
+        unproved: Collection[str],
+    ) -> None:
+        self.known = known
+        self.definers = definers
+        self.rests = rests
+        self.trusted = trusted
+        self.unproved = unproved
+        self.clauses: Clauses[Need] = Clauses()
+        self.needs: dict[Need, list[Need]] = {}
+        """What each fact needs that isn't a theorem's."""
+        self.because: dict[Need, Need] = {}
+        self.grounds = grounds
+
+    def found(self, assertions: Sequence[Assertion]) -> set[Need]:
+        """All that holds."""
+        for each in self.grounds:
+            self.add(each)
+        for said, theorems in sorted(self.known.found.items()):
+            self.clauses.add(("exists", *said), [])
+            for theorem in theorems:
+                self.clauses.add(said, self.definitions_of(theorem))
+        holds = self.clauses.implied()
+        left = [each for each in self.grounds if each.has_dummies and of(each) not in holds]
+        for each, theorem in justifications(left, assertions):
+            # What it needs besides is what it needs without its dummies.
+            self.clauses.add(of(each), [*self.plain(each), *self.definitions_of(theorem)])
+        self.holds = self.clauses.implied() if left else holds
+        return self.holds
+
+    def add(self, each: Ground) -> None:
+        """Adds what a definition needs, and what has to hold for its form."""
+        for word in ("under", "through"):
+            self.rule((word, each.defined), [(word, form) for form in sorted(each.forms)])
+        for form in each.forms:
+            if form not in self.definers:
+                self.primitive(form)
+        needs = [*self.plain(each), *(self.for_dummies(each) if each.has_dummies else ())]
+        if each.doubt is None:
+            self.rule(of(each), needs)
+        else:
+            self.needs[of(each)] = needs
+
+    def rule(self, head: Need, needs: list[Need]) -> None:
+        """Adds a rule. A form may have several definitions, and the first one counts."""
+        if head not in self.needs:
+            self.needs[head] = needs
+            self.clauses.add(head, needs)
+
+    def primitive(self, form: str) -> None:
+        """Adds what has to hold for a form without a definition."""
+        if ("under", form) in self.needs:
+            return
+        arguments = self.known.forms[form].arguments
+        under: list[Need] = []
+        through: list[Need] = []
+        for place, kind in enumerate(arguments):
+            if kind != SETVAR:
+                under.append(("respects under", form, str(place)))
+                through.append(("exists", "respects", form, str(place)))
+            elif {*arguments} == {SETVAR}:
+                under.append(("substitutes", form, str(place)))
+            else:
+                under.append(("renames", form))
+        self.rule(("under", form), under)
+        self.rule(("through", form), through)
+
+    def is_open(self, form: str) -> bool:
+        """Whether theorems say that equals may be put into a form without a definition."""
+        kinds = enumerate(self.known.forms[form].arguments)
+        return all(
+            ("respects", form, str(place)) in self.known.found
+            for place, kind in kinds
+            if kind != SETVAR
+        )
+
+    def plain(self, each: Ground) -> Iterator[Need]:
+        """What a definition needs that has no dummies."""
+        for form in sorted(each.forms):
+            if form in self.definers:
+                yield BEGINNING, self.definers[form]
+        yield "reflexive", each.equality
+        yield "exists", "replaces"
+        for form in self.known.equalities.values():
+            yield "exists", "symmetric", form
+            yield "exists", "transitive", form
+        for form in sorted(each.forms):
+            yield "through", form
+
+    def for_dummies(self, each: Ground) -> Iterator[Need]:
+        """What it needs besides where it has some."""
+        yield from (("detaches",), ("weakens",))
+        for form in self.known.equalities.values():
+            yield from ((word, form) for word in ("symmetric", "transitive", "chained"))
+        for form in sorted(each.forms):
+            yield "under", form
+
+    def definitions_of(self, theorem: str) -> list[Need]:
+        """The definitions on which a theorem rests, or an axiom, without those on trust; and what
+        it rests on that isn't proved."""
+        return [
+            (BEGINNING, each) if each.startswith(BEGINNING) else ("unproved", each)
+            for each in sorted({theorem, *self.rests(theorem)})
+            if each in self.unproved or (each.startswith(BEGINNING) and each not in self.trusted)
+        ]
+
+    def theorem_for(self, said: Need) -> str | None:
+        """The first theorem that says something, and rests on nothing but what is sound."""
+        return next(
+            (
+                theorem
+                for theorem in self.known.found.get(said, ())
+                if all(each in self.holds for each in self.definitions_of(theorem))
+            ),
+            None,
+        )
+
+    def lacking(self, each: Ground) -> tuple[str, str]:
+        """Why a definition isn't sound: the condition, and more."""
+        if each.doubt is not None:
+            return each.doubt
+        need = self.first_lacking(of(each))
+        if need[0] == BEGINNING:
+            return "rests", f"its right side has a form of {need[1]}, which isn't seen to be sound"
+        condition = "equality"
+        if need[0] not in ("exists", "reflexive"):
+            condition = "renaming"
+        said = need[1:] if need[0] == "exists" else need
+        theorems = self.known.found.get(said, ())
+        if not theorems:
+            return condition, f"no theorem says that {in_words(said)}"
+        bad = next(each for each in self.definitions_of(theorems[0]) if each not in self.holds)
+        return condition, f"{theorems[0]}, which says that {in_words(said)}, rests on {bad[1]}"
+
+    def first_lacking(self, head: Need) -> Need:
+        """The first of what a fact needs that doesn't hold, itself or what a form needs."""
+        way = []
+        need = head
+        while need == head or need[0] in ("under", "through"):
+            way.append(need)
+            if need in self.because:
+                need = self.because[need]
+                break
+            need = next(each for each in self.needs[need] if each not in self.holds)
+        self.because |= dict.fromkeys(way, need)
+        return need
+
+
+def of(each: Ground) -> Need:
+    """That a definition can be taken out of proofs."""
+    return BEGINNING, each.label
+
+
+def justifications(
+    grounds: Sequence[Ground], assertions: Iterable[Assertion]
+) -> Iterator[tuple[Ground, str]]:
+    """The definitions with the theorems that justify them: which say that the right side equals
+    itself with other dummies."""
+    wanted: dict[tuple[str, ...], list[Ground]] = {}
+    lengths = set()
+    for each in grounds:
+        wanted.setdefault(with_typecodes(each.equation, each.kinds), []).append(each)
+        lengths.add(len(each.equation))
+    for one in assertions if wanted else ():
+        formula = one.formula
+        if one.typecode != PROVABLE or one.is_open or formula.count(" ") not in lengths:
+            continue
+        frame = one.frame()
+        hypotheses = [each.formula.split(" ") for each in frame.hypotheses()]
+        kinds = {each[-1]: each[0] for each in hypotheses}
+        if all(each.kind == "f" for each in frame.hypotheses()):
+            symbols = formula.split(" ")[1:]
+            for ground in wanted.get(with_typecodes(symbols, kinds), ()):
+                if do_pairs_allow(ground, symbols, frame.pairs()):
+                    yield ground, one.label
+
+
+def with_typecodes(symbols: Sequence[str], kinds: Mapping[str, str]) -> tuple[str, ...]:
+    """The symbols of a formula, in which each variable is the number of its first occurrence, with
+    its typecode."""
+    numbers: dict[str, str] = {}
+    for symbol in symbols:
+        if symbol in kinds:
+            numbers.setdefault(symbol, f"{len(numbers)} {kinds[symbol]}")
+    return tuple(numbers.get(each, each) for each in symbols)
+
+
+def do_pairs_allow(
+    ground: Ground, symbols: Sequence[str], pairs: Iterable[tuple[str, str]]
+) -> bool:
+    """Whether the `$d` of a theorem are about dummies, and these are variables of typecode setvar
+    alone."""
+    names = dict(zip(symbols, ground.equation))
+    dummies = {each for each in names if names[each] in ground.kinds.keys() - ground.left}
+    is_plain = all(ground.kinds[names[each]] == SETVAR for each in dummies)
+    return all(is_plain and dummies & {*each} for each in pairs)
+
+
+def in_words(said: Need) -> str:
+    """What a theorem says, after `that`."""
+    form = said[1] if said[1:] else ""
+    part = f" in the place of its variable {int(said[2]) + 1}" if said[2:] else ""
+    words = {
+        "reflexive": f"{form} is reflexive",
+        "symmetric": f"{form} is symmetric",
+        "transitive": f"{form} is transitive",
+        "chained": f"{form} is transitive under a condition",
+        "replaces": f"what equals a theorem of typecode {WFF} is one",
+        "detaches": "what a theorem implies is one",
+        "weakens": "a theorem is implied by anything",
+        "identity": "a formula implies itself",
+        "respects": f"equals may be put into {form}{part}",
+        "respects under": f"equals under a condition may be put into {form}{part}",
+        "renames": f"the variable that {form} binds may have another name",
+        "substitutes": f"an equal variable may be put into {form}{part}",
+    }
+    return words[said[0]]

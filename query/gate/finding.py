@@ -1,0 +1,17 @@
+"""What breaks a rule of the gate."""
+
+from dataclasses import dataclass
+
+
+@dataclass(frozen=True)
+class Finding:
+    """What breaks a rule. `line` and `column` count from 1, and are 0 where there is none; `label`
+    and `axiom` may be ""."""
+
+    rule: str
+    file: str
+    line: int
+    label: str
+    axiom: str
+    reason: str
+    column: int = 0

@@ -1,0 +1,44 @@
+"""A line on standard error, on a terminal alone, while a command takes longer than a second."""
+
+import os
+from types import FrameType
+
+from query.answers.errors import CLEARED, progress_line, put, shown
+from query.platform import system
+
+
+class Line:
+    """What the line says."""
+
+    doing = "working"
+
+
+_line = Line()
+
+
+def now(doing: str) -> None:
+    """Says what is being done, such as `verifying set.mm`."""
+    _line.doing = shown(doing)
+    if progress_line.is_shown:
+        _show()
+
+
+def _show(*_: int | FrameType | None) -> None:
+    progress_line.is_shown = True
+    put(f"{CLEARED}mmquery: {_line.doing} ..")
+
+
+def begin() -> None:
+    """From now on the line is shown after a second, where standard error is a terminal and the
+    system has a clock for it."""
+    if os.isatty(2):
+        system.after(1, _show)
+
+
+def end() -> None:
+    """Takes the line away."""
+    if os.isatty(2):
+        system.not_after()
+    if progress_line.is_shown:
+        put(CLEARED)
+    progress_line.is_shown = False

@@ -1,0 +1,254 @@
+"""Why a proof is refused, as far as a person needs it to mend the proof: which step is faulty, what
+it cites, which hypothesis what stands there doesn't fit, or which variables aren't distinct.
+
+The core says where the faulty step is, and the code of its fault. The rest is found by carrying out
+the steps before it. What is found is told only if it is a fault of that code. If it isn't, or if
+something is in the way, there is no explanation, and the refusal stands as it is.
+"""
+
+from __future__ import annotations
+
+from collections.abc import Iterable, Iterator, Mapping, Sequence
+from dataclasses import replace
+from functools import cached_property
+
+from query.answers.errors import NoAnswer
+from query.platform import limits
+from query.program import mmdepend
+from query.program.refusals import Refused
+from query.program.source import Source
+from query.proofs.explanation import Clash, Explanation, Mismatch
+from query.proofs.replay import (
+    COST_OF_STEP,
+    Budget,
+    Entry,
+    Formula,
+    Proof,
+    Replay,
+    Rule,
+    TooLong,
+    proof_before,
+    size_of,
+)
+from query.proofs.text_before import TextBefore
+from query.reports.of_program import statements_of
+from query.texts.assertions import Assertion, assertions_of
+from query.texts.uncommented import without_comments
+
+CODES = ("E34", "E35", "E36", "E37", "E38", "E39")
+"""The faults of steps, and of the ends of proofs."""
+MOST_SYMBOLS = 1_048_576
+"""A formula of a proof that has more is the fault E39."""
+MOST_MISSING = 20
+"""So many pairs of variables are told that aren't distinct at a step."""
+LAST_ENTRIES = 5
+"""Of so many entries of the stack it is told which step pushed them."""
+IN_THE_WAY = (LookupError, ValueError, NoAnswer, MemoryError, OSError)
+
+
+def explanations(refusals: Sequence[Refused]) -> Iterator[Explanation | None]:
+    """Why the proofs of a text are refused, for each of these refusals, which are in file order;
+    None where that can't be told."""
+    of_steps = [each for each in refusals if each.code in CODES and not each.source.is_report()]
+    known = known_of(of_steps) if of_steps else None
+    numbers = iter(range(len(of_steps)))
+    for refusal in refusals:
+        is_one = known is not None and refusal.code in CODES
+        yield known.explained(next(numbers)) if known is not None and is_one else None
+
+
+def known_of(refusals: Sequence[Refused]) -> Known | None:
+    """What is known of the text for which there are these refusals; None where something is in the
+    way of that."""
+    source = refusals[0].source
+    try:
+        bare_text = without_comments(source.data)
+        places = [refusal.at() for refusal in refusals]
+        proofs = [proof_before(bare_text, place) for place in places]
+        cited = {label.encode() for proof in proofs if proof for label in proof.labels}
+        outline = TextBefore(bare_text, places, cited)
+        shorter = Source(source.name, outline.text())
+        words = ["--open", "--report=statements"]
+        said = mmdepend.report(mmdepend.ready(), shorter, words, limits.EXPLAINED_BYTES)
+        assertions = assertions_of(statements_of(said), shorter.data)
+    except IN_THE_WAY:
+        return None
+    return Known(refusals, proofs, outline, {one.label: one for one in assertions})
+
+
+class Known:
+    """What is known of a text, and of the proofs for which it is refused. A proof that is too long
+    is None. `told` has the theorems, and what their proofs cite, by labels."""
+
+    def __init__(
+        self,
+        refusals: Sequence[Refused],
+        proofs: Sequence[Proof | None],
+        outline: TextBefore,
+        told: Mapping[str, Assertion],
+    ) -> None:
+        self.codes = [refusal.code for refusal in refusals]
+        self.proofs = proofs
+        self.outline = outline
+        self.told = told
+        self.budget = Budget(limits.EXPLAINED_SYMBOLS)
+        self.rules: dict[str, Rule | None] = {}
+
+    def explained(self, number: int) -> Explanation | None:
+        """Why a proof is refused; None where that can't be told."""
+        proof = self.proofs[number]
+        if proof is None:
+            return Explanation(is_too_long=True)
+        try:
+            return self._explained(number, proof)
+        except IN_THE_WAY:
+            return None
+
+    def _explained(self, number: int, proof: Proof) -> Explanation | None:
+        theorem = self.outline.theorems[number]
+        rule = Rule(self.told[theorem.label])
+        labels = proof.labels_of(rule)
+        replay = Replay(rule, self.rule, self.outline.floating, self.budget)
+        begun = Explanation()
+        if proof.faulty is not None:
+            begun = Explanation(proof.count + 1, labels[proof.faulty])
+        try:
+            replay.carry_out(labels, proof.numbers)
+            if begun.cited is None:
+                code, found = at_end(replay, rule)
+            else:
+                apart = Apart(theorem.distinct(), self.outline.variables, self.budget)
+                code, found = at_step(replay, begun, begun.cited, apart)
+        except TooLong:
+            return replace(begun, is_too_long=True)
+        return replace(found, last=tuple(replay.last)) if code == self.codes[number] else None
+
+    def rule(self, label: str) -> Rule | None:
+        """The assertion of a label; None where there is none, since it is that of a hypothesis."""
+        if label not in self.rules:
+            one = self.told.get(label)
+            self.rules[label] = None if one is None else Rule(one)
+        return self.rules[label]
+
+
+def at_end(replay: Replay, theorem: Rule) -> tuple[str, Explanation]:
+    """What is wrong at the end of a proof, with its code; "" where nothing is."""
+    if len(replay.stack) != 1:
+        return "E37", of_stack(Explanation(), replay)
+    proved = replay.stack[0].formula
+    code = "E38" if proved != theorem.formula else ""
+    return code, Explanation(proved=proved, says=theorem.formula)
+
+
+def of_stack(begun: Explanation, replay: Replay) -> Explanation:
+    """How many entries the stack has."""
+    pushed = tuple(entry.step for entry in replay.stack[-LAST_ENTRIES:])
+    return replace(begun, entries=len(replay.stack), pushed=pushed)
+
+
+def at_step(
+    replay: Replay, begun: Explanation, label: str, apart: Apart
+) -> tuple[str, Explanation]:
+    """The first fault of a step that has this label, with its code; "" where it has none."""
+    rule = replay.rule(label)
+    if rule is None:
+        return of_size(begun, len(replay.formula_of(label)))
+    if len(replay.stack) < len(rule.given):
+        return "E34", replace(of_stack(begun, replay), taken=len(rule.given))
+    entries = replay.entries(rule)
+    values = rule.values(entries)
+    mismatch = mismatch_of(replay, rule, entries, values)
+    if mismatch is not None:
+        return "E35", replace(begun, mismatch=mismatch)
+    clash = next(clashes(rule, values, apart), None)
+    if clash is not None:
+        return "E36", replace(begun, clash=replace(clash, missing=missing(rule, values, apart)))
+    return of_size(begun, size_of(rule.formula, values))
+
+
+def of_size(begun: Explanation, size: int) -> tuple[str, Explanation]:
+    """The last fault of a step whose formula has so many symbols."""
+    return "E39" if size > MOST_SYMBOLS else "", replace(begun, size=size)
+
+
+def mismatch_of(
+    replay: Replay, rule: Rule, entries: Sequence[Entry], values: Mapping[str, Formula]
+) -> Mismatch | None:
+    """The first hypothesis that its entry doesn't fit."""
+    for hypothesis, entry in zip(rule.given, entries):
+        symbols = hypothesis.formula.split(" ")
+        if hypothesis.kind == "f":
+            if symbols[0] != entry.formula[0]:
+                return Mismatch(hypothesis, symbols, entry)
+            continue
+        wanted = replay.replaced(symbols, values)
+        if wanted != entry.formula:
+            return Mismatch(hypothesis, wanted, entry)
+    return None
+
+
+def clashes(rule: Rule, values: Mapping[str, Formula], apart: Apart) -> Iterator[Clash]:
+    """The pairs of variables that must be distinct, and for which something stands that isn't."""
+    for one, other in rule.frame.pairs():
+        both = values[one], values[other]
+        variables = next(apart.lacking(*both), None)
+        if variables is not None:
+            yield Clash((one, other), both, variables)
+
+
+def missing(rule: Rule, values: Mapping[str, Formula], apart: Apart) -> tuple[tuple[str, ...], ...]:
+    """What is lacking at all pairs of a step, each once, as far as the budget lets it be found."""
+    found: dict[frozenset[str], tuple[str, ...]] = {}
+    try:
+        for one, other in rule.frame.pairs():
+            for variables in apart.lacking(values[one], values[other]):
+                found.setdefault(frozenset(variables), variables)
+                if len(found) == MOST_MISSING:
+                    return tuple(found.values())
+    except TooLong:
+        pass
+    return tuple(found.values())
+
+
+class Apart:
+    """Which variables are distinct at a theorem, by the words of the `$d` that are active there. To
+    look at a pair counts for as many symbols as a step."""
+
+    def __init__(
+        self, distinct: Iterable[bytes], variables: frozenset[str], budget: Budget
+    ) -> None:
+        self.distinct = distinct
+        self.variables = variables
+        self.budget = budget
+
+    @cached_property
+    def sets(self) -> dict[str, list[frozenset[str]]]:
+        """For each variable the `$d` that have it."""
+        found: dict[str, list[frozenset[str]]] = {}
+        for words in self.distinct:
+            names = frozenset(words.decode("latin-1").split())
+            self.budget.take(len(names))
+            for name in names:
+                found.setdefault(name, []).append(names)
+        return found
+
+    def of(self, formula: Formula) -> list[str]:
+        """The variables of a formula, each once, in its order."""
+        self.budget.take(len(formula))
+        return [symbol for symbol in dict.fromkeys(formula) if symbol in self.variables]
+
+    def lacking(self, one: Formula, other: Formula) -> Iterator[tuple[str, ...]]:
+        """A variable that both have, or else the pairs of which no `$d` has both."""
+        self.budget.take(COST_OF_STEP)
+        left, right = self.of(one), self.of(other)
+        common = {*left} & {*right}
+        if common:
+            yield (next(name for name in left if name in common),)
+            return
+        for name in left:
+            self.budget.take(len(right))
+            others = {*right}
+            for each in self.sets.get(name, ()):
+                self.budget.take(len(others) + 1)
+                others -= each
+            yield from ((name, each) for each in right if each in others)

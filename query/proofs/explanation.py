@@ -1,0 +1,204 @@
+"""What is told of a proof that was refused: what a person needs to mend it, in words and as fields
+of a table.
+
+A formula is a list of symbols until it is told. A person gets it cut where it is long. A program
+gets it whole, or not at all where it is very long.
+"""
+
+from __future__ import annotations
+
+from collections.abc import Iterator
+from dataclasses import dataclass
+from itertools import islice
+
+from query.answers.excerpts import cut, cut_both
+from query.answers.output import Value
+from query.platform import limits
+from query.proofs.replay import Entry, Formula, Step
+from query.texts.assertions import Hypothesis, Pair
+
+SHOWN_FORMULA = 300
+"""How many characters of a formula are shown."""
+SHOWN_NAME = 100
+"""How many characters of a label or of a variable are shown."""
+WIDEST = 20
+"""The formulas of steps are aligned behind labels of so many characters at the most."""
+SYMBOLS_BEFORE = 10
+"""So many symbols of very long formulas are shown before the one in which they differ."""
+
+Line = tuple[str, str]
+"""Of what something is told, and what; together they read as a sentence."""
+
+
+@dataclass(frozen=True)
+class Mismatch:
+    """A hypothesis that an entry doesn't fit. `wanted` is the hypothesis under the substitution; a
+    `$f` is as it stands in the text."""
+
+    hypothesis: Hypothesis
+    wanted: Formula
+    entry: Entry
+
+    def lines(self, most: int) -> Iterator[Line]:
+        """In words."""
+        wanted, found = both_in_words(self.wanted, self.entry.formula, most)
+        formula = cut(self.hypothesis.formula, most)
+        yield "its hypothesis", f"{cut(self.hypothesis.label, SHOWN_NAME)}, {formula}"
+        yield "it wants", wanted
+        yield f"step {self.entry.step} has", found
+
+
+@dataclass(frozen=True)
+class Clash:
+    """Two variables that must be distinct, and what stands for them, without typecodes. `variables`
+    is the one that both of these have, or a pair that no active `$d` has. `missing` has the same of
+    all pairs of the step."""
+
+    pair: Pair
+    values: tuple[Formula, Formula]
+    variables: tuple[str, ...]
+    missing: tuple[tuple[str, ...], ...] = ()
+
+    def lines(self, most: int) -> Iterator[Line]:
+        """In words."""
+        names = [cut(each, SHOWN_NAME) for each in self.pair]
+        lacking = [cut(each, SHOWN_NAME) for each in self.variables]
+        yield "its $d has", " and ".join(names)
+        for variable, value in zip(names, self.values):
+            yield f"in place of {variable}", in_words(value, most)
+        yield "no active $d has" if len(lacking) > 1 else "both have", " and ".join(lacking)
+
+    def advice(self) -> str:
+        """What to do about all pairs of the step. A `$d` of one variable twice can't be."""
+        named = [
+            [cut(each, SHOWN_NAME) for each in names] for names in self.missing or (self.variables,)
+        ]
+        pairs = [f"$d {' '.join(sorted(names))} $." for names in named if len(names) > 1]
+        common = [names[0] for names in named if len(names) == 1]
+        said = []
+        if pairs:
+            said.append(f"add `{' '.join(pairs)}` to the theorem, or use other variables")
+        if common:
+            said.append(
+                f"use another variable in place of {' and '.join(common)} on one side: no `$d`"
+                " helps there"
+            )
+        return "; ".join(said)
+
+
+@dataclass(frozen=True)
+class Explanation:
+    """Why a proof is refused. `step` is the number of the faulty step and `cited` its label; None
+    where the end is faulty. `last` are the steps before that. `entries` is how many entries the
+    stack has, `pushed` which steps pushed the last ones, `taken` how many the step takes. `proved`
+    and `says` are what the proof proves and what its theorem says. `size` is how many symbols the
+    formula of the step has. Where `is_too_long`, the steps weren't carried out."""
+
+    step: int | None = None
+    cited: str | None = None
+    last: tuple[Step, ...] = ()
+    entries: int | None = None
+    pushed: tuple[int, ...] = ()
+    taken: int | None = None
+    mismatch: Mismatch | None = None
+    clash: Clash | None = None
+    proved: Formula | None = None
+    says: Formula | None = None
+    size: int | None = None
+    is_too_long: bool = False
+
+    def lines(self, most: int = SHOWN_FORMULA) -> Iterator[Line]:
+        """In words, but for the steps."""
+        if self.cited is not None:
+            yield "the step", f"{self.step}, {cut(self.cited, SHOWN_NAME)}"
+        if self.entries is not None:
+            yield "the stack", self._stack_in_words(self.entries)
+        for fault in (self.mismatch, self.clash):
+            if fault is not None:
+                yield from fault.lines(most)
+        if self.proved is not None and self.says is not None:
+            one, other = both_in_words(self.proved, self.says, most)
+            yield "the proof proves", one
+            yield "the theorem says", other
+        if self.size is not None:
+            yield "its formula", f"has {self.size} symbols"
+        if self.is_too_long:
+            yield "the formulas", "are too long to show"
+
+    def _stack_in_words(self, entries: int) -> str:
+        if self.taken is not None:
+            return f"has {entries} of the {self.taken} entries that it takes"
+        last = "the last " if len(self.pushed) < entries else ""
+        return f"has {entries} entries, {last}of the steps {', '.join(map(str, self.pushed))}"
+
+    def advice(self) -> str | None:
+        """What to do; None where nothing better is known than of all faults of this code."""
+        return None if self.clash is None else self.clash.advice()
+
+    def clause(self, most: int) -> str:
+        """The same in a line; "" where there is nothing to tell."""
+        return "; ".join(" ".join(line) for line in self.lines(most))
+
+    def step_lines(self) -> list[str]:
+        """The steps before, aligned."""
+        wide = max((len(str(each.number)) for each in self.last), default=0)
+        labels = [cut(each.label, SHOWN_NAME) for each in self.last]
+        width = min(max(map(len, labels), default=0), WIDEST)
+        return [
+            f"{each.number:>{wide}}  {label:<{width}}  {in_words(each.formula, SHOWN_FORMULA)}"
+            for label, each in zip(labels, self.last)
+        ]
+
+    def formulas(self) -> tuple[str | None, str | None]:
+        """What stands there, and what is wanted, for a program."""
+        if self.mismatch is not None:
+            return text_of(self.mismatch.entry.formula), text_of(self.mismatch.wanted)
+        return text_of(self.proved), text_of(self.says)
+
+    def fields(self) -> list[Value]:
+        """The step, what it cites, the label of the hypothesis, the two variables, what stands for
+        each, the variables that are lacking, and the steps before, for a program."""
+        label = None if self.mismatch is None else self.mismatch.hypothesis.label
+        steps = [
+            f"{each.number} {each.label} {in_words(each.formula, SHOWN_FORMULA)}"
+            for each in self.last
+        ]
+        clash: list[Value] = [None] * 4
+        if self.clash is not None:
+            values = map(text_of, self.clash.values)
+            clash = [list(self.clash.pair), *values, list(self.clash.variables)]
+        return [self.step, self.cited, label, *clash, steps or None]
+
+
+def text_of(formula: Formula | None) -> str | None:
+    """The symbols of a formula apart by one space; None where it is very long, or there is none."""
+    if formula is None or sum(map(len, formula)) + len(formula) > limits.EXPLAINED_FORMULA:
+        return None
+    return " ".join(formula)
+
+
+def in_words(formula: Formula, most: int, begin: int = 0) -> str:
+    """A formula for a person, from a symbol on."""
+    symbols: list[str] = []
+    left = most
+    for symbol in islice(formula, begin, None):
+        symbols.append(symbol)
+        left -= len(symbol) + 1
+        if left < 0:
+            break
+    text = cut(" ".join(symbols), most)
+    has_more = begin + len(symbols) < len(formula) and not text.endswith(" ..")
+    dots = ".. " if begin else "", " .." if has_more else ""
+    return f"{dots[0]}{text}{dots[1]}" or "nothing"
+
+
+def both_in_words(one: Formula, other: Formula, most: int) -> tuple[str, str]:
+    """Two formulas that differ, for a person; where they are long, from a little before the place
+    where they differ on."""
+    texts = text_of(one), text_of(other)
+    if texts[0] is not None and texts[1] is not None:
+        return cut_both(texts[0], texts[1], most)
+    pairs = enumerate(zip(one, other))
+    differ = next((place for place, (a, b) in pairs if a != b), min(len(one), len(other)))
+    begin = max(0, differ - SYMBOLS_BEFORE)
+    return in_words(one, most, begin), in_words(other, most, begin)

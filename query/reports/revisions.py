@@ -1,0 +1,199 @@
+"""How many theorems of each revision of a file rest on axioms, or whether one theorem does.
+
+Several revisions are judged at once. What is found is kept in a small result for each of them: the
+whole one of the program would fill the cache after some twenty revisions of set.mm.
+"""
+
+from __future__ import annotations
+
+import json
+from array import array
+from collections import deque
+from collections.abc import Iterator, Sequence
+from dataclasses import asdict, dataclass
+from functools import partial
+
+from query.answers.errors import NoAnswer, shown
+from query.citations.marks import columns_of
+from query.git.history import Revision
+from query.git.objects import Objects
+from query.git.repository import short
+from query.platform import cache, progress, system
+from query.platform.parallel import Task, begun
+from query.program.refusals import Refused
+from query.program.source import NO_TEXT, Source, see_plain
+from query.reports.choice import Options
+from query.reports.content import ReportContent
+from query.reports.database import Database, result_key, unpacked_numbers
+from query.reports.of_program import MARKS, marks_alone
+from query.texts.assertions import Damaged
+
+AT_ONCE = 4
+"""So many revisions are judged at once, where there are as many processors."""
+FORM = 2
+"""Counts the forms in which figures are kept. A change of what they hold has to change it."""
+
+
+@dataclass(frozen=True)
+class Question:
+    """What is asked of each revision: `axioms` are labels, and `theorem` the one of which it is
+    asked whether it rests on them, None where theorems are counted."""
+
+    options: Options
+    uses_cache: bool
+    axioms: tuple[str, ...]
+    theorem: str | None
+
+
+@dataclass(frozen=True)
+class Figures:
+    """What a revision says. `rest` has for each label that is an axiom how many theorems rest on
+    it, or with a theorem 1 where that one does and otherwise 0. `has_theorem` is whether there is
+    that one. With a `fault` there is nothing else to say."""
+
+    theorems: int | None = None
+    rest: dict[str, int] | None = None
+    has_theorem: bool = True
+    fault: str | None = None
+
+    def count(self, axiom: str) -> int | None:
+        """How many theorems rest on an axiom; None where it isn't one."""
+        return None if self.rest is None else self.rest.get(axiom)
+
+    def rests(self, axiom: str) -> bool | None:
+        """Whether the theorem rests on an axiom; None where it isn't there."""
+        return bool(self.count(axiom)) if self.fault is None and self.has_theorem else None
+
+
+@dataclass(frozen=True)
+class Content:
+    """What a revision has as the file: the full id of the bytes, and how messages call them."""
+
+    blob: str
+    path: str
+    name: str
+
+
+def figures_of(
+    objects: Objects, found: Sequence[Revision], question: Question
+) -> Iterator[Figures]:
+    """What each revision says, in their order. Equal files are judged once."""
+    contents: list[Content | Figures] = []
+    for revision in found:
+        if len(contents) % 100 == 0:
+            progress.now(f"looking at revision {len(contents) + 1} of {len(found)}")
+        contents.append(content_of(objects, revision))
+    first: dict[str, Content] = {}
+    for each in contents:
+        if isinstance(each, Content):
+            first.setdefault(each.blob, each)
+    told = judged(objects, list(first.values()), question)
+    known: dict[str, Figures] = {}
+    for each in contents:
+        if isinstance(each, Content):
+            if each.blob not in known:
+                known[each.blob] = next(told)
+            yield known[each.blob]
+        else:
+            yield each
+
+
+def content_of(objects: Objects, revision: Revision) -> Content | Figures:
+    """What a revision has as the file; or that it isn't judged."""
+    objects.tops.setdefault(revision.commit, revision.tree)
+    try:
+        entry = objects.entry(revision.commit, revision.path)
+    except NoAnswer as why:
+        return Figures(fault=str(why))
+    if entry is None:
+        return Figures(fault=f"there is no {shown(revision.path)}")
+    name = f"{short(revision.commit)}:{shown(revision.path)}"
+    return Content(entry.name, revision.path, name)
+
+
+def judged(objects: Objects, contents: Sequence[Content], question: Question) -> Iterator[Figures]:
+    """What each of several files says, in their order."""
+    waiting = deque(contents)
+    tasks: deque[Task] = deque()
+    at_once = min(AT_ONCE, system.processors())
+    try:
+        for number in range(len(contents)):
+            while waiting and len(tasks) < at_once:
+                tasks.append(begun(partial(in_json, objects, waiting.popleft(), question)))
+            progress.now(f"verifying file {number + 1} of {len(contents)}")
+            yield Figures(**json.loads(tasks[0].result()))
+            tasks.popleft()
+    finally:
+        for task in tasks:
+            task.stop()
+
+
+def in_json(objects: Objects, content: Content, question: Question) -> bytes:
+    """What a file says, as JSON."""
+    return json.dumps(asdict(figures(objects, content, question))).encode()
+
+
+def figures(objects: Objects, content: Content, question: Question) -> Figures:
+    """What a file says. NoAnswer where the program fails."""
+    try:
+        data = objects.blob(content.blob, content.path)
+        see_plain(shown(content.path), data)
+    except NoAnswer as why:
+        return Figures(fault=str(why))
+    source = Source(content.name, data)
+    if source.is_report():
+        return Figures(fault=NO_TEXT)
+    parts = kept(Database(source, question.options, question.uses_cache), question.theorem)
+    if parts["fault"]:
+        return Figures(fault=parts["fault"].decode())
+    columns = parts["axioms"].decode().split("\n") if parts["axioms"] else []
+    numbers = dict(zip(columns, unpacked_numbers(parts["numbers"])))
+    rest = {axiom: numbers[axiom] for axiom in question.axioms if axiom in numbers}
+    return Figures(int(parts["theorems"]), rest, parts["has theorem"] == b"1")
+
+
+def kept(database: Database, theorem: str | None) -> dict[str, bytes]:
+    """The figures of a database that are kept, or are kept from now on."""
+    key = result_key("figures", FORM, database.key, theorem)
+    parts = cache.load(key) if database.uses_cache else None
+    if parts is None:
+        parts = parts_of(database, theorem)
+        if database.uses_cache:
+            cache.store(key, parts)
+    return parts
+
+
+def parts_of(database: Database, theorem: str | None) -> dict[str, bytes]:
+    """The figures of a database, or why it is refused, in the form in which they are kept."""
+    try:
+        found = database.kept
+        if found is None:
+            try:
+                found = marks_alone(database.said("--form=2", MARKS))
+            except Damaged as why:
+                raise NoAnswer(f"{database.name}: {why}") from None
+    except Refused as refused:
+        where = f"refused {refused.line}:{refused.column} {refused.code}"
+        return {"fault": where.encode()}
+    return in_parts(found, theorem)
+
+
+def in_parts(found: ReportContent, theorem: str | None) -> dict[str, bytes]:
+    """The figures for each axiom, in the form in which they are kept."""
+    assert found.marks is not None
+    has_theorem = theorem is None or theorem in found.theorems
+    if theorem is None:
+        numbers = found.marks.sizes()
+    else:
+        numbers = [0] * len(found.columns)
+        if has_theorem:
+            bits = found.marks.row(found.theorems.index(theorem))
+            for column in columns_of(bits, found.marks.columns):
+                numbers[column] = 1
+    return {
+        "fault": b"",
+        "theorems": b"%d" % len(found.theorems),
+        "axioms": "\n".join(found.columns).encode(),
+        "numbers": array("I", numbers).tobytes(),
+        "has theorem": b"%d" % has_theorem,
+    }

@@ -1,1 +1,0 @@
-"""Tries the page in real browsers: `python3 -m query.tests.browser`, see `__main__.py`."""
