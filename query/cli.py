@@ -6,6 +6,7 @@ signal. An option may stand before or after the words, `--` ends the options, an
 command doesn't have is named with the nearest one that it has.
 """
 
+import argparse
 import gc
 import os
 from typing import NoReturn
@@ -101,7 +102,9 @@ def run(words: list[str]) -> int:
     if "--help" in before or "-h" in before:
         write_all(1, page_of(chosen).encode())
         return 0
-    arguments = parser_of(chosen).read(words[1:])
+    parser = parser_of(chosen)
+    arguments = parser.read(words[1:])
+    see_order(parser, arguments)
     out = Output(getattr(arguments, "format", "text"))
     limits.choose(Limits(arguments.limit_time, arguments.limit_memory))
     progress.begin()
@@ -112,6 +115,24 @@ def run(words: list[str]) -> int:
         progress.end()
     out.flush()
     return status
+
+
+def see_order(parser: Parser, arguments: argparse.Namespace) -> None:
+    """NoAnswer where the word DATABASE names no file, and a word behind it does."""
+    plain = [each for each in parser.actions if not each.option_strings]
+    if not plain or plain[0].metavar != "DATABASE":
+        return
+    word = arguments.database
+    if word == "-" or ":" in word or os.path.exists(word):
+        return
+    for action in plain[1:]:
+        given = getattr(arguments, action.dest) or []
+        for other in [given] if isinstance(given, str) else given:
+            if isinstance(other, str) and os.path.isfile(other):
+                raise NoAnswer(
+                    f"{shown(word)}: there is no such file; {shown(other)}, which is a file, "
+                    f"stands where {action.metavar} is wanted, and DATABASE stands before it"
+                )
 
 
 def hold_descriptors() -> None:

@@ -22,7 +22,7 @@ from query.arguments.options import Parser
 
 if TYPE_CHECKING:
     from query.reports.database import Database
-    from query.texts.text import Text
+    from query.texts.text import Header, Text
 
 Test = Callable[[str], bool]
 
@@ -85,13 +85,22 @@ class Filters:
         return tests
 
 
-def chapter(text: Text, name: str, number: str) -> tuple[int, int]:
+def chapter(text: Text, name: str, wanted: str) -> tuple[int, int]:
     """The assertions of a chapter: the number of the first one, and of the one after the last.
-    NoAnswer where no header has this number."""
-    for header in text.headers:
-        if header.number == number:
-            return header.first, header.end
-    raise NoAnswer(f"{name}: has no header '{shown(number)}'; `mmquery chapters` numbers them")
+    NoAnswer where no header has this number or title, or several have the title."""
+    found = [header for header in text.headers if header.number == wanted]
+    found = found or [header for header in text.headers if is_titled(header, wanted)]
+    if not found:
+        raise NoAnswer(f"{name}: has no header '{shown(wanted)}'; `mmquery chapters` lists them")
+    if len(found) > 1:
+        numbers = ", ".join(header.number for header in found)
+        raise NoAnswer(f"{name}: several headers have the title '{shown(wanted)}': {numbers}")
+    return found[0].first, found[0].end
+
+
+def is_titled(header: Header, title: str) -> bool:
+    """Whether a header has this title, but for capitals and spaces."""
+    return header.title.casefold().split() == title.casefold().split()
 
 
 def mathboxes_of(text: Text, name: str, owner: str) -> frozenset[int]:
@@ -111,7 +120,8 @@ def add_filters(parser: Parser) -> None:
     parser.value("--before", "T", "only what stands before T", group=group)
     parser.flag("--main", "only what stands in no mathbox", group=group)
     parser.value("--mathbox", "NAME", "only what stands in NAME's mathbox", group=group)
-    parser.value("--under", "NUMBER", "only what the header NUMBER has below it", group=group)
+    under = "only what the header of this number or title has below it"
+    parser.value("--under", "HEADER", under, group=group)
     like = "only labels like PATTERN, in which * is anything; several: by commas"
     parser.values("--like", "PATTERN", like, group=group)
     parser.values("--not", "PATTERN", "no labels like PATTERN", group=group, dest="unlike")

@@ -1,4 +1,4 @@
-"""`proofs`: how long proofs are, and how deep the theorems stand."""
+"""`proofs`: how long proofs are, how deep the theorems stand, and whose they are."""
 
 import argparse
 
@@ -13,21 +13,27 @@ from query.arguments.options import (
 )
 from query.commands import Command
 from query.proofs.lengths import lengths
+from query.texts.contributed import Contributed, contributed
+from query.texts.text import Text
 
 PAGE = """
 Lists in file order how long the proofs of the LABELs are. Without a LABEL, the theorems that have
 most of what --by names, the largest first.
 
-steps    of the proof as it stands in the text: its labels, or the numbers of a compressed one
-depth    of the longest chain of citations down from it: 1 where it cites only axioms, or nothing
-bytes    between $= and $.
-theorem  the label of the theorem
+steps        of the proof as it stands in the text: its labels, or the numbers of a compressed one
+depth        of the longest chain of citations down from it: 1 where it cites only axioms, or
+             nothing
+bytes        between $= and $.
+theorem      the label of the theorem
+contributor  who contributed it, as its comment says: (Contributed by N, 5-Aug-1993.)
+contributed  and when, as 1993-08-05
 
   $ mmquery proofs set.mm --most 5
   $ mmquery proofs set.mm --by depth --main
   $ mmquery proofs set.mm 2p2e4
+  $ mmquery uncited set.mm --main >labels; mmquery proofs set.mm --among labels --most 999999
 """
-COLUMNS = ("steps", "depth", "bytes", "theorem")
+COLUMNS = ("steps", "depth", "bytes", "theorem", "contributor", "contributed")
 FEW = 10
 
 
@@ -58,8 +64,13 @@ def run(context: Context, arguments: argparse.Namespace) -> int:
     if not arguments.labels:
         column = COLUMNS.index(arguments.by)
         passing = sorted(passing, key=lambda row: -int(str(row[column])))[: arguments.most]
-    context.out.table(COLUMNS, passing)
+    context.out.table(COLUMNS, [[*row, *whose(database.text, str(row[3]))] for row in passing])
     return 0
+
+
+def whose(text: Text, label: str) -> Contributed:
+    """Who contributed a theorem, and when."""
+    return contributed(text.comment(text.by_label[label]))
 
 
 COMMANDS = [Command("proofs", PAGE, configure, run, lists=True)]

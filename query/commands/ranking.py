@@ -2,6 +2,7 @@
 rest."""
 
 import argparse
+from hashlib import blake2b
 
 from query.answers.errors import NoAnswer
 from query.answers.output import Value
@@ -43,9 +44,16 @@ size      how many axioms these are
 first     the first of the theorems
 axioms    the axioms
 
-The filters choose which theorems are counted.
+The filters choose which theorems are counted. With --together, the axioms that go together: sets of
+two or more on which just the same theorems rest, those on which most rest first.
+
+theorems  how many rest on each of these axioms
+size      how many axioms these are
+first     the first of the theorems
+axioms    the axioms
 
   $ mmquery sets set.mm 5 --axioms ax-
+  $ mmquery sets set.mm --together --ignore-definitions
 """
 
 WITHIN_PAGE = """
@@ -136,6 +144,7 @@ def configure_sets(parser: Parser) -> None:
     parser.add_argument(
         "number", metavar="N", nargs="?", type=positive, help="how many (else: all)"
     )
+    parser.flag("--together", "sets of axioms on which just the same theorems rest")
     add_choice_of_axioms(parser)
 
 
@@ -143,21 +152,51 @@ def run_sets(context: Context, arguments: argparse.Namespace) -> int:
     """Answers `sets`."""
     dependence = context.database(arguments.database, options_of(arguments)).dependence()
     passes = context.test()
+    chosen = [row for row, label in enumerate(dependence.theorems) if passes(label)]
+    if arguments.together:
+        rows = axioms_together(dependence, chosen)
+        none = "no two axioms have just the same theorems rest on them"
+    else:
+        rows = axioms_of_theorems(dependence, chosen)
+        none = f"has no theorem{' that passes the filters' if dependence.theorems else ''}"
+    rows.sort(key=lambda row: -int(str(row[0])))
+    context.table(SETS, rows[: arguments.number], f"{dependence.name}: {none}")
+    return 0
+
+
+def axioms_of_theorems(dependence: Dependence, chosen: list[int]) -> list[list[Value]]:
+    """The sets of axioms on which theorems rest, by the first theorem."""
     counts: dict[int, int] = {}
     first: dict[int, str] = {}
-    for row, label in enumerate(dependence.theorems):
-        if passes(label):
-            bits = dependence.bits(row)
-            counts[bits] = counts.get(bits, 0) + 1
-            first.setdefault(bits, label)
-    sizes = sorted(counts, key=lambda bits: -counts[bits])
+    for row in chosen:
+        bits = dependence.bits(row)
+        counts[bits] = counts.get(bits, 0) + 1
+        first.setdefault(bits, dependence.theorems[row])
     rows: list[list[Value]] = []
-    for bits in sizes[: arguments.number]:
+    for bits, count in counts.items():
         axioms = [dependence.axioms[column] for column in dependence.columns_of(bits)]
-        rows.append([counts[bits], len(axioms), first[bits], axioms])
-    which = " that passes the filters" if dependence.theorems else ""
-    context.table(SETS, rows, f"{dependence.name}: has no theorem{which}")
-    return 0
+        rows.append([count, len(axioms), first[bits], axioms])
+    return rows
+
+
+def axioms_together(dependence: Dependence, chosen: list[int]) -> list[list[Value]]:
+    """The sets of two axioms or more on which just the same theorems rest, and at least one."""
+    flags = bytearray(len(dependence.theorems))
+    for row in chosen:
+        flags[row] = 1
+    wanted = int.from_bytes(flags, "big")
+    groups: dict[bytes, list[str]] = {}
+    rows: dict[bytes, list[Value]] = {}
+    for column, axiom in enumerate(dependence.axioms):
+        marked = int.from_bytes(dependence.marked(column), "big")
+        users = (marked & wanted).to_bytes(len(flags), "big")
+        if 1 in users:
+            key = blake2b(users, digest_size=16).digest()
+            axioms = groups.setdefault(key, [])
+            axioms.append(axiom)
+            first = dependence.theorems[users.index(1)]
+            rows[key] = [users.count(1), len(axioms), first, axioms]
+    return [row for key, row in rows.items() if len(groups[key]) > 1]
 
 
 def configure_within(parser: Parser) -> None:

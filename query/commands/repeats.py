@@ -12,7 +12,7 @@ from query.platform import progress
 from query.reports.choice import Options
 from query.reports.database import Dependence
 from query.spare.conventions import LAST, conventions_of, is_fit
-from query.spare.repeats import Finder
+from query.spare.repeats import HOW, Finder
 from query.spare.rules import UNREAD, Rule, Rules, rules_of
 from query.spare.search import Shelf
 from query.texts.discouraged import is_discouraged
@@ -31,12 +31,15 @@ how      same:     both say the same, but for the names of variables
 only     the axioms on which the theorem rests, and the earlier one doesn't
 besides  the axioms on which the earlier one rests, and the theorem doesn't
 
+With --how only these are listed.
+
 Theorems aren't listed whose label ends in ALT or OLD or that are discouraged, nor what repeats
 these, but with --kept. Neither is what repeats a statement of another mathbox. Standard error says
 of how many theorems it takes too long to find what they repeat.
 
   $ mmquery repeats set.mm
   $ mmquery repeats iset.mm --main
+  $ mmquery repeats set.mm --how same
 """
 
 GIVEN_UP = "of {} theorems it takes too long to say what they repeat; the first is {}"
@@ -48,6 +51,7 @@ def configure(parser: Parser) -> None:
     add_only(parser, "|-")
     add_open(parser)
     parser.flag("--kept", "also labels that end in ALT or OLD, and discouraged")
+    parser.add_argument("--how", choices=HOW, help="only those that repeat so (else: all)")
 
 
 def candidates(rules: Rules, with_kept: bool, keeps: Test) -> Iterator[Rule]:
@@ -74,11 +78,13 @@ def run(context: Context, arguments: argparse.Namespace) -> int:
     shelf = Shelf(rules, conventions_of(rules, cites_discouraged=kept, cites_old=kept))
     finder = Finder(rules, shelf)
     found = finder.repeats(candidates(rules, kept, context.test()))
-    rows = [[one.theorem, one.earlier, one.how] for one in found]
+    how: str | None = arguments.how
+    rows = [[one.theorem, one.earlier, one.how] for one in found if how in (None, one.how)]
+    so = "" if how is None else f" in the way '{how}'"
     context.table(
         COLUMNS,
         [[*row, *rests_apart(dependence, row[0], row[1])] for row in rows],
-        f"{database.name}: no theorem says what an earlier statement says",
+        f"{database.name}: no theorem says what an earlier statement says{so}",
         "theorem",
         remarks={GIVEN_UP: finder.given_up, UNREAD: rules.unread},
     )

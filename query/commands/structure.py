@@ -36,8 +36,10 @@ title     that of the header
 
 Without an AXIOM there is a row for each header, and nothing in axiom, rest and first. With
 --no-empty there is no row where no theorem rests on the axiom, or, without an AXIOM, none stands.
+With --any each header has one row for all AXIOMs, which counts what rests on one of them or more.
 
   $ mmquery chapters set.mm ax-ac2 ax-reg
+  $ mmquery chapters set.mm ax-ac2 ax-cc --any
   $ mmquery chapters set.mm ax-ac2 --no-empty
 """
 
@@ -101,6 +103,7 @@ def configure_with_axioms(parser: Parser) -> None:
     add_database(parser)
     parser.add_argument("axiom", metavar="AXIOM", nargs="*")
     parser.flag("--no-empty", "leave out headers under which nothing is counted")
+    parser.flag("--any", "count what rests on one of the AXIOMs or more, in one row")
     add_choice_of_axioms(parser)
 
 
@@ -121,31 +124,44 @@ def run_chapters(context: Context, arguments: argparse.Namespace) -> int:
     """Answers `chapters`."""
     database = context.database(arguments.database, options_of(arguments))
     dependence = database.dependence()
-    columns = [dependence.column(label) for label in arguments.axiom]
+    if arguments.any and not arguments.axiom:
+        raise NoAnswer("--any wants an AXIOM")
     text = database.text
     theorems = dependence.theorems
+    asked = counted_axioms(dependence, arguments.axiom, arguments.any)
     counted = [Numbers(text, theorems)]
-    for column in columns:
-        counted.append(Numbers(text, [theorems[row] for row in dependence.users(column)]))
+    for _, users in asked:
+        counted.append(Numbers(text, [theorems[row] for row in users]))
     places = [("0", 0, len(text.assertions), "(the whole database)")]
     places += [(each.number, each.first, each.end, each.title) for each in text.headers]
     rows: list[list[Value]] = []
     for number, first, end, title in places:
         below = counted[0].within(first, end)[0]
-        for label, numbers in zip(arguments.axiom or [None], counted[1:] or counted):
+        for (name, _), numbers in zip(asked or [(None, ())], counted[1:] or counted):
             count, one = numbers.within(first, end)
             if count or not arguments.no_empty:
-                about_axiom: list[Value] = [label, count, one] if label is not None else [None] * 3
+                about_axiom: list[Value] = [name, count, one] if asked else [None] * 3
                 rows.append([number, below, *about_axiom, title])
     about = ["axiom", "rest", "first"]
-    none = f"no theorem rests on {' or '.join(arguments.axiom)}" if columns else "has no theorem"
+    none = f"no theorem rests on {' or '.join(arguments.axiom)}" if asked else "has no theorem"
     context.table(
         ["number", "theorems", *about, "title"],
         rows,
         f"{database.name}: {none}",
-        aside=[] if columns else about,
+        aside=[] if asked else about,
     )
     return 0
+
+
+def counted_axioms(
+    dependence: Dependence, labels: list[str], is_any: bool
+) -> list[tuple[Value, Sequence[int]]]:
+    """What the rows of a header are about: each axiom, or all of them where one is enough, with the
+    theorems that rest on it."""
+    users = [dependence.users(dependence.column(label)) for label in labels]
+    if is_any:
+        return [(labels, sorted(set().union(*users)))]
+    return list(zip(labels, users))
 
 
 def configure_order(parser: Parser) -> None:

@@ -97,13 +97,17 @@ class Dependence:
         """The rows of the theorems that rest on the axiom of this column, rising."""
         return self.marks.users(self.chosen[column])
 
+    def marked(self, column: int) -> bytes:
+        """For each row 1 where its theorem rests on the axiom of this column, otherwise 0."""
+        return self.marks.column(self.chosen[column])
+
     def mask_of(self, columns: Sequence[int]) -> int:
         """The bits of several columns, as `bits` has them."""
         return mask(self.marks.columns, [self.chosen[column] for column in columns])
 
     def sizes(self) -> list[int]:
         """For each column how many theorems rest on its axiom."""
-        return [self.marks.column(number).count(1) for number in self.chosen]
+        return [self.marked(column).count(1) for column in range(len(self.axioms))]
 
     def see_theorem(self, label: str) -> None:
         """NoAnswer where there is no theorem of this label."""

@@ -71,6 +71,10 @@ class CommandLine(World):
         self.refuses("--format", "json", why="options stand behind the command")
         self.refuses("chapters", "small.mm", "a2", why="'a2'; it is a theorem")
         self.refuses("rests", "small.mm", why="LABEL")
+        order = "no such file; small.mm, which is a file, stands where LABEL is wanted"
+        self.refuses("rests", "a2", "small.mm", why=order)
+        self.refuses("frees", "ax-1", "small.mm", why=order.replace("LABEL", "ON"))
+        self.refuses("rests", "a2", "small", why="a2: there is no such file\n")
         self.refuses("uncited", "small.mm", "a2", why="a2")
         self.refuses("top", "small.mm", "0", why="'0' is no number")
         self.refuses("top", "small.mm", "two", why="'two' is no number")

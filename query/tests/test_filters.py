@@ -82,6 +82,8 @@ class Filtered(World):
             (["--mathbox", "Ann Other"], ["three"]),
             (["--under", "0.1"], ["one", "two"]),
             (["--under", "0.1.1"], ["two"]),
+            (["--under", "first"], ["one", "two"]),
+            (["--under", " Mathbox  for Bo"], ["four", "five", "todo", "six"]),
             (["--like", "t*"], ["two", "three", "todo"]),
             (["--like", "t*,s?x"], ["two", "three", "todo", "six"]),
             (["--like", "one", "--like", "six"], ["one", "six"]),
@@ -141,12 +143,25 @@ class Filtered(World):
             (["--mathbox", "Cy"], "has no mathbox for 'Cy'"),
             (["--mathbox", "bo"], "did you mean Bo?"),
             (["--under", "7"], "has no header '7'"),
+            (["--under", "Mathbox for"], "has no header 'Mathbox for'"),
             (["--among", "nothing"], "nothing: no such file"),
         ):
             self.refuses("uncited", "--open", "db.mm", *words, why=why)
         self.write("report", self.report("db.mm", "--open", "--report=usage,citations"))
         self.refuses("uncited", "report", "--main", why="the database is wanted")
         self.assertEqual(self.answers("uncited", "report", "--like", "s*"), ["six"])
+
+    def test_headers_of_one_title(self) -> None:
+        """None of them is taken for the one that is meant. A number is."""
+        for title, words, left in (
+            ("0.2", ["0.2"], ["two"]),
+            ("Same", ["0.1"], ["one"]),
+        ):
+            head = f"$(\n#*#*#*#\n  {title}\n#*#*#*#\n$)\n"
+            one = f"{head}a1 $a a $.\none $p a $= a1 $.\n"
+            self.write("db.mm", f"$c a $.\n{one}{head}two $p a $= a1 $.\n")
+            self.assertEqual(self.answers("uncited", "db.mm", "--under", *words), left)
+        self.refuses("uncited", "db.mm", "--under", "same", why="the title 'same': 0.1, 0.2")
 
     def test_nothing_passes(self) -> None:
         done = self.query("uncited", "--open", "db.mm", "--like", "x*")

@@ -41,11 +41,11 @@ class Lengths(World):
         text = SMALL + "todo $p |- p $= ? $.\n"
         self.write("db.mm", text)
         lines = self.answers("proofs", "--open", "db.mm", "a2", "a1i", "--format=tsv")
-        self.assertEqual(lines[1:], ["9\t1\t32\ta1i", "9\t2\t29\ta2"])
+        self.assertEqual(lines[1:], ["9\t1\t32\ta1i\t\t", "9\t2\t29\ta2\t\t"])
         lines = self.answers("proofs", "--open", "db.mm", "--by=bytes", "--most=1", "--format=tsv")
-        self.assertEqual(lines[1:], ["9\t1\t32\ta1i"])
+        self.assertEqual(lines[1:], ["9\t1\t32\ta1i\t\t"])
         lines = self.answers("proofs", "--open", "db.mm", "--like=w*", "--format=tsv")
-        self.assertEqual(lines[1:], ["5\t1\t16\twi2"])
+        self.assertEqual(lines[1:], ["5\t1\t16\twi2\t\t"])
         self.refuses("proofs", "--open", "db.mm", "todo", why="'todo' is an axiom")
         self.refuses("proofs", "--open", "db.mm", "ax-1", why="is an axiom")
         self.write("report", self.report("db.mm", "--open"))
@@ -100,6 +100,34 @@ class Lengths(World):
             wanted = Counter(rests[label] for label in some)
             self.assertEqual(sum(int(str(row["theorems"])) for row in rows), len(some))
             self.assertEqual(len(rows), len(wanted))
+
+    def test_axioms_together(self) -> None:
+        """Against the sets of theorems on which each axiom is."""
+        for seed in range(8):
+            database = invented(random.Random(seed), 10)
+            self.write("db.mm", database.text)
+            every = database.theorems()
+            self.write("names", " ".join(every[1::2]))
+            for words, some in (((), every), (("--among=names",), every[1::2])):
+                groups: dict[tuple[str, ...], list[str]] = {}
+                for axiom in database.axioms:
+                    users = tuple(each for each in some if axiom in database.rests(each))
+                    groups.setdefault(users, []).append(axiom)
+                wanted = [
+                    [len(users), len(axioms), users[0], axioms]
+                    for users, axioms in groups.items()
+                    if users and len(axioms) > 1
+                ]
+                wanted.sort(key=lambda row: -int(str(row[0])))
+                done = self.query("sets", "db.mm", "--together", "--format=json", *words)
+                self.assertEqual([list(row.values()) for row in done.rows()], wanted)
+                self.assertEqual("no two axioms" in done.err, not wanted)
+
+    def test_whose_they_are(self) -> None:
+        said = "$( It says so. (Contributed by Ann Other,\n 5-Aug-1993.) $)\n"
+        self.write("db.mm", SMALL.replace("wi2 $p", f"{said}wi2 $p"))
+        (row,) = self.query("proofs", "db.mm", "wi2", "--format=json").rows()
+        self.assertEqual((row["contributor"], row["contributed"]), ("Ann Other", "1993-08-05"))
 
     def test_uncited_that_may_be_cited(self) -> None:
         mark = "$( (New usage\n is discouraged.) $) "

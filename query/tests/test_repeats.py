@@ -58,6 +58,11 @@ class Repeats(World):
         kept = [["t6OLD", "ax", "same", "", ""], ["t7", "ax", "same", "", ""]]
         self.assertEqual(self.rows("db.mm", "--kept"), [*wanted[:5], *kept, *wanted[5:]])
         self.assertEqual(self.rows("db.mm", "--like", "t*", "--not", "t1,t2,t3"), wanted[3:5])
+        for how in HOW:
+            told = [row for row in wanted if row[2] == how]
+            self.assertEqual(self.rows("db.mm", "--how", how), told)
+        done = self.query("repeats", "db.mm", "--how=weaker", "--before=t3")
+        self.assertIn("no theorem says what an earlier statement says in the way", done.err)
 
     def test_what_each_rests_on(self) -> None:
         text = TEXT[: TEXT.index("t1 $p")]

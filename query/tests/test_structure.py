@@ -92,6 +92,18 @@ class Structure(World):
         rows = self.rows("chapters", "db.mm", "ax-2", "ax-1")
         self.assertEqual(left, [row for row in rows if row[3] != "0"])
         self.assertEqual(len(left), 6)
+        both = self.rows("chapters", "db.mm", "ax-2", "ax-1", "--any")
+        self.assertEqual(
+            [[row[0], *row[2:5]] for row in both],
+            [
+                ["0", "ax-2 ax-1", "5", "one"],
+                ["0.1", "ax-2 ax-1", "2", "one"],
+                ["0.1.1", "ax-2 ax-1", "1", "two"],
+                ["0.2", "ax-2 ax-1", "1", "three"],
+                ["0.3", "ax-2 ax-1", "2", "four"],
+            ],
+        )
+        self.refuses("chapters", "--open", "db.mm", "--any", why="--any wants an AXIOM")
         self.refuses(
             "chapters", "--open", "db.mm", "one", why="has no axiom of typecode '|-' 'one'"
         )
