@@ -21,6 +21,7 @@ from query.citations.wrappers import wrappers
 from query.commands import Command
 from query.platform import progress
 from query.reports.database import Database
+from query.texts.text import Text
 
 WHY_PAGE = """
 Shows a shortest chain of citations by which LABEL rests on ON, from the one to the other: each
@@ -320,7 +321,8 @@ def run_frees(context: Context, arguments: argparse.Namespace) -> int:
     given = named_in(graph, end, "--given", arguments.given)
     for node in given & kept:
         raise NoAnswer(f"{graph.name}: {graph.labels[node]} is kept, so --given can't name it")
-    asked = Asked(graph, end, kept, given)
+    says_more = arguments.keep_wrappers or database.is_report
+    asked = Asked(graph, end, kept, given, None if says_more else database.text)
     if arguments.theorems:
         put_freed(context, asked, {graph.theorem(label) for label in arguments.theorems})
     elif arguments.plan is not None:
@@ -338,6 +340,15 @@ class Asked:
     end: int
     kept: frozenset[int]
     given: frozenset[int]
+    text: Text | None
+    """The text, where it may be told that a theorem only says ON in another form."""
+
+    def remark(self, node: int) -> str:
+        """That a theorem only says ON in another form; "" where it says more."""
+        if self.text is None or node not in wrappers(self.graph, self.text, self.end):
+            return ""
+        theorem, on = self.graph.labels[node], self.graph.labels[self.end]
+        return f"{theorem} only says {on} in another form, and --keep-wrappers keeps such theorems"
 
 
 def put_freed(context: Context, asked: Asked, again: set[int]) -> None:
@@ -357,7 +368,9 @@ def put_plan(context: Context, asked: Asked, steps: int) -> None:
     passes = context.test()
     advances = cuts.plan(graph, end, kept, asked.given, lambda node: passes(graph.labels[node]))
     rows: list[list[Value]] = []
+    chosen: list[int] = []
     for each in islice(advances, steps):
+        chosen.append(each.theorem)
         rows.append([each.freed, each.total, graph.labels[each.theorem]])
         progress.now(f"{len(rows)} of {steps} theorems chosen")
     context.out.table(["freed", "total", "theorem"], rows)
@@ -365,10 +378,12 @@ def put_plan(context: Context, asked: Asked, steps: int) -> None:
     if rows:
         count = len(resting & kept)
         are_kept = f", {count} of which {'are' if count > 1 else 'is'} kept" if count else ""
+        remark = asked.remark(chosen[0])
         context.tell(
             f"{graph.name}: free are then {rows[-1][1]} of {len(resting)} that rest on"
             f" {graph.labels[end]}{are_kept}"
             f"{'; no other theorem frees more' if len(rows) < steps else ''}"
+            f"{remark and f'; {remark}'}"
         )
     elif cuts.freeing(graph, end, kept, asked.given):
         context.tell(f"{graph.name}: none that rests on {graph.labels[end]} passes the filters")
@@ -383,7 +398,11 @@ def put_most(context: Context, asked: Asked, most: int) -> None:
     if not freeing:
         context.tell(nothing_left(asked))
     found: list[list[Value]] = [[freed, asked.graph.labels[node]] for freed, node in freeing]
-    context.out.table(FREED, context.passing(found, 1)[:most])
+    listed = context.passing(found, 1)[:most]
+    context.out.table(FREED, listed)
+    remark = asked.remark(asked.graph.node(str(listed[0][1]))) if listed else ""
+    if remark:
+        context.tell(f"{asked.graph.name}: {remark}")
 
 
 def nothing_left(asked: Asked) -> str:

@@ -39,7 +39,7 @@ PAGE = (
     """
 Lists in file order the definitions, which are the axioms of typecode |- whose label begins with
 df-, and whether each is sound: what can be proved with it, and doesn't speak of what it defines,
-can be proved without it.
+can be proved without it. With LABELs only these.
 
 definition  its label
 sound       yes: all conditions are kept
@@ -65,6 +65,7 @@ axiom, and in which each statement says what it said, unfolded. It is verified f
 answer where the definition has a dummy, or its right side lacks a variable of the left one.
 
   $ mmquery definitions set.mm --format csv
+  $ mmquery definitions set.mm df-cau df-ss
   $ mmquery definitions set.mm --basis
 """
 )
@@ -98,6 +99,7 @@ LEVELS = {NO: "error", UNKNOWN: "warning"}
 def configure(parser: Parser) -> None:
     """Adds the words and options."""
     add_database(parser)
+    parser.add_argument("labels", metavar="LABEL", nargs="*")
     parser.values(
         "--trust", "LABEL", "definitions that are axioms; several: by commas, or more options"
     )
@@ -142,7 +144,10 @@ def run(context: Context, arguments: argparse.Namespace) -> int:
     database.see_axioms()
     empty = f"{database.name}: no axiom of typecode '|-' has a label that begins with df-"
     is_list = arguments.expand is None and arguments.without is None and not arguments.basis
-    if is_list and not any(map(is_definition, database.text.assertions)):
+    if arguments.labels and not is_list:
+        raise NoAnswer("--basis, --expand and --without take no LABEL beside DATABASE")
+    has_some = bool(arguments.labels) or any(map(is_definition, database.text.assertions))
+    if is_list and not has_some:
         context.table(COLUMNS, [], empty)
         return 0
     trusted, equalities = labels_of(arguments.trust), labels_of(arguments.equality)
@@ -157,8 +162,18 @@ def run(context: Context, arguments: argparse.Namespace) -> int:
     if arguments.basis:
         context.table(("what", "label", "says"), map(list, found.basis()), empty)
         return 0
+    return put_verdicts(context, database, found, arguments.labels)
+
+
+def put_verdicts(
+    context: Context, database: Database, found: Definitions, labels: list[str]
+) -> int:
+    """Lists the verdicts, on these definitions if some are named. Returns the status."""
+    wanted = {see_definition(database, found, label) for label in labels}
     rows: list[list[Value]] = [
-        [each.label, each.sound, each.why, each.condition] for each in found.verdicts.values()
+        [each.label, each.sound, each.why, each.condition]
+        for each in found.verdicts.values()
+        if each.label in wanted or not wanted
     ]
     passing = [found.verdicts[str(row[0])] for row in context.passing(rows)]
     if any(each.sound != YES for each in passing):
@@ -169,6 +184,14 @@ def run(context: Context, arguments: argparse.Namespace) -> int:
         shown_rows = [[each.label, each.sound, each.why, each.condition] for each in passing]
         context.out.table(COLUMNS, shown_rows)
     return 1 if any(each.sound == NO for each in passing) else 0
+
+
+def see_definition(database: Database, found: Definitions, label: str) -> str:
+    """The label of a definition. NoAnswer where it is none."""
+    database.assertion(label)
+    if label not in found.verdicts:
+        raise NoAnswer(f"{database.name}: {shown(label)} is no definition")
+    return label
 
 
 def in_short(verdicts: list[Verdict]) -> str:

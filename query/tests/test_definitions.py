@@ -226,6 +226,10 @@ class Chosen(World):
     def test_trust(self) -> None:
         (order,) = (each for each in DATABASES if each.options)
         self.write("db.mm", LOGIC)
+        every = self.query("definitions", "db.mm", "--format=json").rows()
+        words = ("df-tru", "df-ex", "--format=json")
+        some = [row for row in every if row["definition"] in words]
+        self.assertEqual((len(some), self.query("definitions", "db.mm", *words).rows()), (2, some))
         rows = self.query("definitions", "db.mm", "--trust", "df-tru,df-ex", "--format=json").rows()
         sound = {row["definition"]: row["sound"] for row in rows}
         self.assertEqual(sound, dict.fromkeys(SOUND, "yes") | dict.fromkeys(SOUND[:2], "on trust"))
@@ -244,6 +248,9 @@ class Chosen(World):
         self.assertIn("equals may be put into wex", str(found["df-foo"]["why_not"]))
         self.refuses("definitions", "db.mm", "--trust", "df-none", why="has no assertion 'df-none'")
         self.refuses("definitions", "db.mm", "--trust", "biid", why="biid is no definition")
+        self.refuses("definitions", "db.mm", "biid", why="biid is no definition")
+        self.refuses("definitions", "db.mm", "df-xyz", why="has no assertion 'df-xyz'")
+        self.refuses("definitions", "db.mm", "--basis", "df-bi", why="take no LABEL")
         self.write("order.mm", order.database())
         for label in ("wal", "cfoo", "biid"):
             why = f"{label} is no syntax axiom of a wff with two parts"

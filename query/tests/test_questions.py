@@ -124,12 +124,14 @@ class Questions(World):
         lines = [shapes.theorem(*labels) for labels in (("k", "ax"), ("m", "k"), ("n", "m"))]
         self.write("db.mm", shapes.HEAD + "".join(lines))
         done = self.query("frees", "db.mm", "ax", "--keep=k", "--plan=1")
-        said = "free are then 2 of 3 that rest on ax, 1 of which is kept"
-        self.assertEqual(done.err, f"mmquery: db.mm: {said}\n")
+        said = "free are then 2 of 3 that rest on ax, 1 of which is kept; m only says ax in another"
+        self.assertIn(f"mmquery: db.mm: {said}", done.err)
+        done = self.query("frees", "db.mm", "ax", "--keep=k", "--keep-wrappers", "--plan=1")
+        self.assertNotIn("another form", done.err)
         for steps, end in ((1, ""), (2, "; no other theorem frees more")):
             done = self.query("frees", "db.mm", "ax", f"--plan={steps}")
-            said = f"free are then 3 of 3 that rest on ax{end}"
-            self.assertEqual(done.err, f"mmquery: db.mm: {said}\n")
+            said = f"free are then 3 of 3 that rest on ax{end}; k only says ax in another form"
+            self.assertIn(f"mmquery: db.mm: {said}, and --keep-wrappers", done.err)
 
     def test_an_axiom_that_states_a_theorem(self) -> None:
         """Where there is no chain, since an axiom takes the place of a theorem that has one."""

@@ -53,6 +53,9 @@ class Wrappers(World):
         done = self.query("frees", "db.mm", "ax-ac2", "--keep-wrappers")
         self.assertEqual(done.err, "mmquery: kept as wrappers: axac3\n")
         self.assertEqual(done.lines()[1:], ["    1  zorn"])
+        for words in ((), ("--most=1",), ("--plan=1",)):
+            plain = self.query("frees", "db.mm", "ax-ac2", *words)
+            self.assertIn("axac3 only says ax-ac2 in another form", plain.err)
         both = self.query("frees", "db.mm", "ax-ac2", "--keep", "axac3", "--keep-wrappers")
         self.assertEqual(both, done)
         self.assertEqual(done.lines(), self.answers("frees", "db.mm", "ax-ac2", "--keep=axac3"))
