@@ -12,9 +12,7 @@ from dataclasses import dataclass, replace
 from query.cli import parser_of
 from query.commands import command, names
 from query.tests.world import TOP, built_program, program
-
-SOURCE = "crates/mm_line/src/options.rt"
-SECTIONS = "crates/mm_line/src/sections.rt"
+from tables import sources
 
 
 @dataclass(frozen=True)
@@ -43,41 +41,14 @@ def first(pattern: str, text: str) -> str | None:
     return match[1] if match else None
 
 
-def values_of(words: list[str]) -> tuple[str, ...]:
-    """The values among which these are; of numbers that are only some examples their range."""
-    if len(words) > 2 and all(word.isdigit() for word in words):
-        return (f"{words[0]}..{words[-1]}",)
-    return tuple(sorted(words))
-
-
-def strings(name: str, text: str) -> list[str]:
-    """The strings of a constant of the source."""
-    found = first(rf"static {name}: \[&str; \d+\] = \[(.*?)\]", text) or ""
-    return re.findall(r'"([^"]*)"', found)
-
-
-def section_names() -> list[str]:
-    """The names that `--report` takes, as the source lists them."""
-    listed = first(r"vec!\[in alloc;(.*?)\]", read(SECTIONS)) or ""
-    return re.findall(r'"([^"]*)"', listed)
-
-
-def of_source(text: str) -> Options:
+def of_program() -> Options:
     """Those of the program, as its source declares them."""
-    found = dict(HELP)
-    for function in re.split(r"\n(?=fn )", text):
-        value, default = (
-            first(rf'\.{call}\("(\w+)"\)', function) for call in ("value_name", "default_value")
-        )
-        limits = re.search(r"\.range\((\d+)\.\.(\d+)\)", function)
-        if limits:
-            values = (f"{limits[1]}..{int(limits[2]) - 1}",)
-            for name in re.findall(r'number_option\(alloc, "(\w+)"', text):
-                found[name] = Option(None, value, values, default)
-        name = first(r'\.long\("(\w+)"\)', function) or ""
-        if name:
-            taken = {"report": section_names(), "form": strings("FORMS", text)}.get(name, [])
-            found[name] = Option(None, value, tuple(sorted(taken)), default)
+    found = {}
+    for option in sources.program().options:
+        low, high = option.limits or (0, 0)
+        values = (f"{low}..{high}",) if option.limits else tuple(sorted(option.choices))
+        short = option.words[0][1:] if len(option.words) > 1 else None
+        found[option.name] = Option(short, option.value, values, option.default)
     return found
 
 
@@ -98,51 +69,6 @@ def of_help(text: str) -> Options:
             sorted_values = tuple(sorted(each for each in values if each))
             default = first(r"\[default: (\w+)\]", told)
             found[name] = Option(short, value, sorted_values, default)
-    return found
-
-
-def by_shorts(words: list[str]) -> Options:
-    """Options without values, of words in which the short name of each stands beside its own."""
-    shorts = {word[1:] for word in words if not word.startswith("--")}
-    found = {word[2:]: Option() for word in words if word.startswith("--")}
-    for name in found:
-        short = next((each for each in shorts if each.lower() == name[0]), None)
-        found[name] = Option(short if name in HELP else None)
-    return found
-
-
-def of_bash(text: str) -> Options:
-    """Those that bash completes. What a value is called isn't told: `VALUE` stands for it."""
-    words = (first(r"-\*\) words='([^']*)'", text) or "").split()
-    found = by_shorts(words)
-    for heads, body in re.findall(r"^ {8}(--[^)]*)\)(.*?);;$", text, re.M | re.S):
-        listed = first(r"(?:words=|-W )'([^']*)'", body)
-        for head in heads.split(" | "):
-            values = values_of((listed or "").split())
-            found[head[2:]] = replace(found[head[2:]], value="VALUE", values=values)
-    return found
-
-
-def of_zsh(text: str) -> Options:
-    """Those that zsh completes."""
-    found = {}
-    for name, sign, value in re.findall(r"^    '--(\w+)(=?)\[[^]]*\](.*?)' \\$", text, re.M):
-        listed = first(r"(?:compadd - |\()([^()]*)\)?$", value) or ""
-        words = [] if name == "only" else listed.split()
-        found[name] = Option(None, "VALUE" if sign else None, values_of(words))
-    for short, name in re.findall(r"\{-(\w),--(\w+)\}", text):
-        found[name] = Option(short)
-    return found
-
-
-def of_fish(text: str) -> Options:
-    """Those that fish completes."""
-    found = {}
-    for short, name, taken, words in re.findall(
-        r"^complete -c mmdepend(?: -s (\w))? -l (\w+)( -x| -r -F)?(?: -a (\S.*?))? -d", text, re.M
-    ):
-        listed = re.sub(r"['()]|__fish_append ,", "", words).split() if name != "only" else []
-        found[name] = Option(short or None, "VALUE" if taken else None, values_of(listed))
     return found
 
 
@@ -205,29 +131,7 @@ class OfTheProgram(unittest.TestCase):
     maxDiff = None
 
     def setUp(self) -> None:
-        self.known = of_source(read(SOURCE))
-
-    def without_names(self, *, defaults: bool) -> Options:
-        """The options where values have no names, and perhaps no default is told."""
-        return {
-            name: replace(
-                option,
-                value=option.value and "VALUE",
-                default=option.default if defaults else None,
-            )
-            for name, option in self.known.items()
-        }
-
-    def test_the_source(self) -> None:
-        """It is read as it is meant."""
-        self.assertEqual(len(self.known), 10)
-        self.assertEqual(self.known["workers"], Option(None, "N", ("1..64",), "4"))
-        self.assertEqual(self.known["form"], Option(None, "N", ("1", "2"), "1"))
-        self.assertEqual(self.known["only"], Option(None, "T"))
-        self.assertEqual(self.known["open"], Option())
-        self.assertEqual(self.known["against"], Option(None, "OLD"))
-        self.assertEqual(self.known["report"].default, "all")
-        self.assertEqual(len(self.known["report"].values), 6)
+        self.known = of_program()
 
     def test_the_help(self) -> None:
         text = in_node("process.stdout.write(readWords(['--help'], '').text)")
@@ -248,12 +152,6 @@ class OfTheProgram(unittest.TestCase):
 
     def test_the_page(self) -> None:
         self.assertEqual(of_page(read("docs/PROGRAM.md")), self.known)
-
-    def test_the_completions(self) -> None:
-        known = self.without_names(defaults=False)
-        self.assertEqual(of_bash(read("completions/mmdepend.bash")), known)
-        self.assertEqual(of_zsh(read("completions/_mmdepend")), known)
-        self.assertEqual(of_fish(read("completions/mmdepend.fish")), known)
 
     def test_what_javascript_reads(self) -> None:
         """The reader in JavaScript takes each value and no other, and has the same defaults."""
@@ -283,7 +181,7 @@ class OfTheProgram(unittest.TestCase):
 
     def test_the_sections(self) -> None:
         """Header, modules and types have the names of `--report`, and the same bits."""
-        listed = section_names()
+        listed = list(sources.bits())
         tree = ast.parse(read("python/mmdepend.py"))
         bits = next(
             ast.literal_eval(each.value)
@@ -339,44 +237,6 @@ class OfMmquery(unittest.TestCase):
         formats = of_parser("rests")["--format"].choices or ()
         self.assertEqual(described["format"].values, tuple(sorted(formats)))
 
-    def test_bash(self) -> None:
-        text = read("completions/mmquery.bash")
-        for name in names():
-            words = first(rf"\n +{name}:-\*\) words='([^']*)'", text) or ""
-            self.assertEqual(words.split(), list(of_parser(name)), name)
-            for word, action in of_parser(name).items():
-                listed = first(rf"\b{name}:{word}(?: \| [^)]*)?\) words='([^']*)'", text)
-                self.assertEqual((listed or "").split(), list(action.choices or ()), word)
-
-    def test_zsh(self) -> None:
-        text = read("completions/_mmquery")
-        for name in names():
-            part = first(rf"\n {{8}}{name}\)\n(.*?);;", text) or ""
-            found = re.findall(r"'\*(--?[a-z-]+)(=?)\[.*?\](:value.*?)?'(?= |$)", part, re.M)
-            actions = of_parser(name)
-            self.assertEqual([word for word, _, _ in found], list(actions), name)
-            for word, sign, value in found:
-                takes = actions[word].nargs != 0
-                self.assertEqual(bool(sign) if word != "-h" else False, takes, f"{name} {word}")
-                listed = first(r"\((.*)\)", value) or ""
-                self.assertEqual(listed.split(), list(actions[word].choices or ()), word)
-
-    def test_fish(self) -> None:
-        text = read("completions/mmquery.fish")
-        for name in names():
-            lines = re.findall(rf"'__fish_seen_subcommand_from {name}'( -[ls].*?) -d ", text)
-            found: dict[str, str] = {}
-            for line in lines:
-                for kind, word in re.findall(r" -(l|s) (\S+)", line):
-                    found[f"--{word}" if kind == "l" else f"-{word}"] = line
-            actions = of_parser(name)
-            self.assertEqual(set(found), set(actions), name)
-            for word, line in found.items():
-                takes = " -r" in line or " -x" in line
-                self.assertEqual(takes, actions[word].nargs != 0, f"{name} {word}")
-                listed = first(r"-a '(.*?)'", line) or ""
-                self.assertEqual(listed.split(), list(actions[word].choices or ()), word)
-
     def test_pages_of_node(self) -> None:
         """`node mmdepend.mjs page` takes the options of `mmquery page`, and tells them."""
         text = read("web/node/page-command.js")
@@ -413,7 +273,7 @@ class OfMmquery(unittest.TestCase):
     def test_options_by_themselves(self) -> None:
         """An option that a page for users names is one of a command."""
         known = {word for name in names() for word in of_parser(name)}
-        known |= {f"--{name}" for name in of_source(read(SOURCE))}
+        known |= {f"--{name}" for name in of_program()}
         known |= {"--name", "--against-name", "--program"}  # of pages that Node makes
         tried = 0
         for name in USED:

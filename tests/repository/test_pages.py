@@ -11,7 +11,6 @@ from pathlib import Path
 
 from query.cli import VERSION, parser_of
 from query.commands import command, names, summaries
-from query.completions import files
 from query.program.refusals import FAULTS
 from query.tests.world import DATABASES, TOP, World, built_program
 
@@ -134,10 +133,6 @@ class Manual(World):
         common = set(parser_of(command("rests")).options())
         for option in common - {"--theorems", "--apart"}:
             self.assertRegex(part, rf"(?m)^\.BI? .*{option}(?![a-z-])|^\.BR .*{option}(?![a-z-])")
-
-    def test_the_completions(self) -> None:
-        for name, text in files().items():
-            self.assertEqual((TOP / "completions" / name).read_text(), text, name)
 
     def test_bash(self) -> None:
         script = f""". {TOP}/completions/mmquery.bash

@@ -1,0 +1,33 @@
+"""Which files have what is made, and what they are to have."""
+
+from collections.abc import Iterator
+
+from tables import bash, fish, sources, zsh
+from tables.parts import Edit, part, whole
+from tables.sources import TOP, Unreadable
+from tables.words import described
+
+
+def edits() -> Iterator[tuple[str, Edit]]:
+    """What is made, each by the file that has it."""
+    options = described(sources.program())
+    yield "completions/mmdepend.bash", part("options", bash.of_mmdepend(options))
+    yield "completions/_mmdepend", part("options", zsh.of_mmdepend(options))
+    yield "completions/mmdepend.fish", part("options", fish.of_mmdepend(options))
+    yield "completions/mmquery.bash", whole(bash.of_mmquery())
+    yield "completions/_mmquery", whole(zsh.of_mmquery())
+    yield "completions/mmquery.fish", whole(fish.of_mmquery())
+
+
+def made() -> dict[str, tuple[str, str]]:
+    """The files that have something which is made, each with the text that it has, and with the one
+    that it is to have. Unreadable where that can't be told."""
+    found: dict[str, tuple[str, str]] = {}
+    for name, edit in edits():
+        there = found[name] if name in found else (TOP / name).read_text("utf-8")
+        before, after = there if isinstance(there, tuple) else (there, there)
+        try:
+            found[name] = before, edit(after)
+        except Unreadable as why:
+            raise Unreadable(f"{name}: {why}") from None
+    return found

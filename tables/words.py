@@ -1,0 +1,102 @@
+"""The words on options that no source has. The order of `OPTIONS` is that of the pages."""
+
+from dataclasses import dataclass
+
+from tables.options import Option
+from tables.sources import Program, Unreadable
+
+
+@dataclass(frozen=True)
+class Words:
+    """What is said of an option of `mmdepend` besides its line of help.
+
+    `short` is for completions, which call its value `value` and offer `typed`, or what the source
+    permits, or files. `text` is for the manual page and docs/PROGRAM.md, and `more` follows it on
+    the manual page: there a backtick stands around what is typed or written, and `*` around what
+    the user puts in place of it. `field` is for callers in JavaScript, whose requests have a field
+    of this name; without these words they have none.
+    """
+
+    short: str
+    text: str
+    more: str = ""
+    value: str = ""
+    typed: str = ""
+    field: str = ""
+
+
+OPTIONS = {
+    "only": Words(
+        "report on the axioms of this typecode alone",
+        "Report only on the axioms of typecode *T*, such as `'|-'`. Chains of citations still run "
+        "through all assertions. In the section `citations` list only the cited assertions of "
+        "typecode *T*, and in the section `statements` only the assertions of typecode *T*.",
+        "A typecode that no axiom has gives a report without columns, and status 0.",
+        "typecode",
+        "'|-'",
+        "The typecode of the axioms; without it, of whatever typecode they are.",
+    ),
+    "report": Words(
+        "write these parts of the report",
+        "Write these parts of the report, with commas between them: `matrix`, `counts`, `usage`, "
+        "`citations` (what each theorem cites in its own proof), `statements` "
+        "([what each assertion says](REPORT.md#statements)), or `all` (the default: matrix, counts "
+        "and usage). They stand in this order, whatever order they are named in.",
+        value="parts",
+        field="Names of sections with commas between them: {choices}, or `all`, which is the first "
+        "three and the default.",
+    ),
+    "form": Words(
+        "a digit for each column, or for each four",
+        "The form of the matrix: `1` (the default), one digit for each column, or `2`, one "
+        "hexadecimal digit for each four columns.",
+        value="form",
+        field="The form of the matrix: one digit per column, or one hexadecimal digit per four.",
+    ),
+    "essential": Words(
+        "count what the logical part of a proof cites",
+        "Count as citations only what the logical part of a proof applies, and not what builds its "
+        "formulas.",
+        field="Count as citations only what the logical part of a proof applies.",
+    ),
+    "open": Words(
+        "count a theorem whose proof is ? as an axiom",
+        "Count a theorem whose proof is `?` (or `( ) ?`) as an axiom, so that the report shows "
+        "what rests on it. Without this option such a proof is a fault.",
+        field="Count a theorem whose proof is `?` as an axiom.",
+    ),
+    "against": Words(
+        "write what the database has and this one has not",
+        "Compare the databases *OLD* and *FILE*, the new one, in place of a report.",
+        "The output has four sections: `new` and `gone`, the assertions that only *FILE* or only "
+        "*OLD* has, and `gained` and `lost`, for each theorem the axioms on which it rests in "
+        "*FILE* alone or in *OLD* alone. If a database has a fault, the line begins with `old` or "
+        "`new`. One of both files can be `-`. The options `--report` and `--form` change nothing "
+        "then.",
+        "database",
+    ),
+    "workers": Words(
+        "check the proofs by N threads",
+        "Check the proofs by *N* threads, {limits}; the default is {default}. What is written "
+        "doesn't depend on it.",
+    ),
+    "pieces": Words(
+        "read the text in N pieces",
+        "Read the text in *N* pieces, {limits}; the default is {default}. What is written doesn't "
+        "depend on it.",
+    ),
+    "help": Words("print the options and the statuses", "Print a short form of this page."),
+    "version": Words(
+        "print the version", "Print the version, and the logic in which it was proved."
+    ),
+}
+
+
+def described(program: Program) -> dict[Option, Words]:
+    """The options of the program with their words, in the order of the pages."""
+    known = {option.name: option for option in program.options}
+    if odd := sorted(known.keys() ^ OPTIONS.keys()):
+        raise Unreadable(
+            f"tables/words.py: {', '.join(odd)}: an option without words, or no option"
+        )
+    return {known[name]: words for name, words in OPTIONS.items()}
