@@ -2,7 +2,7 @@
 
 from collections.abc import Iterator
 
-from tables import bash, fish, sources, zsh
+from tables import bash, fish, manual, sources, zsh
 from tables.parts import Edit, part, whole
 from tables.sources import TOP, Unreadable
 from tables.words import described
@@ -14,6 +14,10 @@ def edits() -> Iterator[tuple[str, Edit]]:
     yield "completions/mmdepend.bash", part("options", bash.of_mmdepend(options))
     yield "completions/_mmdepend", part("options", zsh.of_mmdepend(options))
     yield "completions/mmdepend.fish", part("options", fish.of_mmdepend(options))
+    yield "man/mmdepend.1", part("synopsis", manual.synopsis(options))
+    yield "man/mmdepend.1", part("options", manual.options_of_mmdepend(options))
+    yield "man/mmquery.1", part("commands", manual.commands())
+    yield "man/mmquery.1", part("options", manual.options_of_mmquery())
     yield "completions/mmquery.bash", whole(bash.of_mmquery())
     yield "completions/_mmquery", whole(zsh.of_mmquery())
     yield "completions/mmquery.fish", whole(fish.of_mmquery())

@@ -92,6 +92,31 @@ OPTIONS = {
 }
 
 
+MMQUERY = {
+    "only": "The axioms are those of typecode *T*. Without this and `--all`, they are those of "
+    "typecode `|-`: logical axioms and definitions.",
+    "essential": "Only the logical part of proofs cites, not what builds its formulas.",
+    "under": "List only what stands below the header *NUMBER*, as `chapters` numbers it.",
+    "format": "`text` (the default), or `tsv`, `csv`, `json` with the names of the columns. In "
+    "`csv` a field that a spreadsheet would take for a formula has a `'` before it, and so has one "
+    "that begins with `'`.",
+    "limit-time": "Of the processor, for verifying a text. Without this they are 10, and 5 for "
+    "each megabyte of the text.",
+    "limit-memory": "Megabytes of memory for verifying a text. Without this they are 256, and 64 "
+    "for each megabyte of the text. A text that needs more has no answer, and nothing of it is "
+    "kept.",
+    "help": "Show the page of the command.",
+}
+"""What the manual page of `mmquery` says of an option, where the line of help isn't enough."""
+
+
+def filled(text: str, option: Option) -> str:
+    """A text with the values that an option may have, and with the one that it has where it isn't
+    given."""
+    limits = "{} to {}".format(*option.limits) if option.limits else ""
+    return text.format(limits=limits, default=option.default, choices=", ".join(option.choices))
+
+
 def described(program: Program) -> dict[Option, Words]:
     """The options of the program with their words, in the order of the pages."""
     known = {option.name: option for option in program.options}

@@ -87,19 +87,6 @@ def with_values(option: Option, told: str, marked: list[str]) -> Option:
     return replace(option, values=tuple(sorted(set(marked))), default=default)
 
 
-def of_manual(text: str) -> Options:
-    """Those that a manual page describes."""
-    text = text.replace("\\-", "-")
-    part = text[text.index(".SH OPTIONS") : text.index(".SH EXIT STATUS")]
-    found = {}
-    for head, body in re.findall(r"^\.TP\n([^\n]*)\n(.*?)(?=^\.TP|\Z)", part, re.M | re.S):
-        name = first(r"--([a-z-]+)", head) or ""
-        option = Option(first(r"(?<!-)-(\w)\b", head), first(r'" (\w+)"', head))
-        marked = re.findall(r"^\.BR? (\w+)", body, re.M)
-        found[name] = with_values(option, " ".join(body.split()), marked)
-    return found
-
-
 def of_page(text: str) -> Options:
     """Those of the table of docs/PROGRAM.md."""
     part = text[text.index("## Options") : text.index("## Statuses")]
@@ -139,16 +126,6 @@ class OfTheProgram(unittest.TestCase):
         if program():
             done = subprocess.run([built_program(), "--help"], capture_output=True, check=True)
             self.assertEqual(done.stdout.decode(), text)
-
-    def test_the_manual_page(self) -> None:
-        text = read("man/mmdepend.1")
-        self.assertEqual(of_manual(text), self.known)
-        part = text.replace("\\-", "-")
-        part = part[part.index(".SH SYNOPSIS") : part.index(".SH DESCRIPTION")]
-        values = re.findall(r"\[ --(\w+)(?: \]|\n\.IR (\w+) \])", part)
-        known = {name: option.value or "" for name, option in self.known.items()}
-        self.assertEqual(dict(values), {name: known[name] for name in known if name not in HELP})
-        self.assertEqual(set(re.findall(r"--(\w+)", part)), set(known))
 
     def test_the_page(self) -> None:
         self.assertEqual(of_page(read("docs/PROGRAM.md")), self.known)
@@ -219,23 +196,6 @@ class OfMmquery(unittest.TestCase):
     """`mmquery`."""
 
     maxDiff = None
-
-    def test_the_manual_page(self) -> None:
-        """What it says of options is so for each command that has them; it has all those that
-        several groups of commands share."""
-        described = of_manual(read("man/mmquery.1"))
-        shared = {word[2:] for word in of_parser("rests") if word.startswith("--")}
-        self.assertEqual(set(described) - {"version"}, shared - {"theorems", "apart"})
-        for name in names():
-            for word, action in of_parser(name).items():
-                option = described.get(word[2:])
-                if option is None or word in ("--format", "-h"):
-                    continue
-                value = None if action.nargs == 0 else action.metavar
-                self.assertEqual(value, option.value, f"{name} {word}")
-        self.assertEqual(described["format"].default, "text")
-        formats = of_parser("rests")["--format"].choices or ()
-        self.assertEqual(described["format"].values, tuple(sorted(formats)))
 
     def test_pages_of_node(self) -> None:
         """`node mmdepend.mjs page` takes the options of `mmquery page`, and tells them."""

@@ -9,8 +9,8 @@ import subprocess
 import unittest
 from pathlib import Path
 
-from query.cli import VERSION, parser_of
-from query.commands import command, names, summaries
+from query.cli import VERSION
+from query.commands import names
 from query.program.refusals import FAULTS
 from query.tests.world import DATABASES, TOP, World, built_program
 
@@ -121,18 +121,8 @@ def numbers_of(version: str) -> list[int]:
     return [int(part) for part in version.split(".")]
 
 
-class Manual(World):
-    """man/mmquery.1 and the completions."""
-
-    def test_the_page_has_every_command(self) -> None:
-        page = (TOP / "man" / "mmquery.1").read_text().replace("\\-", "-")
-        part = page[page.index(".SH COMMANDS") : page.index(".SH OPTIONS")]
-        told = dict(re.findall(r"^\.TP\n\.B (\S+)\n(.*)\.$", part, re.M))
-        self.assertEqual(lower(told), lower(summaries()))
-        part = page[page.index(".SH OPTIONS") : page.index(".SH EXIT STATUS")]
-        common = set(parser_of(command("rests")).options())
-        for option in common - {"--theorems", "--apart"}:
-            self.assertRegex(part, rf"(?m)^\.BI? .*{option}(?![a-z-])|^\.BR .*{option}(?![a-z-])")
+class Completions(World):
+    """The completion of `mmquery`."""
 
     def test_bash(self) -> None:
         script = f""". {TOP}/completions/mmquery.bash
@@ -149,11 +139,6 @@ class Manual(World):
             self.write("some file", "")
             done = self.ran("bash", "-c", script, "bash", "mmquery", *words)
             self.assertEqual(done.lines(), wanted, f"{words}: {done.err}")
-
-
-def lower(texts: dict[str, str]) -> dict[str, str]:
-    """The texts in small letters."""
-    return {name: text.lower() for name, text in texts.items()}
 
 
 BETTER = {"E36": "use another variable in place of x on one side: no `$d` helps there"}
