@@ -31,7 +31,9 @@ def __dir__() -> list[str]:
 
 
 # The parts of a report by their names, each with its bit. `all` are the first three of the others.
+# begin sections: made by `python3 -m tables`; change crates/mm_library instead
 PARTS = {"all": 7, "matrix": 1, "counts": 2, "usage": 4, "citations": 8, "statements": 16}
+# end sections
 USAGE = PARTS["usage"]
 NAMES = ("libmmdepend.so.0", "libmmdepend.so")
 UNIT = 16

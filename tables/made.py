@@ -2,7 +2,7 @@
 
 from collections.abc import Iterator
 
-from tables import bash, fish, manual, sources, zsh
+from tables import bash, bits, fish, manual, scripts, sources, zsh
 from tables.parts import Edit, part, whole
 from tables.sources import TOP, Unreadable
 from tables.words import described
@@ -10,7 +10,9 @@ from tables.words import described
 
 def edits() -> Iterator[tuple[str, Edit]]:
     """What is made, each by the file that has it."""
-    options = described(sources.program())
+    program = sources.program()
+    options = described(program)
+    sections = sources.bits()
     yield "completions/mmdepend.bash", part("options", bash.of_mmdepend(options))
     yield "completions/_mmdepend", part("options", zsh.of_mmdepend(options))
     yield "completions/mmdepend.fish", part("options", fish.of_mmdepend(options))
@@ -18,6 +20,12 @@ def edits() -> Iterator[tuple[str, Edit]]:
     yield "man/mmdepend.1", part("options", manual.options_of_mmdepend(options))
     yield "man/mmquery.1", part("commands", manual.commands())
     yield "man/mmquery.1", part("options", manual.options_of_mmquery())
+    yield "library/mmdepend.h", part("sections", bits.of_header(sections))
+    yield "python/mmdepend.py", part("sections", bits.of_python(sections))
+    yield "web/library.js", part("sections", bits.of_javascript(sections, options))
+    yield "web/node/command-line.js", part("options", scripts.of_command_line(program))
+    yield "web/node/page-command.js", part("options", scripts.of_page())
+    yield "packages/files/index.d.ts", part("request", scripts.of_requests(options))
     yield "completions/mmquery.bash", whole(bash.of_mmquery())
     yield "completions/_mmquery", whole(zsh.of_mmquery())
     yield "completions/mmquery.fish", whole(fish.of_mmquery())

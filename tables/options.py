@@ -1,7 +1,7 @@
 """An option of either program, and those of the commands of `mmquery`."""
 
 from argparse import Action
-from dataclasses import dataclass
+from dataclasses import dataclass, replace
 
 from query.cli import parser_of
 from query.commands import command
@@ -12,7 +12,7 @@ class Option:
     """An option by the words that name it, the long one last. `about` is its line of help, `value`
     what its value is called, if it has one; `choices` or `limits`, the least and the largest
     number, are the values that it may have. Where `is_list`, a value is several of the choices with
-    commas between them."""
+    commas between them; where `is_repeated`, the option may be given several times."""
 
     words: tuple[str, ...]
     about: str
@@ -21,11 +21,16 @@ class Option:
     limits: tuple[int, int] | None = None
     default: str | None = None
     is_list: bool = False
+    is_repeated: bool = False
 
     @property
     def name(self) -> str:
         """The long name."""
         return self.words[-1].removeprefix("--")
+
+    def saying(self, about: str) -> "Option":
+        """The same with another line of help."""
+        return replace(self, about=about)
 
     def offered(self) -> tuple[str, ...]:
         """What a shell offers for the value: the choices, or some of the numbers."""
@@ -39,7 +44,9 @@ def option_of(action: Action) -> Option:
     """An option of a parser."""
     value = None if action.nargs == 0 else str(action.metavar or action.dest.upper())
     choices = tuple(str(choice) for choice in action.choices or ())
-    return Option(tuple(action.option_strings), action.help or "", value, choices)
+    is_repeated = isinstance(action.default, list)
+    words = tuple(action.option_strings)
+    return Option(words, action.help or "", value, choices, is_repeated=is_repeated)
 
 
 def options_of(name: str) -> list[Option]:

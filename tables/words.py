@@ -110,11 +110,33 @@ MMQUERY = {
 """What the manual page of `mmquery` says of an option, where the line of help isn't enough."""
 
 
+PAGE = {
+    "watch": "An axiom of which each chapter speaks first; several: by commas, or more options",
+    "against": "Show what changed since this older database",
+    "limit-time": "Of the processor, for this program to verify a text (else: 10, and 5 for each "
+    "MB)",
+    "help": "Print help",
+}
+"""What `page` in Node says of an option in place of the line of help of `mmquery page`."""
+OF_NODE = [
+    Option(("--name",), "How the page calls DATABASE (else: by the name of its file)", "NAME"),
+    Option(("--against-name",), "The same for OLD", "NAME"),
+    Option(
+        ("--program",),
+        "Verify by this program, an mmdepend that is built for the system, which takes a third of "
+        "the time",
+        "PATH",
+    ),
+]
+"""The options that `page` has in Node alone."""
+
+
 def filled(text: str, option: Option) -> str:
-    """A text with the values that an option may have, and with the one that it has where it isn't
-    given."""
+    """A text with the value that an option has where it isn't given, with the limits between which
+    it is, and with the other choices."""
     limits = "{} to {}".format(*option.limits) if option.limits else ""
-    return text.format(limits=limits, default=option.default, choices=", ".join(option.choices))
+    others = ", ".join(f"`{each}`" for each in option.choices if each != option.default)
+    return text.format(limits=limits, default=option.default, choices=others)
 
 
 def described(program: Program) -> dict[Option, Words]:

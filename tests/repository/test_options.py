@@ -1,18 +1,16 @@
 """The options of `mmdepend` and of `mmquery` are the same wherever they stand: in the sources, the
 help, the manual pages, the completions, the pages and the libraries."""
 
-import argparse
-import ast
 import json
 import re
 import subprocess
 import unittest
 from dataclasses import dataclass, replace
 
-from query.cli import parser_of
-from query.commands import command, names
-from query.tests.world import TOP, built_program, program
+from query.commands import names
+from query.tests.world import TOP, built_program
 from tables import sources
+from tables.options import options_of
 
 
 @dataclass(frozen=True)
@@ -27,7 +25,6 @@ class Option:
 
 
 Options = dict[str, Option]
-HELP = {"help": Option("h"), "version": Option("V")}
 
 
 def read(name: str) -> str:
@@ -49,26 +46,6 @@ def of_program() -> Options:
         values = (f"{low}..{high}",) if option.limits else tuple(sorted(option.choices))
         short = option.words[0][1:] if len(option.words) > 1 else None
         found[option.name] = Option(short, option.value, values, option.default)
-    return found
-
-
-def of_help(text: str) -> Options:
-    """Those that a help names."""
-    found = {}
-    for line in text.splitlines():
-        match = re.match(r"\s+(?:-(\w), )?--([a-z-]+)(?: <(\w+)>)?\s+(\S.*)", line)
-        if match:
-            short, name, value, told = match.groups()
-            listed = first(r"between them: ([^\[]*)", told)
-            limits = re.search(r"(\d+) to (\d+)", told)
-            values = (first(r"\[possible values: (.*?)\]", told) or "").split(", ")
-            if listed:
-                values = re.findall(r"(?:^|, )(?:or )?([a-z]+)(?=,)", listed)
-            elif limits:
-                values = [f"{limits[1]}..{limits[2]}"]
-            sorted_values = tuple(sorted(each for each in values if each))
-            default = first(r"\[default: (\w+)\]", told)
-            found[name] = Option(short, value, sorted_values, default)
     return found
 
 
@@ -121,11 +98,10 @@ class OfTheProgram(unittest.TestCase):
         self.known = of_program()
 
     def test_the_help(self) -> None:
+        """The program and the one for Node write the same help."""
         text = in_node("process.stdout.write(readWords(['--help'], '').text)")
-        self.assertEqual(of_help(text), self.known)
-        if program():
-            done = subprocess.run([built_program(), "--help"], capture_output=True, check=True)
-            self.assertEqual(done.stdout.decode(), text)
+        done = subprocess.run([built_program(), "--help"], capture_output=True, check=True)
+        self.assertEqual(done.stdout.decode(), text)
 
     def test_the_page(self) -> None:
         self.assertEqual(of_page(read("docs/PROGRAM.md")), self.known)
@@ -156,65 +132,16 @@ class OfTheProgram(unittest.TestCase):
         for name, value in found[""]["request"].items():
             self.assertEqual(value or None, defaults[name], name)
 
-    def test_the_sections(self) -> None:
-        """Header, modules and types have the names of `--report`, and the same bits."""
-        listed = list(sources.bits())
-        tree = ast.parse(read("python/mmdepend.py"))
-        bits = next(
-            ast.literal_eval(each.value)
-            for each in tree.body
-            if isinstance(each, ast.Assign) and ast.unparse(each.targets[0]) == "PARTS"
-        )
-        self.assertEqual(list(bits), listed)
-        header = dict(re.findall(r"MMDEPEND_([A-Z]+) = (\d+)", read("library/mmdepend.h")))
-        self.assertEqual({name: header.get(name.upper()) for name in bits}, texts(bits))
-        script = first(r"BITS = \{(.*?)\}", read("web/library.js")) or ""
-        self.assertEqual(dict(re.findall(r"(\w+): (\d+)", script)), texts(bits))
-        told = first(r"Names of sections(.*?)\*/", read("packages/files/index.d.ts")) or ""
-        self.assertEqual(sorted(re.findall(r"`(\w+)`", told)), sorted(bits))
 
-    def test_the_fields_of_requests(self) -> None:
-        """The types for JavaScript name each option on which the output depends."""
-        fields = set(self.known) - {"workers", "pieces", "against", *HELP}
-        interface = first(r"interface Request \{(.*?)\n\}", read("packages/files/index.d.ts")) or ""
-        self.assertEqual(set(re.findall(r"^    (\w+)\?:", interface, re.M)), fields)
-        typedef = first(r"@typedef \{object\} Request(.*?)\*/", read("web/node/types.js")) or ""
-        self.assertEqual(set(re.findall(r"@property \{.*?\} (\w+)", typedef)), fields)
-
-
-def texts(numbers: dict[str, int]) -> dict[str, str]:
-    """Numbers by names, as texts."""
-    return {name: str(number) for name, number in numbers.items()}
-
-
-def of_parser(name: str) -> dict[str, argparse.Action]:
-    """The options of a command of mmquery by their words."""
-    return parser_of(command(name)).options()
+def words_of(name: str) -> set[str]:
+    """The words that name options of a command of mmquery."""
+    return {word for option in options_of(name) for word in option.words}
 
 
 class OfMmquery(unittest.TestCase):
     """`mmquery`."""
 
     maxDiff = None
-
-    def test_pages_of_node(self) -> None:
-        """`node mmdepend.mjs page` takes the options of `mmquery page`, and tells them."""
-        text = read("web/node/page-command.js")
-        declared = first(r"const OPTIONS = .*?\(\{(.*?)\n\}\)", text) or ""
-        found = {
-            name.strip('"'): kind == "string"
-            for name, kind in re.findall(r"^    (\S+): \{ type: \"(\w+)\"", declared, re.M)
-        }
-        told = re.findall(r"^ +(?:-h, )?--([a-z-]+)( <\w+>)?", text, re.M)
-        self.assertEqual({name: bool(value) for name, value in told}, found)
-        python = {
-            word[2:]: action.nargs != 0
-            for word, action in of_parser("page").items()
-            if word.startswith("--") and word != "--no-cache"
-        }
-        for name in ("name", "against-name", "program"):
-            self.assertTrue(found.pop(name))
-        self.assertEqual(python, found)
 
     def test_the_pages(self) -> None:
         """Each command that a page names is there and has the options that are named with it."""
@@ -226,13 +153,13 @@ class OfMmquery(unittest.TestCase):
                 for word in words:
                     option = word.partition("=")[0].rstrip("`.,;)")
                     if re.fullmatch(r"--[a-z][a-z-]*", option):
-                        self.assertIn(option, of_parser(name), f"{page.name}: {line}")
+                        self.assertIn(option, words_of(name), f"{page.name}: {line}")
                         tried += 1
         self.assertGreater(tried, 50)
 
     def test_options_by_themselves(self) -> None:
         """An option that a page for users names is one of a command."""
-        known = {word for name in names() for word in of_parser(name)}
+        known = {word for name in names() for word in words_of(name)}
         known |= {f"--{name}" for name in of_program()}
         known |= {"--name", "--against-name", "--program"}  # of pages that Node makes
         tried = 0
