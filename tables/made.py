@@ -2,8 +2,8 @@
 
 from collections.abc import Iterator
 
-from tables import bash, bits, fish, manual, scripts, sources, zsh
-from tables.parts import Edit, part, whole
+from tables import bash, bits, faults, fish, manual, scripts, sources, zsh
+from tables.parts import Edit, part, whole, words
 from tables.sources import TOP, Unreadable
 from tables.words import described
 
@@ -13,6 +13,7 @@ def edits() -> Iterator[tuple[str, Edit]]:
     program = sources.program()
     options = described(program)
     sections = sources.bits()
+    codes = sources.codes()
     yield "completions/mmdepend.bash", part("options", bash.of_mmdepend(options))
     yield "completions/_mmdepend", part("options", zsh.of_mmdepend(options))
     yield "completions/mmdepend.fish", part("options", fish.of_mmdepend(options))
@@ -26,6 +27,12 @@ def edits() -> Iterator[tuple[str, Edit]]:
     yield "web/node/command-line.js", part("options", scripts.of_command_line(program))
     yield "web/node/page-command.js", part("options", scripts.of_page())
     yield "packages/files/index.d.ts", part("request", scripts.of_requests(options))
+    faults.see_words(codes, program.footer)
+    yield "python/mmdepend.py", part("faults", faults.of_python())
+    yield "docs/FAULTS.md", faults.of_page
+    yield "docs/FAULTS.md", words(r"The codes (.*?)(?= aren't used)", faults.unused(codes))
+    for name in ("query/program/refusals.py", "packages/files/index.d.ts"):
+        yield name, words(r"`E00`\s+to\s+`(E\d\d)", codes[-1])
     yield "completions/mmquery.bash", whole(bash.of_mmquery())
     yield "completions/_mmquery", whole(zsh.of_mmquery())
     yield "completions/mmquery.fish", whole(fish.of_mmquery())

@@ -33,12 +33,12 @@ def part(name: str, lines: Iterable[str]) -> Edit:
 
 
 def words(form: str, value: str) -> Edit:
-    """Puts a value in place of the group of this pattern, wherever a text has it."""
+    """Puts a value in place of the group with which this pattern ends, wherever a text has it."""
 
     def edited(text: str) -> str:
         if not re.search(form, text):
             raise Unreadable(f"has nothing of the form {form}")
-        return re.sub(form, lambda match: match[0].replace(match[1], value), text)
+        return re.sub(form, lambda match: match[0].removesuffix(match[1]) + value, text)
 
     return edited
 

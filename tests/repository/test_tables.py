@@ -1,15 +1,16 @@
 """What stands in several places is as `python3 -m tables` makes it, and that reads the sources as
 they are meant, or refuses them."""
 
+import re
 import unittest
 from unittest import mock
 
-from tables import sources
+from tables import faults, sources
 from tables.__main__ import difference, main
 from tables.made import made
 from tables.options import Option
 from tables.parts import part, whole, words
-from tables.sources import Unreadable, codes_in, program_in, sections_in
+from tables.sources import TOP, Unreadable, codes_in, program_in, sections_in
 from tables.words import OPTIONS, described
 
 SOURCE = sources.OPTIONS.read_text("utf-8")
@@ -59,6 +60,38 @@ class Parts(unittest.TestCase):
         self.assertEqual(words(r"[ab] (\d)", "7")("a 1 b 2 c 3"), "a 7 b 7 c 3")
         with self.assertRaises(Unreadable):
             words(r"d (\d)", "7")("a 1")
+
+
+class Faults(unittest.TestCase):
+    """What is said of faults."""
+
+    def test_each_code_has_its_words(self) -> None:
+        codes = sources.codes()
+        footer = sources.program().footer
+        faults.see_words(codes, footer)
+        for wrong in ([*codes, "E46"], codes[:-1], codes[::-1]):
+            with self.assertRaises(Unreadable):
+                faults.see_words(wrong, footer.replace("E45", wrong[-1]))
+        with self.assertRaises(Unreadable):
+            faults.see_words(codes, footer.replace("E45", "E44"))
+
+    def test_the_last_column(self) -> None:
+        page = (TOP / "docs/FAULTS.md").read_text("utf-8")
+        (row,) = re.findall(r"^\| E45 .* \|$", page, re.M)
+        other = page.replace(row, row.replace(faults.FAULTS["E45"][1], "x"))
+        self.assertNotEqual(other, page)
+        self.assertEqual(faults.of_page(other), page)
+        for wrong in (page.replace(row, ""), page.replace(row, f"{row}\n{row}")):
+            with self.assertRaises(Unreadable):
+                faults.of_page(wrong)
+
+    def test_codes_that_are_not_used(self) -> None:
+        for codes, told in (
+            (["E00", "E02"], "E01"),
+            (["E01", "E05"], "E00 and E02 to E04"),
+            (["E00", "E02", "E05", "E07"], "E01, E03 to E04 and E06"),
+        ):
+            self.assertEqual(faults.unused(codes), told)
 
 
 class Sources(unittest.TestCase):
