@@ -7,6 +7,13 @@ from tables.parts import Edit, part, whole, words
 from tables.sources import TOP, Unreadable
 from tables.words import described
 
+VERSION = r"(\d+\.\d+\.\d+)"
+VERSIONED = (
+    *("README.md", "docs/INSTALL.md", "docs/PUBLISHING.md", "docs/ci/github.yml"),
+    *("man/mmdepend.1", "man/mmquery.1"),
+)
+"""What names the version behind the program's name, in names of files too."""
+
 
 def edits() -> Iterator[tuple[str, Edit]]:
     """What is made, each by the file that has it."""
@@ -33,6 +40,12 @@ def edits() -> Iterator[tuple[str, Edit]]:
     yield "docs/FAULTS.md", words(r"The codes (.*?)(?= aren't used)", faults.unused(codes))
     for name in ("query/program/refusals.py", "packages/files/index.d.ts"):
         yield name, words(r"`E00`\s+to\s+`(E\d\d)", codes[-1])
+    version, logic = sources.version()
+    yield "query/cli.py", words(rf'"mmquery {VERSION}', version)
+    for name in VERSIONED:
+        yield name, words(rf"\bmmdepend[-_ ]{VERSION}", version)
+    yield "docs/PUBLISHING.md", words(rf"\bv{VERSION}", version)
+    yield "docs/INSTALL.md", words(r"It has to be `([0-9a-f]{16})", logic)
     yield "completions/mmquery.bash", whole(bash.of_mmquery())
     yield "completions/_mmquery", whole(zsh.of_mmquery())
     yield "completions/mmquery.fish", whole(fish.of_mmquery())

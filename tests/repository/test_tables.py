@@ -5,6 +5,7 @@ import re
 import unittest
 from unittest import mock
 
+from query.program.refusals import FAULTS
 from tables import faults, sources
 from tables.__main__ import difference, main
 from tables.made import made
@@ -78,7 +79,7 @@ class Faults(unittest.TestCase):
     def test_the_last_column(self) -> None:
         page = (TOP / "docs/FAULTS.md").read_text("utf-8")
         (row,) = re.findall(r"^\| E45 .* \|$", page, re.M)
-        other = page.replace(row, row.replace(faults.FAULTS["E45"][1], "x"))
+        other = page.replace(row, row.replace(FAULTS["E45"][1], "x"))
         self.assertNotEqual(other, page)
         self.assertEqual(faults.of_page(other), page)
         for wrong in (page.replace(row, ""), page.replace(row, f"{row}\n{row}")):
