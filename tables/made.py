@@ -2,7 +2,7 @@
 
 from collections.abc import Iterator
 
-from tables import bash, bits, faults, fish, manual, scripts, sources, zsh
+from tables import bash, bits, faults, fish, manual, pages, scripts, sources, zsh
 from tables.parts import Edit, part, whole, words
 from tables.sources import TOP, Unreadable
 from tables.words import described
@@ -34,6 +34,7 @@ def edits() -> Iterator[tuple[str, Edit]]:
     yield "web/node/command-line.js", part("options", scripts.of_command_line(program))
     yield "web/node/page-command.js", part("options", scripts.of_page())
     yield "packages/files/index.d.ts", part("request", scripts.of_requests(options))
+    yield "docs/PROGRAM.md", part("options", pages.of_program(options))
     faults.see_words(codes, program.footer)
     yield "python/mmdepend.py", part("faults", faults.of_python())
     yield "docs/FAULTS.md", faults.of_page

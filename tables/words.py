@@ -67,7 +67,8 @@ OPTIONS = {
     ),
     "against": Words(
         "write what the database has and this one has not",
-        "Compare the databases *OLD* and *FILE*, the new one, in place of a report.",
+        "Compare the databases *OLD* and *FILE*, the new one, [in place of a report]"
+        "(#two-databases).",
         "The output has four sections: `new` and `gone`, the assertions that only *FILE* or only "
         "*OLD* has, and `gained` and `lost`, for each theorem the axioms on which it rests in "
         "*FILE* alone or in *OLD* alone. If a database has a fault, the line begins with `old` or "
@@ -87,7 +88,8 @@ OPTIONS = {
     ),
     "help": Words("print the options and the statuses", "Print a short form of this page."),
     "version": Words(
-        "print the version", "Print the version, and the logic in which it was proved."
+        "print the version",
+        "Print the version, and the [logic](INSTALL.md#from-a-clone) in which it was proved.",
     ),
 }
 

@@ -1,80 +1,21 @@
-"""The options of `mmdepend` and of `mmquery` are the same wherever they stand: in the sources, the
-help, the manual pages, the completions, the pages and the libraries."""
+"""The options of `mmdepend` and of `mmquery`, where they aren't made (`test_tables.py`): what the
+program and Node take and tell, and what the pages name."""
 
 import json
 import re
 import subprocess
 import unittest
-from dataclasses import dataclass, replace
 
 from query.commands import names
 from query.tests.world import TOP, built_program
 from tables import sources
 from tables.options import options_of
-
-
-@dataclass(frozen=True)
-class Option:
-    """An option: its name of one letter, what its value is called, the values that it may have,
-    sorted, and the one that it has where it isn't given. Numbers from 1 to 64 are `1..64`."""
-
-    short: str | None = None
-    value: str | None = None
-    values: tuple[str, ...] = ()
-    default: str | None = None
-
-
-Options = dict[str, Option]
+from tables.words import OF_NODE
 
 
 def read(name: str) -> str:
     """A file of the repository."""
     return (TOP / name).read_text("utf-8")
-
-
-def first(pattern: str, text: str) -> str | None:
-    """The first group of the first match; None where there is none."""
-    match = re.search(pattern, text, re.S)
-    return match[1] if match else None
-
-
-def of_program() -> Options:
-    """Those of the program, as its source declares them."""
-    found = {}
-    for option in sources.program().options:
-        low, high = option.limits or (0, 0)
-        values = (f"{low}..{high}",) if option.limits else tuple(sorted(option.choices))
-        short = option.words[0][1:] if len(option.words) > 1 else None
-        found[option.name] = Option(short, option.value, values, option.default)
-    return found
-
-
-def with_values(option: Option, told: str, marked: list[str]) -> Option:
-    """An option with its values and its default, as a page tells them: by words that are marked, of
-    which one is before `the default`, or by numbers."""
-    limits = re.search(r"(\d+) to (\d+)", told)
-    if limits:
-        default = first(r"default is (\d+)", told) or first(r"(\d+) by default", told)
-        return replace(option, values=(f"{limits[1]}..{limits[2]}",), default=default)
-    default = first(
-        r".*[`\s](\w+)[`)]*,? \(?the default", told.split("the default")[0] + "the default"
-    )
-    if "the default" not in told or default is None:
-        return option
-    return replace(option, values=tuple(sorted(set(marked))), default=default)
-
-
-def of_page(text: str) -> Options:
-    """Those of the table of docs/PROGRAM.md."""
-    part = text[text.index("## Options") : text.index("## Statuses")]
-    found = {}
-    for head, told in re.findall(r"^\| (`-.*?`) \| (.*) \|$", part, re.M):
-        for each in head.split("; ") if ";" in head else [head]:
-            short = first(r"`-(\w)`", each)
-            for name, value in re.findall(r"`--([a-z-]+)(?: (\w+))?`", each):
-                marked = re.findall(r"`(\w+)`", told)
-                found[name] = with_values(Option(short, value or None), told, marked)
-    return found
 
 
 def in_node(script: str) -> str:
@@ -94,28 +35,23 @@ class OfTheProgram(unittest.TestCase):
 
     maxDiff = None
 
-    def setUp(self) -> None:
-        self.known = of_program()
-
     def test_the_help(self) -> None:
         """The program and the one for Node write the same help."""
         text = in_node("process.stdout.write(readWords(['--help'], '').text)")
         done = subprocess.run([built_program(), "--help"], capture_output=True, check=True)
         self.assertEqual(done.stdout.decode(), text)
 
-    def test_the_page(self) -> None:
-        self.assertEqual(of_page(read("docs/PROGRAM.md")), self.known)
-
     def test_what_javascript_reads(self) -> None:
         """The reader in JavaScript takes each value and no other, and has the same defaults."""
+        known = {option.name: option for option in sources.program().options}
         lines: dict[str, list[str]] = {"": []}
-        for name, option in self.known.items():
-            low, dots, high = (*option.values, "")[0].partition("..")
-            taken = [low, high] if dots else option.values
-            refused = [str(int(low) - 1), str(int(high) + 1)] if dots else ["none"]
+        for name, option in known.items():
+            low, high = option.limits or (0, 0)
+            taken = [str(low), str(high)] if option.limits else option.choices
+            refused = [str(low - 1), str(high + 1)] if option.limits else ["none"]
             for word in taken:
                 lines[f"{name}={word}"] = [f"--{name}", word]
-            for word in refused if option.values else ():
+            for word in refused if taken else ():
                 lines[f"{name}!{word}"] = [f"--{name}", word]
         script = (
             f"const lines = {json.dumps(lines)}; const read = (words) => readWords(words, '');"
@@ -125,12 +61,9 @@ class OfTheProgram(unittest.TestCase):
         found = json.loads(in_node(script))
         for name, line in found.items():
             self.assertEqual(line["ends"], "misread" if "!" in name else "run", name)
-        defaults = {
-            name: int(option.default) if name == "form" and option.default else option.default
-            for name, option in self.known.items()
-        }
         for name, value in found[""]["request"].items():
-            self.assertEqual(value or None, defaults[name], name)
+            default = known[name].default
+            self.assertEqual(str(value) if value else None, default, name)
 
 
 def words_of(name: str) -> set[str]:
@@ -160,8 +93,8 @@ class OfMmquery(unittest.TestCase):
     def test_options_by_themselves(self) -> None:
         """An option that a page for users names is one of a command."""
         known = {word for name in names() for word in words_of(name)}
-        known |= {f"--{name}" for name in of_program()}
-        known |= {"--name", "--against-name", "--program"}  # of pages that Node makes
+        known |= {f"--{option.name}" for option in sources.program().options}
+        known |= {f"--{option.name}" for option in OF_NODE}
         tried = 0
         for name in USED:
             text = re.sub(r"```.*?```", "", read(name), flags=re.S)

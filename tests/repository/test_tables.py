@@ -151,8 +151,16 @@ class Sources(unittest.TestCase):
                 codes_in(numbers, declared.replace(old, new))
 
     def test_each_option_has_its_words(self) -> None:
+        """They name each choice, and which one is the default; or the limits."""
         known = sources.program()
         self.assertEqual([option.name for option in described(known)], list(OPTIONS))
+        for option, said in described(known).items():
+            for choice in option.choices:
+                self.assertIn(f"`{choice}`", said.text, option.name)
+            if option.choices:
+                self.assertIn(f"`{option.default}` (the default", said.text, option.name)
+            if option.limits:
+                self.assertIn("{limits}; the default is {default}", said.text, option.name)
         with mock.patch.dict(OPTIONS, clear=True), self.assertRaises(Unreadable):
             described(known)
 
