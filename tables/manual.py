@@ -7,7 +7,7 @@ from query.arguments.filters import add_filters
 from query.arguments.options import Parser
 from query.commands import summaries
 from tables.options import Option, options_of
-from tables.words import MMQUERY, Words, filled
+from tables.words import MMQUERY, Words
 
 LINK = re.compile(r"\[([^]]*)\]\([^)]*\)")
 MARKED = re.compile(r"(?:`([^`]*)`|\*([^*]*)\*)(\S*)")
@@ -56,7 +56,7 @@ def options_of_mmdepend(options: dict[Option, Words]) -> Iterator[str]:
     for option, words in options.items():
         yield ".TP"
         yield head(option)
-        yield from lines_of(filled(f"{words.text} {words.more}", option))
+        yield from lines_of(f"{words.text} {words.more}")
 
 
 def commands() -> Iterator[str]:
@@ -77,4 +77,5 @@ def options_of_mmquery() -> Iterator[str]:
             about = re.sub(rf"\b{option.value}\b", f"*{option.value}*", about)
             yield ".TP"
             yield head(option)
-            yield from lines_of(MMQUERY.get(option.name, f"{about[0].upper()}{about[1:]}."))
+            told = MMQUERY.get(option.name, f"{about[0].upper()}{about[1:]}.")
+            yield from lines_of(told.format(value=option.value))

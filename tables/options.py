@@ -35,9 +35,8 @@ class Option:
     def offered(self) -> tuple[str, ...]:
         """What a shell offers for the value: the choices, or some of the numbers."""
         least, most = self.limits or (1, 0)
-        return self.choices or tuple(
-            str(1 << n) for n in range(most.bit_length()) if 1 << n <= most
-        )
+        powers = (1 << exponent for exponent in range(most.bit_length()))
+        return self.choices or tuple(str(power) for power in powers if power >= least)
 
 
 def option_of(action: Action) -> Option:

@@ -4,7 +4,7 @@ import re
 from collections.abc import Iterator
 
 from tables.options import Option
-from tables.words import Words, filled
+from tables.words import Words
 
 
 def of_program(options: dict[Option, Words]) -> Iterator[str]:
@@ -13,5 +13,5 @@ def of_program(options: dict[Option, Words]) -> Iterator[str]:
     for option, words in options.items():
         value = f" {option.value}" if option.value else ""
         named = ", ".join(f"`{word}{value}`" for word in option.words)
-        told = re.sub(r"\*([^*]*)\*", r"\1", filled(words.text, option))
+        told = re.sub(r"\*([^*]*)\*", r"\1", words.text)
         yield "| {} | {} |".format(named, told.replace("|", "\\|"))

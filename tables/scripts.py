@@ -8,7 +8,7 @@ from collections.abc import Iterable, Iterator
 from tables.bits import in_requests, is_number
 from tables.options import Option, options_of
 from tables.sources import Program
-from tables.words import OF_NODE, PAGE, Words, filled
+from tables.words import OF_NODE, PAGE, Words
 
 WIDTH = 125
 CONST = "/** @type {const} */"
@@ -110,7 +110,7 @@ def of_page() -> Iterator[str]:
 def of_requests(options: dict[Option, Words]) -> Iterator[str]:
     """The fields of a request in JavaScript, as the module's types declare them."""
     for option in in_requests(options):
-        words = f"/** {filled(options[option].field, option)} */"
+        words = f"/** {options[option].field} */"
         start, more = "    ", "     * "
         yield from textwrap.wrap(words, WIDTH, initial_indent=start, subsequent_indent=more)
         kind = " | ".join(option.choices) if is_number(option) else "string"

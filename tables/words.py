@@ -1,6 +1,6 @@
 """The words on options that no source has. The order of `OPTIONS` is that of the pages."""
 
-from dataclasses import dataclass
+from dataclasses import asdict, dataclass
 
 from tables.options import Option
 from tables.sources import Program, Unreadable
@@ -10,17 +10,17 @@ from tables.sources import Program, Unreadable
 class Words:
     """What is said of an option of `mmdepend` besides its line of help.
 
-    `short` is for completions, which call its value `value` and offer `typed`, or what the source
-    permits, or files. `text` is for the manual page and docs/PROGRAM.md, and `more` follows it on
-    the manual page: there a backtick stands around what is typed or written, and `*` around what
-    the user puts in place of it. `field` is for callers in JavaScript, whose requests have a field
-    of this name; without these words they have none.
+    `short` is for completions, which say that its value is a `kind`, and offer `typed`, or what the
+    source permits, or files. `text` is for the manual page and docs/PROGRAM.md, and `more` follows
+    it on the manual page: there a backtick stands around what is typed or written, and `*` around
+    what the user puts in place of it. `field` is for callers in JavaScript, whose requests have a
+    field of this name; without these words they have none. In braces is what the source says.
     """
 
     short: str
     text: str
     more: str = ""
-    value: str = ""
+    kind: str = ""
     typed: str = ""
     field: str = ""
 
@@ -28,13 +28,14 @@ class Words:
 OPTIONS = {
     "only": Words(
         "report on the axioms of this typecode alone",
-        "Report only on the axioms of typecode *T*, such as `'|-'`. Chains of citations still run "
-        "through all assertions. In the section `citations` list only the cited assertions of "
-        "typecode *T*, and in the section `statements` only the assertions of typecode *T*.",
-        "A typecode that no axiom has gives a report without columns, and status 0.",
-        "typecode",
-        "'|-'",
-        "The typecode of the axioms; without it, of whatever typecode they are.",
+        "Report only on the axioms of typecode *{value}*, such as `'|-'`. Chains of citations "
+        "still run through all assertions. In the section `citations` list only the cited "
+        "assertions of typecode *{value}*, and in the section `statements` only the assertions of "
+        "typecode *{value}*.",
+        more="A typecode that no axiom has gives a report without columns, and status 0.",
+        kind="typecode",
+        typed="'|-'",
+        field="The typecode of the axioms; without it, of whatever typecode they are.",
     ),
     "report": Words(
         "write these parts of the report",
@@ -42,15 +43,15 @@ OPTIONS = {
         "`citations` (what each theorem cites in its own proof), `statements` "
         "([what each assertion says](REPORT.md#statements)), or `all` (the default: matrix, counts "
         "and usage). They stand in this order, whatever order they are named in.",
-        value="parts",
-        field="Names of sections with commas between them: {choices}, or `all`, which is the first "
+        kind="parts",
+        field="Names of sections with commas between them: {others}, or `all`, which is the first "
         "three and the default.",
     ),
     "form": Words(
         "a digit for each column, or for each four",
         "The form of the matrix: `1` (the default), one digit for each column, or `2`, one "
         "hexadecimal digit for each four columns.",
-        value="form",
+        kind="form",
         field="The form of the matrix: one digit per column, or one hexadecimal digit per four.",
     ),
     "essential": Words(
@@ -67,24 +68,24 @@ OPTIONS = {
     ),
     "against": Words(
         "write what the database has and this one has not",
-        "Compare the databases *OLD* and *FILE*, the new one, [in place of a report]"
+        "Compare the databases *{value}* and *FILE*, the new one, [in place of a report]"
         "(#two-databases).",
-        "The output has four sections: `new` and `gone`, the assertions that only *FILE* or only "
-        "*OLD* has, and `gained` and `lost`, for each theorem the axioms on which it rests in "
-        "*FILE* alone or in *OLD* alone. If a database has a fault, the line begins with `old` or "
-        "`new`. One of both files can be `-`. The options `--report` and `--form` change nothing "
-        "then.",
-        "database",
+        more="The output has four sections: `new` and `gone`, the assertions that only *FILE* or "
+        "only *{value}* has, and `gained` and `lost`, for each theorem the axioms on which it "
+        "rests in *FILE* alone or in *{value}* alone. If a database has a fault, the line begins "
+        "with `old` or `new`. One of both files can be `-`. The options `--report` and `--form` "
+        "change nothing then.",
+        kind="database",
     ),
     "workers": Words(
-        "check the proofs by N threads",
-        "Check the proofs by *N* threads, {limits}; the default is {default}. What is written "
-        "doesn't depend on it.",
+        "check the proofs by {value} threads",
+        "Check the proofs by *{value}* threads, {limits}; the default is {default}. What is "
+        "written doesn't depend on it.",
     ),
     "pieces": Words(
-        "read the text in N pieces",
-        "Read the text in *N* pieces, {limits}; the default is {default}. What is written doesn't "
-        "depend on it.",
+        "read the text in {value} pieces",
+        "Read the text in *{value}* pieces, {limits}; the default is {default}. What is written "
+        "doesn't depend on it.",
     ),
     "help": Words("print the options and the statuses", "Print a short form of this page."),
     "version": Words(
@@ -95,10 +96,10 @@ OPTIONS = {
 
 
 MMQUERY = {
-    "only": "The axioms are those of typecode *T*. Without this and `--all`, they are those of "
-    "typecode `|-`: logical axioms and definitions.",
+    "only": "The axioms are those of typecode *{value}*. Without this and `--all`, they are those "
+    "of typecode `|-`: logical axioms and definitions.",
     "essential": "Only the logical part of proofs cites, not what builds its formulas.",
-    "under": "List only what stands below the header *NUMBER*, as `chapters` numbers it.",
+    "under": "List only what stands below the header *{value}*, as `chapters` numbers it.",
     "format": "`text` (the default), or `tsv`, `csv`, `json` with the names of the columns. In "
     "`csv` a field that a spreadsheet would take for a formula has a `'` before it, and so has one "
     "that begins with `'`.",
@@ -133,14 +134,6 @@ OF_NODE = [
 """The options that `page` has in Node alone."""
 
 
-def filled(text: str, option: Option) -> str:
-    """A text with the value that an option has where it isn't given, with the limits between which
-    it is, and with the other choices."""
-    limits = "{} to {}".format(*option.limits) if option.limits else ""
-    others = ", ".join(f"`{each}`" for each in option.choices if each != option.default)
-    return text.format(limits=limits, default=option.default, choices=others)
-
-
 def described(program: Program) -> dict[Option, Words]:
     """The options of the program with their words, in the order of the pages."""
     known = {option.name: option for option in program.options}
@@ -148,4 +141,16 @@ def described(program: Program) -> dict[Option, Words]:
         raise Unreadable(
             f"tables/words.py: {', '.join(odd)}: an option without words, or no option"
         )
-    return {known[name]: words for name, words in OPTIONS.items()}
+    return {known[name]: filled(words, known[name]) for name, words in OPTIONS.items()}
+
+
+def filled(words: Words, option: Option) -> Words:
+    """The words with what the source says: what the value is called, where it isn't given, the
+    limits between which it is, and the other choices."""
+    facts = {
+        "value": option.value,
+        "default": option.default,
+        "limits": "{} to {}".format(*option.limits) if option.limits else "",
+        "others": ", ".join(f"`{each}`" for each in option.choices if each != option.default),
+    }
+    return Words(**{name: text.format(**facts) for name, text in asdict(words).items()})

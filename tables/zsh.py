@@ -18,7 +18,7 @@ def argument(option: Option, words: Words) -> str:
         return f"'(- *)'{{{','.join(option.words)}}}'[{words.short}]'"
     if option.value is None:
         return f"'--{option.name}[{words.short}]'"
-    called = "number from {} to {}".format(*option.limits) if option.limits else words.value
+    called = "number from {} to {}".format(*option.limits) if option.limits else words.kind
     offered = " ".join(option.offered())
     values = f"({offered})" if offered else "_files"
     values = f"_sequence compadd - {offered}" if option.is_list else values

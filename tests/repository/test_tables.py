@@ -3,6 +3,7 @@ they are meant, or refuses them."""
 
 import re
 import unittest
+from dataclasses import replace
 from unittest import mock
 
 from query.program.refusals import FAULTS
@@ -14,8 +15,84 @@ from tables.parts import part, whole, words
 from tables.sources import TOP, Unreadable, codes_in, program_in, sections_in
 from tables.words import OPTIONS, described
 
-SOURCE = sources.OPTIONS.read_text("utf-8")
-SECTIONS = ("all", "matrix", "counts", "usage", "citations", "statements")
+SECTIONS = ("all", "one", "two")
+SOURCE = """static KINDS: [&str; 2] = ["a", "b"];
+
+const HELP_FOOTER: &str = "\\
+First.
+Last.";
+
+fn number_option<'a>(alloc: Global, name: &'a str, help: &'a str) -> Arg<'a>
+    ensures { rule_of result }
+{
+    Arg::new(alloc, name)
+        .long(name)
+        .action(ArgAction::Set)
+        .value_name("N")
+        .value_parser(clap::value_parser!(u32).range(2..10))
+        .default_value("4")
+        .help(help)
+}
+
+fn list_option<'a>(alloc: Global, texts: &'a [&'a str]) -> Arg<'a>
+    ensures { rule_of result }
+{
+    Arg::new(alloc, "list")
+        .long("list")
+        .action(ArgAction::Set)
+        .value_name("PART")
+        .value_parser(texts)
+        .hide_possible_values(true)
+        .default_value("all")
+        .help(
+            "Write (these), \\
+               and no others",
+        )
+}
+
+fn kind_option<'a>(alloc: Global) -> Arg<'a>
+    ensures { rule_of result }
+{
+    Arg::new(alloc, "kind")
+        .long("kind")
+        .action(ArgAction::Set)
+        .value_name("K")
+        .value_parser(KINDS.as_slice())
+        .help("Of this kind")
+}
+
+fn open_flag<'a>(alloc: Global) -> Arg<'a>
+    ensures { rule_of result }
+{
+    Arg::new(alloc, "open")
+        .long("open")
+        .action(ArgAction::SetTrue)
+        .help("Be open")
+}
+
+fn file_argument<'a>(alloc: Global) -> Arg<'a>
+    ensures { rule_of result }
+{
+    Arg::new(alloc, "FILE").action(ArgAction::Set).help(
+        "The file",
+    )
+}
+
+fn command<'a>(alloc: Global, texts: &'a [&'a str]) -> Result<Command<'a>, AllocError>
+{
+    let arguments = vec![in alloc;
+        number_option(alloc, "first", "Of the first, 2 to 9"),
+        number_option(alloc, "second", "Of the second"),
+        list_option(alloc, texts),
+        kind_option(alloc),
+        open_flag(alloc),
+        file_argument(alloc),
+    ]?;
+    Command::new(alloc, "it")
+        .about("Does it")
+        .args(arguments)
+}
+"""
 
 
 class Made(unittest.TestCase):
@@ -99,39 +176,36 @@ class Sources(unittest.TestCase):
     """How sources are read."""
 
     def test_as_they_are_meant(self) -> None:
-        known = {option.name: option for option in sources.program().options}
-        self.assertEqual(len(known), 10)
-        self.assertEqual(known["workers"].limits, (1, 64))
-        self.assertEqual(known["workers"].offered(), tuple("1 2 4 8 16 32 64".split()))
-        self.assertEqual((known["workers"].value, known["workers"].default), ("N", "4"))
-        self.assertEqual((known["form"].choices, known["form"].default), (("1", "2"), "1"))
-        self.assertEqual((known["report"].choices, known["report"].default), (SECTIONS, "all"))
-        self.assertTrue(known["report"].about.endswith("or all, which is the first three"))
-        self.assertEqual((known["only"].value, known["only"].choices), ("T", ()))
-        about = "Count a theorem whose proof is ? as an axiom"
-        self.assertEqual(known["open"], Option(("--open",), about))
-        self.assertEqual(known["help"].words, ("-h", "--help"))
-        bits = dict(zip(SECTIONS, (7, 1, 2, 4, 8, 16)))
-        self.assertEqual(sources.bits(), bits)
-        self.assertEqual(sources.codes()[0], "E00")
-        self.assertEqual(len(sources.codes()), 39)
+        found = program_in(SOURCE, SECTIONS)
+        self.assertEqual((found.about, found.file), ("Does it", "The file"))
+        self.assertEqual(found.footer, "First.\nLast.")
+        first, second, listed, kind, flag, *ends = found.options
+        about = "Of the first, 2 to 9"
+        self.assertEqual(first, Option(("--first",), about, "N", limits=(2, 9), default="4"))
+        self.assertEqual(first.offered(), ("2", "4", "8"))
+        self.assertEqual(second, replace(first, words=("--second",), about="Of the second"))
+        about = "Write (these), and no others"
+        wanted = Option(("--list",), about, "PART", SECTIONS, default="all", is_list=True)
+        self.assertEqual(listed, wanted)
+        self.assertEqual(kind, Option(("--kind",), "Of this kind", "K", ("a", "b")))
+        self.assertEqual(flag, Option(("--open",), "Be open"))
+        self.assertEqual([each.words for each in ends], [("-h", "--help"), ("-V", "--version")])
 
     def test_what_is_refused(self) -> None:
         """A source of another form: none of it is passed over."""
-        program_in(SOURCE, SECTIONS)
         for old, new in (
-            ('.value_name("OLD")', ""),
-            ('.value_name("OLD")', ".value_name(\"OLD\").short('a')"),
-            ('.value_name("OLD")', ".value_name(OLD)"),
-            ('.long("against")', ""),
-            ("FORMS.as_slice()", "OTHERS.as_slice()"),
+            ('.value_name("K")', ""),
+            ('.value_name("K")', ".value_name(\"K\").short('k')"),
+            ('.value_name("K")', ".value_name(K)"),
+            ('.long("open")', ""),
+            ("KINDS.as_slice()", "OTHERS.as_slice()"),
             ("        open_flag(alloc),\n", ""),
             ("fn open_flag<'a>", "fn other<'a>"),
             ("fn open_flag<'a>", "pub fn open_flag<'a>"),
-            ('number_option(alloc, "pieces", ', 'number_option(alloc, "pieces", "x", '),
-            ("Count a theorem", "Count a \\u{e9} theorem"),
+            ('number_option(alloc, "second", ', 'number_option(alloc, "second", "x", '),
+            ("Be open", "Be \\u{e9} open"),
             ("        .about(", "        .long_about("),
-            ("        against_option(alloc),\n", "        if x { against_option(alloc) },\n"),
+            ("        kind_option(alloc),\n", "        if x { kind_option(alloc) },\n"),
         ):
             self.assertEqual(SOURCE.count(old), 1, old)
             with self.assertRaises(Unreadable, msg=new):
@@ -139,9 +213,12 @@ class Sources(unittest.TestCase):
 
     def test_sections(self) -> None:
         text = sources.SECTIONS.read_text("utf-8")
-        self.assertEqual(sections_in(text), SECTIONS)
+        self.assertEqual(sections_in(text), tuple(sources.bits()))
+        bits = {**sources.bits()}
+        bits.pop("all")
+        self.assertEqual(list(bits.values()), [1 << place for place in range(len(bits))])
         with self.assertRaises(Unreadable):
-            sections_in(text.replace('|| name == "usage"', ""))
+            sections_in(re.sub(r'\|\| name == "\w+"', "", text, count=1))
 
     def test_codes(self) -> None:
         numbers, declared = (path.read_text("utf-8") for path in (sources.NUMBERS, sources.FAULTS))
@@ -160,7 +237,8 @@ class Sources(unittest.TestCase):
             if option.choices:
                 self.assertIn(f"`{option.default}` (the default", said.text, option.name)
             if option.limits:
-                self.assertIn("{limits}; the default is {default}", said.text, option.name)
+                told = "{} to {}; the default is {}.".format(*option.limits, option.default)
+                self.assertIn(told, said.text, option.name)
         with mock.patch.dict(OPTIONS, clear=True), self.assertRaises(Unreadable):
             described(known)
 
