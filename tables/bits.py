@@ -21,8 +21,10 @@ def of_header(bits: dict[str, int]) -> list[str]:
 
 
 def of_python(bits: dict[str, int]) -> list[str]:
-    """The table by which the module for Python knows them."""
-    return [f"PARTS = {json.dumps(bits)}"]
+    """The table by which the module for Python knows them, as black lays it out."""
+    line = f"PARTS = {json.dumps(bits)}"
+    rows = [f'    "{name}": {bit},' for name, bit in bits.items()]
+    return [line] if len(line) <= 100 else ["PARTS = {", *rows, "}"]
 
 
 def of_javascript(bits: dict[str, int], options: dict[Option, Words]) -> Iterator[str]:

@@ -138,19 +138,23 @@ def described(program: Program) -> dict[Option, Words]:
     """The options of the program with their words, in the order of the pages."""
     known = {option.name: option for option in program.options}
     if odd := sorted(known.keys() ^ OPTIONS.keys()):
-        raise Unreadable(
-            f"tables/words.py: {', '.join(odd)}: an option without words, or no option"
-        )
+        raise Unreadable(f"tables/words.py: {', '.join(odd)}: no words, or no such option")
     return {known[name]: filled(words, known[name]) for name, words in OPTIONS.items()}
 
 
 def filled(words: Words, option: Option) -> Words:
-    """The words with what the source says: what the value is called, where it isn't given, the
-    limits between which it is, and the other choices."""
+    """The words with what the source says: what the value is called, which one it is where it isn't
+    given, the limits between which it is, and the other choices. Unreadable where the pages
+    wouldn't name all choices, or the limits."""
     facts = {
         "value": option.value,
         "default": option.default,
         "limits": "{} to {}".format(*option.limits) if option.limits else "",
         "others": ", ".join(f"`{each}`" for each in option.choices if each != option.default),
     }
-    return Words(**{name: text.format(**facts) for name, text in asdict(words).items()})
+    found = Words(**{name: text.format(**facts) for name, text in asdict(words).items()})
+    default = [f"`{option.default}` (the default"] if option.choices and option.default else []
+    for told in (*(f"`{choice}`" for choice in option.choices), facts["limits"], *default):
+        if str(told) not in found.text:
+            raise Unreadable(f"tables/words.py: the text on {option.name} lacks {told}")
+    return found

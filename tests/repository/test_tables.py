@@ -13,7 +13,7 @@ from tables.made import made
 from tables.options import Option
 from tables.parts import part, whole, words
 from tables.sources import TOP, Unreadable, codes_in, program_in, sections_in
-from tables.words import OPTIONS, described
+from tables.words import OPTIONS, Words, described, filled
 
 SECTIONS = ("all", "one", "two")
 SOURCE = """static KINDS: [&str; 2] = ["a", "b"];
@@ -144,19 +144,20 @@ class Faults(unittest.TestCase):
     """What is said of faults."""
 
     def test_each_code_has_its_words(self) -> None:
+        """Those are in the order of the codes, and the help names the first and the last."""
         codes = sources.codes()
-        footer = sources.program().footer
+        footer = f"({codes[0]} to {codes[-1]})"
         faults.see_words(codes, footer)
-        for wrong in ([*codes, "E46"], codes[:-1], codes[::-1]):
+        for wrong in ([*codes, "E99"], codes[:-1], codes[::-1]):
             with self.assertRaises(Unreadable):
-                faults.see_words(wrong, footer.replace("E45", wrong[-1]))
+                faults.see_words(wrong, f"({wrong[0]} to {wrong[-1]})")
         with self.assertRaises(Unreadable):
-            faults.see_words(codes, footer.replace("E45", "E44"))
+            faults.see_words(codes, f"({codes[0]} to {codes[-2]})")
 
     def test_the_last_column(self) -> None:
         page = (TOP / "docs/FAULTS.md").read_text("utf-8")
-        (row,) = re.findall(r"^\| E45 .* \|$", page, re.M)
-        other = page.replace(row, row.replace(FAULTS["E45"][1], "x"))
+        (row,) = re.findall(r"^\| E44 .* \|$", page, re.M)
+        other = page.replace(row, row.replace(FAULTS["E44"][1], "x"))
         self.assertNotEqual(other, page)
         self.assertEqual(faults.of_page(other), page)
         for wrong in (page.replace(row, ""), page.replace(row, f"{row}\n{row}")):
@@ -231,16 +232,16 @@ class Sources(unittest.TestCase):
         """They name each choice, and which one is the default; or the limits."""
         known = sources.program()
         self.assertEqual([option.name for option in described(known)], list(OPTIONS))
-        for option, said in described(known).items():
-            for choice in option.choices:
-                self.assertIn(f"`{choice}`", said.text, option.name)
-            if option.choices:
-                self.assertIn(f"`{option.default}` (the default", said.text, option.name)
-            if option.limits:
-                told = "{} to {}; the default is {}.".format(*option.limits, option.default)
-                self.assertIn(told, said.text, option.name)
         with mock.patch.dict(OPTIONS, clear=True), self.assertRaises(Unreadable):
             described(known)
+        choice = Option(("--x",), "", "N", ("a", "b"), default="b")
+        number = Option(("--x",), "", "N", limits=(2, 9), default="4")
+        text = "`a`, or `{default}` (the default)"
+        self.assertEqual(filled(Words("", text, "{others} {value}"), choice).more, "`a` N")
+        self.assertEqual(filled(Words("", "from {limits}"), number).text, "from 2 to 9")
+        for option, wrong in ((choice, "`a`, or `b`"), (choice, "`b` (the default)"), (number, "")):
+            with self.assertRaises(Unreadable, msg=wrong):
+                filled(Words("", wrong), option)
 
 
 if __name__ == "__main__":
