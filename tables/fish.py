@@ -3,7 +3,7 @@
 from query.commands import names, summaries
 from tables.options import Option, first_words, options_of
 from tables.parts import MADE, in_shell
-from tables.words import Words
+from tables.words import Words, sentence
 
 
 def named(option: Option) -> str:
@@ -21,7 +21,7 @@ def of_mmdepend(options: dict[Option, Words]) -> list[str]:
         value = f" -x -a '{offered}'" if offered else " -r -F" if option.value else ""
         value = f" -x -a '(__fish_append , {offered})'" if option.is_list else value
         value = f' -x -a "{words.typed}"' if words.typed else value
-        about = in_shell(words.short[0].upper() + words.short[1:])
+        about = in_shell(sentence(words.short))
         lines.append(f"complete -c mmdepend {named(option)}{value} -d {about}")
     return lines
 

@@ -7,7 +7,7 @@ from query.arguments.filters import add_filters
 from query.arguments.options import Parser
 from query.commands import summaries
 from tables.options import Option, options_of
-from tables.words import MMQUERY, Words
+from tables.words import MMQUERY, Words, sentence
 
 LINK = re.compile(r"\[([^]]*)\]\([^)]*\)")
 MARKED = re.compile(r"(?:`([^`]*)`|\*([^*]*)\*)(\S*)")
@@ -64,7 +64,7 @@ def commands() -> Iterator[str]:
     for name, about in summaries().items():
         yield ".TP"
         yield ".B " + name.replace("-", "\\-")
-        yield f"{about[0].upper()}{about[1:]}."
+        yield f"{sentence(about)}."
 
 
 def options_of_mmquery() -> Iterator[str]:
@@ -77,5 +77,5 @@ def options_of_mmquery() -> Iterator[str]:
             about = re.sub(rf"\b{option.value}\b", f"*{option.value}*", about)
             yield ".TP"
             yield head(option)
-            told = MMQUERY.get(option.name, f"{about[0].upper()}{about[1:]}.")
-            yield from lines_of(told.format(value=option.value))
+            told = MMQUERY.get(option.name, f"{sentence(about)}.")
+            yield from lines_of(told.replace("{value}", str(option.value)))

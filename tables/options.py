@@ -1,7 +1,7 @@
 """An option of either program, and those of the commands of `mmquery`."""
 
 from argparse import Action
-from dataclasses import dataclass, replace
+from dataclasses import dataclass
 
 from query.cli import parser_of
 from query.commands import command
@@ -27,10 +27,6 @@ class Option:
     def name(self) -> str:
         """The long name."""
         return self.words[-1].removeprefix("--")
-
-    def saying(self, about: str) -> "Option":
-        """The same with another line of help."""
-        return replace(self, about=about)
 
     def offered(self) -> tuple[str, ...]:
         """What a shell offers for the value: the choices, or some of the numbers."""

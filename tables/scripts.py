@@ -3,12 +3,13 @@
 import json
 import re
 import textwrap
-from collections.abc import Iterable, Iterator
+from collections.abc import Callable, Iterable, Iterator
+from dataclasses import replace
 
 from tables.bits import in_requests, is_number
 from tables.options import Option, options_of
 from tables.sources import Program
-from tables.words import OF_NODE, PAGE, Words
+from tables.words import OF_NODE, PAGE, Words, sentence
 
 WIDTH = 125
 CONST = "/** @type {const} */"
@@ -26,11 +27,15 @@ def declared(options: Iterable[Option]) -> Iterator[str]:
     yield "});"
 
 
-def table(name: str, kind: str, values: dict[str, object]) -> Iterator[str]:
-    """A table by names of options."""
+def table(
+    name: str, kind: str, options: Iterable[Option], value_of: Callable[[Option], object]
+) -> Iterator[str]:
+    """A table of what some options have, by their names."""
     yield f"/** @type {{Record<string, {kind}>}} */"
     yield f"const {name} = {{"
-    yield from (f"    {option}: {json.dumps(value)}," for option, value in values.items())
+    for option in options:
+        if value := value_of(option):
+            yield f"    {option.name}: {json.dumps(value)},"
     yield "};"
 
 
@@ -70,26 +75,14 @@ def of_command_line(program: Program) -> Iterator[str]:
     """What web/node/command-line.js knows of the options of `mmdepend`."""
     options = program.options
     yield from declared(options)
-    with_value = {option.name: head(option).strip() for option in options if option.value}
-    yield from table("WITH_VALUE", "string", {**with_value})
-    limits = {option.name: option.limits for option in options if option.limits}
-    yield from table("LIMITS", "number[]", {**limits})
-    alone, listed = (
-        {each.name: each.choices for each in options if each.choices and each.is_list is is_list}
-        for is_list in (False, True)
+    yield from table(
+        "WITH_VALUE", "string", options, lambda each: each.value and head(each).strip()
     )
-    yield from table("CHOICES", "string[]", {**alone})
-    yield from table("LISTS", "string[]", {**listed})
-    lines = [program.about, "", "Usage: mmdepend [OPTIONS] [FILE]", "", "Arguments:"]
-    lines += [
-        f"  [FILE]  {program.file}",
-        "",
-        "Options:",
-        *help_of(options),
-        "",
-        program.footer,
-        "",
-    ]
+    yield from table("LIMITS", "number[]", options, lambda each: each.limits)
+    yield from table("CHOICES", "string[]", options, lambda each: not each.is_list and each.choices)
+    yield from table("LISTS", "string[]", options, lambda each: each.is_list and each.choices)
+    usage = f"Usage: mmdepend [OPTIONS] [FILE]\n\nArguments:\n  [FILE]  {program.file}\n\nOptions:"
+    lines = [program.about, "", usage, *help_of(options), "", program.footer, ""]
     yield from literal("HELP", "\n".join(lines))
 
 
@@ -97,7 +90,7 @@ def of_page() -> Iterator[str]:
     """What web/node/page-command.js knows of its options: those of `mmquery page`, but that nothing
     is kept, and a few of its own."""
     found = [
-        option.saying(PAGE.get(option.name, f"{option.about[0].upper()}{option.about[1:]}"))
+        replace(option, about=PAGE.get(option.name, sentence(option.about)))
         for option in options_of("page")
         if option.name != "no-cache"
     ]

@@ -134,6 +134,11 @@ OF_NODE = [
 """The options that `page` has in Node alone."""
 
 
+def sentence(words: str) -> str:
+    """Words with which a sentence begins."""
+    return words[0].upper() + words[1:]
+
+
 def described(program: Program) -> dict[Option, Words]:
     """The options of the program with their words, in the order of the pages."""
     known = {option.name: option for option in program.options}

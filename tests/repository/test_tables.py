@@ -3,7 +3,6 @@ they are meant, or refuses them."""
 
 import re
 import unittest
-from dataclasses import replace
 from unittest import mock
 
 from query.program.refusals import FAULTS
@@ -15,84 +14,7 @@ from tables.parts import part, whole, words
 from tables.sources import TOP, Unreadable, codes_in, program_in, sections_in
 from tables.words import OPTIONS, Words, described, filled
 
-SECTIONS = ("all", "one", "two")
-SOURCE = """static KINDS: [&str; 2] = ["a", "b"];
-
-const HELP_FOOTER: &str = "\\
-First.
-Last.";
-
-fn number_option<'a>(alloc: Global, name: &'a str, help: &'a str) -> Arg<'a>
-    ensures { rule_of result }
-{
-    Arg::new(alloc, name)
-        .long(name)
-        .action(ArgAction::Set)
-        .value_name("N")
-        .value_parser(clap::value_parser!(u32).range(2..10))
-        .default_value("4")
-        .help(help)
-}
-
-fn list_option<'a>(alloc: Global, texts: &'a [&'a str]) -> Arg<'a>
-    ensures { rule_of result }
-{
-    Arg::new(alloc, "list")
-        .long("list")
-        .action(ArgAction::Set)
-        .value_name("PART")
-        .value_parser(texts)
-        .hide_possible_values(true)
-        .default_value("all")
-        .help(
-            "Write (these), \\
-               and no others",
-        )
-}
-
-fn kind_option<'a>(alloc: Global) -> Arg<'a>
-    ensures { rule_of result }
-{
-    Arg::new(alloc, "kind")
-        .long("kind")
-        .action(ArgAction::Set)
-        .value_name("K")
-        .value_parser(KINDS.as_slice())
-        .help("Of this kind")
-}
-
-fn open_flag<'a>(alloc: Global) -> Arg<'a>
-    ensures { rule_of result }
-{
-    Arg::new(alloc, "open")
-        .long("open")
-        .action(ArgAction::SetTrue)
-        .help("Be open")
-}
-
-fn file_argument<'a>(alloc: Global) -> Arg<'a>
-    ensures { rule_of result }
-{
-    Arg::new(alloc, "FILE").action(ArgAction::Set).help(
-        "The file",
-    )
-}
-
-fn command<'a>(alloc: Global, texts: &'a [&'a str]) -> Result<Command<'a>, AllocError>
-{
-    let arguments = vec![in alloc;
-        number_option(alloc, "first", "Of the first, 2 to 9"),
-        number_option(alloc, "second", "Of the second"),
-        list_option(alloc, texts),
-        kind_option(alloc),
-        open_flag(alloc),
-        file_argument(alloc),
-    ]?;
-    Command::new(alloc, "it")
-        .about("Does it")
-        .args(arguments)
-}
-"""
+SOURCE = sources.OPTIONS.read_text("utf-8")
 
 
 class Made(unittest.TestCase):
@@ -177,40 +99,44 @@ class Sources(unittest.TestCase):
     """How sources are read."""
 
     def test_as_they_are_meant(self) -> None:
-        found = program_in(SOURCE, SECTIONS)
-        self.assertEqual((found.about, found.file), ("Does it", "The file"))
-        self.assertEqual(found.footer, "First.\nLast.")
-        first, second, listed, kind, flag, *ends = found.options
-        about = "Of the first, 2 to 9"
-        self.assertEqual(first, Option(("--first",), about, "N", limits=(2, 9), default="4"))
-        self.assertEqual(first.offered(), ("2", "4", "8"))
-        self.assertEqual(second, replace(first, words=("--second",), about="Of the second"))
-        about = "Write (these), and no others"
-        wanted = Option(("--list",), about, "PART", SECTIONS, default="all", is_list=True)
-        self.assertEqual(listed, wanted)
-        self.assertEqual(kind, Option(("--kind",), "Of this kind", "K", ("a", "b")))
-        self.assertEqual(flag, Option(("--open",), "Be open"))
-        self.assertEqual([each.words for each in ends], [("-h", "--help"), ("-V", "--version")])
+        """Other values of a source are read of it. `test_options.py` compares the help that is made
+        of this one with that of the program."""
+        text = re.sub(r"range\(\d+\.\.\d+\)", "range(2..10)", SOURCE)
+        text = re.sub(r"(static \w+: \[&str; \d+\]) = .*;", r'\1 = ["a", "b"];', text)
+        text = re.sub(r'(default_value)\("\w+"\)', r'\1("8")', text)
+        found = program_in(text, ("all", "one")).options
+        numbers = [option for option in found if option.limits]
+        self.assertEqual({option.limits for option in numbers}, {(2, 9)})
+        self.assertEqual({option.offered() for option in numbers}, {("2", "4", "8")})
+        self.assertEqual([option.choices for option in found if option.is_list], [("all", "one")])
+        chosen = {option.choices for option in found if not option.is_list and option.choices}
+        self.assertEqual(chosen, {("a", "b")})
+        self.assertEqual({option.default for option in found}, {None, "8"})
+        self.assertEqual(found[-2].words, ("-h", "--help"))
+        for option, other in zip(found, sources.program().options, strict=True):
+            self.assertEqual((option.words, option.about), (other.words, other.about))
+            self.assertRegex(option.about, r'\A[A-Z][^"\\\n]*[^ ]\Z')
 
     def test_what_is_refused(self) -> None:
         """A source of another form: none of it is passed over."""
-        for old, new in (
-            ('.value_name("K")', ""),
-            ('.value_name("K")', ".value_name(\"K\").short('k')"),
-            ('.value_name("K")', ".value_name(K)"),
-            ('.long("open")', ""),
-            ("KINDS.as_slice()", "OTHERS.as_slice()"),
-            ("        open_flag(alloc),\n", ""),
-            ("fn open_flag<'a>", "fn other<'a>"),
-            ("fn open_flag<'a>", "pub fn open_flag<'a>"),
-            ('number_option(alloc, "second", ', 'number_option(alloc, "second", "x", '),
-            ("Be open", "Be \\u{e9} open"),
-            ("        .about(", "        .long_about("),
-            ("        kind_option(alloc),\n", "        if x { kind_option(alloc) },\n"),
+        for form, new in (
+            (r'\n +\.value_name\("\w+"\)', ""),
+            (r'(\.value_name\("\w+"\))', r"\1.short('k')"),
+            (r'\.value_name\("(\w+)"\)', r".value_name(\1)"),
+            (r'\n +\.long\("\w+"\)', ""),
+            (r"\w+\.as_slice", "OTHERS.as_slice"),
+            (r"\n +\w+_flag\(alloc\),", ""),
+            (r"\nfn (\w+_flag)", r"\nfn other_\1"),
+            (r"\nfn (\w+_flag)", r"\npub fn \1"),
+            (r"(number_option\(alloc, )\"", r'\1"x", "'),
+            (r'\.help\("', r'.help("\\u{e9}'),
+            (r"\.about\(", ".long_about("),
+            (r"( +)(\w+_flag\(alloc\)),", r"\1if x { \2 },"),
         ):
-            self.assertEqual(SOURCE.count(old), 1, old)
-            with self.assertRaises(Unreadable, msg=new):
-                program_in(SOURCE.replace(old, new), SECTIONS)
+            odd = re.sub(form, new, SOURCE, count=1)
+            self.assertNotEqual(odd, SOURCE, form)
+            with self.assertRaises(Unreadable, msg=form):
+                program_in(odd, ("all",))
 
     def test_sections(self) -> None:
         text = sources.SECTIONS.read_text("utf-8")
