@@ -2,7 +2,7 @@
 # as /usr/share/bash-completion/completions, under the name mmdepend.
 
 _mmdepend() {
-    local word=${COMP_WORDS[COMP_CWORD]} before=${COMP_WORDS[COMP_CWORD - 1]} words
+    local word=${COMP_WORDS[COMP_CWORD]} before=${COMP_WORDS[COMP_CWORD - 1]} words='' list='' typed=''
     COMPREPLY=()
     # bash takes the = of --option=word as a word of its own.
     if [ "$word" = = ]; then
@@ -11,35 +11,28 @@ _mmdepend() {
         before=${COMP_WORDS[COMP_CWORD - 2]}
     fi
     case $before in
-        --report)
-            # The last of the names that commas separate.
-            local named=
-            case $word in *,*) named=${word%,*}, ;; esac
-            mapfile -t COMPREPLY < <(compgen -P "$named" -W 'all matrix counts usage citations statements' -- "${word##*,}")
-            return
-            ;;
+        # begin options: made by `python3 -m tables`; change crates/mm_line or tables/words.py instead
+        --only) typed="'|-'" ;;
+        --report) list='all matrix counts usage citations statements' ;;
         --form) words='1 2' ;;
-        --workers | --pieces) words='1 2 4 8 16 32 64' ;;
-        --only)
-            if [[ "'|-'" == "$word"* ]]; then COMPREPLY=("'|-'"); fi
-            return
-            ;;
-        --against)
-            mapfile -t COMPREPLY < <(compgen -f -- "$word")
-            compopt -o filenames 2>/dev/null
-            return
-            ;;
-        *)
-            case $word in
-                -*) words='--only --report --form --essential --open --against --workers --pieces --help -h --version -V' ;;
-                *)
-                    mapfile -t COMPREPLY < <(compgen -f -- "$word")
-                    compopt -o filenames 2>/dev/null
-                    return
-                    ;;
-            esac
-            ;;
+        --against) ;;
+        --workers) words='1 2 4 8 16 32 64' ;;
+        --pieces) words='1 2 4 8 16 32 64' ;;
+        *) if [[ $word == -* ]]; then words='--only --report --form --essential --open --against --workers --pieces -h --help -V --version'; fi ;;
+        # end options
     esac
-    mapfile -t COMPREPLY < <(compgen -W "$words" -- "$word")
+    if [ -n "$list" ]; then
+        # The last of the names that commas separate.
+        local named=
+        case $word in *,*) named=${word%,*}, ;; esac
+        mapfile -t COMPREPLY < <(compgen -P "$named" -W "$list" -- "${word##*,}")
+    elif [ -n "$typed" ]; then
+        if [[ "$typed" == "$word"* ]]; then COMPREPLY=("$typed"); fi
+    elif [ -n "$words" ]; then
+        mapfile -t COMPREPLY < <(compgen -W "$words" -- "$word")
+    else
+        mapfile -t COMPREPLY < <(compgen -f -- "$word")
+        compopt -o filenames 2>/dev/null
+    fi
 }
 complete -F _mmdepend mmdepend ./mmdepend

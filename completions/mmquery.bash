@@ -1,3 +1,4 @@
+# Made by `python3 -m tables`; change the commands instead.
 # Completes the commands and options of mmquery, in bash. Source this file, or put it
 # into ~/.local/share/bash-completion/completions as `mmquery`.
 _mmquery() {

@@ -1,3 +1,4 @@
+# Made by `python3 -m tables`; change the commands instead.
 # Completes the commands and options of mmquery, in fish. Put this file into
 # ~/.config/fish/completions.
 

@@ -54,12 +54,14 @@ enum mmdepend_status {
 /* The sections of a report, each a bit: MMDEPEND_MATRIX | MMDEPEND_CITATIONS asks for two. They are
  * written in this order. */
 enum mmdepend_section {
+    /* begin sections: made by `python3 -m tables`; change crates/mm_library instead */
     MMDEPEND_MATRIX = 1,
     MMDEPEND_COUNTS = 2,
     MMDEPEND_USAGE = 4,
-    MMDEPEND_ALL = 7, /* these three */
+    MMDEPEND_ALL = 7, /* matrix, counts, usage */
     MMDEPEND_CITATIONS = 8,
     MMDEPEND_STATEMENTS = 16
+    /* end sections */
 };
 
 enum mmdepend_form {

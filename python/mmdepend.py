@@ -31,7 +31,9 @@ def __dir__() -> list[str]:
 
 
 # The parts of a report by their names, each with its bit. `all` are the first three of the others.
+# begin sections: made by `python3 -m tables`; change crates/mm_library instead
 PARTS = {"all": 7, "matrix": 1, "counts": 2, "usage": 4, "citations": 8, "statements": 16}
+# end sections
 USAGE = PARTS["usage"]
 NAMES = ("libmmdepend.so.0", "libmmdepend.so")
 UNIT = 16
@@ -48,6 +50,7 @@ LEAST = 1 << 20
 ACCEPTED, REFUSED, TOO_SHORT, NO_MEMORY = 0, 1, 3, 4
 
 # What is wrong, by the code of the fault; docs/FAULTS.md says more of each.
+# begin faults: made by `python3 -m tables`; change query/program/refusals.py instead
 FAULTS = {
     "E00": "the text is longer than 2,147,483,647 bytes",
     "E01": "a byte that is neither white space nor printable ASCII",
@@ -89,6 +92,7 @@ FAULTS = {
     "E44": "in a compressed proof, a `Z` before the first number",
     "E45": "in a compressed proof, a number for which there is nothing",
 }
+# end faults
 
 BYTES = (ctypes.c_char_p, ctypes.c_size_t)
 OUT = (ctypes.c_void_p, ctypes.c_size_t, ctypes.c_void_p)

@@ -6,15 +6,17 @@ import { Status } from "./statuses.js";
 /** @typedef {import("./node/types.js").Answer} Answer */
 /** @typedef {import("./node/types.js").Request} Request */
 
-/** The sections of a report, each with its bit; `all` are the first three. */
+// begin sections: made by `python3 -m tables`; change crates/mm_library instead
+/** The sections of a report, each with its bit; `all` are those where none is named. */
 const BITS = { all: 7, matrix: 1, counts: 2, usage: 4, citations: 8, statements: 16 };
-/** The names of sections, and `all`. */
-export const PARTS = /** @type {(keyof typeof BITS)[]} */ (Object.keys(BITS));
 /**
  * What the program is asked without options.
  * @type {Request}
  */
-const PLAIN = { report: "all", only: null, form: 1, essential: false, open: false };
+const PLAIN = { only: null, report: "all", form: 1, essential: false, open: false };
+// end sections
+/** The names of sections, and `all`. */
+export const PARTS = /** @type {(keyof typeof BITS)[]} */ (Object.keys(BITS));
 /** The memory of a module grows by pages, up to 2^16 of them. */
 const MEMORY_PAGE = 65536;
 const MOST_PAGES = 65536;

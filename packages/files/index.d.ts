@@ -1,16 +1,18 @@
 /** What is requested of a report, as the options of the program of these names. */
 export interface Request {
+    // begin request: made by `python3 -m tables`; change crates/mm_line or tables/words.py instead
+    /** The typecode of the axioms; without it, of whatever typecode they are. */
+    only?: string | null;
     /** Names of sections with commas between them: `matrix`, `counts`, `usage`, `citations`, `statements`, or `all`, which
      * is the first three and the default. */
     report?: string;
-    /** The typecode of the axioms; without it, of whatever typecode they are. */
-    only?: string | null;
     /** The form of the matrix: one digit per column, or one hexadecimal digit per four. */
     form?: 1 | 2;
     /** Count as citations only what the logical part of a proof applies. */
     essential?: boolean;
     /** Count a theorem whose proof is `?` as an axiom. */
     open?: boolean;
+    // end request
 }
 
 /** The database has a fault; docs/FAULTS.md says what each code means. */

@@ -1,6 +1,6 @@
 """Refusals: what each fault's code means and what to do about it, and which statement has it.
 
-The table is that of docs/FAULTS.md, in short; a test compares them.
+The words of the table stand here alone: `python3 -m tables` puts them wherever else they are told.
 """
 
 import re

@@ -10,7 +10,7 @@ from query.tests.world import TOP
 
 QUERY = TOP / "query"
 ROW = re.compile(r"^\| `query/(\w+)` \| [^|]+ \| ([^|]*)\|$", re.MULTILINE)
-TOPMOST = {"query.__main__", "query.cli", "query.completions"}
+TOPMOST = {"query.__main__", "query.cli"}
 """The modules that stand in no package. They may import each package, and no package imports them.
 """
 

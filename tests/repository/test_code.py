@@ -14,7 +14,7 @@ from query.tests.world import TOP
 
 TOOLS = Path("/usr/bin")
 MOST_LINES = 40  # of a function
-OWN = ("query", "tests")
+OWN = ("query", "tables", "tests")
 """The folders whose modules are packages."""
 # Where scripts find the modules beside them.
 MODULES = ("bench", "web", "packages", "python")

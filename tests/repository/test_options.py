@@ -1,190 +1,21 @@
-"""The options of `mmdepend` and of `mmquery` are the same wherever they stand: in the sources, the
-help, the manual pages, the completions, the pages and the libraries."""
+"""The options of `mmdepend` and of `mmquery`, where they aren't made (`test_tables.py`): what the
+program and Node take and tell, and what the pages name."""
 
-import argparse
-import ast
 import json
 import re
 import subprocess
 import unittest
-from dataclasses import dataclass, replace
 
-from query.cli import parser_of
-from query.commands import command, names
-from query.tests.world import TOP, built_program, program
-
-SOURCE = "crates/mm_line/src/options.rt"
-SECTIONS = "crates/mm_line/src/sections.rt"
-
-
-@dataclass(frozen=True)
-class Option:
-    """An option: its name of one letter, what its value is called, the values that it may have,
-    sorted, and the one that it has where it isn't given. Numbers from 1 to 64 are `1..64`."""
-
-    short: str | None = None
-    value: str | None = None
-    values: tuple[str, ...] = ()
-    default: str | None = None
-
-
-Options = dict[str, Option]
-HELP = {"help": Option("h"), "version": Option("V")}
+from query.commands import names
+from query.tests.world import TOP, built_program
+from tables import sources
+from tables.options import options_of
+from tables.words import OF_NODE
 
 
 def read(name: str) -> str:
     """A file of the repository."""
     return (TOP / name).read_text("utf-8")
-
-
-def first(pattern: str, text: str) -> str | None:
-    """The first group of the first match; None where there is none."""
-    match = re.search(pattern, text, re.S)
-    return match[1] if match else None
-
-
-def values_of(words: list[str]) -> tuple[str, ...]:
-    """The values among which these are; of numbers that are only some examples their range."""
-    if len(words) > 2 and all(word.isdigit() for word in words):
-        return (f"{words[0]}..{words[-1]}",)
-    return tuple(sorted(words))
-
-
-def strings(name: str, text: str) -> list[str]:
-    """The strings of a constant of the source."""
-    found = first(rf"static {name}: \[&str; \d+\] = \[(.*?)\]", text) or ""
-    return re.findall(r'"([^"]*)"', found)
-
-
-def section_names() -> list[str]:
-    """The names that `--report` takes, as the source lists them."""
-    listed = first(r"vec!\[in alloc;(.*?)\]", read(SECTIONS)) or ""
-    return re.findall(r'"([^"]*)"', listed)
-
-
-def of_source(text: str) -> Options:
-    """Those of the program, as its source declares them."""
-    found = dict(HELP)
-    for function in re.split(r"\n(?=fn )", text):
-        value, default = (
-            first(rf'\.{call}\("(\w+)"\)', function) for call in ("value_name", "default_value")
-        )
-        limits = re.search(r"\.range\((\d+)\.\.(\d+)\)", function)
-        if limits:
-            values = (f"{limits[1]}..{int(limits[2]) - 1}",)
-            for name in re.findall(r'number_option\(alloc, "(\w+)"', text):
-                found[name] = Option(None, value, values, default)
-        name = first(r'\.long\("(\w+)"\)', function) or ""
-        if name:
-            taken = {"report": section_names(), "form": strings("FORMS", text)}.get(name, [])
-            found[name] = Option(None, value, tuple(sorted(taken)), default)
-    return found
-
-
-def of_help(text: str) -> Options:
-    """Those that a help names."""
-    found = {}
-    for line in text.splitlines():
-        match = re.match(r"\s+(?:-(\w), )?--([a-z-]+)(?: <(\w+)>)?\s+(\S.*)", line)
-        if match:
-            short, name, value, told = match.groups()
-            listed = first(r"between them: ([^\[]*)", told)
-            limits = re.search(r"(\d+) to (\d+)", told)
-            values = (first(r"\[possible values: (.*?)\]", told) or "").split(", ")
-            if listed:
-                values = re.findall(r"(?:^|, )(?:or )?([a-z]+)(?=,)", listed)
-            elif limits:
-                values = [f"{limits[1]}..{limits[2]}"]
-            sorted_values = tuple(sorted(each for each in values if each))
-            default = first(r"\[default: (\w+)\]", told)
-            found[name] = Option(short, value, sorted_values, default)
-    return found
-
-
-def by_shorts(words: list[str]) -> Options:
-    """Options without values, of words in which the short name of each stands beside its own."""
-    shorts = {word[1:] for word in words if not word.startswith("--")}
-    found = {word[2:]: Option() for word in words if word.startswith("--")}
-    for name in found:
-        short = next((each for each in shorts if each.lower() == name[0]), None)
-        found[name] = Option(short if name in HELP else None)
-    return found
-
-
-def of_bash(text: str) -> Options:
-    """Those that bash completes. What a value is called isn't told: `VALUE` stands for it."""
-    words = (first(r"-\*\) words='([^']*)'", text) or "").split()
-    found = by_shorts(words)
-    for heads, body in re.findall(r"^ {8}(--[^)]*)\)(.*?);;$", text, re.M | re.S):
-        listed = first(r"(?:words=|-W )'([^']*)'", body)
-        for head in heads.split(" | "):
-            values = values_of((listed or "").split())
-            found[head[2:]] = replace(found[head[2:]], value="VALUE", values=values)
-    return found
-
-
-def of_zsh(text: str) -> Options:
-    """Those that zsh completes."""
-    found = {}
-    for name, sign, value in re.findall(r"^    '--(\w+)(=?)\[[^]]*\](.*?)' \\$", text, re.M):
-        listed = first(r"(?:compadd - |\()([^()]*)\)?$", value) or ""
-        words = [] if name == "only" else listed.split()
-        found[name] = Option(None, "VALUE" if sign else None, values_of(words))
-    for short, name in re.findall(r"\{-(\w),--(\w+)\}", text):
-        found[name] = Option(short)
-    return found
-
-
-def of_fish(text: str) -> Options:
-    """Those that fish completes."""
-    found = {}
-    for short, name, taken, words in re.findall(
-        r"^complete -c mmdepend(?: -s (\w))? -l (\w+)( -x| -r -F)?(?: -a (\S.*?))? -d", text, re.M
-    ):
-        listed = re.sub(r"['()]|__fish_append ,", "", words).split() if name != "only" else []
-        found[name] = Option(short or None, "VALUE" if taken else None, values_of(listed))
-    return found
-
-
-def with_values(option: Option, told: str, marked: list[str]) -> Option:
-    """An option with its values and its default, as a page tells them: by words that are marked, of
-    which one is before `the default`, or by numbers."""
-    limits = re.search(r"(\d+) to (\d+)", told)
-    if limits:
-        default = first(r"default is (\d+)", told) or first(r"(\d+) by default", told)
-        return replace(option, values=(f"{limits[1]}..{limits[2]}",), default=default)
-    default = first(
-        r".*[`\s](\w+)[`)]*,? \(?the default", told.split("the default")[0] + "the default"
-    )
-    if "the default" not in told or default is None:
-        return option
-    return replace(option, values=tuple(sorted(set(marked))), default=default)
-
-
-def of_manual(text: str) -> Options:
-    """Those that a manual page describes."""
-    text = text.replace("\\-", "-")
-    part = text[text.index(".SH OPTIONS") : text.index(".SH EXIT STATUS")]
-    found = {}
-    for head, body in re.findall(r"^\.TP\n([^\n]*)\n(.*?)(?=^\.TP|\Z)", part, re.M | re.S):
-        name = first(r"--([a-z-]+)", head) or ""
-        option = Option(first(r"(?<!-)-(\w)\b", head), first(r'" (\w+)"', head))
-        marked = re.findall(r"^\.BR? (\w+)", body, re.M)
-        found[name] = with_values(option, " ".join(body.split()), marked)
-    return found
-
-
-def of_page(text: str) -> Options:
-    """Those of the table of docs/PROGRAM.md."""
-    part = text[text.index("## Options") : text.index("## Statuses")]
-    found = {}
-    for head, told in re.findall(r"^\| (`-.*?`) \| (.*) \|$", part, re.M):
-        for each in head.split("; ") if ";" in head else [head]:
-            short = first(r"`-(\w)`", each)
-            for name, value in re.findall(r"`--([a-z-]+)(?: (\w+))?`", each):
-                marked = re.findall(r"`(\w+)`", told)
-                found[name] = with_values(Option(short, value or None), told, marked)
-    return found
 
 
 def in_node(script: str) -> str:
@@ -204,67 +35,23 @@ class OfTheProgram(unittest.TestCase):
 
     maxDiff = None
 
-    def setUp(self) -> None:
-        self.known = of_source(read(SOURCE))
-
-    def without_names(self, *, defaults: bool) -> Options:
-        """The options where values have no names, and perhaps no default is told."""
-        return {
-            name: replace(
-                option,
-                value=option.value and "VALUE",
-                default=option.default if defaults else None,
-            )
-            for name, option in self.known.items()
-        }
-
-    def test_the_source(self) -> None:
-        """It is read as it is meant."""
-        self.assertEqual(len(self.known), 10)
-        self.assertEqual(self.known["workers"], Option(None, "N", ("1..64",), "4"))
-        self.assertEqual(self.known["form"], Option(None, "N", ("1", "2"), "1"))
-        self.assertEqual(self.known["only"], Option(None, "T"))
-        self.assertEqual(self.known["open"], Option())
-        self.assertEqual(self.known["against"], Option(None, "OLD"))
-        self.assertEqual(self.known["report"].default, "all")
-        self.assertEqual(len(self.known["report"].values), 6)
-
     def test_the_help(self) -> None:
+        """The program and the one for Node write the same help."""
         text = in_node("process.stdout.write(readWords(['--help'], '').text)")
-        self.assertEqual(of_help(text), self.known)
-        if program():
-            done = subprocess.run([built_program(), "--help"], capture_output=True, check=True)
-            self.assertEqual(done.stdout.decode(), text)
-
-    def test_the_manual_page(self) -> None:
-        text = read("man/mmdepend.1")
-        self.assertEqual(of_manual(text), self.known)
-        part = text.replace("\\-", "-")
-        part = part[part.index(".SH SYNOPSIS") : part.index(".SH DESCRIPTION")]
-        values = re.findall(r"\[ --(\w+)(?: \]|\n\.IR (\w+) \])", part)
-        known = {name: option.value or "" for name, option in self.known.items()}
-        self.assertEqual(dict(values), {name: known[name] for name in known if name not in HELP})
-        self.assertEqual(set(re.findall(r"--(\w+)", part)), set(known))
-
-    def test_the_page(self) -> None:
-        self.assertEqual(of_page(read("docs/PROGRAM.md")), self.known)
-
-    def test_the_completions(self) -> None:
-        known = self.without_names(defaults=False)
-        self.assertEqual(of_bash(read("completions/mmdepend.bash")), known)
-        self.assertEqual(of_zsh(read("completions/_mmdepend")), known)
-        self.assertEqual(of_fish(read("completions/mmdepend.fish")), known)
+        done = subprocess.run([built_program(), "--help"], capture_output=True, check=True)
+        self.assertEqual(done.stdout.decode(), text)
 
     def test_what_javascript_reads(self) -> None:
         """The reader in JavaScript takes each value and no other, and has the same defaults."""
+        known = {option.name: option for option in sources.program().options}
         lines: dict[str, list[str]] = {"": []}
-        for name, option in self.known.items():
-            low, dots, high = (*option.values, "")[0].partition("..")
-            taken = [low, high] if dots else option.values
-            refused = [str(int(low) - 1), str(int(high) + 1)] if dots else ["none"]
+        for name, option in known.items():
+            low, high = option.limits or (0, 0)
+            taken = [str(low), str(high)] if option.limits else option.choices
+            refused = [str(low - 1), str(high + 1)] if option.limits else ["none"]
             for word in taken:
                 lines[f"{name}={word}"] = [f"--{name}", word]
-            for word in refused if option.values else ():
+            for word in refused if taken else ():
                 lines[f"{name}!{word}"] = [f"--{name}", word]
         script = (
             f"const lines = {json.dumps(lines)}; const read = (words) => readWords(words, '');"
@@ -274,127 +61,20 @@ class OfTheProgram(unittest.TestCase):
         found = json.loads(in_node(script))
         for name, line in found.items():
             self.assertEqual(line["ends"], "misread" if "!" in name else "run", name)
-        defaults = {
-            name: int(option.default) if name == "form" and option.default else option.default
-            for name, option in self.known.items()
-        }
         for name, value in found[""]["request"].items():
-            self.assertEqual(value or None, defaults[name], name)
-
-    def test_the_sections(self) -> None:
-        """Header, modules and types have the names of `--report`, and the same bits."""
-        listed = section_names()
-        tree = ast.parse(read("python/mmdepend.py"))
-        bits = next(
-            ast.literal_eval(each.value)
-            for each in tree.body
-            if isinstance(each, ast.Assign) and ast.unparse(each.targets[0]) == "PARTS"
-        )
-        self.assertEqual(list(bits), listed)
-        header = dict(re.findall(r"MMDEPEND_([A-Z]+) = (\d+)", read("library/mmdepend.h")))
-        self.assertEqual({name: header.get(name.upper()) for name in bits}, texts(bits))
-        script = first(r"BITS = \{(.*?)\}", read("web/library.js")) or ""
-        self.assertEqual(dict(re.findall(r"(\w+): (\d+)", script)), texts(bits))
-        told = first(r"Names of sections(.*?)\*/", read("packages/files/index.d.ts")) or ""
-        self.assertEqual(sorted(re.findall(r"`(\w+)`", told)), sorted(bits))
-
-    def test_the_fields_of_requests(self) -> None:
-        """The types for JavaScript name each option on which the output depends."""
-        fields = set(self.known) - {"workers", "pieces", "against", *HELP}
-        interface = first(r"interface Request \{(.*?)\n\}", read("packages/files/index.d.ts")) or ""
-        self.assertEqual(set(re.findall(r"^    (\w+)\?:", interface, re.M)), fields)
-        typedef = first(r"@typedef \{object\} Request(.*?)\*/", read("web/node/types.js")) or ""
-        self.assertEqual(set(re.findall(r"@property \{.*?\} (\w+)", typedef)), fields)
+            default = known[name].default
+            self.assertEqual(str(value) if value else None, default, name)
 
 
-def texts(numbers: dict[str, int]) -> dict[str, str]:
-    """Numbers by names, as texts."""
-    return {name: str(number) for name, number in numbers.items()}
-
-
-def of_parser(name: str) -> dict[str, argparse.Action]:
-    """The options of a command of mmquery by their words."""
-    return parser_of(command(name)).options()
+def words_of(name: str) -> set[str]:
+    """The words that name options of a command of mmquery."""
+    return {word for option in options_of(name) for word in option.words}
 
 
 class OfMmquery(unittest.TestCase):
     """`mmquery`."""
 
     maxDiff = None
-
-    def test_the_manual_page(self) -> None:
-        """What it says of options is so for each command that has them; it has all those that
-        several groups of commands share."""
-        described = of_manual(read("man/mmquery.1"))
-        shared = {word[2:] for word in of_parser("rests") if word.startswith("--")}
-        self.assertEqual(set(described) - {"version"}, shared - {"theorems", "apart"})
-        for name in names():
-            for word, action in of_parser(name).items():
-                option = described.get(word[2:])
-                if option is None or word in ("--format", "-h"):
-                    continue
-                value = None if action.nargs == 0 else action.metavar
-                self.assertEqual(value, option.value, f"{name} {word}")
-        self.assertEqual(described["format"].default, "text")
-        formats = of_parser("rests")["--format"].choices or ()
-        self.assertEqual(described["format"].values, tuple(sorted(formats)))
-
-    def test_bash(self) -> None:
-        text = read("completions/mmquery.bash")
-        for name in names():
-            words = first(rf"\n +{name}:-\*\) words='([^']*)'", text) or ""
-            self.assertEqual(words.split(), list(of_parser(name)), name)
-            for word, action in of_parser(name).items():
-                listed = first(rf"\b{name}:{word}(?: \| [^)]*)?\) words='([^']*)'", text)
-                self.assertEqual((listed or "").split(), list(action.choices or ()), word)
-
-    def test_zsh(self) -> None:
-        text = read("completions/_mmquery")
-        for name in names():
-            part = first(rf"\n {{8}}{name}\)\n(.*?);;", text) or ""
-            found = re.findall(r"'\*(--?[a-z-]+)(=?)\[.*?\](:value.*?)?'(?= |$)", part, re.M)
-            actions = of_parser(name)
-            self.assertEqual([word for word, _, _ in found], list(actions), name)
-            for word, sign, value in found:
-                takes = actions[word].nargs != 0
-                self.assertEqual(bool(sign) if word != "-h" else False, takes, f"{name} {word}")
-                listed = first(r"\((.*)\)", value) or ""
-                self.assertEqual(listed.split(), list(actions[word].choices or ()), word)
-
-    def test_fish(self) -> None:
-        text = read("completions/mmquery.fish")
-        for name in names():
-            lines = re.findall(rf"'__fish_seen_subcommand_from {name}'( -[ls].*?) -d ", text)
-            found: dict[str, str] = {}
-            for line in lines:
-                for kind, word in re.findall(r" -(l|s) (\S+)", line):
-                    found[f"--{word}" if kind == "l" else f"-{word}"] = line
-            actions = of_parser(name)
-            self.assertEqual(set(found), set(actions), name)
-            for word, line in found.items():
-                takes = " -r" in line or " -x" in line
-                self.assertEqual(takes, actions[word].nargs != 0, f"{name} {word}")
-                listed = first(r"-a '(.*?)'", line) or ""
-                self.assertEqual(listed.split(), list(actions[word].choices or ()), word)
-
-    def test_pages_of_node(self) -> None:
-        """`node mmdepend.mjs page` takes the options of `mmquery page`, and tells them."""
-        text = read("web/node/page-command.js")
-        declared = first(r"const OPTIONS = .*?\(\{(.*?)\n\}\)", text) or ""
-        found = {
-            name.strip('"'): kind == "string"
-            for name, kind in re.findall(r"^    (\S+): \{ type: \"(\w+)\"", declared, re.M)
-        }
-        told = re.findall(r"^ +(?:-h, )?--([a-z-]+)( <\w+>)?", text, re.M)
-        self.assertEqual({name: bool(value) for name, value in told}, found)
-        python = {
-            word[2:]: action.nargs != 0
-            for word, action in of_parser("page").items()
-            if word.startswith("--") and word != "--no-cache"
-        }
-        for name in ("name", "against-name", "program"):
-            self.assertTrue(found.pop(name))
-        self.assertEqual(python, found)
 
     def test_the_pages(self) -> None:
         """Each command that a page names is there and has the options that are named with it."""
@@ -406,15 +86,15 @@ class OfMmquery(unittest.TestCase):
                 for word in words:
                     option = word.partition("=")[0].rstrip("`.,;)")
                     if re.fullmatch(r"--[a-z][a-z-]*", option):
-                        self.assertIn(option, of_parser(name), f"{page.name}: {line}")
+                        self.assertIn(option, words_of(name), f"{page.name}: {line}")
                         tried += 1
         self.assertGreater(tried, 50)
 
     def test_options_by_themselves(self) -> None:
         """An option that a page for users names is one of a command."""
-        known = {word for name in names() for word in of_parser(name)}
-        known |= {f"--{name}" for name in of_source(read(SOURCE))}
-        known |= {"--name", "--against-name", "--program"}  # of pages that Node makes
+        known = {word for name in names() for word in words_of(name)}
+        known |= {f"--{option.name}" for option in sources.program().options}
+        known |= {f"--{option.name}" for option in OF_NODE}
         tried = 0
         for name in USED:
             text = re.sub(r"```.*?```", "", read(name), flags=re.S)

@@ -2,7 +2,6 @@
 // line is wrong, this says so in one line, and the program more.
 
 import { parseArgs } from "node:util";
-import { PARTS } from "../library.js";
 import { visible } from "../packer/visible.js";
 
 /** @typedef {import("./types.js").Request} Request */
@@ -13,10 +12,9 @@ import { visible } from "../packer/visible.js";
  *     | { ends: "help", text: string } | { ends: "misread", text: string }} Line
  */
 
-/** So many workers, and so many pieces, are the most of a run: the program says the same. */
-const LARGEST_COUNT = 64;
-const FORMS = ["1", "2"];
-/** The options, as Node reads them; the names of those that have a value are in `WITH_VALUE`. */
+/** The options as Node reads them; of those that have a value how they are called, and of some which values there are:
+ * from a number to another one, or of words one, or several with commas between them. */
+// begin options: made by `python3 -m tables`; change crates/mm_line instead
 const OPTIONS = /** @type {const} */ ({
     workers: { type: "string" },
     pieces: { type: "string" },
@@ -38,6 +36,19 @@ const WITH_VALUE = {
     form: "--form <N>",
     against: "--against <OLD>",
 };
+/** @type {Record<string, number[]>} */
+const LIMITS = {
+    workers: [1, 64],
+    pieces: [1, 64],
+};
+/** @type {Record<string, string[]>} */
+const CHOICES = {
+    form: ["1", "2"],
+};
+/** @type {Record<string, string[]>} */
+const LISTS = {
+    report: ["all", "matrix", "counts", "usage", "citations", "statements"],
+};
 const HELP = `Verifies a Metamath database and reports on which axioms each theorem rests
 
 Usage: mmdepend [OPTIONS] [FILE]
@@ -49,10 +60,9 @@ Options:
       --workers <N>    Check the proofs by N threads, 1 to 64 [default: 4]
       --pieces <N>     Read the text in N pieces, 1 to 64 [default: 4]
       --only <T>       Report on the axioms of typecode T alone, such as '|-'
-      --report <PART>  Write these parts of the report, with commas between them: \
-matrix, counts, usage, citations, statements, or all, which is the first three [default: all]
-      --form <N>       Write the matrix as a digit for each column, or for each four \
-[default: 1] [possible values: 1, 2]
+      --report <PART>  Write these parts of the report, with commas between them: matrix, counts, usage, citations, \
+statements, or all, which is the first three [default: all]
+      --form <N>       Write the matrix as a digit for each column, or for each four [default: 1] [possible values: 1, 2]
       --essential      Count what the logical part of a proof cites, and not what builds its formulas
       --open           Count a theorem whose proof is ? as an axiom
       --against <OLD>  Write what FILE has and OLD hasn't, and the other way round, in place of the report
@@ -64,6 +74,7 @@ Status: 0 accepted, 1 refused, 2 invalid command line, 3 reading or writing fail
 4 out of memory. For 2 to 4 the standard error says why.
 The codes of faults (E00 to E45) are explained in docs/FAULTS.md.
 `;
+// end options
 
 /** Ends the reading with a text. */
 class End extends Error {
@@ -93,14 +104,13 @@ function judge(name, value, isRight, wanted) {
     if (!isRight) throw misread(`invalid value '${value}' for '${WITH_VALUE[name]}', which is ${wanted}`);
 }
 
-/** Whether a word is a number from 1 to LARGEST_COUNT, as the program reads numbers. */
-function isCount(/** @type {string} */ word) {
-    return /^\+?[0-9]+$/.test(word) && Number(word) >= 1 && Number(word) <= LARGEST_COUNT;
-}
-
-/** Whether a section, or `all`, has this name. */
-function isPart(/** @type {string} */ name) {
-    return PARTS.some((part) => part === name);
+/**
+ * Whether a word is a number within limits, as the program reads numbers.
+ * @param {string} word
+ * @param {number[]} limits
+ */
+function isWithin(word, [least, most]) {
+    return /^\+?[0-9]+$/.test(word) && Number(word) >= least && Number(word) <= most;
 }
 
 /** What was read so far, by the names of options; `file` is the word that is no option. */
@@ -144,11 +154,12 @@ class Found {
         if (value === undefined || (!isInline && /^-./s.test(value))) {
             throw misread(`a value is required for '${WITH_VALUE[name]}' but none was supplied`);
         }
-        if (name === "workers" || name === "pieces") judge(name, value, isCount(value), `a number from 1 to ${LARGEST_COUNT}`);
-        if (name === "form") judge(name, value, FORMS.includes(value), FORMS.join(" or "));
-        if (name === "report") {
-            for (const part of value.split(",")) judge(name, part, isPart(part), `of ${PARTS.join(", ")}`);
-        }
+        const limits = LIMITS[name];
+        const choices = CHOICES[name];
+        const list = LISTS[name];
+        if (limits) judge(name, value, isWithin(value, limits), `a number from ${limits.join(" to ")}`);
+        if (choices) judge(name, value, choices.includes(value), choices.join(" or "));
+        if (list) for (const part of value.split(",")) judge(name, part, list.includes(part), `of ${list.join(", ")}`);
         this.add(name, value);
     }
 

@@ -57,33 +57,25 @@ import { Ending, STDOUT, failedBy, join, outOfMemory, piecesOf, sizeOf, writeAll
  * @property {number | null} megabytes of memory that a text may take
  */
 
+// begin options: made by `python3 -m tables`; change query/commands/page.py or tables/words.py instead
 const OPTIONS = /** @type {const} */ ({
     only: { type: "string" },
     title: { type: "string" },
-    name: { type: "string" },
     against: { type: "string" },
-    "against-name": { type: "string" },
     watch: { type: "string", multiple: true },
     essential: { type: "boolean" },
     open: { type: "boolean" },
+    name: { type: "string" },
+    "against-name": { type: "string" },
     program: { type: "string" },
     "limit-time": { type: "string" },
     "limit-memory": { type: "string" },
     help: { type: "boolean", short: "h" },
 });
-const USAGE = "usage: node mmdepend.mjs page [OPTIONS] DATABASE > FILE";
-const HELP = `Writes one HTML file to the standard output that shows a whole database
-
-${USAGE}
-
-Arguments:
-  DATABASE             The database, also one compressed by gzip; where it is -, the standard input is read
-
-Options:
-      --only <T>       The axioms are those of typecode T (else: all)
+const OPTION_LINES = `      --only <T>       The axioms are those of typecode T (else: all)
       --title <TEXT>   The title (else: the name of the file)
-      --watch <AXIOM>  An axiom of which each chapter speaks first; several: by commas, or more options
       --against <OLD>  Show what changed since this older database
+      --watch <AXIOM>  An axiom of which each chapter speaks first; several: by commas, or more options
       --essential      Only the logical part of proofs cites
       --open           A theorem whose proof is ? counts as an axiom
       --name <NAME>    How the page calls DATABASE (else: by the name of its file)
@@ -94,7 +86,18 @@ Options:
                        Of the processor, for this program to verify a text (else: 10, and 5 for each MB)
       --limit-memory <MB>
                        For verifying a text (else: 256, and 64 for each MB)
-  -h, --help           Print help
+  -h, --help           Print help`;
+// end options
+const USAGE = "usage: node mmdepend.mjs page [OPTIONS] DATABASE > FILE";
+const HELP = `Writes one HTML file to the standard output that shows a whole database
+
+${USAGE}
+
+Arguments:
+  DATABASE             The database, also one compressed by gzip; where it is -, the standard input is read
+
+Options:
+${OPTION_LINES}
 
 The database is verified first. The page loads nothing else; a browser of 2023 or later shows it.
 Status: 0 made, 1 refused, 2 invalid command line, or there is nothing to show, 3 reading or writing

@@ -1,13 +1,8 @@
 // The shapes that the modules of this folder pass on.
 
 /**
- * What is requested of a report, as the program's options of these names have it.
- * @typedef {object} Request
- * @property {string} report names of sections, with commas between them
- * @property {string | null} only the typecode of the axioms, or null for all
- * @property {1 | 2} form
- * @property {boolean} essential
- * @property {boolean} open
+ * What is requested of a report: each field is the option of this name.
+ * @typedef {Required<import("../../packages/files/index.js").Request>} Request
  */
 
 /**

@@ -1,0 +1,48 @@
+"""The completions of fish."""
+
+from query.commands import names, summaries
+from tables.options import Option, first_words, options_of
+from tables.parts import MADE, in_shell
+from tables.words import Words, sentence
+
+
+def named(option: Option) -> str:
+    """An option by its names."""
+    return " ".join(
+        f"-l {word[2:]}" if word.startswith("--") else f"-s {word[1:]}" for word in option.words
+    )
+
+
+def of_mmdepend(options: dict[Option, Words]) -> list[str]:
+    """The options of `mmdepend`."""
+    lines = []
+    for option, words in options.items():
+        offered = " ".join(option.offered())
+        value = f" -x -a '{offered}'" if offered else " -r -F" if option.value else ""
+        value = f" -x -a '(__fish_append , {offered})'" if option.is_list else value
+        value = f' -x -a "{words.typed}"' if words.typed else value
+        about = in_shell(sentence(words.short))
+        lines.append(f"complete -c mmdepend {named(option)}{value} -d {about}")
+    return lines
+
+
+def of_mmquery() -> list[str]:
+    """The whole completion of `mmquery`."""
+    lines = [
+        f"# {MADE}; change the commands instead.",
+        "# Completes the commands and options of mmquery, in fish. Put this file into",
+        "# ~/.config/fish/completions.",
+        "",
+    ]
+    for name, about in summaries().items():
+        start = f"complete -c mmquery -n __fish_use_subcommand -a {name}"
+        lines.append(f"{start} -d {in_shell(about)}")
+    for name in names():
+        start = f"complete -c mmquery -n '__fish_seen_subcommand_from {name}'"
+        for option in options_of(name):
+            value = f" -x -a '{' '.join(option.choices)}'" if option.choices else " -r"
+            value = value if option.value else ""
+            lines.append(f"{start} {named(option)}{value} -d {in_shell(option.about)}")
+        if first_words(name):
+            lines.append(f"{start} -a '{' '.join(first_words(name))}'")
+    return lines
