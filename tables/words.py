@@ -99,7 +99,8 @@ MMQUERY = {
     "only": "The axioms are those of typecode *{value}*. Without this and `--all`, they are those "
     "of typecode `|-`: logical axioms and definitions.",
     "essential": "Only the logical part of proofs cites, not what builds its formulas.",
-    "under": "List only what stands below the header *{value}*, as `chapters` numbers it.",
+    "under": "List only what stands below the header of the number or title *{value}*, as "
+    "`chapters` lists them.",
     "format": "`text` (the default), or `tsv`, `csv`, `json` with the names of the columns. In "
     "`csv` a field that a spreadsheet would take for a formula has a `'` before it, and so has one "
     "that begins with `'`.",

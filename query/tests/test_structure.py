@@ -92,6 +92,12 @@ class Structure(World):
         rows = self.rows("chapters", "db.mm", "ax-2", "ax-1")
         self.assertEqual(left, [row for row in rows if row[3] != "0"])
         self.assertEqual(len(left), 6)
+        self.refuses(
+            "chapters", "--open", "db.mm", "one", why="has no axiom of typecode '|-' 'one'"
+        )
+        self.refuses("chapters", "db.mm", why="E32")
+
+    def test_chapters_by_one_of_several_axioms(self) -> None:
         both = self.rows("chapters", "db.mm", "ax-2", "ax-1", "--any")
         self.assertEqual(
             [[row[0], *row[2:5]] for row in both],
@@ -104,10 +110,6 @@ class Structure(World):
             ],
         )
         self.refuses("chapters", "--open", "db.mm", "--any", why="--any wants an AXIOM")
-        self.refuses(
-            "chapters", "--open", "db.mm", "one", why="has no axiom of typecode '|-' 'one'"
-        )
-        self.refuses("chapters", "db.mm", why="E32")
 
     def test_order(self) -> None:
         self.assertEqual(
