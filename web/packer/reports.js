@@ -1,6 +1,6 @@
 // Reads the report that the program's core writes, with the matrix in form 2 and the citations, beside the text it is
-// of. Nothing of it is believed alone: it says the same in two ways, which have to agree, and each label has to be
-// found in the text where it belongs.
+// of. Its bytes are proved, so marks and citations aren't compared with one another. Still a line that hasn't its form,
+// or whose label isn't that of the text, is never taken for an answer.
 
 import { Kind } from "./assertions.js";
 import { columnsIn, lowestOf } from "./bits.js";
@@ -277,26 +277,6 @@ class Reader {
         found.starts = starts.taken();
         found.cited = cited.taken();
     }
-
-    /** Sees that marks and citations agree: a theorem is marked where what it cites is the axiom or is marked. */
-    checkMarks() {
-        const { words, bits, starts, cited, theorems, rowOf, columnOf } = this.found;
-        const row = new Uint32Array(words);
-        /** Up to which number of 32 bits each row has marks: what is cited stands mostly far above. */
-        const reach = new Uint32Array(theorems.length);
-        for (let number = 0; number < theorems.length; number++) {
-            row.fill(0);
-            for (let index = starts[number]; index < starts[number + 1]; index++) {
-                const column = columnOf[cited[index]];
-                const other = rowOf[cited[index]];
-                if (column >= 0) row[column >>> 5] |= 1 << (column & 31);
-                else if (other >= 0) addMarks(row, bits, other * words, reach[other]);
-            }
-            if (!areMarks(row, bits, number * words)) throw new OddReport("marks and citations don't agree");
-            reach[number] = words;
-            while (reach[number] > 0 && row[reach[number] - 1] === 0) reach[number]--;
-        }
-    }
 }
 
 /**
@@ -318,28 +298,6 @@ function withColumns(found, isKept) {
         }
     }
     return made;
-}
-
-/**
- * Adds the marks of a row that begins at a place.
- * @param {Uint32Array} row
- * @param {Uint32Array} bits
- * @param {number} start
- * @param {number} size how many numbers of it have marks
- */
-function addMarks(row, bits, start, size) {
-    for (let word = 0; word < size; word++) row[word] |= bits[start + word];
-}
-
-/**
- * Whether the row that begins at a place has these marks.
- * @param {Uint32Array} row
- * @param {Uint32Array} bits
- * @param {number} start
- */
-function areMarks(row, bits, start) {
-    for (let word = 0; word < row.length; word++) if (row[word] !== bits[start + word]) return false;
-    return true;
 }
 
 /** Of each byte the four bits of its digit, the first column the lowest; 16 where it's none. */
@@ -378,7 +336,7 @@ function readDigits(report, place, digits, bits, start) {
 }
 
 /**
- * What each theorem of a text cites. The marks are left out, and so nothing says that they agree.
+ * What each theorem of a text cites. The marks are left out.
  * @param {Text} text
  * @param {PageRequest} request
  * @param {Uint8Array} report
@@ -410,7 +368,6 @@ export function readReport(text, request, report) {
     lines.pass("statements");
     lines.place = text.sectionEnd;
     lines.pass("end");
-    reader.checkMarks();
     const { only } = request;
     return only === null ? reader.found : withColumns(reader.found, (axiom) => reader.typecode(axiom) === only);
 }
