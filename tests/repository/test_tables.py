@@ -104,11 +104,11 @@ class Sources(unittest.TestCase):
         text = re.sub(r"range\(\d+\.\.\d+\)", "range(2..10)", SOURCE)
         text = re.sub(r"(static \w+: \[&str; \d+\]) = .*;", r'\1 = ["a", "b"];', text)
         text = re.sub(r'(default_value)\("\w+"\)', r'\1("8")', text)
-        found = program_in(text, ("all", "one")).options
+        found = program_in(text, ("all", "three")).options
         numbers = [option for option in found if option.limits]
         self.assertEqual({option.limits for option in numbers}, {(2, 9)})
         self.assertEqual({option.offered() for option in numbers}, {("2", "4", "8")})
-        self.assertEqual([option.choices for option in found if option.is_list], [("all", "one")])
+        self.assertEqual([option.choices for option in found if option.is_list], [("all", "three")])
         chosen = {option.choices for option in found if not option.is_list and option.choices}
         self.assertEqual(chosen, {("a", "b")})
         self.assertEqual({option.default for option in found}, {None, "8"})
@@ -137,6 +137,8 @@ class Sources(unittest.TestCase):
             self.assertNotEqual(odd, SOURCE, form)
             with self.assertRaises(Unreadable, msg=form):
                 program_in(odd, ("all",))
+        with self.assertRaises(Unreadable):
+            program_in(SOURCE, ("all", "what the help doesn't name"))
 
     def test_sections(self) -> None:
         text = sources.SECTIONS.read_text("utf-8")
