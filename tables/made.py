@@ -55,12 +55,13 @@ def edits() -> Iterator[tuple[str, Edit]]:
 def made() -> dict[str, tuple[str, str]]:
     """The files that have something which is made, each with the text that it has, and with the one
     that it is to have. Unreadable where that can't be told."""
-    found: dict[str, tuple[str, str]] = {}
+    before: dict[str, str] = {}
+    after: dict[str, str] = {}
     for name, edit in edits():
-        there = found[name] if name in found else (TOP / name).read_text("utf-8")
-        before, after = there if isinstance(there, tuple) else (there, there)
+        if name not in before:
+            before[name] = after[name] = (TOP / name).read_text("utf-8")
         try:
-            found[name] = before, edit(after)
+            after[name] = edit(after[name])
         except Unreadable as why:
             raise Unreadable(f"{name}: {why}") from None
-    return found
+    return {name: (text, after[name]) for name, text in before.items()}
