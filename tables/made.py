@@ -2,7 +2,7 @@
 
 from collections.abc import Iterator
 
-from tables import bash, bits, faults, fish, manual, pages, scripts, sources, zsh
+from tables import bash, bits, faults, fish, manual, scripts, sources, zsh
 from tables.parts import Edit, part, whole, words
 from tables.sources import TOP, Unreadable
 from tables.words import described
@@ -34,11 +34,10 @@ def edits() -> Iterator[tuple[str, Edit]]:
     yield "web/node/command-line.js", part("options", scripts.of_command_line(program))
     yield "web/node/page-command.js", part("options", scripts.of_page())
     yield "packages/files/index.d.ts", part("request", scripts.of_requests(options))
-    yield "docs/PROGRAM.md", part("options", pages.of_program(options))
+    yield "docs/PROGRAM.md", part("options", manual.table(options))
     faults.see_words(codes, program.footer)
     yield "python/mmdepend.py", part("faults", faults.of_python())
     yield "docs/FAULTS.md", faults.of_page
-    yield "docs/FAULTS.md", words(r"The codes (.*?)(?= aren't used)", faults.unused(codes))
     for name in ("query/program/refusals.py", "packages/files/index.d.ts"):
         yield name, words(r"`E00`\s+to\s+`(E\d\d)", codes[-1])
     version, logic = sources.version()

@@ -86,14 +86,6 @@ class Faults(unittest.TestCase):
             with self.assertRaises(Unreadable):
                 faults.of_page(wrong)
 
-    def test_codes_that_are_not_used(self) -> None:
-        for codes, told in (
-            (["E00", "E02"], "E01"),
-            (["E01", "E05"], "E00 and E02 to E04"),
-            (["E00", "E02", "E05", "E07"], "E01, E03 to E04 and E06"),
-        ):
-            self.assertEqual(faults.unused(codes), told)
-
 
 class Sources(unittest.TestCase):
     """How sources are read."""
