@@ -8,15 +8,21 @@ from tables.words import Words
 
 def of_mmdepend(options: dict[Option, Words]) -> list[str]:
     """What is offered after each option of `mmdepend`, and the options."""
-    lines = []
-    for option, words in options.items():
-        offered = " ".join(option.offered())
-        kind = f"""list='{offered}' """ if option.is_list else f"""words='{offered}' """
-        kind = f'typed="{words.typed}" ' if words.typed else kind if offered else ""
-        if option.value:
-            lines.append(f"        --{option.name}) {kind};;")
+    lines = [
+        f"        --{option.name}) {offer(option, words)};;"
+        for option, words in options.items()
+        if option.value
+    ]
     every = " ".join(word for option in options for word in option.words)
     return [*lines, f"        *) if [[ $word == -* ]]; then words='{every}'; fi ;;"]
+
+
+def offer(option: Option, words: Words) -> str:
+    """How it is said what is offered for the value of an option; where nothing is, it is files."""
+    offered = " ".join(option.offered())
+    if words.typed:
+        return f'typed="{words.typed}" '
+    return f"{'list' if option.is_list else 'words'}='{offered}' " if offered else ""
 
 
 def choices_by_option() -> dict[str, dict[tuple[str, ...], list[str]]]:

@@ -6,10 +6,6 @@ from collections.abc import Iterator
 from tables.options import Option
 from tables.words import Words
 
-DOCUMENTED = (
-    "/** The sections of a report, each with its bit; `all` are those where none is named. */"
-)
-
 
 def of_header(bits: dict[str, int]) -> list[str]:
     """The cases of the enumeration."""
@@ -29,7 +25,7 @@ def of_python(bits: dict[str, int]) -> list[str]:
 
 def of_javascript(bits: dict[str, int], options: dict[Option, Words]) -> Iterator[str]:
     """The table by which the module for JavaScript knows them, and the request without options."""
-    yield DOCUMENTED
+    yield "/** The sections of a report, each with its bit; `all` are those where none is named. */"
     yield f"const BITS = {{ {', '.join(f'{name}: {bit}' for name, bit in bits.items())} }};"
     yield from ("/**", " * What the program is asked without options.", " * @type {Request}", " */")
     plain = [f"{option.name}: {default_of(option)}" for option in in_requests(options)]

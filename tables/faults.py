@@ -34,12 +34,3 @@ def of_page(text: str) -> str:
         raise Unreadable(f"has not one row for each code: {sorted({*found} ^ {*FAULTS})}")
     advice = {code: what.replace("|", "\\|") for code, (_, what) in FAULTS.items()}
     return ROW.sub(lambda row: f"{row[1]}{advice[row[2]]}{row[3]}", text)
-
-
-def unused(codes: list[str]) -> str:
-    """The codes below the last one that no fault has, such as `E16, E26 to E30 and E40`."""
-    used = {int(code[1:]) for code in codes}
-    free = {*range(max(used))} - used
-    first, last = (sorted(n for n in free if n + step not in free) for step in (-1, 1))
-    runs = [f"E{a:02}" if a == b else f"E{a:02} to E{b:02}" for a, b in zip(first, last)]
-    return re.sub(r", (?=[^,]*\Z)", " and ", ", ".join(runs))

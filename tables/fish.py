@@ -15,15 +15,21 @@ def named(option: Option) -> str:
 
 def of_mmdepend(options: dict[Option, Words]) -> list[str]:
     """The options of `mmdepend`."""
-    lines = []
-    for option, words in options.items():
-        offered = " ".join(option.offered())
-        value = f" -x -a '{offered}'" if offered else " -r -F" if option.value else ""
-        value = f" -x -a '(__fish_append , {offered})'" if option.is_list else value
-        value = f' -x -a "{words.typed}"' if words.typed else value
-        about = in_shell(sentence(words.short))
-        lines.append(f"complete -c mmdepend {named(option)}{value} -d {about}")
-    return lines
+    return [
+        f"complete -c mmdepend {named(option)}{value_of(option, words)} -d "
+        + in_shell(sentence(words.short))
+        for option, words in options.items()
+    ]
+
+
+def value_of(option: Option, words: Words) -> str:
+    """Whether a value follows an option of `mmdepend`, and what is offered for it."""
+    offered = " ".join(option.offered())
+    if words.typed:
+        return f' -x -a "{words.typed}"'
+    if option.is_list:
+        return f" -x -a '(__fish_append , {offered})'"
+    return f" -x -a '{offered}'" if offered else " -r -F" if option.value else ""
 
 
 def of_mmquery() -> list[str]:

@@ -2,7 +2,7 @@
 
 from collections.abc import Iterator
 
-from tables import bash, bits, faults, fish, manual, pages, scripts, sources, zsh
+from tables import bash, bits, faults, fish, manual, scripts, sources, zsh
 from tables.parts import Edit, part, whole, words
 from tables.sources import TOP, Unreadable
 from tables.words import described
@@ -34,11 +34,10 @@ def edits() -> Iterator[tuple[str, Edit]]:
     yield "web/node/command-line.js", part("options", scripts.of_command_line(program))
     yield "web/node/page-command.js", part("options", scripts.of_page())
     yield "packages/files/index.d.ts", part("request", scripts.of_requests(options))
-    yield "docs/PROGRAM.md", part("options", pages.of_program(options))
+    yield "docs/PROGRAM.md", part("options", manual.table(options))
     faults.see_words(codes, program.footer)
     yield "python/mmdepend.py", part("faults", faults.of_python())
     yield "docs/FAULTS.md", faults.of_page
-    yield "docs/FAULTS.md", words(r"The codes (.*?)(?= aren't used)", faults.unused(codes))
     for name in ("query/program/refusals.py", "packages/files/index.d.ts"):
         yield name, words(r"`E00`\s+to\s+`(E\d\d)", codes[-1])
     version, logic = sources.version()
@@ -55,12 +54,13 @@ def edits() -> Iterator[tuple[str, Edit]]:
 def made() -> dict[str, tuple[str, str]]:
     """The files that have something which is made, each with the text that it has, and with the one
     that it is to have. Unreadable where that can't be told."""
-    found: dict[str, tuple[str, str]] = {}
+    before: dict[str, str] = {}
+    after: dict[str, str] = {}
     for name, edit in edits():
-        there = found[name] if name in found else (TOP / name).read_text("utf-8")
-        before, after = there if isinstance(there, tuple) else (there, there)
+        if name not in before:
+            before[name] = after[name] = (TOP / name).read_text("utf-8")
         try:
-            found[name] = before, edit(after)
+            after[name] = edit(after[name])
         except Unreadable as why:
             raise Unreadable(f"{name}: {why}") from None
-    return found
+    return {name: (text, after[name]) for name, text in before.items()}

@@ -1,4 +1,4 @@
-"""The manual pages: synopsis, commands and options."""
+"""The manual pages: synopsis, commands and options; and the options as docs/PROGRAM.md has them."""
 
 import re
 from collections.abc import Iterator
@@ -57,6 +57,16 @@ def options_of_mmdepend(options: dict[Option, Words]) -> Iterator[str]:
         yield ".TP"
         yield head(option)
         yield from lines_of(f"{words.text} {words.more}")
+
+
+def table(options: dict[Option, Words]) -> Iterator[str]:
+    """The options of `mmdepend` as a table of Markdown."""
+    yield from ("| Option | What it does |", "|---|---|")
+    for option, words in options.items():
+        value = f" {option.value}" if option.value else ""
+        named = ", ".join(f"`{word}{value}`" for word in option.words)
+        told = re.sub(r"\*([^*]*)\*", r"\1", words.text)
+        yield "| {} | {} |".format(named, told.replace("|", "\\|"))
 
 
 def commands() -> Iterator[str]:

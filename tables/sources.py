@@ -87,9 +87,12 @@ class Builder:
         )
         if (found["action"] == "ArgAction::SetTrue") is not (value is None):
             raise Unreadable(f"--{found['long']} has a value without a name, or a name alone")
+        about = literal(found["help"])
+        if taken == "texts" and not all(name in about for name in lists[taken]):
+            raise Unreadable(f"--{found['long']} takes other names than its help says")
         return Option(
             (f"--{literal(found['long'])}",),
-            literal(found["help"]),
+            about,
             value,
             lists.get(taken, ()),
             (int(limits[1]), int(limits[2]) - 1) if limits else None,

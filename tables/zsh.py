@@ -15,17 +15,21 @@ def of_mmdepend(options: dict[Option, Words]) -> list[str]:
 def argument(option: Option, words: Words) -> str:
     """An option of `mmdepend` in the form of `_arguments`."""
     if len(option.words) > 1:
-        return f"'(- *)'{{{','.join(option.words)}}}'[{words.short}]'"
+        return f"'(- *)'{{{','.join(option.words)}}}" + in_shell(f"[{words.short}]")
     if option.value is None:
-        return f"'--{option.name}[{words.short}]'"
-    called = "number from {} to {}".format(*option.limits) if option.limits else words.kind
+        return in_shell(f"--{option.name}[{words.short}]")
+    kind = "number from {} to {}".format(*option.limits) if option.limits else words.kind
+    return in_shell(f"--{option.name}=[{words.short}]:{kind}:{values_of(option, words)}")
+
+
+def values_of(option: Option, words: Words) -> str:
+    """What is offered for the value of an option of `mmdepend`."""
     offered = " ".join(option.offered())
-    values = f"({offered})" if offered else "_files"
-    values = f"_sequence compadd - {offered}" if option.is_list else values
-    values = (
-        f"({words.typed.strip(chr(39)).replace('|', chr(92) + '|')})" if words.typed else values
-    )
-    return f"'--{option.name}=[{words.short}]:{called}:{values}'"
+    if words.typed:
+        return "({})".format(words.typed.strip("'").replace("|", "\\|"))
+    if option.is_list:
+        return f"_sequence compadd - {offered}"
+    return f"({offered})" if offered else "_files"
 
 
 def option_in_zsh(option: Option) -> str:

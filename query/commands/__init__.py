@@ -1,6 +1,7 @@
 """The commands. Each module has the list `COMMANDS`; `INDEX` says which command is in which.
 
 To add a command, add its name, module and summary here and the `Command` to the list there.
+`python3 -m tables` writes it into the manual page and the completions.
 
 It imports `answers`, `platform`, `texts`, `citations`, `git`, `program`, `reports`, `proofs`,
 `formulas`, `definitions`, `spare`, `comparisons`, `gate`, `exports` and `arguments`.

@@ -86,14 +86,6 @@ class Faults(unittest.TestCase):
             with self.assertRaises(Unreadable):
                 faults.of_page(wrong)
 
-    def test_codes_that_are_not_used(self) -> None:
-        for codes, told in (
-            (["E00", "E02"], "E01"),
-            (["E01", "E05"], "E00 and E02 to E04"),
-            (["E00", "E02", "E05", "E07"], "E01, E03 to E04 and E06"),
-        ):
-            self.assertEqual(faults.unused(codes), told)
-
 
 class Sources(unittest.TestCase):
     """How sources are read."""
@@ -104,11 +96,11 @@ class Sources(unittest.TestCase):
         text = re.sub(r"range\(\d+\.\.\d+\)", "range(2..10)", SOURCE)
         text = re.sub(r"(static \w+: \[&str; \d+\]) = .*;", r'\1 = ["a", "b"];', text)
         text = re.sub(r'(default_value)\("\w+"\)', r'\1("8")', text)
-        found = program_in(text, ("all", "one")).options
+        found = program_in(text, ("all", "three")).options
         numbers = [option for option in found if option.limits]
         self.assertEqual({option.limits for option in numbers}, {(2, 9)})
         self.assertEqual({option.offered() for option in numbers}, {("2", "4", "8")})
-        self.assertEqual([option.choices for option in found if option.is_list], [("all", "one")])
+        self.assertEqual([option.choices for option in found if option.is_list], [("all", "three")])
         chosen = {option.choices for option in found if not option.is_list and option.choices}
         self.assertEqual(chosen, {("a", "b")})
         self.assertEqual({option.default for option in found}, {None, "8"})
@@ -137,6 +129,8 @@ class Sources(unittest.TestCase):
             self.assertNotEqual(odd, SOURCE, form)
             with self.assertRaises(Unreadable, msg=form):
                 program_in(odd, ("all",))
+        with self.assertRaises(Unreadable):
+            program_in(SOURCE, ("all", "what the help doesn't name"))
 
     def test_sections(self) -> None:
         text = sources.SECTIONS.read_text("utf-8")
