@@ -8,13 +8,15 @@ from query.arguments.options import Parser, add_database, add_open
 from query.commands import Command
 from query.formulas.search import Searcher, pattern_of
 from query.reports.choice import Options
+from query.texts.text import Text
 
 PAGE = """
 Lists in file order the formulas that have each PATTERN: symbols as they are typed, of a whole
 formula or of a part. A constant stands for itself. A variable stands for anything that may be put
 in its place, the same wherever it stands: `A ~~ B ->` finds `( ( A u. B ) ~~ C -> ph )`. In double
 quotes, as in '"A ~~ B ->"', a variable stands for itself, too. One that begins with - goes behind
---, after which nothing is an option.
+--, after which nothing is an option. Where no formula has a PATTERN with one ->, standard error
+says how many have both its sides.
 
 With --given PATTERN only those of statements that have a $e with that pattern too; with several, a
 $e for each. In all patterns together a variable stands for the same.
@@ -54,13 +56,30 @@ def run(context: Context, arguments: argparse.Namespace) -> int:
     rows: list[list[Value]] = []
     for hit in searcher.hits(patterns, given):
         rows.append([hit.one.label, hit.given, hit.formula])
-    why = f"{database.name}: no formula has that"
     remarks = {
         told: [label for label, _ in places]
         for told, places in ((UNREAD, searcher.unread), (GIVEN_UP, searcher.given_up))
     }
+    why = f"{database.name}: no formula has that"
+    if not rows and not given:
+        why += apart(searcher, text, database.name, arguments.patterns)
     context.table(COLUMNS, rows, why, remarks=remarks)
     return 0
+
+
+def apart(searcher: Searcher, text: Text, name: str, words: list[str]) -> str:
+    """How many formulas have both sides of an arrow, wherever they stand, as the end of a sentence.
+    So what is stated by another arrow is found. "" where none has, or there aren't two sides."""
+    symbols = words[0].split()
+    if len(words) > 1 or symbols.count("->") != 1 or '"' in words[0]:
+        return ""
+    place = symbols.index("->")
+    if place in (0, len(symbols) - 1):
+        return ""
+    both = [" ".join(part) for part in (symbols[:place], symbols[place + 1 :])]
+    count = sum(1 for _ in searcher.hits([pattern_of(text, name, each) for each in both]))
+    have = "formulas have" if count > 1 else "formula has"
+    return f"; {count} {have} {' and '.join(map(repr, both))}, as two PATTERNs" if count else ""
 
 
 COMMANDS = [Command("search", PAGE, configure, run, lists=True)]

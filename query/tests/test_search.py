@@ -210,6 +210,23 @@ class Searched(World):
         self.write("report", self.report("small.mm"))
         self.refuses("search", "report", "p")
 
+    def test_the_sides_of_an_arrow(self) -> None:
+        """Where nothing has a pattern with one arrow, it is said how many have both its sides."""
+        lines = "b1 $a |- ( Foo <-> Q x ) $. b2 $a |- ( ( Foo -> Q x ) <-> R x y ) $.\n"
+        self.write("db.mm", BASE + lines)
+        for pattern, said in (
+            ("R x y -> Q x", "; 1 formula has 'R x y' and 'Q x', as two PATTERNs"),
+            ("Q x -> Foo", "; 2 formulas have 'Q x' and 'Foo', as two PATTERNs"),
+            ("Q x -> A. x Foo", ""),
+            ("R x y ->", ""),
+            ("Q x -> Foo -> ph", ""),
+            ('"Q x -> Foo"', ""),
+        ):
+            done = self.query("search", "--like=b*", "--", "db.mm", pattern)
+            self.assertEqual((done.status, done.out), (0, ""), pattern)
+            self.assertEqual(done.err, f"mmquery: db.mm: no formula has that{said}\n", pattern)
+        self.assertEqual(self.found("--like=b*", "db.mm", "Foo -> Q x"), [("b2", None)])
+
     def test_what_is_not_read(self) -> None:
         """Of a formula without a tree only variables are parts."""
         self.write("db.mm", SMALL + "odd $a |- ( p q $.\n")
