@@ -7,9 +7,13 @@
 -- (`AddLaw.antt`) adds a lawful statement, `declared_names_are_symbol_names` and
 -- `formulas_with_statement` (`NumberedLaw.antt`) its symbols. `is_read_to_with_statement`
 -- (`ReadLaw.antt`) goes on; `read_unlawful`, `read_stopped` and `read_ended` end in `IsRead`.
+-- `found_at_other_depth` (`DepthLaw.antt`) says that a statement is found however many blocks are
+-- open, if the block is open that it closes. So the statements of a stretch that is read by itself
+-- are those that are read behind the stretches before it (`StretchesLaw.antt`).
 pub mod AddLaw
 pub mod BoundsLaw
 pub mod DeclaredLaw
+pub mod DepthLaw
 pub mod JudgeLaw
 pub mod WordEntryLaw
 pub mod KnowsLaw
@@ -19,4 +23,5 @@ pub mod NumberedLaw
 pub mod OpenLaw
 pub mod OutlinesLaw
 pub mod ReadLaw
+pub mod StretchesLaw
 pub mod TypedLaw

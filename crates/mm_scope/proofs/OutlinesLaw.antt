@@ -21,7 +21,7 @@ from_element (x ∷ xs) (suc i) default i_lt_length =
     rw next (from_element xs i default (omega (arith, i_lt_length)))
 
 -- behind all elements is none
-none_left : {A : Type 0} (xs : List A) (i : ℕ) → length xs ≤ i → drop i xs ≡ []
+pub none_left : {A : Type 0} (xs : List A) (i : ℕ) → length xs ≤ i → drop i xs ≡ []
 none_left [] zero all_before = refl
 none_left [] (suc i) all_before = refl
 none_left (x ∷ xs) zero all_before = absurd (omega (arith, all_before))

@@ -4,3 +4,4 @@ pub mod Knows
 pub mod Scopes
 pub mod WordEntry
 pub mod Outlines
+pub mod Stretches

@@ -1,5 +1,5 @@
 -- Where the statements of a text are, by their shapes alone.
-use Rattle.std.specs.Prelude.{ℕ, ◌+◌, List, [], ◌∷◌}
+use Rattle.std.specs.Prelude.{◌≡◌, ℕ, ◌+◌, ◌≤◌, List, [], ◌∷◌, length}
 use Rattle.mm_spec.specs.declared.Word.{Word}
 use Rattle.mm_outline.specs.Parts.{depth_after}
 use Rattle.mm_outline.specs.NextStatement.{IsNextStatement}
@@ -7,6 +7,7 @@ use Rattle.mm_outline.specs.declared.parts.Outline.{Outline}
 use Rattle.mm_outline.specs.declared.parts.NextStatement.TheVariants.{Whole}
 use Rattle.mm_outline.specs.declared.parts.NextStatement.TheVariants.{Stopped as StoppedNext}
 use Rattle.mm_outline.specs.declared.parts.NextStatement.TheVariants.{Ended as EndedNext}
+use Rattle.mm_scope.specs.declared.outlines.OutlinesBefore.{OutlinesBefore}
 use Rattle.mm_scope.specs.declared.outlines.Rest.{Rest}
 use Rattle.mm_scope.specs.declared.outlines.Rest.TheVariants.{Stopped, Ended}
 
@@ -22,3 +23,18 @@ AreOutlinesFrom text ws d from [] rest = IsRest text ws d from rest
 AreOutlinesFrom text ws d from (o ∷ os) rest =
     IsNextStatement text ws d from (Whole o)
     × AreOutlinesFrom text ws (depth_after o.kind d) (o.end + 1) os rest
+
+-- the statements that are found one after the other from the token `from` on, where d blocks are
+-- open, up to the token `to`, where e blocks are open
+abbrev pub AreOutlinesBetween : List ℕ → List Word → ℕ → ℕ → List Outline → ℕ → ℕ → Type 0
+AreOutlinesBetween text ws d from [] e to = (d ≡ e) × (from ≡ to)
+AreOutlinesBetween text ws d from (o ∷ os) e to =
+    IsNextStatement text ws d from (Whole o)
+    × AreOutlinesBetween text ws (depth_after o.kind d) (o.end + 1) os e to
+
+module _ {A : Type 0} where
+  -- these are the statements before a token
+  pub record AreOutlinesBefore (text : List ℕ) (ws : List Word) (b : OutlinesBefore A) : Type 0
+    where
+      pub index_le_count : b.token_index ≤ length ws
+      pub are_found : AreOutlinesBetween text ws 0 0 b.outlines.items b.depth b.token_index

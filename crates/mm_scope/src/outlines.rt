@@ -3,7 +3,7 @@
 ghost use Rattle.std.specs.Prelude.{◌≡◌, ◌<◌, ◌^◌, IfOk, length};
 ghost use Rattle.mm_outline.specs.Parts.{depth_after};
 ghost use Rattle.mm_outline.specs.Tokens.{AreTokens};
-ghost use Rattle.mm_scope.specs.Outlines.{AreOutlinesFrom};
+ghost use Rattle.mm_scope.specs.Outlines.{AreOutlinesBefore, AreOutlinesFrom};
 
 use mm_outline::parts::{Kind, NextStatement, Outline, Part, next_statement};
 use mm_spec::{Fault, Word};
@@ -30,6 +30,15 @@ pub(crate) fn depth_after(kind: Kind, depth: u32) -> u32
     }
 }
 
+/// The outlines of the statements before a token, lawful or not.
+#[derive(Drop)]
+pub(crate) struct OutlinesBefore<A: Allocator> {
+    pub(crate) outlines: Vec<Outline, A>,
+    /// How many blocks are open there.
+    pub(crate) depth: u32,
+    pub(crate) token_index: u32,
+}
+
 /// Returns the outlines of the statements of a text, lawful or not, up to the first that isn't
 /// well-formed, and what is found there.
 pub fn outlines_of<A: Allocator + Copy>(
@@ -41,9 +50,30 @@ pub fn outlines_of<A: Allocator + Copy>(
     requires few_tokens { length tokens.now < 2 ^ 31 }
     ensures { IfOk result (λ r. AreOutlinesFrom text.now tokens.now 0 0 r.0.items r.1) }
 {
-    let mut outlines = Vec::new(alloc);
-    let mut depth = 0;
-    let mut token_index = 0;
+    let none = OutlinesBefore {
+        outlines: Vec::new(alloc),
+        depth: 0,
+        token_index: 0,
+    };
+    outlines_onward(text, tokens, none)
+}
+
+/// The same, but the statements before a token have been found already.
+pub(crate) fn outlines_onward<A: Allocator>(
+    text: &[u8],
+    tokens: &[Word],
+    before: OutlinesBefore<A>,
+) -> Result<(Vec<Outline, A>, Rest), AllocError>
+    requires are_tokens { AreTokens text.now tokens.now }
+    requires few_tokens { length tokens.now < 2 ^ 31 }
+    requires are_before { AreOutlinesBefore text.now tokens.now before }
+    ensures { IfOk result (λ r. AreOutlinesFrom text.now tokens.now 0 0 r.0.items r.1) }
+{
+    let OutlinesBefore {
+        mut outlines,
+        mut depth,
+        mut token_index,
+    } = before;
     'statements: loop {
         match next_statement(text, tokens, depth, token_index) {
             NextStatement::Whole(outline) => {

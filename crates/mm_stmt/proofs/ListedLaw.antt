@@ -1,6 +1,7 @@
 -- What the reading of a text's statements needs of its tokens, and what it gives.
-use Rattle.std.proofs.Common.{◌≡◌, ◌<◌, ◌^◌, ◌∙◌, ℕ, List, All, None, sym, subst, length, take, arith}
-use Rattle.std.proofs.Common.{Option}
+use Rattle.std.proofs.Common.{◌≡◌, ◌<◌, ◌≤◌, ◌^◌, ◌∙◌, ℕ, List, All, None, sym, subst, length}
+use Rattle.std.proofs.Common.{take, arith, Option}
+use Rattle.std.specs.List.{AllPairs}
 use Rattle.std.proofs.lemmas.List.Elements.{All-take}
 use Rattle.mm_spec.specs.Lexed.{tokens_of, lexical_fault}
 use Rattle.mm_spec.specs.declared.Fault.{Fault}
@@ -9,7 +10,7 @@ use Rattle.mm_outline.specs.Parts.{AreWithin, IsOutline}
 use Rattle.mm_outline.specs.Tokens.{AreTokens}
 use Rattle.mm_outline.specs.declared.parts.Outline.{Outline}
 use Rattle.mm_outline.proofs.TokensLaw.{tokens_are_in_text, tokens_are_told_by_first_byte}
-use Rattle.mm_outline.proofs.TokensLaw.{tokens_lt_2_31, faultless_text_fits_limit}
+use Rattle.mm_outline.proofs.TokensLaw.{tokens_lt_2_31, tokens_rise, faultless_text_fits_limit}
 use Rattle.mm_scope.specs.Outlines.{AreOutlinesFrom}
 use Rattle.mm_scope.specs.declared.outlines.Rest.{Rest}
 use Rattle.mm_scope.proofs.OutlinesLaw.{outlines_are_within, outlines_le_tokens}
@@ -21,6 +22,11 @@ module _ (text : List ℕ) (ws : List Word) (words_are_tokens : ws ≡ tokens_of
   pub words_are_told : AreTokens text ws
   words_are_told =
       subst (AreTokens text) (sym words_are_tokens) (tokens_are_told_by_first_byte text)
+
+  pub words_rise : AllPairs (λ v w. v.end ≤ w.start) ws
+  words_rise =
+      subst (λ (us : List Word). AllPairs (λ v w. v.end ≤ w.start) us) (sym words_are_tokens)
+      (tokens_rise text)
 
   pub few_words : length ws < 2 ^ 31
   few_words =

@@ -12,6 +12,7 @@ use mm_lists::Lists;
 use mm_outline::parts::Outline;
 use mm_scope::outlines::outlines_of;
 use mm_scope::reading::{Outlined, read_outlines};
+use mm_scope::stretches::outlines_in_stretches;
 use mm_spec::{Fault, Word};
 use std::alloc::{AllocError, Allocator};
 use std::thread::{self, Threads};
@@ -60,7 +61,8 @@ pub(crate) fn read_listed_alone<'a, A: Allocator + Copy>(
     Ok((outlined, listed))
 }
 
-/// The same, but another thread lists the statements meanwhile. It lists them all. Where one isn't
+/// The same, but as many threads as there are workers find where the statements are. Then another
+/// thread lists the statements while this one judges them. It lists them all. Where one isn't
 /// lawful, those before it are listed again.
 pub(crate) fn read_listed<'a, R: Threads + Sync, A: Allocator + Copy + Send + Sync>(
     rt: &R,
@@ -69,12 +71,14 @@ pub(crate) fn read_listed<'a, R: Threads + Sync, A: Allocator + Copy + Send + Sy
     tokens: &[Word],
     fault: Option<Fault>,
     with_open: bool,
+    workers: u32,
 ) -> Result<(Outlined<'a, A>, Listed<A>), AllocError>
     requires are_tokens { tokens.now ≡ tokens_of text.now }
     requires fault_is { fault ≡ lexical_fault text.now }
+    requires some_workers { 0 < workers }
     ensures { IfOk result (λ r. IsReadWith text.now tokens.now with_open r.0 r.1) }
 {
-    let (outlines, rest) = outlines_of(alloc, text, tokens)?;
+    let (outlines, rest) = outlines_in_stretches(rt, alloc, text, tokens, workers)?;
     let all = outlines.as_slice();
     let (listed, outlined) = thread::join(
         rt,

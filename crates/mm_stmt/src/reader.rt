@@ -62,9 +62,9 @@ pub fn read_alone<'a, A: Allocator + Copy>(
     Ok(database_of(text, with_open, unframed, frame_tables))
 }
 
-/// The same as [`read_alone`], but one thread lists the statements while another one reads them, and
-/// the frames are made by as many threads as there are workers. With one worker no thread is
-/// started.
+/// The same as [`read_alone`], but as many threads as there are workers find where the statements
+/// are, and later make the frames. In between one thread lists the statements while another one
+/// judges them. With one worker no thread is started.
 pub fn read_owned<'a, R: Threads + Sync, A: Allocator + Copy + Send + Sync>(
     rt: &R,
     alloc: A,
@@ -84,7 +84,7 @@ pub fn read_owned<'a, R: Threads + Sync, A: Allocator + Copy + Send + Sync>(
         (λ database. database.statements ≡ open_as_axioms with_open database.read) }
 {
     let unframed = if workers > 1 {
-        read_statements(rt, alloc, text, lexed, with_open)?
+        read_statements(rt, alloc, text, lexed, with_open, workers)?
     } else {
         read_statements_alone(alloc, text, lexed, with_open)?
     };

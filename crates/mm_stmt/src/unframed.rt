@@ -1,6 +1,6 @@
 //! What is read of a text before its frames are made.
 
-ghost use Rattle.std.specs.Prelude.{◌≡◌, IfOk, length};
+ghost use Rattle.std.specs.Prelude.{◌≡◌, ◌<◌, IfOk, length};
 ghost use Rattle.mm_spec.specs.Lexed.{tokens_of, lexical_fault, lexed_of};
 ghost use Rattle.mm_spec.specs.Opened.{open_as_axioms};
 ghost use Rattle.mm_spec.specs.Output.{IsRead};
@@ -72,20 +72,22 @@ pub(crate) fn read_statements_alone<'a, A: Allocator + Copy>(
     unframed_of(alloc, text, tokens, with_open, outlined, listed)
 }
 
-/// Reads the statements of a text by two threads.
+/// Reads the statements of a text by as many threads as there are workers, two or more.
 pub(crate) fn read_statements<'a, R: Threads + Sync, A: Allocator + Copy + Send + Sync>(
     rt: &R,
     alloc: A,
     text: &'a [u8],
     lexed: Lexed<A>,
     with_open: bool,
+    workers: u32,
 ) -> Result<Unframed<'a, A>, AllocError>
     requires tokens_of_text { lexed.tokens.items ≡ tokens_of text.now }
     requires fault_of_text { lexed.fault ≡ lexical_fault text.now }
+    requires some_workers { 0 < workers }
     ensures { IfOk result (IsUnframed text.now with_open) }
 {
     let Lexed { tokens, fault } = lexed;
-    let (outlined, listed) = read_listed(rt, alloc, text, &tokens, fault, with_open)?;
+    let (outlined, listed) = read_listed(rt, alloc, text, &tokens, fault, with_open, workers)?;
     unframed_of(alloc, text, tokens, with_open, outlined, listed)
 }
 

@@ -4,18 +4,26 @@ use Rattle.mm_stmt.specs.Listed.{IsListed, IsReadOf}
 use Rattle.mm_spec.specs.declared.Fault.{Fault}
 use Rattle.mm_spec.specs.Output.{IsRead}
 use Rattle.mm_outline.specs.Statements.{lexed, statements}
-use Rattle.mm_stmt.proofs.ListedLaw.{words_are_within, words_are_told, few_words, few_bytes}
+use Rattle.mm_stmt.proofs.ListedLaw.{words_are_within, words_are_told, words_rise, few_words}
+use Rattle.mm_stmt.proofs.ListedLaw.{few_bytes}
 use Rattle.mm_stmt.proofs.ListedLaw.{first_are_within, all_are_within, few_are_found}
 use Rattle.mm_stmt.proofs.listed.read_listed.Goals as goal
 use Rattle.mm_stmt.proofs.listed.read_listed.Goals.{then-len-all+in_ok-listed}
 use Rattle.mm_stmt.proofs.listed.read_listed.Goals.{else-len-all+in_ok-listed-2}
 
-pub outlines_of-requires-clause-are_tokens : goal.outlines_of-requires-clause-are_tokens
-outlines_of-requires-clause-are_tokens g c =
+pub outlines_in_stretches-requires-clause-are_tokens :
+    goal.outlines_in_stretches-requires-clause-are_tokens
+outlines_in_stretches-requires-clause-are_tokens g c κs bounds =
     words_are_told c.args.text.now c.args.tokens.now c.requires.are_tokens
 
-pub outlines_of-requires-clause-few_tokens : goal.outlines_of-requires-clause-few_tokens
-outlines_of-requires-clause-few_tokens g c =
+pub outlines_in_stretches-requires-clause-tokens_rise :
+    goal.outlines_in_stretches-requires-clause-tokens_rise
+outlines_in_stretches-requires-clause-tokens_rise g c κs bounds =
+    words_rise c.args.text.now c.args.tokens.now c.requires.are_tokens
+
+pub outlines_in_stretches-requires-clause-few_tokens :
+    goal.outlines_in_stretches-requires-clause-few_tokens
+outlines_in_stretches-requires-clause-few_tokens g c κs bounds =
     few_words c.args.text.now c.args.tokens.now c.requires.are_tokens
 
 pub join-listed-requires-after_bounds : goal.join-listed-requires-after_bounds
