@@ -23,7 +23,7 @@ complete -c mmquery -n __fish_use_subcommand -a review -d 'what a change does to
 complete -c mmquery -n __fish_use_subcommand -a history -d 'how much rested on AXIOMs in each revision, or since when T does'
 complete -c mmquery -n __fish_use_subcommand -a gate -d 'whether a pull request keeps the rules that the base'\''s mmdepend.toml sets'
 complete -c mmquery -n __fish_use_subcommand -a chapters -d 'headers, with how many theorems below each rest on axioms'
-complete -c mmquery -n __fish_use_subcommand -a proofs -d 'how long proofs are, and how deep theorems stand'
+complete -c mmquery -n __fish_use_subcommand -a proofs -d 'how long proofs are, how deep theorems stand, and who contributed them'
 complete -c mmquery -n __fish_use_subcommand -a order -d 'axioms and theorems in one list, in file order'
 complete -c mmquery -n __fish_use_subcommand -a unfinished -d 'theorems that are left open, and what rests on them'
 complete -c mmquery -n __fish_use_subcommand -a discouraged -d 'which theorems use one whose new usage is discouraged'

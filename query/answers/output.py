@@ -21,8 +21,9 @@ Value = str | int | float | bool | None | list[str]
 RUNNING = re.compile(r"[\s\x00-\x1f]*[=+\-@\uff1d\uff0b\uff0d\uff20']|[\t\r\n]")
 QUOTED = re.compile(r"[,\"\r\n]|\A\s|\s\Z")
 WIDEST = 200
-"""Columns of a table as text are so wide at the most. One long label doesn't make all lines
-long."""
+WIDEST_LISTS = 40
+"""Columns of a table as text are so wide at the most, and those of lists. One long label or list
+doesn't make all lines long."""
 
 
 def _text_field(value: Value) -> str:
@@ -56,7 +57,8 @@ def _aligned(columns: Sequence[str], rows: Sequence[Sequence[Value]]) -> str:
     for name, column in zip(columns, zip(*rows, strict=True)):
         words.append([name, *map(_text_field, column)])
         is_right = all(isinstance(value, (int, float)) or value is None for value in column)
-        width = min(max(map(len, words[-1])), WIDEST)
+        has_lists = any(isinstance(value, list) for value in column)
+        width = min(max(map(len, words[-1])), WIDEST_LISTS if has_lists else WIDEST)
         forms.append(f"{{:{'>' if is_right else '<'}{width}}}")
     form = "  ".join(forms)
     return "".join(form.format(*line).rstrip() + "\n" for line in zip(*words))

@@ -12,6 +12,7 @@ from query.reports.choice import Options
 
 Given = tuple[argparse.Action, list[str]]
 """An argument with the words that are given for it."""
+NEAR_OPTION = 0.6  # by difflib's ratio, at least
 SHARES: dict[int | str | None, str] = {None: "(.)", "+": "(.+)", "*": "(.*)", "?": "(.?)"}
 """How many words an argument takes, as a pattern that has a sign for each."""
 
@@ -80,7 +81,7 @@ class Parser(argparse.ArgumentParser):
         name, sign, value = word.partition("=")
         action = self.options().get(name)
         if action is None:
-            raise NoAnswer(shown(f"there is no option {name}{nearest(name, self.options())}"))
+            raise NoAnswer(shown(f"there is no option {name}{self.instead_of(name)}"))
         most = 0 if action.nargs == 0 else 1
         values = [value] if sign else list(islice(left, most))
         if len(values) > most:
@@ -88,6 +89,18 @@ class Parser(argparse.ArgumentParser):
         if len(values) < most:
             raise NoAnswer(f"the option {name} lacks its value")
         return action, values
+
+    def instead_of(self, name: str) -> str:
+        """What may be meant by an option that there isn't, as the end of a sentence: a word that
+        stands without an option, or the nearest option, by what is behind its dashes."""
+        bare = name.lstrip("-")
+        for action in self.actions:
+            if not action.option_strings and bare.upper() in re.findall(
+                r"\w+", str(action.metavar)
+            ):
+                return f"; {bare.upper()} stands without an option"
+        known = [each[2:] for each in self.options() if each.startswith("--")]
+        return nearest(bare, known, NEAR_OPTION).replace("mean ", "mean --")
 
     def shared_out(self, plain: list[str], given: Container[argparse.Action]) -> list[Given]:
         """The plain words by what they are given for. NoAnswer where some are missing or too many,

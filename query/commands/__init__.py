@@ -63,7 +63,7 @@ INDEX: dict[str, tuple[str, str]] = {
     "history": ("history", "how much rested on AXIOMs in each revision, or since when T does"),
     "gate": ("gate", "whether a pull request keeps the rules that the base's mmdepend.toml sets"),
     "chapters": ("structure", "headers, with how many theorems below each rest on axioms"),
-    "proofs": ("proofs", "how long proofs are, and how deep theorems stand"),
+    "proofs": ("proofs", "how long proofs are, how deep theorems stand, and who contributed them"),
     "order": ("structure", "axioms and theorems in one list, in file order"),
     "unfinished": ("structure", "theorems that are left open, and what rests on them"),
     "discouraged": ("structure", "which theorems use one whose new usage is discouraged"),

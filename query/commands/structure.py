@@ -52,8 +52,10 @@ typecode  the first symbol of the formula
 count     of a theorem, on how many axioms it rests; of an axiom, how many theorems rest on it; none
           where it isn't among the axioms chosen
 label     which one
+header    the number of the header under which it stands, as `chapters` numbers it
 
   $ mmquery order set.mm
+  $ mmquery order set.mm --like 2p2e4
 """
 
 UNFINISHED_PAGE = """
@@ -182,8 +184,10 @@ def run_order(context: Context, arguments: argparse.Namespace) -> int:
     for one in text.assertions:
         kind = "open" if one.is_open else "axiom" if one.kind == "a" else "theorem"
         line = text.line(one.place)
-        rows.append([line, kind, one.typecode, counts.get(one.label), one.label])
-    context.out.table(["line", "kind", "typecode", "count", "label"], context.passing(rows, 4))
+        count, header = counts.get(one.label), text.chapter_number(one)
+        rows.append([line, kind, one.typecode, count, one.label, header])
+    columns = ["line", "kind", "typecode", "count", "label", "header"]
+    context.out.table(columns, context.passing(rows, columns.index("label")))
     return 0
 
 

@@ -48,6 +48,10 @@ class CommandLine(World):
         self.refuses("rests", "small.mm", "a2", "--esential", why="did you mean --essential?")
         self.refuses("rests", "--formt=json", "small.mm", "a2", why="did you mean --format?")
         self.refuses("rests", "small.mm", "a2", "--xyzzy", why="no option --xyzzy\n")
+        self.refuses("top", "small.mm", "--least", why="no option --least\n")
+        for name in ("why", "frees", "way-out"):
+            told = "no option --on; ON stands without an option"
+            self.refuses(name, "small.mm", "a2", "--on", "ax-1", why=told)
         self.refuses("rests", "small.mm", "a2", "--format", "xml", why="xml")
         self.refuses("rests", "--format=xml", why="'xml'")
         self.refuses("rests", "small.mm", "a2", "--format", why="lacks its value")

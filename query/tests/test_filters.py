@@ -69,7 +69,7 @@ class Filtered(World):
         """The theorems that the filters leave of all."""
         words = ("--open", "db.mm", *filters)
         rows = [line.split("\t") for line in self.answers("order", "--format", "tsv", *words)[1:]]
-        return [label for _, kind, _, _, label in rows if kind != "axiom"]
+        return [row[4] for row in rows if row[1] != "axiom"]
 
     def test_each(self) -> None:
         for words, left in (

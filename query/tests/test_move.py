@@ -71,9 +71,8 @@ class Moved(World):
         for seed in range(3):
             database = invented(random.Random(seed), 7)
             path = str(self.folder / self.write(f"{seed}.mm", database.text))
-            order = [line.split("\t")[-1] for line in self.answers("order", path, "--format=tsv")][
-                1:
-            ]
+            lines = self.answers("order", path, "--format=tsv")
+            order = [line.split("\t")[4] for line in lines[1:]]
             for theorem in database.theorems():
                 cited = sorted(database.cites[theorem], key=order.index)
                 [[what, label, where, line]] = asked("move", path, theorem)

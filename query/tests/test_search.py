@@ -227,6 +227,10 @@ class Searched(World):
             self.assertEqual(done.err, f"mmquery: db.mm: no formula has that{said}\n", pattern)
         self.assertEqual(self.found("--like=b*", "db.mm", "Foo -> Q x"), [("b2", None)])
 
+    def test_a_label_is_no_symbol(self) -> None:
+        self.write("db.mm", BASE + "b1 $a |- Foo $.\n")
+        self.refuses("search", "db.mm", "b1", why="'b1' is a label, and a PATTERN has symbols")
+
     def test_what_is_not_read(self) -> None:
         """Of a formula without a tree only variables are parts."""
         self.write("db.mm", SMALL + "odd $a |- ( p q $.\n")

@@ -115,16 +115,16 @@ class Structure(World):
         self.assertEqual(
             self.rows("order", "db.mm"),
             [
-                ["2", "axiom", "wff", "", "wi"],
-                ["8", "axiom", "|-", "2", "ax-1"],
-                ["9", "theorem", "|-", "1", "one"],
-                ["15", "theorem", "|-", "1", "two"],
-                ["21", "axiom", "|-", "3", "ax-2"],
-                ["22", "theorem", "|-", "1", "three"],
-                ["29", "theorem", "|-", "1", "four"],
-                ["32", "theorem", "|-", "1", "five"],
-                ["33", "open", "|-", "1", "todo"],
-                ["34", "theorem", "|-", "1", "six"],
+                ["2", "axiom", "wff", "", "wi", ""],
+                ["8", "axiom", "|-", "2", "ax-1", "0.1"],
+                ["9", "theorem", "|-", "1", "one", "0.1"],
+                ["15", "theorem", "|-", "1", "two", "0.1.1"],
+                ["21", "axiom", "|-", "3", "ax-2", "0.2"],
+                ["22", "theorem", "|-", "1", "three", "0.2"],
+                ["29", "theorem", "|-", "1", "four", "0.3"],
+                ["32", "theorem", "|-", "1", "five", "0.3"],
+                ["33", "open", "|-", "1", "todo", "0.3"],
+                ["34", "theorem", "|-", "1", "six", "0.3"],
             ],
         )
 
