@@ -70,8 +70,7 @@ fn tokens_are_given_back_and_the_text_is_as_it_was(rt: HostRuntime) -> Result<()
             &heap,
             has_disjoint_variables(read_alone(&heap, &text, lexed, WITHOUT_OPEN)),
         );
-        assert_eq!(rt; local.used(), unused);
-        assert_eq!(rt; text.as_slice(), DISJOINT);
+        assert!(&rt; local.used() == unused && text.as_slice() == DISJOINT);
         if !refused {
             assert!(&rt; growth > 10);
             return Ok(());
@@ -95,7 +94,7 @@ fn pieces_are_given_back(rt: HostRuntime) -> Result<(), AllocError> {
             &heap,
             is_summary(join(&heap, FIRST_TEXT, first, second)),
         );
-        assert_eq!(rt; local.used(), unused);
+        assert!(&rt; local.used() == unused);
         if !refused {
             assert!(&rt; growth > 1);
             return Ok(());

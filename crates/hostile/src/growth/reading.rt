@@ -3,10 +3,13 @@
 ghost use Rattle.std.specs.Prelude.{◌≡◌};
 ghost use Rattle.mm_spec.specs.Lexed.{tokens_of, lexical_fault};
 
-use super::{MOST_GROWTHS, WITHOUT_OPEN, was_refused};
+use super::alone::{is_sound, judged};
+use super::proofs::is_board;
+use super::{Call, MOST_GROWTHS, WITHOUT_OPEN, is_right_without_memory, was_refused};
 use crate::heap::Refusing;
 use crate::texts::{CITED_TWICE, FIRST_TEXT};
-use mm_lex::{Cuts, Lexed, Piece, Word, join, lex, lex_piece};
+use mm_board::Board;
+use mm_lex::{Cuts, Lexed, Piece, Word, join, lex, lex_alone, lex_piece};
 use mm_stmt::{Database, read, read_owned};
 use std::alloc::{AllocError, Allocator, Global};
 use std::thread::Threads;
@@ -38,25 +41,6 @@ fn are_cuts<A: Allocator + Copy>(answer: Result<Cuts<A>, AllocError>) -> Option<
     }
 }
 
-#[test]
-fn equal_cuts_without_memory(rt: HostRuntime) {
-    let heap = Refusing::new(rt.alloc());
-    for growth in 1..MOST_GROWTHS {
-        heap.refuse(growth);
-        let refused = was_refused(
-            &rt,
-            &heap,
-            are_cuts(Cuts::equal(&heap, FIRST_TEXT.len(), 3)),
-        );
-        assert!(&rt; are_cuts(Cuts::equal(&heap, FIRST_TEXT.len(), 3)) == Some(true));
-        if !refused {
-            assert!(&rt; growth > 1);
-            return;
-        }
-    }
-    assert!(&rt; false);
-}
-
 /// Whether this is the summary of the first stretch of the first text.
 fn is_beginning<A: Allocator>(answer: Result<Piece<A>, AllocError>) -> Option<bool> {
     match answer {
@@ -70,25 +54,6 @@ fn is_beginning<A: Allocator>(answer: Result<Piece<A>, AllocError>) -> Option<bo
         ),
         Err(_) => None,
     }
-}
-
-#[test]
-fn a_piece_without_memory(rt: HostRuntime) {
-    let heap = Refusing::new(rt.alloc());
-    for growth in 1..MOST_GROWTHS {
-        heap.refuse(growth);
-        let refused = was_refused(
-            &rt,
-            &heap,
-            is_beginning(lex_piece(&heap, FIRST_TEXT, 0, CUT_AT)),
-        );
-        assert!(&rt; is_beginning(lex_piece(&heap, FIRST_TEXT, 0, CUT_AT)) == Some(true));
-        if !refused {
-            assert!(&rt; growth > 1);
-            return;
-        }
-    }
-    assert!(&rt; false);
 }
 
 /// Whether this is the summary of the first text.
@@ -106,34 +71,6 @@ pub(crate) fn is_summary<A: Allocator>(answer: Result<Piece<A>, AllocError>) -> 
     }
 }
 
-/// Reads the two parts of the first text with memory, and joins them with a growth refused. If the
-/// join fails, both parts are dropped.
-fn join_pieces(
-    heap: &Refusing<Global>,
-    growth: Option<u64>,
-) -> Result<Result<Piece<&Refusing<Global>>, AllocError>, AllocError> {
-    let first = lex_piece(heap, FIRST_TEXT, 0, CUT_AT)?;
-    let second = lex_piece(heap, FIRST_TEXT, CUT_AT, FIRST_TEXT.len())?;
-    if let Some(growth) = growth {
-        heap.refuse(growth);
-    }
-    Ok(join(heap, FIRST_TEXT, first, second))
-}
-
-#[test]
-fn pieces_joined_without_memory(rt: HostRuntime) -> Result<(), AllocError> {
-    let heap = Refusing::new(rt.alloc());
-    for growth in 1..MOST_GROWTHS {
-        let refused = was_refused(&rt, &heap, is_summary(join_pieces(&heap, Some(growth))?));
-        assert!(&rt; is_summary(join_pieces(&heap, None)?) == Some(true));
-        if !refused {
-            assert!(&rt; growth > 1);
-            return Ok(());
-        }
-    }
-    Err(AllocError)
-}
-
 /// Whether these are the tokens of the first text.
 pub(crate) fn is_lexed<A: Allocator>(answer: Result<Lexed<A>, AllocError>) -> Option<bool> {
     match answer {
@@ -147,20 +84,93 @@ pub(crate) fn is_lexed<A: Allocator>(answer: Result<Lexed<A>, AllocError>) -> Op
     }
 }
 
-#[test]
-fn lexing_without_memory(rt: HostRuntime) -> Result<(), AllocError> {
-    let heap = Refusing::new(rt.alloc());
-    let cuts = Cuts::equal(&heap, FIRST_TEXT.len(), 3)?;
-    for growth in 1..MOST_GROWTHS {
+/// Reads the two parts of the first text with memory, and joins them with a growth refused. If the
+/// join fails, both parts are dropped.
+fn join_pieces(
+    heap: &Refusing<Global>,
+    growth: u64,
+) -> Result<Result<Piece<&Refusing<Global>>, AllocError>, AllocError> {
+    let first = lex_piece(heap, FIRST_TEXT, 0, CUT_AT)?;
+    let second = lex_piece(heap, FIRST_TEXT, CUT_AT, FIRST_TEXT.len())?;
+    heap.refuse(growth);
+    Ok(join(heap, FIRST_TEXT, first, second))
+}
+
+/// Whether the pieces are joined; not so if there is no memory for the pieces themselves.
+fn are_joined(heap: &Refusing<Global>, growth: u64) -> Option<bool> {
+    match join_pieces(heap, growth) {
+        Ok(answer) => is_summary(answer),
+        Err(_) => Some(false),
+    }
+}
+
+/// A call on a text, and the one that creates a board.
+#[derive(Clone, Copy, PartialEq)]
+enum TextCall {
+    EqualCuts,
+    LexPiece,
+    Join,
+    Lex,
+    LexAlone,
+    Judge,
+    MakeBoard,
+}
+
+/// The calls, and how many growths each has at least.
+const CALLS: [(TextCall, u64, &str); 7] = [
+    (TextCall::EqualCuts, 1, "equal cuts"),
+    (TextCall::LexPiece, 1, "a piece"),
+    (TextCall::Join, 1, "pieces are joined"),
+    (TextCall::Lex, 1, "tokens"),
+    (TextCall::LexAlone, 1, "tokens on one thread"),
+    (TextCall::Judge, 20, "a text is judged"),
+    (TextCall::MakeBoard, 1, "a board"),
+];
+
+/// Such a call with what it is given.
+#[derive(Drop)]
+struct OnText<'c, 'h, R> {
+    rt: &'c R,
+    heap: &'h Refusing<Global>,
+    cuts: &'c Cuts<&'h Refusing<Global>>,
+    call: TextCall,
+}
+
+impl<R: Threads + Sync> Call for OnText<'_, '_, R> {
+    fn answer(&self, growth: u64) -> Option<bool> {
+        let heap = self.heap;
+        if self.call == TextCall::Join {
+            return are_joined(heap, growth);
+        }
         heap.refuse(growth);
-        let refused = was_refused(&rt, &heap, is_lexed(lex(&rt, &heap, FIRST_TEXT, &cuts)));
-        assert!(&rt; is_lexed(lex(&rt, &heap, FIRST_TEXT, &cuts)) == Some(true));
-        if !refused {
-            assert!(&rt; growth > 1);
-            return Ok(());
+        match self.call {
+            TextCall::EqualCuts => are_cuts(Cuts::equal(heap, FIRST_TEXT.len(), 3)),
+            TextCall::LexPiece => is_beginning(lex_piece(heap, FIRST_TEXT, 0, CUT_AT)),
+            TextCall::Lex if self.cuts.text_len() == FIRST_TEXT.len() => {
+                is_lexed(lex(self.rt, heap, FIRST_TEXT, self.cuts))
+            }
+            TextCall::LexAlone => is_lexed(lex_alone(heap, FIRST_TEXT)),
+            TextCall::Judge => is_sound(judged(heap, CITED_TWICE)),
+            TextCall::MakeBoard => is_board(Board::new(heap, 3)),
+            _ => Some(false),
         }
     }
-    Err(AllocError)
+}
+
+#[test]
+fn calls_on_texts_without_memory(rt: HostRuntime) -> Result<(), AllocError> {
+    let heap = Refusing::new(rt.alloc());
+    let cuts = Cuts::equal(&heap, FIRST_TEXT.len(), 3)?;
+    for (call, least, what) in CALLS {
+        let call = OnText {
+            rt: &rt,
+            heap: &heap,
+            cuts: &cuts,
+            call,
+        };
+        assert!(&rt; is_right_without_memory(&rt, &heap, &call, least), "{what}");
+    }
+    Ok(())
 }
 
 /// Whether this is the database of the text with two theorems.
@@ -190,9 +200,11 @@ fn statements_without_memory(rt: HostRuntime) -> Result<(), AllocError> {
             &heap,
             is_read(read(&heap, CITED_TWICE, &lexed, WITHOUT_OPEN)),
         );
-        assert!(&rt; lexed.tokens.as_slice() == tokens.as_slice());
-        assert!(&rt; lexed.fault.is_none());
-        assert!(&rt; is_read(read(&heap, CITED_TWICE, &lexed, WITHOUT_OPEN)) == Some(true));
+        assert!(&rt;
+            lexed.tokens.as_slice() == tokens.as_slice()
+                && lexed.fault.is_none()
+                && is_read(read(&heap, CITED_TWICE, &lexed, WITHOUT_OPEN)) == Some(true)
+        );
         if !refused {
             assert!(&rt; growth > 10);
             return Ok(());
