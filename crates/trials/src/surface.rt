@@ -255,18 +255,26 @@ fn citations_of<R: Threads + Wait + Sync>(
     }
 }
 
+/// Whether the theorems of the text cite this, in this wave.
+fn are_citations_right(alloc: Global, citations: &Citations<Global>) -> bool {
+    let are_right = citations.rows() == 1
+        && citations.theorem(0) == WI2
+        && citations.of(0) == [WI].as_slice();
+    match waves(alloc, citations) {
+        Ok(waves) => are_right && waves.as_slice() == [0u32].as_slice(),
+        Err(_) => false,
+    }
+}
+
 #[test]
 fn citations(rt: HostRuntime) -> Result<(), AllocError> {
     enter(&Open);
     let database = database_of(&rt, rt.alloc())?;
-    let citations = citations_of(&rt, rt.alloc(), &database)?;
-    let waves = waves(rt.alloc(), &citations)?;
-    assert!(&rt;
-        citations.rows() == 1
-            && citations.theorem(0) == WI2
-            && citations.of(0) == [WI].as_slice()
-            && waves.as_slice() == [0u32].as_slice()
-    );
+    let is_right = match citations_of(&rt, rt.alloc(), &database) {
+        Ok(citations) => are_citations_right(rt.alloc(), &citations),
+        Err(_) => false,
+    };
+    assert!(&rt; is_right);
     Ok(())
 }
 
@@ -281,20 +289,25 @@ fn is_matrix_right(matrix: &Matrix<Global>) -> bool {
         && matrix.digit(0, 0) == 8
 }
 
+/// Whether the columns and the matrix of one typecode are right.
+fn are_rows_right<R: Threads + Wait + Sync>(
+    rt: &R,
+    alloc: Global,
+    database: &Database<Global>,
+) -> Result<bool, AllocError> {
+    let columns = Columns::new(alloc, database, Some(b"wff"))?;
+    let citations = citations_of(rt, alloc, database)?;
+    let matrix = matrix(rt, alloc, &citations, &columns)?;
+    Ok(columns.len() == 1 && columns.statement(0) == WI && is_matrix_right(&matrix))
+}
+
 #[test]
 fn rows(rt: HostRuntime) -> Result<(), AllocError> {
     let mut row = [1u64];
     or_row(&mut row, &[6]);
     let database = database_of(&rt, rt.alloc())?;
-    let citations = citations_of(&rt, rt.alloc(), &database)?;
-    let columns = Columns::new(rt.alloc(), &database, Some(b"wff"))?;
-    let matrix = matrix(&rt, rt.alloc(), &citations, &columns)?;
-    assert!(&rt;
-        ones(&row) == 3
-            && columns.len() == 1
-            && columns.statement(0) == WI
-            && is_matrix_right(&matrix)
-    );
+    let are_right = are_rows_right(&rt, rt.alloc(), &database).unwrap_or(false);
+    assert!(&rt; are_right && ones(&row) == 3);
     Ok(())
 }
 
