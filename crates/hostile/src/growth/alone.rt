@@ -91,48 +91,43 @@ fn written_in_turn<'h, R: Abort>(
     false
 }
 
+/// Sections, by whether the matrix, the counts, the usage, the citations and the statements are
+/// among them, and what is written for them.
+const OUTPUTS: [(bool, bool, bool, bool, bool, &[u8]); 5] = [
+    (true, true, true, false, false, CITED_TWICE_REPORT),
+    (true, false, false, false, false, MATRIX),
+    (false, false, false, true, false, CITATIONS),
+    (false, false, true, true, false, USAGE_AND_CITATIONS),
+    (false, false, false, false, true, CITED_TWICE_STATEMENTS),
+];
+
+/// Refuses each growth of writing each output in turn.
+fn assert_outputs_right<'h, R: Abort>(
+    rt: &R,
+    heap: &'h Refusing<Global>,
+    memory: Global,
+    text: &[u8],
+    judged: &JudgedText<'_, &'h Refusing<Global>>,
+)
+    requires { IsJudgedText text.now false false judged.now }
+{
+    for (matrix, counts, usage, citations, statements, output) in OUTPUTS {
+        let sections = Sections {
+            matrix,
+            counts,
+            usage,
+            citations,
+            statements,
+        };
+        assert!(rt; written_in_turn(rt, heap, memory, text, judged, sections, output));
+    }
+}
+
 #[test]
 fn outputs_of_a_judged_text_written_without_memory(rt: HostRuntime) {
-    let memory = rt.alloc();
-    let heap = Refusing::new(memory);
-    let text = CITED_TWICE;
-    let Some(judged) = judged(&heap, text) else {
-        assert!(&rt; false);
-        return;
-    };
-    let rows = [
-        (Sections::by_default(), CITED_TWICE_REPORT),
-        (
-            Sections {
-                matrix: true,
-                ..Sections::none()
-            },
-            MATRIX,
-        ),
-        (
-            Sections {
-                citations: true,
-                ..Sections::none()
-            },
-            CITATIONS,
-        ),
-        (
-            Sections {
-                usage: true,
-                citations: true,
-                ..Sections::none()
-            },
-            USAGE_AND_CITATIONS,
-        ),
-        (
-            Sections {
-                statements: true,
-                ..Sections::none()
-            },
-            CITED_TWICE_STATEMENTS,
-        ),
-    ];
-    for (sections, output) in rows {
-        assert!(&rt; written_in_turn(&rt, &heap, memory, text, &judged, sections, output));
+    let heap = Refusing::new(rt.alloc());
+    match judged(&heap, CITED_TWICE) {
+        Some(judged) => assert_outputs_right(&rt, &heap, rt.alloc(), CITED_TWICE, &judged),
+        None => assert!(&rt; false),
     }
 }

@@ -4,8 +4,8 @@
 //!
 //! A loop refuses growth 1 of a call, then growth 2, and so on, up to the first call that meets no
 //! refusal. The number with which it compares that growth is how many have to be refused at least.
-//! `is_right_without_memory` is such a loop over any call; a function whose name ends in `in_turn` is
-//! one over the call that its name begins with.
+//! A function whose name ends in `in_turn` is such a loop over the call that its name begins with, or
+//! over each call of a table.
 
 mod alone;
 mod comparisons;
@@ -17,8 +17,8 @@ mod reading;
 mod rows;
 mod runs;
 
-use crate::heap::{NONE_REFUSED, Refusing};
-use std::alloc::{Allocator, Global};
+use crate::heap::Refusing;
+use std::alloc::Allocator;
 use std::process::Abort;
 
 /// Open theorems don't count as axioms.
@@ -38,30 +38,4 @@ fn was_refused<R: Abort, B: Allocator>(rt: &R, heap: &Refusing<B>, answer: Optio
         Some(is_right) => assert!(rt; is_right),
     }
     refused
-}
-
-/// A call with all that it is given.
-trait Call {
-    /// Refuses this growth from here on, or none, and makes the call. Returns whether its answer is
-    /// right, and `None` if it ran out of memory.
-    fn answer(&self, growth: u64) -> Option<bool>;
-}
-
-/// Refuses each growth of a call in turn, and asserts that the call runs out of memory or its
-/// answer is right, and that the next one is right with memory. Returns whether the last call met
-/// no refusal, and the first `least` of them did.
-fn is_right_without_memory<R: Abort, C: Call>(
-    rt: &R,
-    heap: &Refusing<Global>,
-    call: &C,
-    least: u64,
-) -> bool {
-    for growth in 1..MOST_GROWTHS {
-        let refused = was_refused(rt, heap, call.answer(growth));
-        assert!(rt; call.answer(NONE_REFUSED) == Some(true));
-        if !refused {
-            return growth > least;
-        }
-    }
-    false
 }

@@ -6,7 +6,7 @@ ghost use Rattle.mm_spec.specs.Output.{is_theorem_at};
 ghost use Rattle.mm_steps.specs.TheoremSteps.{theorem_steps};
 
 use super::lists::repeated;
-use super::{Call, MOST_GROWTHS, WITHOUT_OPEN, is_right_without_memory, was_refused};
+use super::{MOST_GROWTHS, WITHOUT_OPEN, was_refused};
 use crate::calls::{BY_ALL_NODES, all_checked, checked, checked_by};
 use crate::heap::Refusing;
 use crate::texts::CITED_TWICE;
@@ -228,6 +228,15 @@ fn is_first_read<'h>(
     }
 }
 
+/// Whether a checker is made that has no rules yet.
+fn is_checker_made<'h>(
+    heap: &'h Refusing<Global>,
+    database: &Database<'static, &'h Refusing<Global>>,
+) -> Option<bool> {
+    let rules = Rules::none(heap);
+    is_checker(Checker::new(heap, database, &rules))
+}
+
 /// A call on the database.
 #[derive(Clone, Copy)]
 enum DatabaseCall {
@@ -259,30 +268,52 @@ const CALLS: [(DatabaseCall, u64, &str); 7] = [
     (DatabaseCall::Repeat, 10, "a formula is marked and repeated"),
 ];
 
-/// Such a call with what it is given.
-#[derive(Drop)]
-struct OnDatabase<'c, 'h, R> {
-    rt: &'c R,
+/// Whether the answer of such a call is right.
+fn answer<'h, R: Threads + Wait + Sync>(
+    rt: &R,
     heap: &'h Refusing<Global>,
-    database: &'c Database<'static, &'h Refusing<Global>>,
-    rules: &'c Rules<&'h Refusing<Global>>,
+    database: &Database<'static, &'h Refusing<Global>>,
     call: DatabaseCall,
+) -> Option<bool> {
+    match call {
+        DatabaseCall::ReadProof => is_first_read(heap, database),
+        DatabaseCall::Rules => are_rules(Rules::new(heap, database)),
+        DatabaseCall::RulesByWorkers => are_rules(rules_of(rt, heap, database, WORKERS)),
+        DatabaseCall::MakeChecker => is_checker_made(heap, database),
+        DatabaseCall::CheckAll => is_judged(all_checked(rt, heap, database, 2)),
+        DatabaseCall::CheckAlone => is_judged(check_alone(heap, database, BY_ALL_NODES)),
+        DatabaseCall::Repeat => repeated(heap, database),
+    }
 }
 
-impl<R: Threads + Wait + Sync> Call for OnDatabase<'_, '_, R> {
-    fn answer(&self, growth: u64) -> Option<bool> {
-        let heap = self.heap;
-        let database = self.database;
+/// Refuses each growth of such a call in turn. Returns whether the last one met no refusal, and the
+/// first `least` of them did.
+fn call_in_turn<'h, R: Abort + Threads + Wait + Sync>(
+    rt: &R,
+    heap: &'h Refusing<Global>,
+    database: &Database<'static, &'h Refusing<Global>>,
+    call: DatabaseCall,
+    least: u64,
+) -> bool {
+    for growth in 1..MOST_GROWTHS {
         heap.refuse(growth);
-        match self.call {
-            DatabaseCall::ReadProof => is_first_read(heap, database),
-            DatabaseCall::Rules => are_rules(Rules::new(heap, database)),
-            DatabaseCall::RulesByWorkers => are_rules(rules_of(self.rt, heap, database, WORKERS)),
-            DatabaseCall::MakeChecker => is_checker(Checker::new(heap, database, self.rules)),
-            DatabaseCall::CheckAll => is_judged(all_checked(self.rt, heap, database, 2)),
-            DatabaseCall::CheckAlone => is_judged(check_alone(heap, database, BY_ALL_NODES)),
-            DatabaseCall::Repeat => repeated(heap, database),
+        let refused = was_refused(rt, heap, answer(rt, heap, database, call));
+        assert!(rt; answer(rt, heap, database, call) == Some(true));
+        if !refused {
+            return growth > least;
         }
+    }
+    false
+}
+
+/// Refuses each growth of each of these calls in turn.
+fn all_in_turn<'h, R: Abort + Threads + Wait + Sync>(
+    rt: &R,
+    heap: &'h Refusing<Global>,
+    database: &Database<'static, &'h Refusing<Global>>,
+) {
+    for (call, least, what) in CALLS {
+        assert!(rt; call_in_turn(rt, heap, database, call, least), "{what}");
     }
 }
 
@@ -290,16 +321,6 @@ impl<R: Threads + Wait + Sync> Call for OnDatabase<'_, '_, R> {
 fn calls_on_a_database_without_memory(rt: HostRuntime) -> Result<(), AllocError> {
     let heap = Refusing::new(rt.alloc());
     let database = database_of(&rt, &heap)?;
-    let rules = Rules::none(&heap);
-    for (call, least, what) in CALLS {
-        let call = OnDatabase {
-            rt: &rt,
-            heap: &heap,
-            database: &database,
-            rules: &rules,
-            call,
-        };
-        assert!(&rt; is_right_without_memory(&rt, &heap, &call, least), "{what}");
-    }
+    all_in_turn(&rt, &heap, &database);
     Ok(())
 }

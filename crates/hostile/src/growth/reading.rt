@@ -5,13 +5,14 @@ ghost use Rattle.mm_spec.specs.Lexed.{tokens_of, lexical_fault};
 
 use super::alone::{is_sound, judged};
 use super::proofs::is_board;
-use super::{Call, MOST_GROWTHS, WITHOUT_OPEN, is_right_without_memory, was_refused};
-use crate::heap::Refusing;
+use super::{MOST_GROWTHS, WITHOUT_OPEN, was_refused};
+use crate::heap::{NONE_REFUSED, Refusing};
 use crate::texts::{CITED_TWICE, FIRST_TEXT};
 use mm_board::Board;
 use mm_lex::{Cuts, Lexed, Piece, Word, join, lex, lex_alone, lex_piece};
 use mm_stmt::{Database, read, read_owned};
 use std::alloc::{AllocError, Allocator, Global};
+use std::process::Abort;
 use std::thread::Threads;
 
 /// No comment is open after the head of a piece.
@@ -127,34 +128,48 @@ const CALLS: [(TextCall, u64, &str); 7] = [
     (TextCall::MakeBoard, 1, "a board"),
 ];
 
-/// Such a call with what it is given.
-#[derive(Drop)]
-struct OnText<'c, 'h, R> {
-    rt: &'c R,
+/// Whether the answer of such a call with this growth refused is right.
+fn answer<'h, R: Threads + Sync>(
+    rt: &R,
     heap: &'h Refusing<Global>,
-    cuts: &'c Cuts<&'h Refusing<Global>>,
+    cuts: &Cuts<&'h Refusing<Global>>,
     call: TextCall,
+    growth: u64,
+) -> Option<bool> {
+    if call == TextCall::Join {
+        return are_joined(heap, growth);
+    }
+    heap.refuse(growth);
+    match call {
+        TextCall::EqualCuts => are_cuts(Cuts::equal(heap, FIRST_TEXT.len(), 3)),
+        TextCall::LexPiece => is_beginning(lex_piece(heap, FIRST_TEXT, 0, CUT_AT)),
+        TextCall::Lex if cuts.text_len() == FIRST_TEXT.len() => {
+            is_lexed(lex(rt, heap, FIRST_TEXT, cuts))
+        }
+        TextCall::LexAlone => is_lexed(lex_alone(heap, FIRST_TEXT)),
+        TextCall::Judge => is_sound(judged(heap, CITED_TWICE)),
+        TextCall::MakeBoard => is_board(Board::new(heap, 3)),
+        _ => Some(false),
+    }
 }
 
-impl<R: Threads + Sync> Call for OnText<'_, '_, R> {
-    fn answer(&self, growth: u64) -> Option<bool> {
-        let heap = self.heap;
-        if self.call == TextCall::Join {
-            return are_joined(heap, growth);
-        }
-        heap.refuse(growth);
-        match self.call {
-            TextCall::EqualCuts => are_cuts(Cuts::equal(heap, FIRST_TEXT.len(), 3)),
-            TextCall::LexPiece => is_beginning(lex_piece(heap, FIRST_TEXT, 0, CUT_AT)),
-            TextCall::Lex if self.cuts.text_len() == FIRST_TEXT.len() => {
-                is_lexed(lex(self.rt, heap, FIRST_TEXT, self.cuts))
-            }
-            TextCall::LexAlone => is_lexed(lex_alone(heap, FIRST_TEXT)),
-            TextCall::Judge => is_sound(judged(heap, CITED_TWICE)),
-            TextCall::MakeBoard => is_board(Board::new(heap, 3)),
-            _ => Some(false),
+/// Refuses each growth of such a call in turn. Returns whether the last one met no refusal, and the
+/// first `least` of them did.
+fn call_in_turn<'h, R: Abort + Threads + Sync>(
+    rt: &R,
+    heap: &'h Refusing<Global>,
+    cuts: &Cuts<&'h Refusing<Global>>,
+    call: TextCall,
+    least: u64,
+) -> bool {
+    for growth in 1..MOST_GROWTHS {
+        let refused = was_refused(rt, heap, answer(rt, heap, cuts, call, growth));
+        assert!(rt; answer(rt, heap, cuts, call, NONE_REFUSED) == Some(true));
+        if !refused {
+            return growth > least;
         }
     }
+    false
 }
 
 #[test]
@@ -162,13 +177,7 @@ fn calls_on_texts_without_memory(rt: HostRuntime) -> Result<(), AllocError> {
     let heap = Refusing::new(rt.alloc());
     let cuts = Cuts::equal(&heap, FIRST_TEXT.len(), 3)?;
     for (call, least, what) in CALLS {
-        let call = OnText {
-            rt: &rt,
-            heap: &heap,
-            cuts: &cuts,
-            call,
-        };
-        assert!(&rt; is_right_without_memory(&rt, &heap, &call, least), "{what}");
+        assert!(&rt; call_in_turn(&rt, &heap, &cuts, call, least), "{what}");
     }
     Ok(())
 }
@@ -187,30 +196,41 @@ fn is_read<A: Allocator>(answer: Result<Database<'_, A>, AllocError>) -> Option<
     }
 }
 
+/// Refuses each growth of reading statements in turn, and asserts that the tokens are left as they
+/// were. Returns whether the last call met no refusal, and the first ten did.
+fn statements_in_turn<'h, R: Abort>(
+    rt: &R,
+    heap: &'h Refusing<Global>,
+    text: &[u8],
+    lexed: &Lexed<&'h Refusing<Global>>,
+    tokens: &[Word],
+) -> bool
+    requires tokens_are { lexed.now.tokens.items ≡ tokens_of text.now }
+    requires fault_is { lexed.now.fault ≡ lexical_fault text.now }
+{
+    for growth in 1..MOST_GROWTHS {
+        heap.refuse(growth);
+        let refused = was_refused(rt, heap, is_read(read(heap, text, lexed, WITHOUT_OPEN)));
+        assert!(rt;
+            lexed.tokens.as_slice() == tokens
+                && lexed.fault.is_none()
+                && is_read(read(heap, text, lexed, WITHOUT_OPEN)) == Some(true)
+        );
+        if !refused {
+            return growth > 10;
+        }
+    }
+    false
+}
+
 #[test]
 fn statements_without_memory(rt: HostRuntime) -> Result<(), AllocError> {
     let heap = Refusing::new(rt.alloc());
     let cuts = Cuts::equal(&heap, CITED_TWICE.len(), 1)?;
     let lexed = lex(&rt, &heap, CITED_TWICE, &cuts)?;
     let tokens = lexed.tokens.to_vec(&heap)?;
-    for growth in 1..MOST_GROWTHS {
-        heap.refuse(growth);
-        let refused = was_refused(
-            &rt,
-            &heap,
-            is_read(read(&heap, CITED_TWICE, &lexed, WITHOUT_OPEN)),
-        );
-        assert!(&rt;
-            lexed.tokens.as_slice() == tokens.as_slice()
-                && lexed.fault.is_none()
-                && is_read(read(&heap, CITED_TWICE, &lexed, WITHOUT_OPEN)) == Some(true)
-        );
-        if !refused {
-            assert!(&rt; growth > 10);
-            return Ok(());
-        }
-    }
-    Err(AllocError)
+    assert!(&rt; statements_in_turn(&rt, &heap, CITED_TWICE, &lexed, &tokens));
+    Ok(())
 }
 
 /// What it is read as by workers, which make its frames in threads. The tokens are copied first.
@@ -233,20 +253,32 @@ fn is_read_by_workers<R: Threads + Sync>(
     is_read(read_owned(rt, heap, text, copy, WITHOUT_OPEN, WORKERS))
 }
 
+/// Refuses each growth of reading statements by workers in turn.
+fn statements_by_workers_in_turn<'h, R: Abort + Threads + Sync>(
+    rt: &R,
+    heap: &'h Refusing<Global>,
+    text: &[u8],
+    lexed: &Lexed<&'h Refusing<Global>>,
+) -> bool
+    requires tokens_are { lexed.now.tokens.items ≡ tokens_of text.now }
+    requires fault_is { lexed.now.fault ≡ lexical_fault text.now }
+{
+    for growth in 1..MOST_GROWTHS {
+        heap.refuse(growth);
+        let refused = was_refused(rt, heap, is_read_by_workers(rt, heap, text, lexed));
+        assert!(rt; is_read_by_workers(rt, heap, text, lexed) == Some(true));
+        if !refused {
+            return growth > 10;
+        }
+    }
+    false
+}
+
 #[test]
 fn statements_by_workers_without_memory(rt: HostRuntime) -> Result<(), AllocError> {
     let heap = Refusing::new(rt.alloc());
     let cuts = Cuts::equal(&heap, CITED_TWICE.len(), 1)?;
     let lexed = lex(&rt, &heap, CITED_TWICE, &cuts)?;
-    for growth in 1..MOST_GROWTHS {
-        heap.refuse(growth);
-        let is_right = is_read_by_workers(&rt, &heap, CITED_TWICE, &lexed);
-        let refused = was_refused(&rt, &heap, is_right);
-        assert!(&rt; is_read_by_workers(&rt, &heap, CITED_TWICE, &lexed) == Some(true));
-        if !refused {
-            assert!(&rt; growth > 10);
-            return Ok(());
-        }
-    }
-    Err(AllocError)
+    assert!(&rt; statements_by_workers_in_turn(&rt, &heap, CITED_TWICE, &lexed));
+    Ok(())
 }

@@ -1,13 +1,14 @@
 //! The calls that compute rows, and the one that computes waves, on the database with two theorems.
 
 use super::proofs::database_of;
-use super::{Call, is_right_without_memory};
+use super::{MOST_GROWTHS, was_refused};
 use crate::calls::all_checked;
 use crate::heap::Refusing;
 use mm_rows::{Columns, MarkedRows, Matrix, marked_rows, matrix, waves};
 use mm_stmt::Database;
 use mm_work::{Citations, Judged};
 use std::alloc::{AllocError, Allocator, Global};
+use std::process::Abort;
 use std::sync::Wait;
 use std::thread::Threads;
 
@@ -84,31 +85,58 @@ const CALLS: [(RowCall, u64, &str); 4] = [
     (RowCall::RowsAlone, 4, "rows alone"),
 ];
 
-/// Such a call with what it is given. The database is in memory of its own.
-#[derive(Drop)]
-struct OnCitations<'c, 'h, R> {
-    rt: &'c R,
+/// Whether the answer of such a call is right. The database is in memory of its own.
+fn answer<'h, R>(
+    rt: &R,
     heap: &'h Refusing<Global>,
-    database: &'c Database<'static, Global>,
-    citations: &'c Citations<&'h Refusing<Global>>,
-    columns: &'c Columns<&'h Refusing<Global>>,
+    database: &Database<'static, Global>,
+    citations: &Citations<&'h Refusing<Global>>,
+    columns: &Columns<&'h Refusing<Global>>,
     call: RowCall,
+) -> Option<bool> {
+    match call {
+        RowCall::Waves => are_waves(waves(heap, citations)),
+        RowCall::Columns => are_columns(Columns::new(heap, database, Some(b"|-".as_slice()))),
+        RowCall::Matrix => is_full_matrix(matrix(rt, heap, citations, columns)),
+        RowCall::RowsAlone => are_full_rows(marked_rows(heap, citations, columns)),
+    }
 }
 
-impl<R: Threads + Sync> Call for OnCitations<'_, '_, R> {
-    fn answer(&self, growth: u64) -> Option<bool> {
-        let heap = self.heap;
+/// Refuses each growth of such a call in turn. Returns whether the last one met no refusal, and the
+/// first `least` of them did.
+fn rows_in_turn<'h, R: Abort>(
+    rt: &R,
+    heap: &'h Refusing<Global>,
+    database: &Database<'static, Global>,
+    citations: &Citations<&'h Refusing<Global>>,
+    columns: &Columns<&'h Refusing<Global>>,
+    call: RowCall,
+    least: u64,
+) -> bool {
+    for growth in 1..MOST_GROWTHS {
         heap.refuse(growth);
-        match self.call {
-            RowCall::Waves => are_waves(waves(heap, self.citations)),
-            RowCall::Columns => {
-                are_columns(Columns::new(heap, self.database, Some(b"|-".as_slice())))
-            }
-            RowCall::Matrix => {
-                is_full_matrix(matrix(self.rt, heap, self.citations, self.columns))
-            }
-            RowCall::RowsAlone => { are_full_rows(marked_rows(heap, self.citations, self.columns)) }
+        let is_right = answer(rt, heap, database, citations, columns, call);
+        let refused = was_refused(rt, heap, is_right);
+        let is_right_again = answer(rt, heap, database, citations, columns, call);
+        assert!(rt; is_right_again == Some(true));
+        if !refused {
+            return growth > least;
         }
+    }
+    false
+}
+
+/// Refuses each growth of each of these calls in turn.
+fn all_in_turn<'h, R: Abort>(
+    rt: &R,
+    heap: &'h Refusing<Global>,
+    database: &Database<'static, Global>,
+    citations: &Citations<&'h Refusing<Global>>,
+    columns: &Columns<&'h Refusing<Global>>,
+) {
+    for (call, least, what) in CALLS {
+        let is_right = rows_in_turn(rt, heap, database, citations, columns, call, least);
+        assert!(rt; is_right, "{what}");
     }
 }
 
@@ -118,16 +146,6 @@ fn rows_waves_and_columns_without_memory(rt: HostRuntime) -> Result<(), AllocErr
     let database = database_of(&rt, rt.alloc())?;
     let citations = citations_of(&rt, &heap)?;
     let columns = Columns::new(&heap, &database_of(&rt, &heap)?, None)?;
-    for (call, least, what) in CALLS {
-        let call = OnCitations {
-            rt: &rt,
-            heap: &heap,
-            database: &database,
-            citations: &citations,
-            columns: &columns,
-            call,
-        };
-        assert!(&rt; is_right_without_memory(&rt, &heap, &call, least), "{what}");
-    }
+    all_in_turn(&rt, &heap, &database, &citations, &columns);
     Ok(())
 }
